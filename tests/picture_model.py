@@ -51,7 +51,7 @@ def concerned_by(session, head, log, place):
     """The record that a faulty record concerns by its reason, by log and place, or None."""
     kind, reason, record = head[0], head[3], session.logs[log][place]
     if kind == "shape":
-        return concerned_by_shape(session, reason, record)
+        return concerned_by_shape(session, reason, place, record)
     page = page_of(record)
     changes = [n for n, rec in enumerate(session.guest[:session.halt()]) if rec[0] in "wz" and rec[2] == str(page)]
     if reason == "read":
@@ -67,7 +67,7 @@ def concerned_by(session, head, log, place):
     return "guest", session.first_use(page)
 
 
-def concerned_by_shape(session, reason, record):
+def concerned_by_shape(session, reason, at, record):
     if reason == "second-send":
         return next(("source", n) for n, rec in enumerate(session.source) if rec[:2] == record[:2])
     if reason == "named":
@@ -75,7 +75,8 @@ def concerned_by_shape(session, reason, record):
         number = int(record[NAMES[record[0]].index(log) + 1])
         return (log, number) if number < len(session.logs[log]) else None
     if reason == "phases":
-        place = session.resumed() if record[0] in ("resume", "miss", "see") else session.halt()
+        needs_resume = record[0] in ("miss", "see") or record[0] == "resume" and session.resumed() != at
+        place = session.resumed() if needs_resume else session.halt()
         return ("guest", place) if place < len(session.guest) else None
     return None
 

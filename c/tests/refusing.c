@@ -6,12 +6,18 @@
        none     nothing, as at an end
        <n>      the error with this number
 
+   Or REFUSING is 'told', and the program itself says which growths fail. A line 'refuse <name> <n>' that it writes to standard
+   output begins a count of malloc and realloc, of which number n fails, or none for 0; after 'refuse <name> <n> on' each later
+   one fails too. The next line that it writes ends the count: ahead of it goes a line 'growths <all> refused <failed>', and the
+   next byte that it reads of standard input is 1 where one failed, and else 0.
+
    Calls of all threads are counted together. At the end it writes, to descriptor 99, how many calls of each there were, and how
    many of them were refused. */
 #define _GNU_SOURCE
 #include <dlfcn.h>
 #include <errno.h>
 #include <fcntl.h>
+#include <limits.h>
 #include <pthread.h>
 #include <stdarg.h>
 #include <stdio.h>
@@ -27,6 +33,11 @@ static _Atomic long count[CALLS], refused;
 static long first, last;
 static int chosen = CALLS, how;
 static _Atomic int running;
+
+/* Where the program says which growths fail: whether it does, whether it counts, and what was counted before. */
+static int told;
+static _Atomic int counting;
+static _Atomic long counted, failed;
 
 static void *(*real_malloc)(size_t);
 static void *(*real_realloc)(void *, size_t);
@@ -55,6 +66,8 @@ __attribute__((constructor)) static void begin(void) {
         how = !strcmp(kind, "short") ? SHORT : !strcmp(kind, "none") ? NONE : !strcmp(kind, "memory") ? ENOMEM : atoi(kind);
         if (chosen == CALLS) abort();
     }
+    told = words && !strcmp(words, "told");
+    if (told) how = ENOMEM;
     running = 1;
 }
 
@@ -101,6 +114,33 @@ void *realloc(void *at, size_t size) {
     return NULL;
 }
 
+/* Ends a count, and tells it. */
+static void end_count(void) {
+    char line[64];
+    long growths = count[MEMORY] - counted;
+    counting = 0;
+    chosen = CALLS;
+    failed = refused - failed;
+    int len = snprintf(line, sizeof line, "growths %ld refused %ld\n", growths, failed);
+    if (real_write(1, line, (size_t)len) < 0) errno = 0;
+}
+
+/* Begins a count where a line says so. */
+static void begin_count(const char *line, size_t len) {
+    char text[256], name[128], more[8] = "";
+    long number;
+    if (len >= sizeof text) return;
+    memcpy(text, line, len);
+    text[len] = 0;
+    if (sscanf(text, "refuse %127s %ld %7s", name, &number, more) < 2) return;
+    counted = count[MEMORY];
+    failed = refused;
+    first = number ? counted + number : 0;
+    last = number && !strcmp(more, "on") ? LONG_MAX : first;
+    counting = 1;
+    chosen = MEMORY;
+}
+
 /* The bytes of a read or a write, or an error. */
 static ssize_t moved(int met, size_t len, size_t *asked) {
     *asked = met == SHORT && len ? 1 : len;
@@ -110,6 +150,7 @@ static ssize_t moved(int met, size_t len, size_t *asked) {
 }
 
 ssize_t read(int fd, void *into, size_t len) {
+    if (told && fd == 0 && len) return *(char *)into = failed ? '1' : '0', 1;
     size_t asked;
     ssize_t met = moved(fate(READ), len, &asked);
     return met <= 0 ? met : real_read(fd, into, asked);
@@ -117,8 +158,11 @@ ssize_t read(int fd, void *into, size_t len) {
 
 ssize_t write(int fd, const void *from, size_t len) {
     size_t asked;
+    if (told && fd == 1 && counting) end_count();
     ssize_t met = moved(fate(WRITE), len, &asked);
-    return met <= 0 ? met : real_write(fd, from, asked);
+    ssize_t written = met <= 0 ? met : real_write(fd, from, asked);
+    if (told && fd == 1) begin_count(from, len);
+    return written;
 }
 
 int open(const char *name, int flags, ...) {

@@ -24,8 +24,8 @@ _MISSING = {
     "halt": "The guest was never halted: its log has no `halt`, so nothing says that a migration began.",
     "resume": "The guest never went on at the target: its log has no `resume`.",
     "page": "Page {} was owed to the target at the halt, and was neither placed nor released there.",
-    "all": "The pager never said that every owed page had come: its log has no `all`.",
-    "done": "The source never learned that every owed page had come: its log has no `done`.",
+    "all": "The pager never said that every owed page had come: its log has no `all` behind their placements.",
+    "done": "The source never learned that every owed page had come: its log has no `done` behind the `ask` of that.",
     "line": "What the pager took by its record at line {} was neither placed nor dropped.",
 }
 

@@ -2,4 +2,4 @@ mod Branches
 mod Offers
 mod Done
 mod Machines
-mod Rooms
+pub mod Rooms

@@ -71,6 +71,13 @@ push_fits w has_lane s l few = record { fits = λ a. still _ _ (λ h. go a h (na
     go a h true = offered_fits (with_pushed has_lane) (pushed_logs has_lane) (source_push s) (pushing w has_lane s l a) few h
     go a h false = h
 
+-- nothing is pushed where the window is full
+pub no_push_fits : (w : ℕ) (has_lane : Bool) (s : SourcePart) (l : LinkPart) → w ≤ length (pushed_line has_lane l) → Fits Push (pushing w has_lane s l)
+no_push_fits w has_lane s l filled = record { fits = λ a room. subst (λ c. has_room (session_after (cond c (offered (with_pushed has_lane) (source_push s) (pushing w has_lane s l a)) (pushing w has_lane s l a))) ≡ true) (sym closed) room }
+  where
+    closed : nat_lt (length (pushed_line has_lane l)) w ≡ false
+    closed = grind (arith, nat_tests, filled)
+
 pub serve_fits : (s : SourcePart) (l : LinkPart) → ((x : Arrival) → slice_get l.up_arrivals 0 ≡ Some x → length (source_serve x.number x.packet s).book.log ≤ most_records) → Fits Serve (sending s l)
 serve_fits s l few = record { fits = λ a. still _ _ (λ h. go a h l.up_arrivals few) }
   where

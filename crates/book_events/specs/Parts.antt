@@ -80,6 +80,13 @@ pub record ComesTo {A B : Type 0} (e : Event) (result : Result Came EventFault) 
   pub memory : IsErrOf result Memory → Fits e (standing one other)
   pub err : OnErr result ((one' ≡ one) × (other' ≡ other))
 
+-- what a look at the room for an event comes to, of two books that stand in a migration so: it is there in each log, or a
+-- log has none
+pub record LooksFor {A B T : Type 0} (e : Event) (result : Result T EventFault) (standing : A → B → BooksAfter → BooksAfter) (one : A) (other : B) : Type 0 where
+  pub room : OnOk result (Fits e (standing one other))
+  pub full : OnErr result (IsFull e (standing one other))
+  pub memory : IsErrOf result Memory → ⊥
+
 -- Halt: the books of the source and the target that it makes of the guest's, and the state's packet is offered behind
 -- what is under way
 pub record IsHalt (pivots : ℕ) (guest : GuestPart) (link new_link : LinkPart) (source : SourcePart) (target : TargetPart) : Type 0 where

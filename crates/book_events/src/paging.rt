@@ -6,7 +6,7 @@ ghost use Rattle.target_side.specs.Kept.{geometry_of, part_of as target_of};
 ghost use Rattle.target_side.specs.PagerPart.{faults_by, next_fault, delivers_by, deliver};
 ghost use Rattle.target_side.specs.PagerLists.{part_of, IsPacketOf};
 ghost use Rattle.migration_events.specs.declared.events.Event.{Event};
-ghost use Rattle.book_events.specs.Parts.{receiving, placing, ComesTo};
+ghost use Rattle.book_events.specs.Parts.{receiving, placing, ComesTo, LooksFor};
 ghost use Rattle.book_events.specs.inner.Work.{HasFault, HasDelivery};
 
 use crate::came::Came;
@@ -30,6 +30,17 @@ pub fn pager_pop(link: &mut LinkBook, pager: &mut PagerBook) -> Result<Came, Eve
     Ok(Came::Made)
 }
 
+/// Whether each log has room for what taking the oldest packet from the link appends. Takes no memory.
+#[tactic(auto, using(crate::proofs::Rooms::pop_fits))]
+pub fn look_to_pop(link: &LinkBook, pager: &PagerBook) -> Result<(), EventFault>
+    ensures { LooksFor Event.PagerPop result receiving link.now.part (part_of pager.now) }
+{
+    match link.peek_down() {
+        Some((number, packet)) => pager.look_to_pop(number, packet),
+        None => Ok(()),
+    }
+}
+
 /// PagerPull: the pager takes the oldest packet that has arrived over the lane, if there is one, which is one that the
 /// source of such a machine sends. `EventFault::LogFull` exactly where its log has no room for the records. On an error
 /// nothing changes.
@@ -45,6 +56,17 @@ pub fn pager_pull(link: &mut LinkBook, pager: &mut PagerBook) -> Result<Came, Ev
     pager.pull(number, packet)?;
     link.pop_lane();
     Ok(Came::Made)
+}
+
+/// Whether each log has room for what taking the oldest packet from the lane appends. Takes no memory.
+#[tactic(auto, using(crate::proofs::Rooms::pull_fits))]
+pub fn look_to_pull(link: &LinkBook, pager: &PagerBook) -> Result<(), EventFault>
+    ensures { LooksFor Event.PagerPull result receiving link.now.part (part_of pager.now) }
+{
+    match link.peek_lane() {
+        Some((number, packet)) => pager.look_to_pull(number, packet),
+        None => Ok(()),
+    }
 }
 
 /// PagerFlush: the pager offers the oldest packet that it has not offered, if there is one. The only error is want of
@@ -65,18 +87,27 @@ pub fn pager_flush(link: &mut LinkBook, pager: &mut PagerBook) -> Result<Came, E
 /// PagerTick: once the state has come, the pager asks once more for a page that is neither placed nor settled, or says
 /// that all are. `EventFault::LogFull` exactly where its log has no room for the record, which is looked at before memory
 /// is asked for. On an error nothing changes.
-#[tactic(auto, using(crate::proofs::Rooms::pager_tick_fits, crate::proofs::Done::up_done))]
+#[tactic(auto, using(crate::proofs::Done::up_done))]
 pub fn pager_tick(link: &mut LinkBook, pager: &mut PagerBook) -> Result<Came, EventFault>
     ensures comes { ComesTo Event.PagerTick result receiving link.old.part link.new.part (part_of pager.old) (part_of pager.new) }
     ensures machine { pager.new.geometry ≡ pager.old.geometry }
 {
-    pager.look_to_tick()?;
+    look_to_pager_tick(link, pager)?;
     link.room()?;
     let Some(packet) = pager.tick()? else {
         return Ok(Came::Nothing);
     };
     link.offer_up(packet);
     Ok(Came::Made)
+}
+
+/// Whether each log has room for what the pager's tick appends. Takes no memory.
+#[tactic(auto, using(crate::proofs::Rooms::pager_tick_fits))]
+pub fn look_to_pager_tick(link: &LinkBook, pager: &PagerBook) -> Result<(), EventFault>
+    ensures { LooksFor Event.PagerTick result receiving link.now.part (part_of pager.now) }
+{
+    let _link = link;
+    pager.look_to_tick()
 }
 
 /// PagerFault: the pager settles the pages that the guest released at the target before they came, and learns of the
@@ -96,6 +127,16 @@ pub fn pager_fault(pager: &mut PagerBook, target: &mut TargetBook) -> Result<Cam
     Ok(Came::Made)
 }
 
+/// Whether each log has room for what settling and learning of a miss append. The books are of one machine. Takes no
+/// memory.
+#[tactic(auto, using(crate::proofs::Rooms::fault_fits, crate::proofs::Rooms::fault_full))]
+pub fn look_to_fault(pager: &PagerBook, target: &TargetBook) -> Result<(), EventFault>
+    requires { geometry_of target.now ≡ pager.now.geometry }
+    ensures { LooksFor Event.PagerFault result placing (part_of pager.now) (target_of target.now) }
+{
+    pager.look_to_fault(target)
+}
+
 /// PagerDeliver: the pager settles the pages that the guest released at the target before they came. Once the state has
 /// come it lets the guest resume, and from then on takes the oldest page that has come, if there is one, which it
 /// places, or drops where it is resident already. Where there is nothing of this, there is nothing to do. The books are
@@ -111,6 +152,14 @@ pub fn pager_deliver(pager: &mut PagerBook, target: &mut TargetBook) -> Result<C
     }
     pager.deliver(target)?;
     Ok(Came::Made)
+}
+
+/// Whether each log has room for what a delivery appends. Takes no memory.
+#[tactic(auto, using(crate::proofs::Rooms::deliver_fits))]
+pub fn look_to_deliver(pager: &PagerBook, target: &TargetBook) -> Result<(), EventFault>
+    ensures { LooksFor Event.PagerDeliver result placing (part_of pager.now) (target_of target.now) }
+{
+    pager.look_to_deliver(target)
 }
 
 /// Whether there is a page to settle, or a miss that the pager may take.

@@ -1,13 +1,10 @@
 //! The events on the source's and the link's books.
 
-ghost use Rattle.std.specs.Prelude.{◌≡◌, ◌≤◌, Some, length, slice_get, IsTrue, if◌then◌else◌, OnOk, OnErr, IsErrOf};
-ghost use Rattle.migration_types.specs.Limits.{most_records};
+ghost use Rattle.std.specs.Prelude.{◌≡◌, length, IsTrue, if◌then◌else◌};
 ghost use Rattle.active_push.specs.Books.{part_of};
-ghost use Rattle.link_book.specs.LinkPart.{with_back, with_front, with_pushed};
+ghost use Rattle.link_book.specs.LinkPart.{with_back, with_front, with_pushed, pushed_line};
 ghost use Rattle.migration_events.specs.declared.events.Event.{Event};
-ghost use Rattle.link_book.specs.declared.Arrival.{Arrival};
-ghost use Rattle.active_push.specs.SourcePart.{source_serve};
-ghost use Rattle.book_events.specs.Parts.{pushing, sending, ComesTo, IsFull};
+ghost use Rattle.book_events.specs.Parts.{pushing, sending, ComesTo, LooksFor};
 ghost use Rattle.book_events.specs.inner.Offers.{Carries, IsOffer};
 
 use crate::came::Came;
@@ -29,12 +26,7 @@ pub fn push(
     ensures comes { ComesTo Event.Push result (pushing window has_lane) (part_of source.old) (part_of source.new) link.old.part link.new.part }
     ensures machine { source.new.frames.geometry ≡ source.old.frames.geometry }
 {
-    let under_way = if has_lane {
-        link.lane_len()
-    } else {
-        link.down_len()
-    };
-    if under_way >= window as usize {
+    if under_way(link, has_lane) >= window as usize {
         return Ok(Came::Nothing);
     }
     source.look_to_push()?;
@@ -43,6 +35,33 @@ pub fn push(
         return Ok(Came::Nothing);
     };
     Ok(offer_pushed(link, packet, has_lane))
+}
+
+/// Whether each log has room for what a push appends. Takes no memory.
+#[tactic(auto, using(crate::proofs::Rooms::push_fits, crate::proofs::Rooms::no_push_fits))]
+pub fn look_to_push(
+    source: &SourceBook,
+    link: &LinkBook,
+    window: u32,
+    has_lane: bool,
+) -> Result<(), EventFault>
+    ensures { LooksFor Event.Push result (pushing window has_lane) (part_of source.now) link.now.part }
+{
+    if under_way(link, has_lane) >= window as usize {
+        return Ok(());
+    }
+    source.look_to_push()
+}
+
+/// How many packets are under way where pages are pushed: over the lane, if there is one, or else down the link.
+fn under_way(link: &LinkBook, has_lane: bool) -> usize
+    ensures { result ≡ length (pushed_line has_lane link.now.part) }
+{
+    if has_lane {
+        link.lane_len()
+    } else {
+        link.down_len()
+    }
 }
 
 /// Offers a packet behind the others of the lane, or behind those that are under way down.
@@ -64,7 +83,6 @@ fn offer_pushed(link: &mut LinkBook, packet: Packet, over_lane: bool) -> Came
 /// Serve: the source takes the oldest packet that has arrived, if there is one, and sends the page that it wants ahead
 /// of the others. `EventFault::LogFull` exactly where the source's log has no room for the records, which is looked at
 /// before memory is asked for. On an error nothing changes.
-#[tactic(auto, using(crate::proofs::Rooms::serve_fits))]
 pub fn serve(source: &mut SourceBook, link: &mut LinkBook) -> Result<Came, EventFault>
     ensures comes { ComesTo Event.Serve result sending (part_of source.old) (part_of source.new) link.old.part link.new.part }
     ensures machine { source.new.frames.geometry ≡ source.old.frames.geometry }
@@ -82,11 +100,10 @@ pub fn serve(source: &mut SourceBook, link: &mut LinkBook) -> Result<Came, Event
     }
 }
 
-/// Whether the source's log has room for what it records of the oldest packet that has arrived, if there is one.
-fn look_to_serve(source: &SourceBook, link: &LinkBook) -> Result<(), EventFault>
-    ensures room { OnOk result ((x : Arrival) → slice_get link.now.part.up_arrivals 0 ≡ Some x → length (source_serve x.number x.packet (part_of source.now)).book.log ≤ most_records) }
-    ensures full { OnErr result (IsFull Event.Serve (sending (part_of source.now) link.now.part)) }
-    ensures memory { IsErrOf result EventFault.Memory → ⊥ }
+/// Whether each log has room for what serving the oldest packet that has arrived appends. Takes no memory.
+#[tactic(auto, using(crate::proofs::Rooms::serve_fits))]
+pub fn look_to_serve(source: &SourceBook, link: &LinkBook) -> Result<(), EventFault>
+    ensures { LooksFor Event.Serve result sending (part_of source.now) link.now.part }
 {
     match link.peek_up() {
         Some((number, packet)) => source.look_to_serve(number, packet),
@@ -97,17 +114,25 @@ fn look_to_serve(source: &SourceBook, link: &LinkBook) -> Result<(), EventFault>
 /// SourceTick: the source sends the state once more, as long as nobody asked it for anything. `EventFault::LogFull`
 /// exactly where its log has no room for the record, which is looked at before memory is asked for. On an error nothing
 /// changes.
-#[tactic(auto, using(crate::proofs::Rooms::source_tick_fits))]
 pub fn source_tick(source: &mut SourceBook, link: &mut LinkBook) -> Result<Came, EventFault>
     ensures comes { ComesTo Event.SourceTick result sending (part_of source.old) (part_of source.new) link.old.part link.new.part }
     ensures machine { source.new.frames.geometry ≡ source.old.frames.geometry }
 {
-    source.look_to_tick()?;
+    look_to_source_tick(source, link)?;
     link.room()?;
     let Some(packet) = source.tick()? else {
         return Ok(Came::Nothing);
     };
     Ok(offer(link, packet, false))
+}
+
+/// Whether each log has room for what the source's tick appends. Takes no memory.
+#[tactic(auto, using(crate::proofs::Rooms::source_tick_fits))]
+pub fn look_to_source_tick(source: &SourceBook, link: &LinkBook) -> Result<(), EventFault>
+    ensures { LooksFor Event.SourceTick result sending (part_of source.now) link.now.part }
+{
+    let _link = link;
+    source.look_to_tick()
 }
 
 /// Offers a packet before the others that are under way down, or behind them.

@@ -1,5 +1,5 @@
 -- How a command ends.
-use Rattle.std.proofs.Common.{◌≡◌, ◌⊎◌, inl, inr, ℕ, List, Option, Result, Ok, Err, subst, sym}
+use Rattle.std.proofs.Common.{◌≡◌, ℕ, List, Option, Result, Ok, Err, subst, sym}
 use Rattle.std.specs.Prelude.{IfErr}
 use Rattle.std.specs.Io.KnownBytes.{Appends, Keeps}
 use Rattle.std.proofs.KnownBytes.{Keeps-refl}
@@ -7,7 +7,7 @@ use Rattle.command_texts.specs.declared.answer.Answer.{Answer}
 use Rattle.command_texts.specs.declared.answer.Fault.{Fault}
 use Rattle.command_texts.specs.declared.answer.Fault.TheVariants.{File, Changed, Link, Threads, Output, Memory}
 use Rattle.command_texts.specs.Answers.{IsHostFault, IsReadFault, IsRunStop, IsTextFault}
-use Rattle.command_texts.specs.Told.{CutsShort, Ends, Fails, IsLeft, Tells}
+use Rattle.command_texts.specs.Told.{Fails, IsLeft, Tells}
 use Rattle.command_texts.specs.Written.{AppendsFront, Streams}
 
 -- a fault at a text under one of some names is one at a text under one of more

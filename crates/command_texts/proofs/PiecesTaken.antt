@@ -1,10 +1,10 @@
 -- Pieces that a taker takes one after another.
-use Rattle.std.proofs.Common.{◌≡◌, ℕ, ◌+◌, ◌≤◌, ◌⊎◌, inl, inr, append_assoc, List, [], ◌++◌, length, refl, sym, ap, ◌∙◌, subst, length-append, arith}
+use Rattle.std.proofs.Common.{true, ◌∷◌, ◌≡◌, ℕ, ◌+◌, ◌≤◌, ◌⊎◌, inl, inr, append_assoc, List, [], ◌++◌, length, refl, sym, ap, ◌∙◌, subst, length-append, arith}
 use Rattle.std.proofs.lemmas.List.{append-nil}
 use Rattle.std.specs.Prelude.{codes, Option, Some, None, IfSome, Result, Ok, Err, OnOk}
 use Rattle.std.specs.Io.KnownBytes.{Consumes, IsAtEnd}
 use Rattle.std.proofs.KnownBytes.{Consumes-all, Consumes-nil, Consumes-trans}
-use Rattle.command_texts.specs.Limits.{BeginsWith, MayBeLong, IsWithin}
+use Rattle.command_texts.specs.Limits.{BeginsWith, MayBeLong, IsWithin, begins_with_digit}
 use Rattle.command_texts.specs.Told.{AreRead}
 use Rattle.command_texts.specs.inner.Takings.{Takes, TakesAll}
 use Rattle.command_texts.proofs.WhatIsRead.{more_taken}
@@ -53,13 +53,18 @@ takes_rest Came most left known rest old now new yet all = record {
 begins_front : (key front rest : List ℕ) → BeginsWith key front → BeginsWith key (front ++ rest)
 begins_front key front rest b = (b.0 ++ rest, ap (λ (l : List ℕ). l ++ rest) b.1 ∙ append_assoc key b.0 rest)
 
+digit_front : (front rest : List ℕ) → begins_with_digit front ≡ true → begins_with_digit (front ++ rest) ≡ true
+digit_front [] rest b = absurd (cc)
+digit_front (code ∷ front) rest b = b
+
 -- a text may be long where its front says so
 long_front : (front rest : List ℕ) → MayBeLong front → MayBeLong (front ++ rest)
 long_front front rest (inl b) = inl (begins_front (codes "postcopy-session 3\n") front rest b)
 long_front front rest (inr (inl b)) = inr (inl (begins_front (codes "postcopy-certificate 3\n") front rest b))
 long_front front rest (inr (inr (inl b))) = inr (inr (inl (begins_front (codes "postcopy-runs 1\n") front rest b)))
 long_front front rest (inr (inr (inr (inl b)))) = inr (inr (inr (inl (begins_front (codes "clean\npostcopy-certificate 3\n") front rest b))))
-long_front front rest (inr (inr (inr (inr b)))) = inr (inr (inr (inr (begins_front (codes "faulty line ") front rest b))))
+long_front front rest (inr (inr (inr (inr (inl b))))) = inr (inr (inr (inr (inl (begins_front (codes "faulty line ") front rest b)))))
+long_front front rest (inr (inr (inr (inr (inr b))))) = inr (inr (inr (inr (inr (digit_front front rest b)))))
 
 -- a first piece that is all that was there is the text that was read
 pub first_taken : {T : Type 0} (Came : T → List ℕ → Type 0) (known rest : Option (List ℕ)) (old new : T) (piece : List ℕ) → Consumes known rest piece → IsAtEnd rest → length piece ≤ 268435456 → ((text : List ℕ) → Came old text → Came new (text ++ piece)) → (text : List ℕ) × AreRead known text × (Came old [] → Came new text)

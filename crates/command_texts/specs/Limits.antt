@@ -1,12 +1,21 @@
 -- How long the texts are that are read.
-use Rattle.std.specs.Prelude.{◌≡◌, ℕ, ◌≤◌, ◌⊎◌, List, ◌++◌, length, codes}
+use Rattle.std.specs.Prelude.{◌≡◌, ℕ, ◌≤◌, ◌⊎◌, Bool, true, false, ◌&&◌, nat_le, List, [], ◌∷◌, ◌++◌, length, codes}
 
 abbrev pub BeginsWith : List ℕ → List ℕ → Type 0
 BeginsWith front text = (rest : List ℕ) × (text ≡ front ++ rest)
 
--- it begins as a session or a certificate of the third version, as runs, or as a report with either of these behind its first line
+-- whether a text begins with a digit, as a table of lines does
+abbrev pub is_digit : ℕ → Bool
+is_digit code = nat_le 48 code && nat_le code 57
+
+abbrev pub begins_with_digit : List ℕ → Bool
+begins_with_digit [] = false
+begins_with_digit (code ∷ text) = is_digit code
+
+-- it begins as a session or a certificate of the third version, as runs, as a report with either of these behind its first line,
+-- or as a table of lines
 abbrev pub MayBeLong : List ℕ → Type 0
-MayBeLong text = BeginsWith (codes "postcopy-session 3\n") text ⊎ BeginsWith (codes "postcopy-certificate 3\n") text ⊎ BeginsWith (codes "postcopy-runs 1\n") text ⊎ BeginsWith (codes "clean\npostcopy-certificate 3\n") text ⊎ BeginsWith (codes "faulty line ") text
+MayBeLong text = BeginsWith (codes "postcopy-session 3\n") text ⊎ BeginsWith (codes "postcopy-certificate 3\n") text ⊎ BeginsWith (codes "postcopy-runs 1\n") text ⊎ BeginsWith (codes "clean\npostcopy-certificate 3\n") text ⊎ BeginsWith (codes "faulty line ") text ⊎ (begins_with_digit text ≡ true)
 
 -- a text has at most so many bytes
 abbrev pub IsWithin : List ℕ → Type 0

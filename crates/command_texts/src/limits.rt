@@ -1,8 +1,8 @@
-//! How much of an input may come: a session of a large machine, its certificate, runs, and a report with one of these two
-//! may be longer than others, which their first bytes tell.
+//! How much of an input may come: a session of a large machine, its certificate, runs, a report with one of these two, and a
+//! table of lines may be longer than others, which their first bytes tell.
 
 ghost use Rattle.std.specs.Prelude.{◌≡◌, ◌+◌, ◌≤◌, ◌⊎◌, ◌↔◌, IfSome, IsTrue, length};
-ghost use Rattle.command_texts.specs.Limits.{BeginsWith, MayBeLong};
+ghost use Rattle.command_texts.specs.Limits.{BeginsWith, MayBeLong, begins_with_digit};
 
 use memchr::{memchr, memrchr};
 use text_lines::after_key;
@@ -94,6 +94,16 @@ fn begins_with(text: &[u8], front: &[u8]) -> bool
     }
 }
 
+/// Whether a text begins with a digit, as a table of lines does.
+fn begins_with_digit(text: &[u8]) -> bool
+    ensures { result ≡ begins_with_digit text.now }
+{
+    match text.first() {
+        Some(first) => *first >= b'0' && *first <= b'9',
+        None => false,
+    }
+}
+
 /// Whether an input that begins so may be long.
 fn may_be_long(front: &[u8]) -> bool
     ensures { IsTrue result ↔ MayBeLong front.now }
@@ -110,5 +120,8 @@ fn may_be_long(front: &[u8]) -> bool
     if begins_with(front, b"clean\npostcopy-certificate 3\n") {
         return true;
     }
-    begins_with(front, b"faulty line ")
+    if begins_with(front, b"faulty line ") {
+        return true;
+    }
+    begins_with_digit(front)
 }

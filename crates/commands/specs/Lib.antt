@@ -1,3 +1,4 @@
 pub mod Drawings
 pub mod Told
+pub mod Shown
 pub mod Refused

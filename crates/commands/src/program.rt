@@ -6,8 +6,10 @@ ghost use Rattle.clap.specs.Words.{kind_of, takes};
 ghost use Rattle.command_words.specs.Table.{job_of, several_of};
 ghost use Rattle.command_words.specs.Words.{IsPlain, asked, asked_by, postcopy_words, several_asked, target_names, targets_named, word_texts};
 ghost use Rattle.command_texts.specs.Answers.{fault_line, fault_status};
+ghost use Rattle.command_texts.specs.Told.{AreNamed, AreOfInput};
 ghost use Rattle.command_texts.specs.Written.{AppendsFront, BothGain, Gains};
 ghost use Rattle.commands.specs.Refused.{IsRefusalOf, IsStarved};
+ghost use Rattle.commands.specs.Shown.{AsksCheck, ShowsHeadline};
 ghost use Rattle.commands.specs.Told.{EndsAsked, EndsBare, EndsSeveral, IsFaultTold, IsSettled};
 
 use crate::answering::perform;
@@ -16,6 +18,7 @@ use clap::error::ErrorKind;
 use command_texts::{ACCEPTED, Fault, TextSource, USAGE, perform_two, tell, write_whole};
 use command_words::{Targets, Wish, read_targets, read_words};
 use judge_commands::{CheckCommand, InLine};
+use judged_texts::headline_holds_at_yes;
 use std::alloc::{AllocError, Global};
 use std::io::{Read, Write};
 use std::net::{Net, TcpListener, TcpStream};
@@ -170,6 +173,11 @@ fn check_bare<R: Threads + Sync, S: TextSource, I: Read + Send, O: Write, E: Wri
 /// of several sessions each is audited before the next is read, and of the input among them nothing is said. The output gains the
 /// answer also where the words name a file for it: [`targets_named`] tells which.
 ///
+/// Where a `check` ends with status 0, whatever its options are, the bytes that were read as its first text spell one session,
+/// and the headline holds of it: it has a merging, and in every merging each read or write after handover finds its page
+/// resident, each read gives what one machine that never moved gives, each page is placed at most once, and over no later
+/// read, write or release, and a released page is never sent and comes back as zeros.
+///
 /// The handle starts and joins threads, and opens the connection of a migration over TCP. Nothing is promised of when a
 /// migration ends.
 pub fn run<
@@ -197,7 +205,10 @@ pub fn run<
     ensures told { takes postcopy_words (word_texts words.entry.now) ≡ true → IfSome (asked (word_texts words.entry.now)) (λ job. IsSettled (EndsAsked job (S.bytes_of texts.now) (I.remaining input.old) (O.contents output.old, E.contents errors.old)) (O.contents output.new, E.contents errors.new) result) }
     ensures several { takes postcopy_words (word_texts words.entry.now) ≡ true → IfSome (several_asked (word_texts words.entry.now)) (λ asked. IsSettled (EndsSeveral asked (S.bytes_of texts.now) (O.contents output.old, E.contents errors.old)) (O.contents output.new, E.contents errors.new) result) }
     ensures plain { (name : List ℕ) (names : List (List ℕ)) → IsPlain (word_texts words.entry.now) name names → IfSome (asked_by name names) (λ job. (result ≢ 2) × IsSettled (EndsAsked job (S.bytes_of texts.now) (I.remaining input.old) (O.contents output.old, E.contents errors.old)) (O.contents output.new, E.contents errors.new) result) }
+    ensures bare_headline { length words.entry.now ≤ 1 → result ≡ 0 → ShowsHeadline (AreOfInput (I.remaining input.old)) }
+    ensures headline { (first second : List ℕ) → AsksCheck (word_texts words.entry.now) first second → result ≡ 0 → ShowsHeadline (AreNamed first second (S.bytes_of texts.now) (I.remaining input.old)) }
 {
+    headline_holds_at_yes();
     if words.len() <= 1 {
         return check_bare(rt, alloc, texts, input, output, errors);
     }

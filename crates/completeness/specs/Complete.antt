@@ -1,13 +1,16 @@
 -- When the session of a migration is complete, and what is missing from one that is not.
-use Rattle.std.specs.Prelude.{◌≡◌, ◌<◌, ◌≤◌, ℕ, zero, suc, Bool, true, false, not, ◌==◌, ◌&&◌, ◌||◌, ◌⊎◌, length, slice_get}
+use Rattle.std.specs.Prelude.{◌≡◌, ◌<◌, ◌≤◌, ℕ, zero, suc, Bool, true, false, not, ◌==◌, ◌&&◌, ◌||◌, ◌⊎◌, nat_lt, length, drop, slice_get, if◌then◌else◌}
 use Rattle.std.specs.List.{list_any}
 use Rattle.migration_types.specs.declared.records.SourceRec.{SourceRec}
-use Rattle.migration_types.specs.declared.records.SourceRec.TheVariants.{Done}
+use Rattle.migration_types.specs.declared.records.SourceRec.TheVariants.{Ask, Done}
+use Rattle.migration_types.specs.declared.records.LinkRec.{LinkRec}
+use Rattle.migration_types.specs.declared.records.LinkRec.TheVariants.{Down, Up}
 use Rattle.migration_types.specs.declared.records.PagerRec.{PagerRec}
-use Rattle.migration_types.specs.declared.records.PagerRec.TheVariants.{Place, Skip, All}
+use Rattle.migration_types.specs.declared.records.PagerRec.TheVariants.{Place, Zero, Skip, All}
 use Rattle.migration_types.specs.Sessions.{Recorded}
 use Rattle.audit_model.specs.Flat.{in_ledger, freed, at_halt}
-use Rattle.audit_model.specs.Shape.{passes, is_halt, is_resume, is_taking, is_placement_of}
+use Rattle.audit_model.specs.Shape.{earlier, passes, is_halt, is_resume, is_taking, is_placement_of}
+use Rattle.page_facts.specs.Tables.{some_before}
 use Rattle.completeness.specs.declared.missing.Missing.{Missing}
 use Rattle.completeness.specs.declared.missing.Missing.TheVariants as missing
 use Rattle.completeness.specs.declared.missing.Extent.{Extent}
@@ -18,7 +21,7 @@ abbrev pub is_all : PagerRec → Bool
 is_all All = true
 is_all _ = false
 
--- whether the source learned of that
+-- whether it says that the source learned of that
 abbrev pub is_done : SourceRec → Bool
 is_done Done = true
 is_done _ = false
@@ -28,6 +31,41 @@ abbrev pub settles : ℕ → PagerRec → Bool
 settles taken (Place page got content) = got == taken
 settles taken (Skip got) = got == taken
 settles taken _ = false
+
+-- whether it places a page that the target was owed
+abbrev pub places_owed : Recorded → PagerRec → Bool
+places_owed s (Place page got content) = not (in_ledger s (at_halt s) page)
+places_owed s (Zero page) = not (in_ledger s (at_halt s) page)
+places_owed s _ = false
+
+-- the number behind the last of the pager's records before its record n that places an owed page; 0 where none does
+abbrev pub placed_to : Recorded → ℕ → ℕ
+placed_to s zero = 0
+placed_to s (suc n) = if passes (places_owed s) (slice_get s.pager n) then suc n else placed_to s n
+
+-- whether an `all` stands behind the last placement of an owed page
+abbrev pub has_end : Recorded → Bool
+has_end s = list_any is_all (drop (placed_to s (length s.pager)) s.pager)
+
+-- whether the pager's record of this number is such an `all`
+abbrev pub is_end : Recorded → ℕ → Bool
+is_end s n = not (nat_lt n (placed_to s (length s.pager))) && passes is_all (slice_get s.pager n)
+
+-- its delivery up, and the source's record that takes this delivery
+abbrev pub brings_end : Recorded → LinkRec → Bool
+brings_end s (Up asking) = is_end s asking
+brings_end s (Down sending) = false
+
+abbrev pub takes_end : Recorded → SourceRec → Bool
+takes_end s (Ask up) = passes (brings_end s) (slice_get s.link up)
+takes_end s _ = false
+
+-- whether the source's record n is a `done` behind the `ask` of such an `all`, and whether there is one
+abbrev pub is_done_behind : Recorded → ℕ → SourceRec → Bool
+is_done_behind s n r = is_done r && earlier (takes_end s) s.source n
+
+abbrev pub has_done : Recorded → Bool
+has_done s = some_before (is_done_behind s) s.source (length s.source)
 
 -- whether the page was owed, and never placed nor released at the target
 abbrev pub is_page_left : Recorded → ℕ → Bool
@@ -48,8 +86,8 @@ pub record HasPages (s : Recorded) : Type 0 where
 -- they tell of a whole migration, from the halt until the source learned that every owed page had come
 pub record IsWhole (s : Recorded) : Type 0 where
   pub has_pages : HasPages s
-  pub all : list_any is_all s.pager ≡ true
-  pub done : list_any is_done s.source ≡ true
+  pub all : has_end s ≡ true
+  pub done : has_done s ≡ true
   pub taken : (n : ℕ) → is_taken_left s n ≡ false
 
 -- the logs tell of a migration to this extent
@@ -62,8 +100,8 @@ abbrev pub IsMissing : Recorded → Missing → Type 0
 IsMissing s missing.Halt = list_any is_halt s.guest ≡ false
 IsMissing s missing.Resume = list_any is_resume s.guest ≡ false
 IsMissing s (missing.Page page) = (page < s.geometry.pages) × (is_page_left s page ≡ true)
-IsMissing s missing.All = list_any is_all s.pager ≡ false
-IsMissing s missing.Done = list_any is_done s.source ≡ false
+IsMissing s missing.All = has_end s ≡ false
+IsMissing s missing.Done = has_done s ≡ false
 IsMissing s (missing.Taken n) = is_taken_left s n ≡ true
 
 -- the order in which what is missing is told: by its kind, and then by the number of the page or the record

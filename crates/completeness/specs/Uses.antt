@@ -1,5 +1,5 @@
 -- Whether a session tells of a use of a page at the target.
-use Rattle.std.specs.Prelude.{Bool, true, false, List, drop}
+use Rattle.std.specs.Prelude.{Bool, true, false, drop}
 use Rattle.std.specs.List.{list_any, position}
 use Rattle.std.specs.Option.{option_map_or}
 use Rattle.migration_types.specs.declared.records.GuestRec.{GuestRec}

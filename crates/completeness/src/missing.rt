@@ -20,9 +20,9 @@ pub enum Missing {
     Resume,
     /// A placement of this owed page, or its release at the target.
     Page(PageNo),
-    /// The pager's `all`.
+    /// The pager's `all` behind its last placement of an owed page.
     All,
-    /// The source's `done`.
+    /// The source's `done` behind its `ask` of such an `all`.
     Done,
     /// The `place` or the `skip` of what the pager's record of this number took.
     Taken(u32),

@@ -3,7 +3,7 @@
 ghost use Rattle.std.specs.Prelude.{◌≡◌, ◌<◌, ◌||◌, not, length, IfOk, MatchOption};
 ghost use Rattle.std.specs.List.{list_any};
 ghost use Rattle.migration_types.specs.Sessions.{IsSession};
-ghost use Rattle.audit_model.specs.Flat.{at_halt, freed, home_after};
+ghost use Rattle.audit_model.specs.Flat.{at_halt, freed, home_after, in_ledger};
 ghost use Rattle.audit_model.specs.Shape.{is_placement_of};
 ghost use Rattle.flat_machine.specs.Machines.{ledger_after};
 ghost use Rattle.balloon_ledger.specs.Released.{released, IsWith as HasReleased};
@@ -127,8 +127,9 @@ fn is_left(released: bool, placed: bool, freed: bool) -> bool
 }
 
 impl Seen {
-    /// What the logs of a session say. An error: there is no memory for it.
-    fn of(alloc: Global, session: &Session) -> Result<Seen, AllocError>
+    /// What the logs of a session say. Takes one pass over the pager's log and two over the guest's, and memory for three
+    /// marks of each page, which is the only error.
+    pub(crate) fn of(alloc: Global, session: &Session) -> Result<Seen, AllocError>
         requires { IsSession session.now }
         ensures { IfOk result (AreSeen session.now) }
     {
@@ -137,6 +138,15 @@ impl Seen {
             placed: placed_pages(alloc, session)?,
             freed: freed_pages(alloc, session)?,
         })
+    }
+
+    /// Whether the target was owed a page.
+    pub(crate) fn is_owed(&self, _session: &Session, page: PageNo) -> bool
+        requires seen { AreSeen _session.now self.now }
+        requires page { page < _session.now.geometry.pages }
+        ensures { result ≡ not (in_ledger _session.now (at_halt _session.now) page) }
+    {
+        !self.ledger.holds(page)
     }
 
     /// Whether a page was owed, and never placed nor released at the target.
@@ -153,19 +163,17 @@ impl Seen {
     }
 }
 
-/// The least owed page that was never placed nor released at the target. Takes one pass over the pager's log and two over
-/// the guest's, and memory for three marks of each page, which is the only error.
-pub(crate) fn first_page(alloc: Global, session: &Session) -> Result<Option<PageNo>, AllocError>
-    requires { IsSession session.now }
-    ensures { IfOk result (λ found. MatchOption found (NonePass (is_page_left session.now) session.now.geometry.pages) (IsLeast (is_page_left session.now) session.now.geometry.pages)) }
+/// The least owed page that was never placed nor released at the target. Takes no memory.
+pub(crate) fn first_page(session: &Session, seen: &Seen) -> Option<PageNo>
+    requires { AreSeen session.now seen.now }
+    ensures { MatchOption result (NonePass (is_page_left session.now) session.now.geometry.pages) (IsLeast (is_page_left session.now) session.now.geometry.pages) }
 {
     session.keeps_limits();
-    let seen = Seen::of(alloc, session)?;
     for number in 0..session.geometry().pages() {
         let page = PageNo::new(number);
         if seen.is_left(session, page) {
-            return Ok(Some(page));
+            return Some(page);
         }
     }
-    Ok(None)
+    None
 }

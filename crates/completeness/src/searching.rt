@@ -4,28 +4,16 @@ ghost use Rattle.std.specs.Prelude.{◌≡◌, IfOk, MatchOption};
 ghost use Rattle.std.specs.List.{list_any};
 ghost use Rattle.audit_model.specs.Shape.{is_halt, is_resume};
 ghost use Rattle.migration_types.specs.Sessions.{IsSession};
-ghost use Rattle.completeness.specs.Complete.{is_all, is_done, HasPages, IsComplete, IsWhole, Lacks};
+ghost use Rattle.completeness.specs.Complete.{HasPages, IsComplete, IsWhole, Lacks};
+ghost use Rattle.completeness.specs.inner.Walks.{AreSeen};
 
+use crate::ending::{has_done, has_end, placed_to};
 use crate::missing::{Extent, Missing};
-use crate::pages::first_page;
+use crate::pages::{Seen, first_page};
 use crate::taken::first_taken;
 use audit_model::{is_halt, is_resume};
-use migration_types::{GuestRec, PagerRec, Session, SourceRec};
+use migration_types::{GuestRec, Session};
 use std::alloc::{AllocError, Global};
-
-/// Whether it says that every owed page came.
-fn is_all(rec: &PagerRec) -> bool
-    ensures { result ≡ is_all rec.now }
-{
-    matches!(rec, PagerRec::All)
-}
-
-/// Whether it says that the source learned of it.
-fn is_done(rec: &SourceRec) -> bool
-    ensures { result ≡ is_done rec.now }
-{
-    matches!(rec, SourceRec::Done)
-}
 
 /// Whether the guest was halted.
 fn has_halt(guest: &[GuestRec]) -> bool
@@ -41,30 +29,22 @@ fn has_resume(guest: &[GuestRec]) -> bool
     guest.iter().any(is_resume)
 }
 
-/// Whether the pager said that every owed page came.
-fn has_all(pager: &[PagerRec]) -> bool
-    ensures { result ≡ list_any is_all pager.now }
-{
-    pager.iter().any(is_all)
-}
-
-/// Whether the source learned of it.
-fn has_done(source: &[SourceRec]) -> bool
-    ensures { result ≡ list_any is_done source.now }
-{
-    source.iter().any(is_done)
-}
-
 /// The first thing that is missing from a session that has its pages, where it has to tell of a whole migration.
-fn missing_behind(alloc: Global, session: &Session) -> Result<Option<Missing>, AllocError>
+fn missing_behind(
+    alloc: Global,
+    session: &Session,
+    seen: &Seen,
+) -> Result<Option<Missing>, AllocError>
     requires is_session { IsSession session.now }
+    requires seen { AreSeen session.now seen.now }
     requires pages { HasPages session.now }
     ensures { IfOk result (λ found. MatchOption found (IsWhole session.now) (Lacks Extent.Whole session.now)) }
 {
-    if !has_all(session.pager()) {
+    let placed = placed_to(session, seen);
+    if !has_end(session, placed) {
         return Ok(Some(Missing::All));
     }
-    if !has_done(session.source()) {
+    if !has_done(session, placed) {
         return Ok(Some(Missing::Done));
     }
     match first_taken(alloc, session)? {
@@ -90,11 +70,12 @@ pub fn first_missing(
     if !has_resume(session.guest()) {
         return Ok(Some(Missing::Resume));
     }
-    if let Some(page) = first_page(alloc, session)? {
+    let seen = Seen::of(alloc, session)?;
+    if let Some(page) = first_page(session, &seen) {
         return Ok(Some(Missing::Page(page)));
     }
     match extent {
         Extent::Pages => Ok(None),
-        Extent::Whole => missing_behind(alloc, session),
+        Extent::Whole => missing_behind(alloc, session, &seen),
     }
 }

@@ -43,10 +43,8 @@ pub record Lines : Type 0 where
   pub up : List Fate
   pub lane : List Fate
 
--- so many packets of each line meet their fates, of one line after another
-pub record HaveTurned (down up lane : ℕ) (old new : Lines) : Type 0 where
-  pub after_down : LinkPart
-  pub after_up : LinkPart
-  pub down_met : HaveMet Downward down (line old.link old.down) (line after_down new.down)
-  pub up_met : HaveMet Upward up (line after_down old.up) (line after_up new.up)
-  pub lane_met : HaveMet OverLane lane (line after_up old.lane) (line new.link new.lane)
+-- so many packets of one line meet their fates, and the fates of the other lines stay
+abbrev pub HaveTurned : Direction → ℕ → Lines → Lines → Type 0
+HaveTurned Downward count old new = HaveMet Downward count (line old.link old.down) (line new.link new.down) × (new.up ≡ old.up) × (new.lane ≡ old.lane)
+HaveTurned Upward count old new = HaveMet Upward count (line old.link old.up) (line new.link new.up) × (new.down ≡ old.down) × (new.lane ≡ old.lane)
+HaveTurned OverLane count old new = HaveMet OverLane count (line old.link old.lane) (line new.link new.lane) × (new.down ≡ old.down) × (new.up ≡ old.up)

@@ -1,13 +1,21 @@
 //! Gates.
 
+ghost use Rattle.std.specs.Prelude.{⊤, ◌≡◌, true};
+
 use migration_types::PageNo;
 use target_side::TargetBook;
 
 /// What the threads of a run tell of, at some moments of it. Each call may wait, and the thread waits with it. Only
 /// `held` is called with a lock held, the target's.
 pub trait Gate: Sync {
-    /// Whether no call does anything. The threads then do many things under one lock, and leave calls out.
-    fn is_open(&self) -> bool {
+    /// No call does anything.
+    ghost stands_open: { Self → Type 0 } = { λ _. ⊥ };
+
+    /// Whether no call does anything. The threads then do many things under one lock, and leave calls out. Under any other
+    /// gate an operation or an event is the only one under its locks.
+    fn is_open(&self) -> bool
+        ensures { result ≡ true → stands_open self.now }
+    {
         false
     }
 
@@ -29,7 +37,9 @@ pub trait Gate: Sync {
 const MOST_AT_ONCE: usize = 256;
 
 /// How many things a thread does under one lock at most.
-pub(crate) fn most_at_once<G: Gate>(gate: &G) -> usize {
+pub(crate) fn most_at_once<G: Gate>(gate: &G) -> usize
+    ensures { (G.stands_open gate.now → ⊥) → result ≡ 1 }
+{
     if gate.is_open() { MOST_AT_ONCE } else { 1 }
 }
 
@@ -38,6 +48,8 @@ pub(crate) fn most_at_once<G: Gate>(gate: &G) -> usize {
 pub struct Open;
 
 impl Gate for Open {
+    ghost stands_open = { λ _. ⊤ };
+
     fn is_open(&self) -> bool {
         true
     }

@@ -1,6 +1,6 @@
 //! The thread of the link and the lane.
 
-ghost use Rattle.std.specs.Prelude.{◌≡◌, ◌↔◌, ℕ, ◌+◌, ◌<◌, true, false, Ok, Some, None, drop, slice_get, IfOk, IfErr, OnErr, MatchBool};
+ghost use Rattle.std.specs.Prelude.{◌≡◌, ◌↔◌, ℕ, ◌<◌, ◌≤◌, true, false, Ok, Some, None, drop, slice_get, IfOk, IfErr, OnErr, MatchBool};
 ghost use Rattle.link_book.specs.LinkPart.{line_of, turned};
 ghost use Rattle.page_stream.specs.declared.Packet.{Packet as Sent};
 ghost use Rattle.host_threads.specs.Fates.{next_fate, fates_over, line, Meets, HaveMet, HaveTurned};
@@ -132,6 +132,7 @@ fn turn_line<L: Relay>(
     most: usize,
 ) -> Result<usize, Fault>
     ensures met { IfOk result (λ count. HaveMet direction count (line link.old.part fates.old.left.now) (line link.new.part fates.new.left.now)) }
+    ensures few { IfOk result (λ count. count ≤ most) }
     ensures fewer { IfOk result (λ count. count < most → slice_get (line_of direction link.new.part) 0 ≡ None) }
     ensures err { OnErr result ((count : ℕ) × HaveMet direction count (line link.old.part fates.old.left.now) (line link.new.part fates.new.left.now)) }
 {
@@ -143,24 +144,28 @@ fn turn_line<L: Relay>(
     Ok(most)
 }
 
-/// Turns of each line, one line after another, and of each at most so many: whether a packet met its fate.
-fn turn_lines<L: Relay>(
+/// Turns of one line, at most so many: whether a packet met its fate. The other lines stay, with their fates.
+fn turn_at<L: Relay>(
     link: &mut LinkBook,
     passage: &mut Passage<L>,
+    direction: Direction,
     lines: &mut Lines<'_>,
     most: usize,
 ) -> Result<bool, Fault>
-    ensures { IfOk result (λ any. (down up lane : ℕ)
-        × HaveTurned down up lane (record { link = link.old.part; down = lines.old.down.left.now; up = lines.old.up.left.now; lane = lines.old.lane.left.now }) (record { link = link.new.part; down = lines.new.down.left.now; up = lines.new.up.left.now; lane = lines.new.lane.left.now })
-        × MatchBool any (0 < down + up + lane) (down + up + lane ≡ 0)) }
+    ensures { IfOk result (λ any. (count : ℕ)
+        × (count ≤ most)
+        × HaveTurned direction count (record { link = link.old.part; down = lines.old.down.left.now; up = lines.old.up.left.now; lane = lines.old.lane.left.now }) (record { link = link.new.part; down = lines.new.down.left.now; up = lines.new.up.left.now; lane = lines.new.lane.left.now })
+        × MatchBool any (0 < count) (count ≡ 0)) }
 {
-    let down = turn_line(link, passage, Direction::Down, &mut lines.down, most)?;
-    let up = turn_line(link, passage, Direction::Up, &mut lines.up, most)?;
-    let lane = turn_line(link, passage, Direction::Lane, &mut lines.lane, most)?;
-    Ok(down > 0 || up > 0 || lane > 0)
+    let count = match direction {
+        Direction::Down => turn_line(link, passage, direction, &mut lines.down, most)?,
+        Direction::Up => turn_line(link, passage, direction, &mut lines.up, most)?,
+        Direction::Lane => turn_line(link, passage, direction, &mut lines.lane, most)?,
+    };
+    Ok(count > 0)
 }
 
-/// What is told of turns of the lines.
+/// What is told of turns of a line.
 fn told_turns(turned: Result<bool, Fault>) -> Turn
     ensures did { result ≡ Turn.Did ↔ turned ≡ Ok true }
     ensures idle { result ≡ Turn.Idle ↔ turned ≡ Ok false }
@@ -173,7 +178,20 @@ fn told_turns(turned: Result<bool, Fault>) -> Turn
     }
 }
 
-/// The same as `turn_lines`, under one lock.
+/// The same as `turn_at`, under one lock.
+fn turn_under_lock<R: Wait, L: Relay>(
+    rt: &R,
+    shared: &Shared,
+    passage: &mut Passage<L>,
+    direction: Direction,
+    lines: &mut Lines<'_>,
+    most: usize,
+) -> Turn {
+    let mut link = shared.link.lock(rt);
+    told_turns(turn_at(&mut link, passage, direction, lines, most))
+}
+
+/// Turns of each line, one line after another, each under the lock anew. The last turn that was not idle is told.
 fn turn_each<R: Wait, L: Relay>(
     rt: &R,
     shared: &Shared,
@@ -181,8 +199,15 @@ fn turn_each<R: Wait, L: Relay>(
     lines: &mut Lines<'_>,
     most: usize,
 ) -> Turn {
-    let mut link = shared.link.lock(rt);
-    told_turns(turn_lines(&mut link, passage, lines, most))
+    let mut last = Turn::Idle;
+    for direction in [Direction::Down, Direction::Up, Direction::Lane] {
+        match turn_under_lock(rt, shared, passage, direction, lines, most) {
+            Turn::Idle => {}
+            Turn::Stops(fault) => return Turn::Stops(fault),
+            turn => last = turn,
+        }
+    }
+    last
 }
 
 /// The link and the lane: the turns of the lines down, up and over the lane, one after another, until the run is over. A

@@ -3,8 +3,11 @@
 ghost use Rattle.std.specs.Prelude.{ℕ, List, Option, None, take, IfOk};
 ghost use Rattle.std.specs.Io.KnownBytes.{Appends, Consumes};
 
+use thiserror::Error;
+
 /// A relay that failed. It tells no more.
-#[derive(Clone, Copy, Debug, PartialEq, Eq)]
+#[derive(Clone, Copy, Debug, PartialEq, Eq, Error)]
+#[error("the relay failed")]
 pub struct RelayFault;
 
 /// What the packets of the link and of the lane go through: bytes are taken in at one end and come back at the other,

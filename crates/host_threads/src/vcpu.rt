@@ -1,6 +1,6 @@
 //! The thread of a virtual processor.
 
-ghost use Rattle.std.specs.Prelude.{◌≢◌, ℕ, take, OnOk};
+ghost use Rattle.std.specs.Prelude.{◌≡◌, ◌≢◌, ◌≤◌, ◌++◌, ℕ, take, length, OnOk};
 ghost use Rattle.migration_events.specs.Ops.{OpFits};
 ghost use Rattle.target_side.specs.Guests.{part_of as guest_of};
 ghost use Rattle.target_side.specs.Kept.{geometry_of, part_of as target_of};
@@ -85,8 +85,13 @@ fn work_at_source(
     Ok(())
 }
 
-/// At most so many operations of a virtual processor at the source are done before others have their turn.
-const MOST_AT_SOURCE: usize = 256;
+/// Operations, at most so many as the gate lets be done at once, and those after them.
+fn first_at_once<'a, G: Gate>(gate: &G, ops: &'a [Op]) -> (&'a [Op], &'a [Op])
+    ensures few { (G.stands_open gate.now → ⊥) → length result.0.now ≤ 1 }
+    ensures all { result.0.now ++ result.1.now ≡ ops.now }
+{
+    ops.split_at(ops.len().min(most_at_once(gate)))
+}
 
 /// How far operations came that were begun one after another.
 #[derive(Clone, Copy)]
@@ -126,18 +131,24 @@ impl<'s, G: Gate> Worker<'s, G> {
         work_at_source(book, self.vcpu, ops, &mut self.answers)
     }
 
-    /// Does operations at the source. False: the run stops.
+    /// Does operations at the source, at most so many at once as the gate lets be. False: the run stops.
     fn run_at_source<R: Wait>(&mut self, rt: &R, ops: &[Op]) -> bool {
-        for some in ops.chunks(MOST_AT_SOURCE) {
+        let mut rest = ops;
+        for _ in rt.forever() {
+            if rest.is_empty() {
+                return true;
+            }
             if self.shared.bell.is_stopped() {
                 return false;
             }
+            let (some, later) = first_at_once(self.gate, rest);
             if let Err(fault) = self.turn_at_source(rt, some) {
                 self.shared.bell.stop(rt, fault);
                 return false;
             }
+            rest = later;
         }
-        true
+        false
     }
 
     /// Does operations at the target, at most so many as the gate lets be done at once, until one has to wait. The gate

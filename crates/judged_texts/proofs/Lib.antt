@@ -1,4 +1,5 @@
 pub mod Spelled
+pub mod Headline
 pub mod Read
 pub mod Outcomes
 pub mod Ordered

@@ -5,8 +5,9 @@ use Rattle.migration_types.specs.Certs.{Certified}
 use Rattle.migration_types.specs.Sessions.{Recorded}
 use Rattle.session_log.specs.Grammar.{SpellsSession}
 use Rattle.cert_text.specs.Grammar.{SpellsCert}
-use Rattle.audit_model.specs.Mergings.{spelled}
-use Rattle.audit_model.specs.World.{IsSafeOrder}
+use Rattle.audit_model.specs.Mergings.{HasMerging, spelled}
+use Rattle.audit_model.specs.World.{IsSafe, IsSafeOrder}
+use Rattle.audit_model.specs.Laws.{FindsResident, ReadsFlat, PlacedOnce, PlacedUntouched, ReleasedAsZeros}
 use Rattle.cert_check.specs.declared.verdict.Verdict.{Verdict}
 use Rattle.cert_check.specs.declared.verdict.Verdict.TheVariants.{SessionText, CertText}
 use Rattle.cert_check.specs.Verdicts.{IsVerdict}
@@ -44,3 +45,15 @@ OfSpelled session Has = (recorded : Recorded) → IsSpelling SpellsSession recor
 -- the merging that is spelled by the runs of the certificate's text has no record whose demand fails
 abbrev pub ReplaysClean : List ℕ → Recorded → Type 0
 ReplaysClean cert recorded = (certified : Certified) → IsSpelling SpellsCert certified cert → IsSafeOrder recorded (spelled certified.runs)
+
+-- the headline: the first text spells one session, and each claim holds of it, the one on runs of those that the second has
+pub record HeadlineHolds (session cert : List ℕ) : Type 0 where
+  pub one_session : SpellsOneSession session
+  pub safe : OfSpelled session IsSafe
+  pub replays_clean : OfSpelled session (ReplaysClean cert)
+  pub has_merging : OfSpelled session HasMerging
+  pub finds_resident : OfSpelled session FindsResident
+  pub reads_flat : OfSpelled session ReadsFlat
+  pub placed_once : OfSpelled session PlacedOnce
+  pub placed_untouched : OfSpelled session PlacedUntouched
+  pub released_as_zeros : OfSpelled session ReleasedAsZeros

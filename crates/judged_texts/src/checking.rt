@@ -7,11 +7,10 @@ ghost use Rattle.cert_text.specs.Grammar.{SpellsCert};
 ghost use Rattle.audit_model.specs.Mergings.{HasMerging};
 ghost use Rattle.audit_model.specs.World.{IsSafe};
 ghost use Rattle.audit_model.specs.Laws.{FindsResident, ReadsFlat, PlacedOnce, PlacedUntouched, ReleasedAsZeros};
-ghost use Rattle.judged_texts.specs.Checked.{IsTextVerdict, SpellsOneSession, OfSpelled, ReplaysClean};
-ghost use Rattle.judged_texts.specs.inner.CertTexts.{IsCertTextVerdict};
-ghost use Rattle.cert_check.specs.Promises.{Promises};
+ghost use Rattle.judged_texts.specs.Checked.{HeadlineHolds, IsTextVerdict, SpellsOneSession, OfSpelled, ReplaysClean};
 
-use cert_check::{EntryJudges, Verdict, check_by, check_par};
+use audit_model::certified_is_safe;
+use cert_check::{EntryJudges, Verdict, check_by};
 use cert_text::{cert_texts_are_unambiguous, read_cert};
 use migration_types::{Cert, Session};
 use page_facts::{Alone, InThreads};
@@ -20,41 +19,79 @@ use std::alloc::{AllocError, Global};
 use std::marker::Sync;
 use std::thread::Threads;
 
-/// The verdict on a session and the text of its certificate.
-fn judged<J: EntryJudges>(
+/// A law: where the verdict on two texts is yes, the headline holds of them. The first spells exactly one session. There
+/// is a merging of its logs, and in every merging each read or write after handover finds its page resident, each read
+/// gives what one machine that never moved gives, each page is placed at most once, and over no later read, write or
+/// release, and a released page is never sent and comes back as zeros. Runs nothing.
+pub fn headline_holds_at_yes()
+    ensures { (session cert : List ℕ) → IsTextVerdict session cert Verdict.Yes → HeadlineHolds session cert }
+{
+    session_texts_are_unambiguous();
+    cert_texts_are_unambiguous();
+    certified_is_safe();
+}
+
+/// What was read of a session's text: the session, or the line at which the text is refused.
+fn session_read(alloc: Global, text: &[u8]) -> Result<Result<Session, u32>, AllocError>
+    ensures { IfOk result (λ found. IsRead SpellsSession text.now found) }
+{
+    match read_session(alloc, text) {
+        Ok(session) => Ok(Ok(session)),
+        Err(fault) => Ok(Err(fault.refused_line()?)),
+    }
+}
+
+/// What was read of a certificate's text.
+fn cert_read(alloc: Global, text: &[u8]) -> Result<Result<Cert, u32>, AllocError>
+    ensures { IfOk result (λ found. IsRead SpellsCert text.now found) }
+{
+    match read_cert(alloc, text) {
+        Ok(cert) => Ok(Ok(cert)),
+        Err(fault) => Ok(Err(fault.refused_line()?)),
+    }
+}
+
+/// The verdict on a session and its certificate, by what was read of their texts, whoever judges the pages.
+fn check_read_by<J: EntryJudges>(
     judges: &J,
     alloc: Global,
-    session: &Session,
-    cert: &[u8],
+    session: &Result<Session, u32>,
+    cert: &Result<Cert, u32>,
 ) -> Result<Verdict, AllocError>
     requires ready { J.ready }
-    ensures verdict { IfOk result (IsCertTextVerdict session.now cert.now) }
-    ensures yes { Promises (result ≡ Ok Verdict.Yes) (λ Has. Has session.now) (ReplaysClean cert.now) }
+    ensures verdict { (first second : List ℕ) → IsRead SpellsSession first session.now → IsRead SpellsCert second cert.now → IfOk result (IsTextVerdict first second) }
 {
-    cert_texts_are_unambiguous();
-    match read_cert(alloc, cert) {
-        Ok(certified) => check_by(judges, alloc, session, &certified),
-        Err(fault) => Ok(Verdict::CertText(fault.refused_line()?)),
+    match session {
+        Ok(session) => match cert {
+            Ok(cert) => check_by(judges, alloc, session, cert),
+            Err(line) => Ok(Verdict::CertText(*line)),
+        },
+        Err(line) => Ok(Verdict::SessionText(*line)),
     }
 }
 
 /// The verdict on a session and its certificate, by what was read of their texts: the first that applies, of all that
-/// [`Verdict`] has. The pages are judged by threads side by side. The only error is want of memory.
+/// [`Verdict`] has. On `Yes` it promises of the bytes that were read what [`check_texts`] does. The pages are judged by
+/// threads side by side. The only error is want of memory.
 pub fn check_read<R: Threads + Sync>(
     rt: &R,
     alloc: Global,
     session: &Result<Session, u32>,
     cert: &Result<Cert, u32>,
 ) -> Result<Verdict, AllocError>
-    ensures { (first second : List ℕ) → IsRead SpellsSession first session.now → IsRead SpellsCert second cert.now → IfOk result (IsTextVerdict first second) }
+    ensures verdict { (first second : List ℕ) → IsRead SpellsSession first session.now → IsRead SpellsCert second cert.now → IfOk result (IsTextVerdict first second) }
+    ensures one_session { (first second : List ℕ) → IsRead SpellsSession first session.now → IsRead SpellsCert second cert.now → result ≡ Ok Verdict.Yes → SpellsOneSession first }
+    ensures safe { (first second : List ℕ) → IsRead SpellsSession first session.now → IsRead SpellsCert second cert.now → result ≡ Ok Verdict.Yes → OfSpelled first IsSafe }
+    ensures replays_clean { (first second : List ℕ) → IsRead SpellsSession first session.now → IsRead SpellsCert second cert.now → result ≡ Ok Verdict.Yes → OfSpelled first (ReplaysClean second) }
+    ensures has_merging { (first second : List ℕ) → IsRead SpellsSession first session.now → IsRead SpellsCert second cert.now → result ≡ Ok Verdict.Yes → OfSpelled first HasMerging }
+    ensures finds_resident { (first second : List ℕ) → IsRead SpellsSession first session.now → IsRead SpellsCert second cert.now → result ≡ Ok Verdict.Yes → OfSpelled first FindsResident }
+    ensures reads_flat { (first second : List ℕ) → IsRead SpellsSession first session.now → IsRead SpellsCert second cert.now → result ≡ Ok Verdict.Yes → OfSpelled first ReadsFlat }
+    ensures placed_once { (first second : List ℕ) → IsRead SpellsSession first session.now → IsRead SpellsCert second cert.now → result ≡ Ok Verdict.Yes → OfSpelled first PlacedOnce }
+    ensures placed_untouched { (first second : List ℕ) → IsRead SpellsSession first session.now → IsRead SpellsCert second cert.now → result ≡ Ok Verdict.Yes → OfSpelled first PlacedUntouched }
+    ensures released_as_zeros { (first second : List ℕ) → IsRead SpellsSession first session.now → IsRead SpellsCert second cert.now → result ≡ Ok Verdict.Yes → OfSpelled first ReleasedAsZeros }
 {
-    match session {
-        Ok(session) => match cert {
-            Ok(cert) => check_par(rt, alloc, session, cert),
-            Err(line) => Ok(Verdict::CertText(*line)),
-        },
-        Err(line) => Ok(Verdict::SessionText(*line)),
-    }
+    headline_holds_at_yes();
+    check_read_by(&InThreads { rt }, alloc, session, cert)
 }
 
 /// The verdict on the texts of a session and of its certificate, whoever judges the pages.
@@ -66,14 +103,12 @@ fn check_texts_by<J: EntryJudges>(
 ) -> Result<Verdict, AllocError>
     requires ready { J.ready }
     ensures verdict { IfOk result (IsTextVerdict session.now cert.now) }
-    ensures one_session { result ≡ Ok Verdict.Yes → SpellsOneSession session.now }
-    ensures yes { Promises (result ≡ Ok Verdict.Yes) (OfSpelled session.now) (ReplaysClean cert.now) }
+    ensures headline { result ≡ Ok Verdict.Yes → HeadlineHolds session.now cert.now }
 {
-    session_texts_are_unambiguous();
-    match read_session(alloc, session) {
-        Ok(recorded) => judged(judges, alloc, &recorded, cert),
-        Err(fault) => Ok(Verdict::SessionText(fault.refused_line()?)),
-    }
+    headline_holds_at_yes();
+    let session = session_read(alloc, session)?;
+    let cert = cert_read(alloc, cert)?;
+    check_read_by(judges, alloc, &session, &cert)
 }
 
 /// The verdict on the texts of a session and of its certificate: the first that applies, of all that [`Verdict`] has.

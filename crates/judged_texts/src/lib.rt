@@ -9,7 +9,7 @@ mod replaying;
 mod wanted;
 
 pub use auditing::{Audited, audit_text};
-pub use checking::{check_read, check_texts, check_texts_alone};
+pub use checking::{check_read, check_texts, check_texts_alone, headline_holds_at_yes};
 pub use orders::reports_tell_orders;
 pub use replaying::{Outcome, find_outcome, replay_texts};
 pub use wanted::{Wanted, print_audited, print_wanted};

@@ -127,3 +127,14 @@ abbrev pub log_length : Direction → LinkPart → ℕ
 log_length Downward b = length b.log
 log_length Upward b = length b.log
 log_length OverLane b = length b.lane_log
+
+-- how many records a turn appends, by the packets under way in its direction
+abbrev pub fate_records : Fate → ℕ
+fate_records Deliver = 1
+fate_records Lose = 0
+fate_records Repeat = 1
+fate_records Back = 0
+
+abbrev pub turn_records : Direction → Fate → List Packet → ℕ
+turn_records direction fate [] = 0
+turn_records direction fate (packet ∷ rest) = if goes direction packet then fate_records fate else 0

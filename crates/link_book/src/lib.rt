@@ -9,13 +9,13 @@ mod arrivals;
 mod turns;
 
 pub use migration_events::EventFault as LinkFault;
-use migration_events::{Direction, Fate};
+use migration_events::{Direction, Fate, look_for_room};
 use migration_types::{LaneRec, LinkRec};
 use page_stream::Packet;
 use std::alloc::{AllocError, Global};
 use std::collections::VecDeque;
 use std::marker::Model;
-use turns::turn_line;
+use turns::{records_of_turn, turn_line};
 
 /// A packet that has arrived, with the number of the record that says so, of the lane's log where it came over the lane
 /// and else of the link's.
@@ -162,6 +162,28 @@ impl LinkBook {
             Direction::Up => turn_line(alloc, &mut self.log, &mut self.up, direction, fate),
             Direction::Lane => {
                 turn_line(alloc, &mut self.lane_log, &mut self.lane, direction, fate)
+            }
+        }
+    }
+
+    /// Whether the log of the link that is turned has room for what a turn appends. Takes no memory.
+    pub fn look_to_turn(&self, direction: Direction, fate: Fate) -> Result<(), LinkFault>
+        ensures room { OnOk result (log_length direction (turned direction fate self.now.part) ≤ most_records) }
+        ensures full { OnErr result (most_records < log_length direction (turned direction fate self.now.part)) }
+        ensures memory { IsErrOf result LinkFault.Memory → ⊥ }
+    {
+        match direction {
+            Direction::Down => {
+                let more = records_of_turn(&self.down.line, direction, fate);
+                look_for_room(&self.log, more)
+            }
+            Direction::Up => {
+                let more = records_of_turn(&self.up.line, direction, fate);
+                look_for_room(&self.log, more)
+            }
+            Direction::Lane => {
+                let more = records_of_turn(&self.lane.line, direction, fate);
+                look_for_room(&self.lane_log, more)
             }
         }
     }

@@ -5,7 +5,7 @@ ghost use Rattle.std.specs.VecDeque.{deque_len, deque_capacity};
 ghost use Rattle.migration_events.specs.declared.events.Direction.{Direction as Way};
 ghost use Rattle.migration_types.specs.Limits.{most_records};
 ghost use Rattle.page_stream.specs.Packets.{number_of};
-ghost use Rattle.link_book.specs.LinkPart.{goes, channel_turned};
+ghost use Rattle.link_book.specs.LinkPart.{goes, channel_turned, turn_records};
 ghost use Rattle.link_book.specs.Links.{arrival, channel, HasTurned};
 
 use crate::{Arrival, Channel, LinkFault};
@@ -130,6 +130,23 @@ fn meet_fate<R>(
             line.push_back_reserved(copy);
             Ok(Some(arrive(log.len(), arrivals, packet)))
         }
+    }
+}
+
+/// How many records a turn of a line appends.
+pub fn records_of_turn(line: &VecDeque<Packet>, direction: Direction, fate: Fate) -> usize
+    ensures few { result ≤ 1 }
+    ensures count { result ≡ turn_records direction fate line.now.items }
+{
+    let Some(head) = line.front() else {
+        return 0;
+    };
+    if !belongs(direction, head) {
+        return 0;
+    }
+    match fate {
+        Fate::Deliver | Fate::Repeat => 1,
+        Fate::Lose | Fate::Back => 0,
     }
 }
 

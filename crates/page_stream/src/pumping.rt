@@ -1,8 +1,9 @@
 //! Packets that go from a reader to a writer.
 
-ghost use Rattle.std.specs.Prelude.{◌≡◌, ◌+◌, ◌≤◌, ◌++◌, false, length, vec_len, OnOk, IfOk, IfErr};
+ghost use Rattle.std.specs.Prelude.{◌≡◌, ◌≢◌, ◌+◌, ◌≤◌, ◌++◌, true, false, length, vec_len, OnOk, IfOk, IfErr};
 ghost use Rattle.std.specs.List.{flat_map, AllByRecursion};
 ghost use Rattle.std.specs.Io.KnownBytes.{Appends};
+ghost use Rattle.std.specs.IoError.{error_kind};
 ghost use Rattle.migration_types.specs.Extents.{IsExtent};
 ghost use Rattle.page_stream.specs.Bytes.{packet_bytes, IsShort};
 ghost use Rattle.page_stream.specs.Pumps.{PumpsAll, PumpsUntil};
@@ -42,7 +43,10 @@ pub enum PumpFault {
 // How many bytes are asked for at a time.
 const BUFFER_BYTES: usize = 65_536;
 
-fn is_of_memory(error: &io::Error) -> bool {
+fn is_of_memory(error: &io::Error) -> bool
+    ensures told { result ≡ true → error_kind error.now ≡ ErrorKind.OutOfMemory }
+    ensures other { result ≡ false → error_kind error.now ≢ ErrorKind.OutOfMemory }
+{
     error.kind() == ErrorKind::OutOfMemory
 }
 
@@ -50,6 +54,8 @@ fn is_of_memory(error: &io::Error) -> bool {
 fn fault_of(error: &io::Error, fault: PumpFault) -> PumpFault
     ensures reading { IsOfReading fault → IsOfReading result }
     ensures writing { IsOfWriting fault → IsOfWriting result }
+    ensures memory { error_kind error.now ≡ ErrorKind.OutOfMemory → result ≡ PumpFault.Memory }
+    ensures other { error_kind error.now ≢ ErrorKind.OutOfMemory → result ≡ fault }
 {
     if is_of_memory(error) {
         PumpFault::Memory

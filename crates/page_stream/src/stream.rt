@@ -11,6 +11,7 @@ use crate::decoding::{decode, number_at};
 use bytes::BytesMut;
 use migration_types::{Geometry, Seq};
 use std::alloc::{AllocError, Global};
+use std::fmt::{self, Debug, Formatter};
 use std::marker::Model;
 use thiserror::Error;
 
@@ -37,10 +38,20 @@ pub enum StreamFaultKind {
 
 /// Why a stream does not go on, and the whole packets of that piece ahead of the fault: none where memory was refused
 /// or a fault came before.
-#[derive(Drop)]
+#[derive(Drop, Error)]
+#[error("{kind}")]
 pub struct StreamFault {
     pub kind: StreamFaultKind,
     pub before: Seq<Packet>,
+}
+
+/// Only the kind is shown: packets hold pages.
+impl Debug for StreamFault {
+    fn fmt<W: fmt::Write>(&self, f: &mut Formatter<W>) -> fmt::Result {
+        f.debug_struct("StreamFault")
+            .field("kind", &self.kind)
+            .finish_non_exhaustive()
+    }
 }
 
 /// What stands at the front of some bytes.

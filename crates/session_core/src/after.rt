@@ -10,8 +10,8 @@ ghost use Rattle.session_core.specs.States.{away_of, IsAfter};
 use crate::CoreFault;
 use crate::left::Left;
 use active_push::SourceBook;
-use book_events::{Came, paging, sending};
 use book_events::logs::{LentLogs, logs_of};
+use book_events::{Came, paging, sending};
 use guest_script::Script;
 use link_book::LinkBook;
 use migration_events::Event;
@@ -80,6 +80,48 @@ impl<'a> AfterHalt<'a> {
             Event::PagerTick => paging::pager_tick(&mut self.link, &mut self.pager)?,
         };
         Ok(())
+    }
+
+    /// Whether each log has room for what an event appends. Takes no memory.
+    pub fn look(&self, event: Event) -> Result<(), CoreFault>
+        ensures room { OnOk result (has_room (session_after (away_event event (away_of self.now))) ≡ true) }
+        ensures full { OnErr result (has_room (session_after (away_event event (away_of self.now))) ≡ false) }
+        ensures memory { IsErrOf result CoreFault.Memory → ⊥ }
+    {
+        self.keeps_limits();
+        match event {
+            Event::GuestStep { vcpu } => self.look_to_step(vcpu),
+            Event::Push => {
+                let has_lane = self.script.lane().is_some();
+                let window = self.script.window();
+                sending::look_to_push(&self.source, &self.link, window, has_lane)
+            }
+            Event::Serve => sending::look_to_serve(&self.source, &self.link),
+            Event::SourceTick => sending::look_to_source_tick(&self.source, &self.link),
+            Event::LinkTurn { direction, fate } => self.link.look_to_turn(direction, fate),
+            Event::PagerPop => paging::look_to_pop(&self.link, &self.pager),
+            Event::PagerPull => paging::look_to_pull(&self.link, &self.pager),
+            Event::PagerFault => paging::look_to_fault(&self.pager, &self.target),
+            Event::PagerDeliver => paging::look_to_deliver(&self.pager, &self.target),
+            Event::PagerTick => paging::look_to_pager_tick(&self.link, &self.pager),
+            Event::Halt | Event::PagerFlush => Ok(()),
+        }
+    }
+
+    /// Whether the guest's log has room for what a virtual processor's next operation after its move appends.
+    fn look_to_step(&self, vcpu: u8) -> Result<(), CoreFault>
+        ensures room { OnOk result (has_room (session_after (away_event (Event.GuestStep vcpu) (away_of self.now))) ≡ true) }
+        ensures full { OnErr result (has_room (session_after (away_event (Event.GuestStep vcpu) (away_of self.now))) ≡ false) }
+        ensures memory { IsErrOf result CoreFault.Memory → ⊥ }
+    {
+        self.keeps_limits();
+        let Some(left) = self.vcpus.get(usize::from(vcpu)) else {
+            return Ok(());
+        };
+        let Some((op, _)) = left.late() else {
+            return Ok(());
+        };
+        self.target.look_to_access(vcpu, &op)
     }
 
     /// A virtual processor's next operation after its move: once the guest has resumed it is done, or a read or a write

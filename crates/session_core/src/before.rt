@@ -75,6 +75,51 @@ impl<'a> BeforeHalt<'a> {
         }
     }
 
+    /// Whether each log has room for what an event appends. Takes no memory.
+    pub fn look(&self, event: Event) -> Result<(), CoreFault>
+        ensures room { OnOk result (has_room (session_of (home_event event (home_of self.now))) ≡ true) }
+        ensures full { OnErr result (has_room (session_of (home_event event (home_of self.now))) ≡ false) }
+        ensures memory { IsErrOf result CoreFault.Memory → ⊥ }
+    {
+        match event {
+            Event::GuestStep { vcpu } => self.look_to_step(vcpu),
+            Event::Halt => self.look_to_halt(),
+            _ => {
+                self.keeps_limits();
+                Ok(())
+            }
+        }
+    }
+
+    /// Whether the guest's log has room for what a virtual processor's next operation before its move appends.
+    fn look_to_step(&self, vcpu: u8) -> Result<(), CoreFault>
+        ensures room { OnOk result (has_room (session_before (home_step vcpu (slice_get (home_of self.now).vcpus vcpu) (home_of self.now))) ≡ true) }
+        ensures full { OnErr result (has_room (session_before (home_step vcpu (slice_get (home_of self.now).vcpus vcpu) (home_of self.now))) ≡ false) }
+        ensures memory { IsErrOf result CoreFault.Memory → ⊥ }
+    {
+        self.keeps_limits();
+        let Some(left) = self.vcpus.get(usize::from(vcpu)) else {
+            return Ok(());
+        };
+        let Some((op, _)) = left.early() else {
+            return Ok(());
+        };
+        self.guest.look_to_access(vcpu, &op)
+    }
+
+    /// Whether the guest's log has room for the halt's record, where each virtual processor is at its move.
+    fn look_to_halt(&self) -> Result<(), CoreFault>
+        ensures room { OnOk result (has_room (session_of (home_event Event.Halt (home_of self.now))) ≡ true) }
+        ensures full { OnErr result (has_room (session_of (home_event Event.Halt (home_of self.now))) ≡ false) }
+        ensures memory { IsErrOf result CoreFault.Memory → ⊥ }
+    {
+        self.keeps_limits();
+        if self.all_at_move() {
+            return self.guest.look_to_halt();
+        }
+        Ok(())
+    }
+
     /// A virtual processor does its next operation before its move, which is recorded. One that is at its move, and a
     /// number that is none of the script's virtual processors, does nothing. `CoreFault::LogFull` where the guest's log
     /// has no room for the record. On an error nothing changes.

@@ -1,6 +1,6 @@
 //! The core.
 
-ghost use Rattle.std.specs.Prelude.{◌≡◌, Some, None, IfOk, OnOk, OnErr, IsErrOf};
+ghost use Rattle.std.specs.Prelude.{◌≡◌, Some, None, true, is_some, IfOk, OnOk, OnErr, IsErrOf};
 ghost use Rattle.session_core.specs.States.{scripted_of};
 ghost use Rattle.migration_model.specs.Books.{session_of};
 ghost use Rattle.migration_model.specs.Events.{start, step};
@@ -52,12 +52,13 @@ impl<'a> Core<'a> {
         })
     }
 
-    /// An event. The books and the recorded order are then what the event makes of them. `CoreFault::LogFull` where the
-    /// event needs more records than a log has room for, `CoreFault::Memory` where memory is refused. On an error
-    /// nothing changes.
+    /// An event. The books and the recorded order are then what the event makes of them. `CoreFault::LogFull` exactly
+    /// where the event needs more records than a log has room for, which is looked at before memory is asked for;
+    /// `CoreFault::Memory` where it has room, and memory is refused. On an error nothing changes.
     pub fn step(&mut self, event: Event) -> Result<(), CoreFault>
         ensures ok { OnOk result (step event (machine_of self.old) ≡ Some (machine_of self.new)) }
         ensures full { IsErrOf result CoreFault.LogFull → step event (machine_of self.old) ≡ None }
+        ensures memory { IsErrOf result CoreFault.Memory → is_some (step event (machine_of self.old)) ≡ true }
         ensures err { OnErr result (machine_of self.new ≡ machine_of self.old) }
     {
         step_books(&mut self.state, &mut self.order, event)

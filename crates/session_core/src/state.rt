@@ -49,6 +49,20 @@ impl<'a> State<'a> {
         }
     }
 
+    /// Whether each log has room for what an event appends. Takes no memory.
+    pub fn look(&self, event: Event) -> Result<(), CoreFault>
+        requires { IsHeld self.now }
+        ensures room { OnOk result (has_room (session_of (books_event event (books_of self.now))) ≡ true) }
+        ensures full { OnErr result (has_room (session_of (books_event event (books_of self.now))) ≡ false) }
+        ensures memory { IsErrOf result CoreFault.Memory → ⊥ }
+    {
+        match self {
+            State::Before(before) => before.look(event),
+            State::After(after) => after.look(event),
+            State::Halting => Ok(()),
+        }
+    }
+
     /// The guest's halt, where it has not halted.
     fn halt(&mut self) -> Result<(), CoreFault>
         requires held { IsHeld self.old }

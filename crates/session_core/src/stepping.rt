@@ -1,6 +1,6 @@
 //! An event on the books and on the recorded order.
 
-ghost use Rattle.std.specs.Prelude.{◌≡◌, Some, None, OnOk, OnErr, IsErrOf};
+ghost use Rattle.std.specs.Prelude.{◌≡◌, Some, None, true, is_some, OnOk, OnErr, IsErrOf};
 ghost use Rattle.migration_model.specs.Events.{step};
 ghost use Rattle.migration_model.specs.Promise.{IsReached};
 ghost use Rattle.session_core.specs.Cores.{machine, IsHeld};
@@ -11,8 +11,8 @@ use crate::state::State;
 use migration_events::Event;
 use migration_types::LogName;
 
-/// An event on the books; the names of the records that it appends are appended to the order. On an error nothing
-/// changes.
+/// An event on the books; the names of the records that it appends are appended to the order. Whether the logs have room
+/// is looked at before memory is asked for. On an error nothing changes.
 pub fn step_books(
     state: &mut State<'_>,
     order: &mut Vec<(LogName, u32)>,
@@ -23,8 +23,10 @@ pub fn step_books(
     ensures held { IsHeld state.new }
     ensures ok { OnOk result (step event (machine state.old order.old.items) ≡ Some (machine state.new order.new.items)) }
     ensures full { IsErrOf result CoreFault.LogFull → step event (machine state.old order.old.items) ≡ None }
+    ensures memory { IsErrOf result CoreFault.Memory → is_some (step event (machine state.old order.old.items)) ≡ true }
     ensures err { OnErr result (machine state.new order.new.items ≡ machine state.old order.old.items) }
 {
+    state.look(event)?;
     order.reserve(MOST_NAMES)?;
     let old = state.lengths();
     state.event(event)?;

@@ -1,6 +1,6 @@
 -- Which faults every order of the records shows.
-use Rattle.std.proofs.Common.{◌≡◌, ℕ, ◌<◌, ◌≤◌, ◌⊎◌, inl, inr, Bool, true, false, List, length, Option, Some, None, refl, sym, ap, ◌∙◌, subst, arith, eqb-true}
-use Rattle.std.specs.Prelude.{Contains, slice_get}
+use Rattle.std.proofs.Common.{◌≡◌, ℕ, ◌<◌, ◌≤◌, ◌⊎◌, inl, inr, true, false, List, length, Option, Some, None, refl, sym, ap, ◌∙◌, subst, arith, eqb-true}
+use Rattle.std.specs.Prelude.{slice_get}
 use Rattle.std.proofs.lemmas.Bool.{cases_lt}
 use Rattle.std.proofs.lemmas.Option.{slice_get_within}
 use Rattle.migration_types.specs.declared.records.LogName.{LogName}
@@ -15,19 +15,18 @@ use Rattle.migration_types.specs.Sessions.{Recorded}
 use Rattle.audit_model.specs.declared.reasons.PageReason.{PageReason}
 use Rattle.audit_model.specs.declared.reasons.PageReason.TheVariants.{Read as WrongRead, Early, Given, Stale, Twice, Altered, Unfit, Over}
 use Rattle.audit_model.specs.Names.{if_there}
-use Rattle.audit_model.specs.Mergings.{IsMerging, StandsAfter, Cursors, at_start}
-use Rattle.audit_model.specs.Flat.{home}
-use Rattle.audit_model.specs.World.{Demand, world_after, pager_demand, if_record}
+use Rattle.audit_model.specs.Mergings.{IsMerging, Cursors, at_start}
+use Rattle.audit_model.specs.World.{world_after, pager_demand, if_record}
 use Rattle.audit_model.specs.Shape.{IsRightShape, is_placement_of, earlier}
 use Rattle.audit_model.specs.Certificates.{is_access_of, IsLateTouch}
 use Rattle.audit_model.specs.Faults.{IsEarly, GuestFault, SourceFault, PagerFault, if_fault, IsPageFault}
-use Rattle.audit_model.specs.Delayed.{IsDelayed, itself, later}
+use Rattle.audit_model.specs.Delayed.{IsDelayed, later}
 use Rattle.audit_model.specs.Laws.{BreaksAt, UnplacedBefore}
 use Rattle.audit_model.specs.Walks.{next, cursors_from}
 use Rattle.audit_model.specs.Worlds.{IsConsistentCut}
 use Rattle.audit_model.proofs.Clean.{early_breaks, fault_over, IsOverPlacement, false_if_not_true, clash}
 use Rattle.audit_model.proofs.Consistent.{next_is_cut}
-use Rattle.audit_model.proofs.Cuts.{cursor_next, merging_walks}
+use Rattle.audit_model.proofs.Cuts.{merging_walks}
 use Rattle.audit_model.proofs.Entries.{itself as release_touches}
 use Rattle.audit_model.proofs.History.{earlier_true, earlier_witness}
 use Rattle.audit_model.proofs.Orders.{is_at}
@@ -36,9 +35,7 @@ use Rattle.audit_model.proofs.Unsafe.{faults_break, unplaced_breaks}
 use Rattle.audit_model.proofs.Walked.{passed, walk_at}
 use Rattle.page_facts.specs.declared.findings.Findings.{Findings}
 use Rattle.page_facts.specs.Findings.{IsFindings}
-use Rattle.page_facts.specs.Judged.{is_late_touch}
 use Rattle.page_facts.specs.PageFaults.{page_at}
-use Rattle.page_facts.specs.Tables.{first_before}
 use Rattle.page_facts.proofs.Before.{first_none, first_some, IsFirstAt}
 use Rattle.page_facts.proofs.RightEntry.{late_first}
 use Rattle.migration_types.specs.Paged.{guest_page, pager_page}

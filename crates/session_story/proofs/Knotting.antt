@@ -1,6 +1,6 @@
 -- The lines of records that wait for one another, one after the other.
-use Rattle.std.proofs.Common.{◌≡◌, ◌∙◌, ℕ, ◌+◌, ◌<◌, ◌≤◌, List, [], ◌∷◌, ◌++◌, length, drop, get_or, sym, ap}
-use Rattle.std.proofs.lemmas.List.{append-nil, append_assoc, drop_more}
+use Rattle.std.proofs.Common.{◌≡◌, ◌∙◌, ℕ, ◌+◌, ◌<◌, List, ◌++◌, length, drop, get_or, sym, ap}
+use Rattle.std.proofs.lemmas.List.{append_assoc, drop_more}
 use Rattle.migration_types.specs.Sessions.{Recorded}
 use Rattle.session_story.specs.declared.waits.Knot.{Knot}
 use Rattle.session_story.specs.declared.waits.Waiting.{Waiting}

@@ -1,4 +1,5 @@
 pub mod Scanning
+pub mod Unasked
 pub mod Looking
 pub mod Paged
 pub mod Causing

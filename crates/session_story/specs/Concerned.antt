@@ -1,5 +1,5 @@
 -- The other record that is told of a fault: the one that it concerns.
-use Rattle.std.specs.Prelude.{ℕ, List, [], ◌∷◌, Option, Some, None, slice_get}
+use Rattle.std.specs.Prelude.{ℕ, ◌==◌, Bool, false, List, [], ◌∷◌, Option, Some, None, slice_get, if◌then◌else◌}
 use Rattle.migration_types.specs.declared.records.LogName.{LogName}
 use Rattle.migration_types.specs.declared.records.LogName.TheVariants.{Guest, Source, Pager}
 use Rattle.migration_types.specs.declared.records.GuestRec.{GuestRec}
@@ -71,17 +71,22 @@ named_by_row (Some row) = named_among row.fields
 abbrev pub named_by : Recorded → Name → Option Name
 named_by s name = named_by_row (row_of s name)
 
--- the record of the handover that a record of the guest has to heed: a second one the first of its kind, what needs
--- the target the resume, and anything else the halt
-abbrev pub heeded : Handover → Option GuestRec → Option ℕ
-heeded h (Some (guest.Resume ready)) = h.resume
-heeded h (Some (guest.Miss vcpu page)) = h.resume
-heeded h (Some (guest.See placement)) = h.resume
-heeded h other = h.halt
+-- whether the number is this one
+abbrev pub is_number : ℕ → Option ℕ → Bool
+is_number n None = false
+is_number n (Some m) = m == n
+
+-- The record of the handover that the guest's record n has to heed: a second halt or resume the first, the first resume the
+-- halt, what needs the target the resume, and anything else the halt.
+abbrev pub heeded : Handover → ℕ → Option GuestRec → Option ℕ
+heeded h n (Some (guest.Resume ready)) = if is_number n h.resume then h.halt else h.resume
+heeded h n (Some (guest.Miss vcpu page)) = h.resume
+heeded h n (Some (guest.See placement)) = h.resume
+heeded h n other = h.halt
 
 -- of a record with this fault of its shape
 abbrev pub shape_concerned_for : Recorded → ShapeReason → ShapeStory → Option Name
-shape_concerned_for s shape.Phases story = named_in Guest (heeded story.handover (slice_get s.guest story.fault.place))
+shape_concerned_for s shape.Phases story = named_in Guest (heeded story.handover story.fault.place (slice_get s.guest story.fault.place))
 shape_concerned_for s shape.Named story = named_by s (story.fault.log, story.fault.place)
 shape_concerned_for s shape.Start story = None
 shape_concerned_for s shape.SecondSend story = named_in Source story.sent

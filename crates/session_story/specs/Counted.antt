@@ -1,5 +1,5 @@
 -- How many pages came in which way, and how much else there is of a session.
-use Rattle.std.specs.Prelude.{◌≡◌, ℕ, zero, suc, Bool, true, false, not, ◌==◌, List, length, slice_get}
+use Rattle.std.specs.Prelude.{◌≡◌, ℕ, Bool, true, false, not, ◌==◌, ◌&&◌, ◌||◌, List, length, Option, Some, None, slice_get}
 use Rattle.migration_types.specs.declared.cert.Entry.{Entry}
 use Rattle.migration_types.specs.declared.cert.Entry.TheVariants.{Nothing, Source, Balloon}
 use Rattle.migration_types.specs.declared.records.SourceRec.{SourceRec}
@@ -10,7 +10,9 @@ use Rattle.migration_types.specs.declared.records.PagerRec.{PagerRec}
 use Rattle.migration_types.specs.declared.records.PagerRec.TheVariants.{Want, Join, Skip}
 use Rattle.migration_types.specs.Sessions.{Recorded}
 use Rattle.audit_model.specs.Certificates.{is_fresh}
-use Rattle.audit_model.specs.Shape.{passes, is_miss}
+use Rattle.audit_model.specs.Flat.{before}
+use Rattle.audit_model.specs.Names.{if_there}
+use Rattle.audit_model.specs.Shape.{passes, is_miss, is_send_of}
 use Rattle.session_story.specs.Scans.{how_many}
 use Rattle.session_story.specs.declared.counting.Counts.{Counts}
 
@@ -46,23 +48,27 @@ abbrev pub is_skip : PagerRec → Bool
 is_skip (Skip got) = true
 is_skip _ = false
 
--- a question for the page, its delivery up, and the source's record that takes this delivery
-abbrev pub is_want_of : ℕ → PagerRec → Bool
-is_want_of page (Want p) = p == page
-is_want_of page _ = false
+-- the page that the pager's record asks for, that a delivery up asks for, and that the source is asked for
+abbrev pub wanted : PagerRec → Option ℕ
+wanted (Want page) = Some page
+wanted _ = None
 
-abbrev pub brings_want : Recorded → ℕ → LinkRec → Bool
-brings_want s page (Up asking) = passes (is_want_of page) (slice_get s.pager asking)
-brings_want s page (Down sending) = false
+abbrev pub brought : Recorded → LinkRec → Option ℕ
+brought s (Up asking) = if_there wanted (slice_get s.pager asking)
+brought s (Down sending) = None
 
-abbrev pub takes_want : Recorded → ℕ → SourceRec → Bool
-takes_want s page (Ask up) = passes (brings_want s page) (slice_get s.link up)
-takes_want s page _ = false
+abbrev pub asked_for : Recorded → SourceRec → Option ℕ
+asked_for s (Ask up) = if_there (brought s) (slice_get s.link up)
+asked_for s _ = None
 
--- whether the source's record right before record n takes a question for the page
+-- whether the page is asked for behind the source's record, by whether it was before: an `ask` asks for it, and its `send`
+-- answers that
+abbrev pub asked_after : Recorded → ℕ → SourceRec → Bool → Bool
+asked_after s page r asked = passes (λ p. p == page) (asked_for s r) || (asked && not (is_send_of page r))
+
+-- whether an `ask` for the page stands before the source's record n, and no `send` between answered it
 abbrev pub was_asked : Recorded → ℕ → ℕ → Bool
-was_asked s page zero = false
-was_asked s page (suc n) = passes (takes_want s page) (slice_get s.source n)
+was_asked s page n = before (asked_after s page) false s.source n
 
 -- a `send` that does not answer a question for its page
 abbrev pub is_push : Recorded → ℕ → SourceRec → Bool

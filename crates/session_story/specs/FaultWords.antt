@@ -1,5 +1,5 @@
 -- A fault of a page in words: which record is faulty, what is wrong with it, and what went wrong with the page before.
-use Rattle.std.specs.Prelude.{ℕ, Bool, true, false, List, [], ◌∷◌, ◌++◌, Option, Some, None, codes, slice_get}
+use Rattle.std.specs.Prelude.{ℕ, Bool, true, false, List, [], ◌++◌, Option, Some, None, codes, slice_get}
 use Rattle.std.specs.Fmt.{decimal}
 use Rattle.migration_types.specs.declared.records.LogName.{LogName}
 use Rattle.migration_types.specs.declared.records.LogName.TheVariants.{Guest, Source, Pager}
@@ -12,7 +12,6 @@ use Rattle.migration_types.specs.Rows.{source_contents, pager_contents}
 use Rattle.migration_types.specs.Sessions.{Recorded}
 use Rattle.audit_model.specs.declared.reasons.PageReason.{PageReason}
 use Rattle.audit_model.specs.declared.reasons.PageReason.TheVariants.{Early, Given, Twice, Unfit, Over}
-use Rattle.audit_model.specs.Names.{if_there}
 use Rattle.audit_model.specs.Shape.{delivery}
 use Rattle.session_story.specs.Amended.{value_at}
 use Rattle.session_story.specs.declared.looks.Look.{Look}

@@ -1,5 +1,5 @@
 -- Records that wait for one another, in words.
-use Rattle.std.specs.Prelude.{ℕ, zero, suc, ◌==◌, ◌+◌, List, [], ◌∷◌, ◌++◌, length, Option, Some, None, codes, slice_get, if◌then◌else◌}
+use Rattle.std.specs.Prelude.{ℕ, ◌==◌, ◌+◌, List, [], ◌∷◌, ◌++◌, Option, Some, None, codes, if◌then◌else◌}
 use Rattle.migration_types.specs.Sessions.{Recorded}
 use Rattle.session_story.specs.Waits.{next_in}
 use Rattle.session_story.specs.declared.waits.Waiting.{Waiting}

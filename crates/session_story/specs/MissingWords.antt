@@ -1,5 +1,5 @@
 -- What a session lacks that tells of no whole migration, in words.
-use Rattle.std.specs.Prelude.{ℕ, List, [], ◌∷◌, ◌++◌, length, Option, Some, None, codes}
+use Rattle.std.specs.Prelude.{ℕ, List, [], ◌++◌, length, Option, Some, None, codes}
 use Rattle.std.specs.Fmt.{decimal}
 use Rattle.migration_types.specs.declared.records.LogName.TheVariants.{Guest, Source, Link, Lane, Pager}
 use Rattle.migration_types.specs.Sessions.{Recorded}
@@ -10,6 +10,7 @@ use Rattle.completeness.specs.declared.missing.Missing.TheVariants as missing
 use Rattle.page_facts.specs.Tables.{first_before}
 use Rattle.session_story.specs.Pages.{carries, lane_carries}
 use Rattle.session_story.specs.RecordWords.{placed, recorded}
+use Rattle.session_story.specs.Scans.{last_before}
 
 unfoldable pub nothing_wrong : List ℕ
 nothing_wrong = codes "Nothing in the logs is wrong, but they do not tell of a whole migration.\n"
@@ -62,17 +63,17 @@ unfoldable pub unresumed_words : Recorded → List ℕ
 unresumed_words s = unresumed ++ halted_at s (first_before (λ m. is_halt) s.guest (length s.guest))
 
 unfoldable pub unsaid : List ℕ
-unsaid = codes "The pager never said that every owed page had come: its log has no `all`. Each of them came.\n"
+unsaid = codes "The pager never said that every owed page had come: its log has no `all` behind their placements. Each of them came.\n"
 
 unfoldable pub unlearned : List ℕ
-unlearned = codes "The source never learned that every owed page had come: its log has no `done`.\n"
+unlearned = codes "The source never learned that every owed page had come: its log has no `done` behind the `ask` of that.\n"
 
 unfoldable pub said_at : Recorded → Option ℕ → List ℕ
 said_at s None = []
 said_at s (Some n) = placed (codes "The pager said so at ") s (Pager, n)
 
 unfoldable pub unlearned_words : Recorded → List ℕ
-unlearned_words s = unlearned ++ said_at s (first_before (λ m. is_all) s.pager (length s.pager))
+unlearned_words s = unlearned ++ said_at s (last_before (λ m. is_all) s.pager (length s.pager))
 
 unfoldable pub untaken_words : Recorded → ℕ → List ℕ
 untaken_words s n = recorded [] s (Pager, n) ++ codes "The pager has no `place` and no `skip` of what it took there.\n"

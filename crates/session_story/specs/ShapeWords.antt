@@ -1,6 +1,5 @@
 -- A record that has not the right shape, in words: which one, and the rule that it breaks.
-use Rattle.std.specs.Prelude.{ℕ, Bool, nat_lt, List, [], ◌∷◌, ◌++◌, Option, Some, None, codes, slice_get, if◌then◌else◌}
-use Rattle.std.specs.Fmt.{decimal}
+use Rattle.std.specs.Prelude.{ℕ, Bool, nat_lt, List, [], ◌++◌, Option, Some, None, codes, slice_get, if◌then◌else◌}
 use Rattle.migration_types.specs.declared.records.LogName.{LogName}
 use Rattle.migration_types.specs.declared.records.LogName.TheVariants.{Guest, Source, Pager}
 use Rattle.migration_types.specs.declared.records.GuestRec.{GuestRec}
@@ -14,7 +13,7 @@ use Rattle.audit_model.specs.declared.reasons.ShapeReason.TheVariants.{Phases, N
 use Rattle.session_story.specs.Concerned.{named_by}
 use Rattle.session_story.specs.declared.pages.Handover.{Handover}
 use Rattle.session_story.specs.declared.faults.ShapeStory.{ShapeStory}
-use Rattle.session_story.specs.RecordWords.{has_lane, number_words, place_words, record_words, recorded, wanted_by}
+use Rattle.session_story.specs.RecordWords.{has_lane, number_words, place_words, recorded, wanted_by}
 
 -- ---- phases
 

@@ -1,6 +1,6 @@
 -- A page's story in words: the records that say how it came from the source to the target, in the order in which they
 -- should happen, and what is not there.
-use Rattle.std.specs.Prelude.{ℕ, Bool, true, false, not, is_some, List, [], ◌∷◌, ◌++◌, Option, Some, None, codes, slice_get, if◌then◌else◌}
+use Rattle.std.specs.Prelude.{ℕ, Bool, true, false, not, is_some, List, [], ◌++◌, Option, Some, None, codes, slice_get, if◌then◌else◌}
 use Rattle.std.specs.Fmt.{decimal}
 use Rattle.migration_types.specs.declared.records.LogName.{LogName}
 use Rattle.migration_types.specs.declared.records.LogName.TheVariants.{Guest, Source, Link, Lane, Pager}
@@ -24,8 +24,16 @@ step_words s log is none place = codes "  " ++ step_in s log is none place ++ co
 unfoldable pub page_heading : ℕ → List ℕ
 page_heading page = codes "What the logs say of page " ++ decimal page ++ codes ":\n"
 
-unfoldable pub changed_step : Recorded → Option ℕ → List ℕ
-changed_step s place = step_words s Guest (codes ", its last change before the halt") (codes "the guest neither writes nor releases it before the halt") place
+-- what a change and none is, where there is a halt and where there is none
+abbrev pub change_words : Bool → List ℕ
+change_words halted = if halted then codes ", its last change before the halt" else codes ", its last change"
+
+abbrev pub unchanged_words : Bool → List ℕ
+unchanged_words halted =
+    if halted then codes "the guest neither writes nor releases it before the halt" else codes "the guest neither writes nor releases it"
+
+unfoldable pub changed_step : Recorded → Bool → Option ℕ → List ℕ
+changed_step s halted place = step_words s Guest (change_words halted) (unchanged_words halted) place
 
 unfoldable pub halt_step : Recorded → Option ℕ → List ℕ
 halt_step s place = step_words s Guest [] (codes "the guest is not halted") place
@@ -75,7 +83,7 @@ touch_step s releases place = step_words s Guest (touch_words releases) (codes "
 -- how a page came to the target
 unfoldable pub way_words : Recorded → PageStory → Option ℕ → List ℕ
 way_words s page halt =
-    page_heading page.page ++ changed_step s page.changed ++ halt_step s halt ++ sent_step s page.sent ++ delivery_step s page ++ taken_step s page.got
+    page_heading page.page ++ changed_step s (is_some halt) page.changed ++ halt_step s halt ++ sent_step s page.sent ++ delivery_step s page ++ taken_step s page.got
 
 -- what became of it there
 unfoldable pub there_words : Recorded → PageStory → List ℕ

@@ -1,10 +1,9 @@
 -- What is told of a session, in words.
-use Rattle.std.specs.Prelude.{ℕ, zero, suc, ◌==◌, Bool, true, false, ◌&&◌, ◌||◌, is_some, List, [], ◌∷◌, ◌++◌, Option, Some, None, codes, if◌then◌else◌}
+use Rattle.std.specs.Prelude.{ℕ, ◌==◌, Bool, false, ◌&&◌, ◌||◌, is_some, List, [], ◌++◌, Option, Some, None, codes, if◌then◌else◌}
 use Rattle.std.specs.Fmt.{decimal}
 use Rattle.migration_types.specs.Receipts.{Name}
 use Rattle.migration_types.specs.Sessions.{Recorded}
 use Rattle.audit_model.specs.Names.{same_log}
-use Rattle.page_facts.specs.declared.page_fault.PageFault.{PageFault}
 use Rattle.audit_report.specs.declared.report.Report.{Report}
 use Rattle.audit_report.specs.declared.report.Report.TheVariants as report
 use Rattle.session_story.specs.declared.explaining.Explanation.{Explanation}

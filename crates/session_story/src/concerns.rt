@@ -1,7 +1,7 @@
 //! The other record that is told of a fault: the one that it concerns.
 
 ghost use Rattle.std.specs.Prelude.{◌≡◌, slice_get};
-ghost use Rattle.session_story.specs.Concerned.{concerned_in, concerned_of, heeded, named_among, named_by, named_in, shape_concerned_by};
+ghost use Rattle.session_story.specs.Concerned.{concerned_in, concerned_of, heeded, is_number, named_among, named_by, named_in, shape_concerned_by};
 
 use crate::explaining::Explanation;
 use crate::faults::{FaultStory, ShapeStory};
@@ -47,11 +47,22 @@ pub(crate) fn named_by(session: &Session, name: Name) -> Option<Name>
     }
 }
 
-/// The record of the handover that a record of the guest has to heed.
-fn heeded(handover: &Handover, rec: Option<GuestRec>) -> Option<u32>
-    ensures { result ≡ heeded handover.now rec }
+/// Whether the number is this one.
+fn is_number(n: u32, number: Option<u32>) -> bool
+    ensures { result ≡ is_number n number }
+{
+    match number {
+        Some(number) => number == n,
+        None => false,
+    }
+}
+
+/// The record of the handover that the guest's record of this number has to heed.
+fn heeded(handover: &Handover, n: u32, rec: Option<GuestRec>) -> Option<u32>
+    ensures { result ≡ heeded handover.now n rec }
 {
     match rec {
+        Some(GuestRec::Resume { .. }) if is_number(n, handover.resume) => handover.halt,
         Some(GuestRec::Resume { .. } | GuestRec::Miss { .. } | GuestRec::See { .. }) => {
             handover.resume
         }
@@ -67,7 +78,7 @@ fn shape_concerned_by(session: &Session, story: &ShapeStory) -> Option<Name>
     match fault.reason {
         ShapeReason::Phases => {
             let rec = session.guest().get(fault.place as usize).copied();
-            named_in(LogName::Guest, heeded(&story.handover, rec))
+            named_in(LogName::Guest, heeded(&story.handover, fault.place, rec))
         }
         ShapeReason::Named => named_by(session, (fault.log, fault.place)),
         ShapeReason::Start => None,

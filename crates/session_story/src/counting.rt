@@ -1,12 +1,14 @@
 //! How much there is of each thing in a session.
 
-ghost use Rattle.std.specs.Prelude.{◌≤◌, length};
+ghost use Rattle.std.specs.Prelude.{◌≤◌, length, IfOk};
 ghost use Rattle.migration_types.specs.Limits.{most_pages};
 ghost use Rattle.session_story.specs.Counted.{IsCounts};
 
+use crate::asking::count_of_pushes;
 use crate::questions::{EntryQuestion, GuestQuestion, PagerQuestion, SourceQuestion};
 use crate::scans::count_of;
 use migration_types::{Entry, Session};
+use std::alloc::{AllocError, Global};
 
 /// How many pages came in which way, by a certificate, and how many records there are of some kinds.
 #[derive(Clone, Copy, Debug, PartialEq, Eq)]
@@ -36,23 +38,24 @@ pub struct Counts {
 }
 
 /// How many pages came in which way, by the entries of a certificate, and how many records there are of some kinds.
-/// Takes a few passes over the logs, and no memory.
-pub fn counts_of(session: &Session, entries: &[Entry]) -> Counts
+/// Takes a few passes over the logs, and memory for a mark of each page, which is the only error.
+pub fn counts_of(alloc: Global, session: &Session, entries: &[Entry]) -> Result<Counts, AllocError>
     requires { length entries.now ≤ most_pages }
-    ensures { IsCounts session.now entries.now result }
+    ensures { IfOk result (IsCounts session.now entries.now) }
 {
     session.keeps_limits();
-    Counts {
+    let pushes = count_of_pushes(alloc, session)?;
+    Ok(Counts {
         unmoved: count_of(session, &EntryQuestion::Unmoved, entries),
         fresh: count_of(session, &EntryQuestion::Fresh, entries),
         sent: count_of(session, &EntryQuestion::Sent, entries),
         zeroed: count_of(session, &EntryQuestion::Zeroed, entries),
         misses: count_of(session, &GuestQuestion::Miss, session.guest()),
         sends: count_of(session, &SourceQuestion::Send, session.source()),
-        pushes: count_of(session, &SourceQuestion::Push, session.source()),
+        pushes,
         repeats: count_of(session, &SourceQuestion::Again, session.source()),
         waits: count_of(session, &PagerQuestion::Join, session.pager()),
         dropped: count_of(session, &PagerQuestion::Skip, session.pager()),
         by_lane: session.lane().len() as u32,
-    }
+    })
 }

@@ -33,11 +33,11 @@ pub enum Explanation {
 }
 
 /// The counts of a clean session.
-fn clean_counts(session: &Session, cert: &Cert) -> Counts
-    ensures { IsCounts session.now cert.now.entries result }
+fn clean_counts(alloc: Global, session: &Session, cert: &Cert) -> Result<Counts, AllocError>
+    ensures { IfOk result (IsCounts session.now cert.now.entries) }
 {
     cert.keeps_limits();
-    counts_of(session, cert.entries())
+    counts_of(alloc, session, cert.entries())
 }
 
 /// How many pages have a fault beside the one of the session's first.
@@ -66,6 +66,6 @@ pub fn explain(alloc: Global, session: &Session, report: &Report) -> Result<Expl
             let more = more_faulty(alloc, session, fault)?;
             Ok(Explanation::Faulty { story, more })
         }
-        Report::Clean(cert) => Ok(Explanation::Clean(clean_counts(session, cert))),
+        Report::Clean(cert) => Ok(Explanation::Clean(clean_counts(alloc, session, cert)?)),
     }
 }

@@ -3,6 +3,7 @@
 #![tactic(auto)]
 
 mod amends;
+mod asking;
 mod concerns;
 mod contents;
 mod counting;

@@ -3,7 +3,6 @@
 ghost use Rattle.std.specs.Prelude.{◌≡◌};
 ghost use Rattle.session_story.specs.Values.{sets};
 ghost use Rattle.session_story.specs.Pages.{changes, carries, lane_carries};
-ghost use Rattle.session_story.specs.Counted.{is_want_of, brings_want, takes_want, is_push};
 ghost use Rattle.session_story.specs.inner.Questions.{asks_guest, asks_source, asks_link, asks_lane, asks_pager, asks_entry};
 
 use crate::scans::Question;
@@ -29,8 +28,6 @@ pub(crate) enum SourceQuestion {
     SendOf(PageNo),
     /// Whether it sends some page for the first time.
     Send,
-    /// Whether it does so though the source was not asked for that page right before.
-    Push,
     Again,
 }
 
@@ -112,57 +109,6 @@ fn lane_carries(session: &Session, rec: &LaneRec, page: PageNo) -> bool
     }
 }
 
-/// Whether a record asks for the page.
-fn is_want_of(rec: &PagerRec, page: PageNo) -> bool
-    ensures { result ≡ is_want_of page rec.now }
-{
-    match rec {
-        PagerRec::Want { page: wanted } => wanted.number() == page.number(),
-        _ => false,
-    }
-}
-
-/// Whether a record delivers a question for the page.
-fn brings_want(session: &Session, rec: &LinkRec, page: PageNo) -> bool
-    ensures { result ≡ brings_want session.now page rec.now }
-{
-    match *rec {
-        LinkRec::Up { asking } => session
-            .pager()
-            .get(asking as usize)
-            .is_some_and(|rec| is_want_of(rec, page)),
-        LinkRec::Down { .. } => false,
-    }
-}
-
-/// Whether a record takes a question for the page.
-fn takes_want(session: &Session, rec: &SourceRec, page: PageNo) -> bool
-    ensures { result ≡ takes_want session.now page rec.now }
-{
-    match rec {
-        SourceRec::Ask { up } => session
-            .link()
-            .get(*up as usize)
-            .is_some_and(|rec| brings_want(session, rec, page)),
-        _ => false,
-    }
-}
-
-/// Whether the source's record of this number sends a page for which it was not asked right before.
-fn is_push(session: &Session, n: usize, rec: &SourceRec) -> bool
-    ensures { result ≡ is_push session.now n rec.now }
-{
-    let SourceRec::Send { page, .. } = rec else {
-        return false;
-    };
-    let asked = n > 0
-        && session
-            .source()
-            .get(n - 1)
-            .is_some_and(|rec| takes_want(session, rec, *page));
-    !asked
-}
-
 impl Question for GuestQuestion {
     type Record = GuestRec;
 
@@ -184,11 +130,10 @@ impl Question for SourceQuestion {
 
     ghost holds = { asks_source };
 
-    fn holds(&self, session: &Session, n: usize, rec: &SourceRec) -> bool {
+    fn holds(&self, _session: &Session, _n: usize, rec: &SourceRec) -> bool {
         match *self {
             SourceQuestion::SendOf(page) => is_send_of(rec, page),
             SourceQuestion::Send => matches!(rec, SourceRec::Send { .. }),
-            SourceQuestion::Push => is_push(session, n, rec),
             SourceQuestion::Again => matches!(rec, SourceRec::Again { .. }),
         }
     }

@@ -85,6 +85,17 @@ impl GuestBook {
         Ok(done.answer)
     }
 
+    /// Whether the log has room for the record of an operation of a virtual processor. Takes no memory.
+    pub fn look_to_access(&self, v: u8, op: &Op) -> Result<(), TargetFault>
+        ensures room { OnOk result (length (guest_access v op.now (part_of self.now)).log ≤ most_records) }
+        ensures full { OnErr result (most_records < length (guest_access v op.now (part_of self.now)).log) }
+        ensures memory { IsErrOf result TargetFault.Memory → ⊥ }
+    {
+        let (_v, _op) = (v, op);
+        let log = &self.log;
+        look_for_room(log, 1)
+    }
+
     /// Whether the log has room for the record of the halt. Takes no memory.
     pub fn look_to_halt(&self) -> Result<(), TargetFault>
         ensures room { OnOk result (length (halted_target self.now.log).log ≤ most_records) }

@@ -1,6 +1,6 @@
 //! What the target holds, and what its part of each event makes of it.
 
-ghost use Rattle.std.specs.Prelude.{◌≡◌, [], ◌∷◌, ◌++◌, ◌<◌, ◌≤◌, ◌+◌, Some, None, false, replicate, vec_len, vec_capacity, length, IfOk, IfErr, OnOk, OnErr, IsErrOf};
+ghost use Rattle.std.specs.Prelude.{◌≡◌, ℕ, [], ◌∷◌, ◌++◌, ◌<◌, ◌≤◌, ◌+◌, Some, None, false, replicate, vec_len, vec_capacity, length, IfOk, IfErr, OnOk, OnErr, IsErrOf};
 ghost use Rattle.migration_types.specs.Limits.{most_records};
 ghost use Rattle.migration_types.specs.Extents.{Extent};
 ghost use Rattle.migration_events.specs.Ops.{page_in, answer_of, OpFits};
@@ -100,6 +100,42 @@ impl State {
         match op {
             Op::Release { .. } => self.free(vcpu, op),
             _ => self.miss(vcpu, page),
+        }
+    }
+
+    /// How many records an operation of a virtual processor appends.
+    pub(crate) fn records_of_access(&self, vcpu: u8, op: &Op) -> usize
+        requires sized { IsSized (held self.now).frames.geometry (held self.now) }
+        requires fits { OpFits (held self.now).frames.geometry op.now }
+        ensures few { result ≤ 2 }
+        ensures count { length (target_access vcpu op.now (part_held (held self.now))).book.log ≡ length self.now.log.items + result }
+    {
+        if !self.is_resumed {
+            return 0;
+        }
+        let page = op.page();
+        if self.places.placed_at(page).is_some() {
+            return if self.places.covers(page) { 1 } else { 2 };
+        }
+        if self.places.resident(page) {
+            return 1;
+        }
+        match op {
+            Op::Release { .. } => 1,
+            _ => self.records_of_miss(vcpu),
+        }
+    }
+
+    /// How many records appends what misses a page: none where a miss of the virtual processor stands.
+    fn records_of_miss(&self, vcpu: u8) -> usize
+        requires { IsSized (held self.now).frames.geometry (held self.now) }
+        ensures few { result ≤ 1 }
+        ensures count { (page : ℕ) → length (misses_page vcpu page (part_held (held self.now))).book.log ≡ length self.now.log.items + result }
+    {
+        if self.standing[usize::from(vcpu)] {
+            0
+        } else {
+            1
         }
     }
 

@@ -11,8 +11,8 @@ ghost use Rattle.residency.specs.Placements.{is_resident};
 ghost use Rattle.migration_events.specs.Ops.{OpFits};
 ghost use Rattle.target_side.specs.Kept.{part_of, geometry_of, HaveGrown};
 
-use crate::{Access, Missing, TargetFault};
 use crate::state::State;
+use crate::{Access, Missing, TargetFault};
 use migration_events::{Op, look_for_room};
 use migration_types::{Contents, Geometry, GuestRec, PageNo};
 use page_store::Store;
@@ -96,6 +96,17 @@ impl TargetBook {
         ensures err { OnErr result (self.new ≡ self.old) }
     {
         self.state.access(vcpu, &op)
+    }
+
+    /// Whether the log has room for what an operation of a virtual processor appends. Takes no memory.
+    pub fn look_to_access(&self, vcpu: u8, op: &Op) -> Result<(), TargetFault>
+        requires { OpFits (geometry_of self.now) op.now }
+        ensures room { OnOk result (length (target_access vcpu op.now (part_of self.now)).book.log ≤ most_records) }
+        ensures full { OnErr result (most_records < length (target_access vcpu op.now (part_of self.now)).book.log) }
+        ensures memory { IsErrOf result TargetFault.Memory → ⊥ }
+    {
+        let more = self.state.records_of_access(vcpu, op);
+        look_for_room(&self.state.log, more)
     }
 
     /// The guest resumes at the target, which is recorded. `TargetFault::LogFull` exactly where the log has no room for

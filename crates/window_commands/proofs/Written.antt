@@ -5,7 +5,7 @@ use Rattle.std.specs.Fmt.{decimal}
 use Rattle.std.proofs.lemmas.List.{append-nil, length-map}
 use Rattle.text_lines.specs.Text.{Begins, ended}
 use Rattle.text_lines.proofs.Sections.{ended_next}
-use Rattle.window_commands.specs.Tables.{SpellsTable, table_text}
+use Rattle.window_commands.specs.Tables.{most_lines, SpellsTable, table_text}
 
 -- behind what was there before stand the first lines of a table
 abbrev pub Written : List ℕ → List ℕ → ℕ → List ℕ → Type 0
@@ -28,7 +28,7 @@ no_number held line none b =
     let t = line_of_table held line b.1 b.0 b.2.0.each b.2.1 in
     none t.0 t.1 t.2
 
-pub no_room : (held : List ℕ) (line : List ℕ) → 16777216 ≤ length held → Begins SpellsTable (map decimal held ++ line ∷ []) → ⊥
+pub no_room : (held : List ℕ) (line : List ℕ) → most_lines ≤ length held → Begins SpellsTable (map decimal held ++ line ∷ []) → ⊥
 no_room held line full b =
     let few = b.2.0.few in
     let long = ap length b.2.1 in

@@ -1,12 +1,14 @@
 -- The text of a table of lines: for each line of a text the number of another line, on a line of its own.
-use Rattle.std.specs.Prelude.{◌≡◌, ℕ, ◌<◌, ◌≤◌, ◌^◌, List, length, map}
+use Rattle.std.specs.Prelude.{◌≡◌, ℕ, ◌+◌, ◌*◌, ◌<◌, ◌≤◌, ◌^◌, List, length, map}
 use Rattle.std.specs.List.{AllByRecursion}
 use Rattle.std.specs.Fmt.{decimal}
 use Rattle.text_lines.specs.Text.{ended}
+use Rattle.migration_types.specs.Limits.{most_pages, longest_log}
 
--- a table has at most so many lines
+-- A table has at most so many lines: as many as the text of a session. Ten of them are no initial page and no record: four before
+-- the initial pages, one before each of the five logs, and the last.
 abbrev pub most_lines : ℕ
-most_lines = 16777216
+most_lines = 10 + most_pages + 5 * longest_log
 
 pub record AreLines (table : List ℕ) : Type 0 where
   pub few : length table ≤ most_lines

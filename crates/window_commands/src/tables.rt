@@ -2,15 +2,21 @@
 
 ghost use Rattle.std.specs.Prelude.{◌≡◌, [], ◌∷◌, ◌++◌, OnOk};
 ghost use Rattle.std.specs.Fmt.{decimal};
-ghost use Rattle.window_commands.specs.Tables.{table_text};
+ghost use Rattle.window_commands.specs.Tables.{most_lines, table_text};
 
-use migration_types::Seq;
+use migration_types::{LOG_COUNT, Seq, Size};
 use std::alloc::{AllocError, Global};
 use std::marker::Model;
 use text_lines::{FaultKind, Stages, Wanted, end_line, push_number, read_decimal};
 
-/// A table has at most so many lines.
-const MOST_LINES: usize = 16_777_216;
+/// A table has at most so many lines: as many as the text of a session of the large size. Ten of them are no initial page and no
+/// record.
+fn most_lines() -> usize
+    ensures { result ≡ most_lines }
+{
+    let limits = Size::Large.limits();
+    10 + limits.pages as usize + LOG_COUNT * limits.records as usize
+}
 
 /// Adds the number of a line, on a line of its own.
 fn push_row(out: &mut Vec<u8>, line: &u64) -> Result<(), AllocError>
@@ -72,7 +78,7 @@ impl Stages for TableParts {
     }
 
     fn take(&mut self, _stage: (), line: &[u8]) -> Result<(), FaultKind> {
-        if self.lines.len() >= MOST_LINES {
+        if self.lines.len() >= most_lines() {
             return Err(FaultKind::Ended);
         }
         let Some(number) = read_decimal(line) else {
@@ -89,7 +95,10 @@ impl Stages for TableParts {
     }
 
     fn wanted(&self, _stage: ()) -> Wanted {
-        Wanted::one("the number of a line", &["N"])
+        if self.lines.len() < most_lines() {
+            return Wanted::one("the number of a line", &["N"]);
+        }
+        Wanted::one("nothing after line 687865866, the last of a table", &[])
     }
 
     fn text(self, _stage: ()) -> Option<Seq<u64>> {

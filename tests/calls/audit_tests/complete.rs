@@ -22,7 +22,7 @@ const SENT: &str =
 
 const LINK: &str = "down 1\ndown 2\ndown 3\ndown 3\nup 6\n";
 
-static CASES: [Case; 12] = [
+static CASES: [Case; 16] = [
     Case {
         is: "empty logs",
         logs: Logs {
@@ -134,11 +134,51 @@ static CASES: [Case; 12] = [
         missing: ("nothing", 0),
     },
     Case {
+        is: "an `all` before the last page is placed",
+        logs: Logs {
+            guest: MOVED,
+            source: SENT,
+            link: "down 1\ndown 2\ndown 3\ndown 3\nup 4\n",
+            pager: "got 0\nready\ngot 1\nplace 0 2 0000000000000005\nall\ngot 2\nplace 1 5 0000000000000000\n",
+        },
+        missing: ("all", 0),
+    },
+    Case {
+        is: "the same, with a second one behind it, of which nobody is told",
+        logs: Logs {
+            guest: MOVED,
+            source: SENT,
+            link: "down 1\ndown 2\ndown 3\ndown 3\nup 4\n",
+            pager: "got 0\nready\ngot 1\nplace 0 2 0000000000000005\nall\ngot 2\nplace 1 5 0000000000000000\nall\n",
+        },
+        missing: ("done", 0),
+    },
+    Case {
+        is: "a source that is done before it is told",
+        logs: Logs {
+            guest: MOVED,
+            source: "halted 0\nstate\nsend 0 0000000000000005\nsend 1 0000000000000000\ndone\nask 4\n",
+            link: LINK,
+            pager: "got 0\nready\ngot 1\nplace 0 2 0000000000000005\ngot 2\nplace 1 4 0000000000000000\nall\n",
+        },
+        missing: ("done", 0),
+    },
+    Case {
+        is: "a released page that is placed behind the `all`",
+        logs: Logs {
+            guest: "z 0 1\nhalt\nresume 1\n",
+            source: SENT,
+            link: "down 1\ndown 2\ndown 3\ndown 3\nup 4\n",
+            pager: "got 0\nready\ngot 1\nplace 0 2 0000000000000005\nall\nzero 1\n",
+        },
+        missing: ("nothing", 0),
+    },
+    Case {
         is: "zeros, with a name that is past the log",
         logs: Logs {
             guest: MOVED,
             source: SENT,
-            link: LINK,
+            link: "down 1\ndown 2\ndown 3\ndown 3\nup 5\n",
             pager: "got 0\nready\ngot 1\nplace 0 2 0000000000000005\nzero 1\nall\nskip 1000000\n",
         },
         missing: ("nothing", 0),

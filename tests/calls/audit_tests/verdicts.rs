@@ -4,10 +4,10 @@ use crate::texts::{FRESH, HANDOVER, PULLED, RELEASED, SEEN};
 use audit_model::ShapeReason;
 use cert_check::{ShapeFault, Verdict, check, check_par, shape};
 use cert_text::read_cert;
-use judged_texts::{check_texts, check_texts_alone};
+use judged_texts::{check_read, check_texts, check_texts_alone};
 use migration_types::{Cert, LogName, Session};
 use session_log::read_session;
-use std::alloc::Global;
+use std::alloc::{AllocError, Global};
 use std::marker::Sync;
 use std::thread::Threads;
 
@@ -659,7 +659,25 @@ static TABLES: [Table; 10] = [
     },
 ];
 
-/// Whether this is the verdict on two texts, of threads and of the calling thread alone.
+/// The verdict on two texts by what is read of each.
+fn verdict_by_read<R: Threads + Sync>(
+    rt: &R,
+    alloc: Global,
+    session: &[u8],
+    cert: &[u8],
+) -> Result<Verdict, AllocError> {
+    let session = match read_session(alloc, session) {
+        Ok(recorded) => Ok(recorded),
+        Err(fault) => Err(fault.refused_line()?),
+    };
+    let cert = match read_cert(alloc, cert) {
+        Ok(certified) => Ok(certified),
+        Err(fault) => Err(fault.refused_line()?),
+    };
+    check_read(rt, alloc, &session, &cert)
+}
+
+/// Whether this is the verdict on two texts, of threads, of the calling thread alone, and by what is read of each.
 fn is_judged<R: Threads + Sync>(
     rt: &R,
     alloc: Global,
@@ -671,8 +689,9 @@ fn is_judged<R: Threads + Sync>(
     match (
         check_texts(rt, alloc, session, cert),
         check_texts_alone(alloc, session, cert),
+        verdict_by_read(rt, alloc, session, cert),
     ) {
-        (Ok(told), Ok(alone)) => told == verdict && alone == verdict,
+        (Ok(told), Ok(alone), Ok(read)) => told == verdict && alone == verdict && read == verdict,
         _ => false,
     }
 }
@@ -728,10 +747,13 @@ fn is_right_text<R: Threads + Sync>(rt: &R, alloc: Global, session: &Session, ce
     }
 }
 
-/// The same, with both texts.
+/// The same, with both texts, which are judged as such too.
 fn are_right_texts<R: Threads + Sync>(rt: &R, alloc: Global, session: &str, cert: &str) -> bool {
     match read_session(alloc, session.as_bytes()) {
-        Ok(recorded) => is_right_text(rt, alloc, &recorded, cert),
+        Ok(recorded) => {
+            is_right_text(rt, alloc, &recorded, cert)
+                && is_judged(rt, alloc, session, cert, Verdict::Yes)
+        }
         Err(_) => false,
     }
 }

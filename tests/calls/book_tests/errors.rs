@@ -1,7 +1,9 @@
 //! What errors say of themselves.
 
 use migration_events::EventFault;
-use page_stream::{PumpFault, StreamFaultKind};
+use migration_types::Geometry;
+use page_stream::{PumpFault, Stream, StreamFault, StreamFaultKind};
+use std::alloc::Global;
 use std::test::Fail;
 
 #[test]
@@ -32,6 +34,22 @@ fn a_stream_says_what_is_wrong_with_a_packet(rt: HostRuntime) -> Result<(), Fail
     ] {
         assert_eq!(rt; format!(in rt.alloc(); "{fault}")?.as_str(), said);
     }
+    Ok(())
+}
+
+/// Why a stream does not go on that begins with these bytes, if it does not.
+fn refusal_of(alloc: Global, bytes: &[u8]) -> Result<Option<StreamFault>, Fail> {
+    let geometry = Geometry::new(2, 1)?;
+    Ok(Stream::new(alloc, geometry).feed(bytes).err())
+}
+
+#[test]
+fn a_stream_that_does_not_go_on_says_why(rt: HostRuntime) -> Result<(), Fail> {
+    let Some(fault) = refusal_of(rt.alloc(), &[0, 0, 0, 5, 5])? else {
+        return Err(Fail::new("the stream goes on"));
+    };
+    assert_eq!(rt; format!(in rt.alloc(); "{fault}")?.as_str(), "a packet of a kind that none has");
+    assert_eq!(rt; format!(in rt.alloc(); "{fault:?}")?.as_str(), "StreamFault { kind: Kind, .. }");
     Ok(())
 }
 

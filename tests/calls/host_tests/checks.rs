@@ -245,8 +245,19 @@ fn store_of(alloc: Global, script: &Script, left: &Left) -> Result<Store, AllocE
     Ok(store)
 }
 
-/// Whether a fault is that the audit's report has this first line.
+/// Whether this is what a fault says of itself, to a reader and to a programmer.
+fn says(alloc: Global, fault: &RunFault, shown: &str, name: &str) -> bool {
+    let (Ok(text), Ok(debug)) = (format!(in alloc; "{fault}"), format!(in alloc; "{fault:?}")) else {
+        return false;
+    };
+    text.as_str() == shown && debug.as_str() == name
+}
+
+/// Whether a fault is that the audit's report has this first line, and says of itself that the audit refuses it.
 fn is_refused(alloc: Global, fault: &RunFault, line: &str) -> bool {
+    if !says(alloc, fault, "the audit refuses what was recorded", "AuditRefused(..)") {
+        return false;
+    }
     match fault {
         RunFault::AuditRefused(report) => match print_first_line(alloc, report) {
             Ok(written) => written.as_slice() == line.as_bytes(),

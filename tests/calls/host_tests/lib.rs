@@ -7,6 +7,8 @@ mod cores;
 #[cfg(test)]
 mod draws;
 #[cfg(test)]
+mod errors;
+#[cfg(test)]
 mod gates;
 #[cfg(test)]
 mod lanes;

@@ -13,7 +13,7 @@ use Rattle.audit_model.specs.Shape.{is_halt, is_resume, is_miss, is_send_of, del
 use Rattle.completeness.specs.Complete.{is_all}
 use Rattle.session_story.specs.Pages.{changes, carries, lane_carries}
 use Rattle.session_story.specs.Values.{sets}
-use Rattle.session_story.specs.Counted.{is_unmoved, is_sent, is_zeroed, is_send, is_again, is_push, is_join, is_skip}
+use Rattle.session_story.specs.Counted.{is_unmoved, is_sent, is_zeroed, is_send, is_again, is_join, is_skip}
 use Rattle.session_story.specs.declared.looks.Look.{Look}
 use Rattle.session_story.specs.declared.questions.GuestQuestion.{GuestQuestion}
 use Rattle.session_story.specs.declared.questions.GuestQuestion.TheVariants as guest
@@ -38,7 +38,6 @@ asks_guest (guest.Sets page cell) s n = sets page cell
 abbrev pub asks_source : SourceQuestion → Recorded → ℕ → SourceRec → Bool
 asks_source (source.SendOf page) s n = is_send_of page
 asks_source source.Send s n = is_send
-asks_source source.Push s n = is_push s n
 asks_source source.Again s n = is_again
 
 abbrev pub asks_link : LinkQuestion → Recorded → ℕ → LinkRec → Bool

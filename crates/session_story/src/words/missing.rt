@@ -8,7 +8,7 @@ use super::records::{push_placed, push_recorded};
 use super::writing::{push, push_around};
 use crate::pages::{handover_of, story_of};
 use crate::questions::PagerQuestion;
-use crate::scans::first_of;
+use crate::scans::last_of;
 use completeness::Missing;
 use migration_types::{LogName, PageNo, Session};
 use std::alloc::{AllocError, Global};
@@ -175,7 +175,7 @@ fn push_unsaid(out: &mut String) -> Result<(), AllocError>
 {
     push(
         out,
-        "The pager never said that every owed page had come: its log has no `all`. Each of them came.\n",
+        "The pager never said that every owed page had come: its log has no `all` behind their placements. Each of them came.\n",
     )
 }
 
@@ -186,7 +186,7 @@ fn push_not_done(out: &mut String) -> Result<(), AllocError>
 {
     push(
         out,
-        "The source never learned that every owed page had come: its log has no `done`.\n",
+        "The source never learned that every owed page had come: its log has no `done` behind the `ask` of that.\n",
     )
 }
 
@@ -213,7 +213,8 @@ fn push_unlearned(out: &mut String, session: &Session) -> Result<(), AllocError>
 {
     push_not_done(out)?;
     session.keeps_limits();
-    let told = first_of(session, &PagerQuestion::All, session.pager());
+    let pager = session.pager();
+    let told = last_of(session, &PagerQuestion::All, pager, pager.len());
     push_said_at(out, session, told)
 }
 

@@ -1,7 +1,7 @@
 //! A page's story in words.
 
 ghost use Rattle.std.specs.Prelude.{◌≡◌, ◌++◌, OnOk, string_bytes};
-ghost use Rattle.session_story.specs.StoryWords.{again_step, changed_step, delivered_step, delivery_step, halt_step, is_by_lane, look_step, page_heading, placement_step, sent_step, step_in, step_words, story_words, taken_step, there_words, touch_step, touch_words, undelivered, way_words};
+ghost use Rattle.session_story.specs.StoryWords.{again_step, change_words, changed_step, delivered_step, delivery_step, halt_step, is_by_lane, look_step, page_heading, placement_step, sent_step, step_in, step_words, story_words, taken_step, there_words, touch_step, touch_words, unchanged_words, undelivered, way_words};
 ghost use Rattle.session_story.specs.RecordWords.{has_lane};
 
 use super::has_lane;
@@ -57,17 +57,44 @@ fn push_heading(out: &mut String, page: u32) -> Result<(), AllocError>
     push_around(out, "What the logs say of page ", page, ":\n")
 }
 
-/// Adds the last change of a page.
+/// What the last change of a page is, in a session with a halt or without one.
+fn change_words(halted: bool) -> &'static str
+    ensures { result.now ≡ change_words halted }
+{
+    if halted {
+        ", its last change before the halt"
+    } else {
+        ", its last change"
+    }
+}
+
+/// That the guest does not change a page, in a session with a halt or without one.
+fn unchanged_words(halted: bool) -> &'static str
+    ensures { result.now ≡ unchanged_words halted }
+{
+    if halted {
+        "the guest neither writes nor releases it before the halt"
+    } else {
+        "the guest neither writes nor releases it"
+    }
+}
+
+/// Adds the last change of a page, before the halt where there is one.
 #[tactic(auto, unfolding(crate::specs::StoryWords::changed_step))]
-fn push_changed(out: &mut String, session: &Session, place: Option<u32>) -> Result<(), AllocError>
-    ensures { OnOk result (string_bytes out.new ≡ string_bytes out.old ++ changed_step session.now place) }
+fn push_changed(
+    out: &mut String,
+    session: &Session,
+    halted: bool,
+    place: Option<u32>,
+) -> Result<(), AllocError>
+    ensures { OnOk result (string_bytes out.new ≡ string_bytes out.old ++ changed_step session.now halted place) }
 {
     push_step(
         out,
         session,
         LogName::Guest,
-        ", its last change before the halt",
-        "the guest neither writes nor releases it before the halt",
+        change_words(halted),
+        unchanged_words(halted),
         place,
     )
 }
@@ -257,7 +284,7 @@ fn push_way(
     ensures { OnOk result (string_bytes out.new ≡ string_bytes out.old ++ way_words session.now page.now halt) }
 {
     push_heading(out, page.page.number())?;
-    push_changed(out, session, page.changed)?;
+    push_changed(out, session, halt.is_some(), page.changed)?;
     push_halt(out, session, halt)?;
     push_sent(out, session, page.sent)?;
     push_delivery(out, session, page)?;

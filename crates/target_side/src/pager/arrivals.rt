@@ -7,13 +7,13 @@ ghost use Rattle.audit_model.specs.Shape.{is_taking};
 ghost use Rattle.target_side.specs.PagerPart.{pager_pop, pager_pull, pops_first, takes};
 ghost use Rattle.target_side.specs.PagerLists.{part_of, IsPacketOf};
 
-use crate::{Incoming, TargetFault};
+use super::PagerBook;
 use crate::log::append;
 use crate::marks::mark_all;
-use migration_events::make_room;
+use crate::{Incoming, TargetFault};
+use migration_events::{look_for_room, make_room};
 use migration_types::{Contents, PageNo, PagerRec, Shared};
 use page_stream::Packet;
-use super::PagerBook;
 
 impl PagerBook {
     /// Takes what the link's record of this number delivered down: the state, the first time, which makes the pager
@@ -49,6 +49,38 @@ impl PagerBook {
             return Ok(());
         }
         self.take(PagerRec::Pull { down: lane_number }, packet)
+    }
+
+    /// Whether the log has room for what taking a packet from the link appends. Takes no memory.
+    pub fn look_to_pop(&self, link_number: u32, packet: &Packet) -> Result<(), TargetFault>
+        ensures room { OnOk result (length (pager_pop link_number packet.now (part_of self.now)).log ≤ most_records) }
+        ensures full { OnErr result (most_records < length (pager_pop link_number packet.now (part_of self.now)).log) }
+        ensures memory { IsErrOf result TargetFault.Memory → ⊥ }
+    {
+        self.keeps_limits();
+        let _link_number = link_number;
+        let more = match packet {
+            Packet::State { .. } => 2,
+            Packet::Page { .. } if self.released.is_some() => 1,
+            _ => 0,
+        };
+        look_for_room(&self.log, more)
+    }
+
+    /// Whether the log has room for what taking a packet from the lane appends. Takes no memory.
+    pub fn look_to_pull(&self, lane_number: u32, packet: &Packet) -> Result<(), TargetFault>
+        ensures room { OnOk result (length (pager_pull lane_number packet.now (part_of self.now)).log ≤ most_records) }
+        ensures full { OnErr result (most_records < length (pager_pull lane_number packet.now (part_of self.now)).log) }
+        ensures memory { IsErrOf result TargetFault.Memory → ⊥ }
+    {
+        self.keeps_limits();
+        let _lane_number = lane_number;
+        let more = match packet {
+            Packet::State { .. } if self.released.is_some() => 2,
+            Packet::Page { .. } if self.released.is_some() => 1,
+            _ => 0,
+        };
+        look_for_room(&self.log, more)
     }
 
     /// Takes the state, of which the link's record has this number.

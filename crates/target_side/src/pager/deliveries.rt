@@ -10,12 +10,12 @@ ghost use Rattle.target_side.specs.PagerPart.{deliver, delivers_by};
 ghost use Rattle.target_side.specs.PagerLists.{part_of};
 ghost use Rattle.target_side.specs.inner.Steps.{skips, places_next};
 
-use crate::{TargetBook, TargetFault};
+use super::PagerBook;
 use crate::log::append;
+use crate::{TargetBook, TargetFault};
 use migration_events::{look_for_room, make_room};
 use migration_types::{PagerRec, Seq};
 use std::alloc::Global;
-use super::PagerBook;
 
 impl PagerBook {
     /// Settles the pages that the guest released at the target before they came: nobody waits for them any more, and
@@ -47,6 +47,15 @@ impl PagerBook {
                 Err(fault)
             }
         }
+    }
+
+    /// Whether the log that gains a record of a delivery has room for it. Takes no memory.
+    pub fn look_to_deliver(&self, target: &TargetBook) -> Result<(), TargetFault>
+        ensures room { OnOk result (let after = deliver (part_of self.now) (target_of target.now) in (length after.pager.log ≤ most_records) × (length after.target.log ≤ most_records)) }
+        ensures full { OnErr result (let after = deliver (part_of self.now) (target_of target.now) in (most_records < length after.pager.log) ⊎ (most_records < length after.target.log)) }
+        ensures memory { IsErrOf result TargetFault.Memory → ⊥ }
+    {
+        self.look_to_bring(target)
     }
 
     /// Whether the log that gains a record has room for it, where the guest resumes or a page has come. Takes no memory.

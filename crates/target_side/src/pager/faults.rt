@@ -9,13 +9,13 @@ ghost use Rattle.target_side.specs.PagerPart.{next_fault, faults_by, fault_at, z
 ghost use Rattle.target_side.specs.PagerLists.{part_of};
 ghost use Rattle.target_side.specs.inner.Steps.{learned, asks};
 
-use crate::{Missing, TargetBook, TargetFault};
+use super::{PagerBook, want_page};
 use crate::log::append;
+use crate::{Missing, TargetBook, TargetFault};
 use fault_queue::Asked;
 use migration_events::{look_for_room, make_room};
 use migration_types::PagerRec;
 use page_stream::Packet;
-use super::{PagerBook, want_page};
 
 impl PagerBook {
     /// Settles the pages that the guest released at the target before they came: nobody waits for them any more. Then
@@ -46,7 +46,7 @@ impl PagerBook {
     }
 
     /// Whether the log has room for what a miss appends once the pages are settled. Takes no memory.
-    fn look_to_fault(&self, target: &TargetBook) -> Result<(), TargetFault>
+    pub fn look_to_fault(&self, target: &TargetBook) -> Result<(), TargetFault>
         requires { geometry_of target.now ≡ self.now.geometry }
         ensures room { OnOk result (length (next_fault (part_of self.now) (target_of target.now)).pager.log ≤ most_records) }
         ensures full { OnErr result (most_records < length (next_fault (part_of self.now) (target_of target.now)).pager.log) }

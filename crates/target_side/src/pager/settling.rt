@@ -7,10 +7,10 @@ ghost use Rattle.target_side.specs.Kept.{geometry_of, part_of as target_of};
 ghost use Rattle.target_side.specs.PagerPart.{is_listed};
 ghost use Rattle.target_side.specs.PagerLists.{part_of, IsKept};
 
-use crate::{TargetBook, TargetFault};
-use crate::marks::mark_all;
-use fault_queue::FaultQueue;
 use super::PagerBook;
+use crate::marks::mark_all;
+use crate::{TargetBook, TargetFault};
+use fault_queue::FaultQueue;
 
 impl PagerBook {
     /// Nobody waits any more for the pages that are to be settled. Gives the queue as it was, for a call that comes to

@@ -5,6 +5,7 @@ ghost use Rattle.migration_types.specs.Limits.{most_records};
 ghost use Rattle.target_side.specs.PagerPart.{oldest, pager_tick};
 ghost use Rattle.target_side.specs.PagerLists.{part_of};
 
+use super::{PagerBook, want_page};
 use crate::TargetFault;
 use crate::log::append;
 use crate::marks::first_unmarked;
@@ -12,7 +13,6 @@ use fault_queue::FaultQueue;
 use migration_events::{look_for_room, make_room};
 use migration_types::{PageNo, PagerRec};
 use page_stream::Packet;
-use super::{PagerBook, want_page};
 
 impl PagerBook {
     /// Whether the log has room for what a tick appends. Takes no memory.

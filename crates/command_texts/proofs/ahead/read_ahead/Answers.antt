@@ -1,4 +1,4 @@
-use Rattle.std.proofs.Common.{◌-◌, length, take, drop, arith, length-take-le}
+use Rattle.std.proofs.Common.{length, take, drop, arith}
 use Rattle.command_texts.proofs.Filling.{fills_written}
 use Rattle.command_texts.proofs.PiecesTaken.{takes_more, takes_nothing, takes_whole}
 use Rattle.command_texts.proofs.ahead.read_ahead.Goals as goal

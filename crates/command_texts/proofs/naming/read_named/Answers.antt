@@ -1,4 +1,3 @@
-use Rattle.std.proofs.lemmas.Result.{err_from_is_err_and}
 use Rattle.command_texts.specs.Reasons.{line_of}
 use Rattle.command_texts.proofs.naming.read_named.Goals as goal
 

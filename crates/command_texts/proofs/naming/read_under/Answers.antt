@@ -1,4 +1,4 @@
-use Rattle.std.proofs.Common.{◌≡◌, List, ℕ, false}
+use Rattle.std.proofs.Common.{◌≡◌, false}
 use Rattle.command_texts.specs.Reasons.{line_of}
 use Rattle.command_texts.specs.Told.{is_dash}
 use Rattle.command_texts.proofs.Names.{named_file}

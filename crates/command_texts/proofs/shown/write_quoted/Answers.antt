@@ -4,7 +4,7 @@ use Rattle.std.proofs.lemmas.Iterator.Consumers.{YieldsList-turn, YieldsList-end
 use Rattle.std.proofs.lemmas.List.{at_drop_all, length_push}
 use Rattle.std.specs.Str.{chars}
 use Rattle.command_texts.specs.Shown.{escapes}
-use Rattle.command_texts.proofs.Escapes.{IsQuotedTo, escapes_next, quoted_cut, quoted_first, quoted_last, quoted_last_front, quoted_more}
+use Rattle.command_texts.proofs.Escapes.{IsQuotedTo, escapes_next, quoted_cut, quoted_last, quoted_last_front, quoted_more}
 use Rattle.command_texts.proofs.shown.write_quoted.Goals as goal
 
 pub returns-then-not-write_escaped-clause-front : goal.returns-then-not-write_escaped-clause-front

@@ -2,11 +2,14 @@ use Rattle.std.proofs.Common.{◌≡◌, ◌∙◌, ◌<◌, ℕ, List, Bor, Som
 use Rattle.std.proofs.lemmas.List.{length-map}
 use Rattle.clap.specs.Words.{Text}
 use Rattle.command_words.specs.declared.asked.Asked.{Asked}
+use Rattle.command_words.specs.declared.asked.Asked.TheVariants.{Two}
+use Rattle.command_words.specs.declared.asked.TwoTexts.TheVariants.{Check}
 use Rattle.command_words.specs.declared.asked.Audits.{Audits}
-use Rattle.command_words.specs.Table.{job_of, several_of}
+use Rattle.command_words.specs.Table.{job_of, plain, several_of}
 use Rattle.command_words.specs.Words.{asked, asked_by, several_asked, word_texts}
 use Rattle.command_words.proofs.Plain.{taken_plain, bare_not_taken}
 use Rattle.commands.specs.Told.{EndsAsked, EndsSeveral, IsSettled}
+use Rattle.commands.proofs.Shown.{shown, taken_check}
 use Rattle.commands.proofs.Settled.{if_some, refusal_fault, refusal_gains, refusal_known, refusal_misuse, some_given, some_told, starved, starved_several, two_words}
 use Rattle.commands.proofs.program.run.Goals as goal
 
@@ -27,6 +30,16 @@ returns-then-words-le1-clause-plain g c = λ name names plain.
     let words = c.args.words.now in
     absurd (two_words (word_texts words) plain.program name names plain.words_are (omega (arith, length-map words (λ (w : Bor Text). w.now), c.if-words-le1.true)))
 
+pub returns-then-words-le1-clause-bare_headline : goal.returns-then-words-le1-clause-bare_headline
+returns-then-words-le1-clause-bare_headline g c = λ few zero. shown plain _ _ _ _ _ c.check_bare.result c.headline_holds_at_yes.ensures c.check_bare.ensures.told zero
+
+pub returns-then-words-le1-clause-headline : goal.returns-then-words-le1-clause-headline
+returns-then-words-le1-clause-headline g c = λ first second asks zero.
+    let words = c.args.words.now in
+    let taken = (taken_check (word_texts words) first second asks).taken in
+    let none = bare_not_taken (word_texts words) (omega (arith, length-map words (λ (w : Bor Text). w.now), c.if-words-le1.true)) in
+    absurd cc
+
 pub returns-in-Ok-Some-clause-told : goal.returns-in-Ok-Some-clause-told
 returns-in-Ok-Some-clause-told g c = λ taken. some_told (job_of c.in-Ok-Some.wish) (asked (word_texts c.args.words.now)) (λ (job : Asked Text). IsSettled (EndsAsked job (g.S.TextSource.bytes_of c.args.texts.now) (g.I.Read.remaining c.args.input.now) (g.O.Write.contents c.args.output.now, g.E.Write.contents c.args.errors.now)) (g.O.Write.contents c.grant.new.output, g.E.Write.contents c.grant.new.errors) c.grant.result)
     (ap (option_and_then job_of) (sym c.in-Ok-Some.field-0-is) ∙ c.in-Ok-Some.ensures.job) c.grant.ensures.job
@@ -41,6 +54,18 @@ returns-in-Ok-Some-clause-plain g c = λ name names plain. if_some (asked_by nam
   some_given (job_of c.in-Ok-Some.wish) job (λ (job : Asked Text). IsSettled (EndsAsked job (g.S.TextSource.bytes_of c.args.texts.now) (g.I.Read.remaining c.args.input.now) (g.O.Write.contents c.args.output.now, g.E.Write.contents c.args.errors.now)) (g.O.Write.contents c.grant.new.output, g.E.Write.contents c.grant.new.errors) c.grant.result)
       (ap (option_and_then job_of) (sym c.in-Ok-Some.field-0-is) ∙ c.in-Ok-Some.ensures.job ∙ (taken_plain (word_texts c.args.words.now) name names job plain e).given) c.grant.ensures.job,
 ))
+
+pub returns-in-Ok-Some-clause-headline : goal.returns-in-Ok-Some-clause-headline
+returns-in-Ok-Some-clause-headline g c = λ first second asks zero.
+    let is = taken_check (word_texts c.args.words.now) first second asks in
+    shown is.asking _ _ _ _ _ c.grant.result c.headline_holds_at_yes.ensures (some_given (job_of c.in-Ok-Some.wish) (Two (Check is.asking) first second) (λ (job : Asked Text). IsSettled (EndsAsked job (g.S.TextSource.bytes_of c.args.texts.now) (g.I.Read.remaining c.args.input.now) (g.O.Write.contents c.args.output.now, g.E.Write.contents c.args.errors.now)) (g.O.Write.contents c.grant.new.output, g.E.Write.contents c.grant.new.errors) c.grant.result)
+        (ap (option_and_then job_of) (sym c.in-Ok-Some.field-0-is) ∙ c.in-Ok-Some.ensures.job ∙ is.asks) c.grant.ensures.job) zero
+
+pub returns-in-Ok-None-clause-headline : goal.returns-in-Ok-None-clause-headline
+returns-in-Ok-None-clause-headline g c = λ first second asks zero.
+    let is = taken_check (word_texts c.args.words.now) first second asks in
+    let none : None ≡ Some (Two (Check is.asking) first second) = ap (option_and_then job_of) (sym c.in-Ok-None.field-0-is) ∙ c.in-Ok-None.ensures.job ∙ is.asks in
+    absurd cc
 
 pub returns-in-Ok-None-clause-plain : goal.returns-in-Ok-None-clause-plain
 returns-in-Ok-None-clause-plain g c = λ name names plain. if_some (asked_by name names) _ (λ job e.
@@ -74,3 +99,8 @@ pub returns-in-Err-clause-plain : goal.returns-in-Err-clause-plain
 returns-in-Err-clause-plain g c = λ name names plain. if_some (asked_by name names) _ (λ job e.
     let h = c.refuse.ensures.memory (c.in-Err.ensures.err (taken_plain (word_texts c.args.words.now) name names job plain e).taken) in
     (λ two. absurd (omega (arith, h.is_status)), starved job _ _ _ _ c.refuse.result h))
+
+pub returns-in-Err-clause-headline : goal.returns-in-Err-clause-headline
+returns-in-Err-clause-headline g c = λ first second asks zero.
+    let h = c.refuse.ensures.memory (c.in-Err.ensures.err (taken_check (word_texts c.args.words.now) first second asks).taken) in
+    absurd (omega (arith, h.is_status, zero))

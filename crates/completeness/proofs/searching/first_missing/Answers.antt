@@ -4,5 +4,5 @@ use Rattle.completeness.proofs.searching.first_missing.Goals as goal
 pub returns-in-Pages : goal.returns-in-Pages
 returns-in-Pages c = rw c.in-Pages.is (record { halted = search rules; resumed = search rules; pages = search rules })
 
-pub returns-in-Whole : goal.returns-in-Whole
-returns-in-Whole c = rw c.in-Whole.is c.missing_behind.ensures
+pub returns : goal.returns
+returns c = rw c.in-Whole.is c.missing_behind.ensures

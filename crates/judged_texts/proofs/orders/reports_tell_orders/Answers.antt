@@ -1,5 +1,4 @@
 use Rattle.std.proofs.Common.{sym, subst}
-use Rattle.audit_report.specs.declared.report.Report.{Report}
 use Rattle.audit_report.specs.Reports.{IsReport, ReportFits}
 use Rattle.judged_texts.specs.Ordered.{TellsOrder}
 use Rattle.judged_texts.proofs.Ordered.{faulty_tells, clean_tells}

@@ -1,4 +1,3 @@
-use Rattle.std.proofs.Common.{ℕ, List, ◌++◌, ◌∙◌, ap, sym}
 use Rattle.session_story.proofs.Placing.{place_of_there, place_of_past}
 use Rattle.session_story.proofs.words.records.push_place.Goals as goal
 
