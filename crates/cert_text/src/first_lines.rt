@@ -9,8 +9,8 @@ ghost use Rattle.cert_text.specs.Order.{IsLineNumber, faulty_line};
 ghost use Rattle.cert_text.specs.declared.forms.Form.{Form as Shape};
 ghost use Rattle.cert_text.specs.inner.OrderHeld.{IsFirst, IsCertHeader};
 
-use crate::{RUNS_HEADER, cert_header};
 use crate::forms::Form;
+use crate::{RUNS_HEADER, cert_header};
 use audit_model::PageReason;
 use migration_types::{Size, Version};
 use text_lines::{Wanted, after_key, is_line, number_then};

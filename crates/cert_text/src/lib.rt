@@ -28,8 +28,8 @@ mod run_lines;
 mod runs;
 mod runs_text;
 
-use cert_lines::{CertParts, PAGES_KEY};
 pub use cert_lines::cert_header;
+use cert_lines::{CertParts, PAGES_KEY};
 use cert_runs::CertRunsParts;
 use entry_lines::push_entries;
 pub use entry_lines::push_entry_line;

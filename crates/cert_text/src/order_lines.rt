@@ -6,9 +6,9 @@ ghost use Rattle.cert_text.specs.Order.{SpellsOrder};
 ghost use Rattle.cert_text.specs.inner.OrderHeld.{IsFirst};
 ghost use Rattle.cert_text.specs.inner.Parts.{held_at, inner_at, LiveAt, StaysAt};
 
-use crate::{CertRuns, RunsText};
 use crate::first_lines::{form_of, wanted_first};
 use crate::forms::Form;
+use crate::{CertRuns, RunsText};
 use migration_types::{Run, Seq};
 use std::alloc::Global;
 use std::thread::Threads;

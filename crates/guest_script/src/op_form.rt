@@ -10,8 +10,8 @@ ghost use Rattle.guest_script.specs.Moments.{OpFitsAt};
 ghost use Rattle.guest_script.specs.inner.Ops.{TakesOp};
 ghost use Rattle.guest_script.specs.inner.ScriptHeld.{small_machine};
 
-use crate::{MOST_OPS, Vcpu, When, may_release};
 use crate::keys::{READ_KEY, RELEASE_KEY, VCPU_KEY, WRITE_KEY};
+use crate::{MOST_OPS, Vcpu, When, may_release};
 use migration_events::Op;
 use migration_types::PageNo;
 use session_log::Sizes;

@@ -4,7 +4,6 @@ ghost use Rattle.std.specs.Prelude.{◌≡◌, ◌+◌, ◌<◌, ◌≤◌, leng
 ghost use Rattle.guest_script.specs.inner.ScriptDraft.{draft_of, ScriptStep, HasAllOps, begun, ended};
 ghost use Rattle.guest_script.specs.inner.ScriptHeld.{ScriptFits, ScriptLive, scenario_of};
 
-use crate::{MOST_PIVOTS, MOST_VCPUS, MOST_WINDOW, Script, Vcpu, When};
 use crate::fates::read_fates;
 use crate::keys::{
     DOWN_KEY, LANE_KEY, ONE_LANE, PIVOTS_KEY, TWO_LANES, UP_KEY, VCPUS_KEY, WINDOW_KEY,
@@ -12,6 +11,7 @@ use crate::keys::{
 use crate::op_form::{read_counts, take_op};
 use crate::stages::ScriptStage;
 use crate::versions::script_header;
+use crate::{MOST_PIVOTS, MOST_VCPUS, MOST_WINDOW, Script, Vcpu, When};
 use migration_events::{Fate, Op};
 use migration_types::{Geometry, InitPage, Seq, Size, Version};
 use session_log::{INIT_KEY, InitLines, Sizes, read_cells, read_pages};

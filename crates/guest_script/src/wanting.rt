@@ -1,10 +1,10 @@
 //! What may stand at each line of a script's text.
 
-use crate::{MOST_PIVOTS, MOST_VCPUS, MOST_WINDOW, Vcpu, When};
 use crate::fates::wanted_fates;
 use crate::op_form::{wanted_counts, wanted_op};
 use crate::script_steps::ScriptParts;
 use crate::stages::ScriptStage;
+use crate::{MOST_PIVOTS, MOST_VCPUS, MOST_WINDOW, Vcpu, When};
 use migration_types::{Size, Version};
 use session_log::{wanted_cells, wanted_init_count, wanted_init_page, wanted_pages};
 use text_lines::Wanted;

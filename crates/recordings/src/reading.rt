@@ -5,8 +5,8 @@ ghost use Rattle.recordings.specs.Lines.{longest_line};
 ghost use Rattle.recordings.specs.Walking.{Walks, IsRefusedBy};
 ghost use Rattle.recordings.specs.inner.Goings.{Came, ReadsBehind};
 
-use crate::{RecordingFault, Visitor};
 use crate::walker::Walker;
+use crate::{RecordingFault, Visitor};
 use std::io;
 use std::io::{ErrorKind, Read};
 

@@ -5,8 +5,8 @@ ghost use Rattle.text_lines.specs.Text.{ended, IsLine};
 ghost use Rattle.recordings.specs.Lines.{longest_line};
 ghost use Rattle.recordings.specs.inner.Goings.{Came, Goes, Grows, Stops, RefusesAll, line_fault};
 
-use crate::{Machine, RecordingFault, Visitor};
 use crate::place::{Place, Stage};
+use crate::{Machine, RecordingFault, Visitor};
 use migration_types::{Size, Version};
 use std::alloc::Global;
 use text_lines::{FaultKind, next_line};

@@ -59,7 +59,7 @@ pub returns-in-Ok-Some-clause-headline : goal.returns-in-Ok-Some-clause-headline
 returns-in-Ok-Some-clause-headline g c = λ first second asks zero.
     let is = taken_check (word_texts c.args.words.now) first second asks in
     shown is.asking _ _ _ _ _ c.grant.result c.headline_holds_at_yes.ensures (some_given (job_of c.in-Ok-Some.wish) (Two (Check is.asking) first second) (λ (job : Asked Text). IsSettled (EndsAsked job (g.S.TextSource.bytes_of c.args.texts.now) (g.I.Read.remaining c.args.input.now) (g.O.Write.contents c.args.output.now, g.E.Write.contents c.args.errors.now)) (g.O.Write.contents c.grant.new.output, g.E.Write.contents c.grant.new.errors) c.grant.result)
-        (ap (option_and_then job_of) (sym c.in-Ok-Some.field-0-is) ∙ c.in-Ok-Some.ensures.job ∙ is.asks) c.grant.ensures.job) zero
+    (ap (option_and_then job_of) (sym c.in-Ok-Some.field-0-is) ∙ c.in-Ok-Some.ensures.job ∙ is.asks) c.grant.ensures.job) zero
 
 pub returns-in-Ok-None-clause-headline : goal.returns-in-Ok-None-clause-headline
 returns-in-Ok-None-clause-headline g c = λ first second asks zero.
