@@ -6,7 +6,7 @@ use Rattle.std.proofs.lemmas.Bool.{and_parts}
 use Rattle.std.proofs.lemmas.Option.{slice_get_within}
 use Rattle.migration_types.specs.declared.records.LogName.TheVariants.{Pager}
 use Rattle.migration_types.specs.declared.records.SourceRec.{SourceRec}
-use Rattle.migration_types.specs.declared.records.SourceRec.TheVariants.{Halted, State, Send, Again, Ask, Done}
+use Rattle.migration_types.specs.declared.records.SourceRec.TheVariants.{Halted, State, Send, Again, Ask, Done, Back}
 use Rattle.migration_types.specs.declared.records.PagerRec.{PagerRec}
 use Rattle.migration_types.specs.declared.records.PagerRec.TheVariants.{Got, Pull, Ready, Fault, Join, Want, Place, Zero, Skip, All}
 use Rattle.migration_types.specs.declared.cert.First.{First}
@@ -41,6 +41,7 @@ sends_page page (Some State) e = absurd (cc)
 sends_page page (Some (Again i)) e = absurd (cc)
 sends_page page (Some (Ask i)) e = absurd (cc)
 sends_page page (Some Done) e = absurd (cc)
+sends_page page (Some Back) e = absurd (cc)
 
 has_send : (s : Recorded) (page got : ℕ) → delivers s (is_send_of page) got ≡ true → HasSend s page got
 has_send s page got e = by_delivery (delivery s got) refl e
@@ -60,6 +61,7 @@ has_send s page got e = by_delivery (delivery s got) refl e
     by_record d is (Some State) at e = absurd (cc)
     by_record d is (Some (Ask i)) at e = absurd (cc)
     by_record d is (Some Done) at e = absurd (cc)
+    by_record d is (Some Back) at e = absurd (cc)
 
     by_delivery : (o : Option ℕ) → delivery s got ≡ o → passes (λ sending. passes (is_or_repeats s (is_send_of page)) (slice_get s.source sending)) o ≡ true → HasSend s page got
     by_delivery None is e = absurd (cc)

@@ -7,7 +7,7 @@ use Rattle.migration_types.specs.declared.records.LogName.TheVariants.{Guest, So
 use Rattle.migration_types.specs.declared.records.GuestRec.{GuestRec}
 use Rattle.migration_types.specs.declared.records.GuestRec.TheVariants.{Read, Write, Release, Miss, Halt, Resume, See}
 use Rattle.migration_types.specs.declared.records.SourceRec.{SourceRec}
-use Rattle.migration_types.specs.declared.records.SourceRec.TheVariants.{Halted, State, Send, Again, Ask, Done}
+use Rattle.migration_types.specs.declared.records.SourceRec.TheVariants.{Halted, State, Send, Again, Ask, Done, Back}
 use Rattle.migration_types.specs.declared.records.LinkRec.{LinkRec}
 use Rattle.migration_types.specs.declared.records.LinkRec.TheVariants.{Down, Up}
 use Rattle.migration_types.specs.declared.records.LaneRec.{LaneRec}
@@ -115,6 +115,7 @@ module _ (s : Recorded) (shape : IsRightShape s) (c : Cursors) (cut : IsConsiste
       go (Again i) is = let e = starts (Again i) is in absurd (cc)
       go (Ask i) is = let e = starts (Ask i) is in absurd (cc)
       go Done is = let e = starts Done is in absurd (cc)
+      go Back is = let e = starts Back is in absurd (cc)
 
   -- and so once a record of the pager was
   pub left_by_pager : 0 < c Pager → home s (c Guest) ≢ AtSource

@@ -38,7 +38,7 @@ session_a = record {
 }
 
 shape_a : IsRightShape session_a
-shape_a = shape_by_tests session_a refl refl refl refl refl refl refl refl refl
+shape_a = shape_by_tests session_a refl refl refl refl refl refl refl refl refl refl
 
 abbrev runs_a : List Run
 runs_a =

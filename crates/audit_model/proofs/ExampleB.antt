@@ -39,7 +39,7 @@ session_b = record {
 }
 
 shape_b : IsRightShape session_b
-shape_b = shape_by_tests session_b refl refl refl refl refl refl refl refl refl
+shape_b = shape_by_tests session_b refl refl refl refl refl refl refl refl refl refl
 
 abbrev runs_b : List Run
 runs_b =

@@ -37,7 +37,7 @@ session_c = record {
 }
 
 shape_c : IsRightShape session_c
-shape_c = shape_by_tests session_c refl refl refl refl refl refl refl refl refl
+shape_c = shape_by_tests session_c refl refl refl refl refl refl refl refl refl refl
 
 abbrev runs_c : List Run
 runs_c =

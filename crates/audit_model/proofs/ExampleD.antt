@@ -39,7 +39,7 @@ session_d = record {
 }
 
 shape_d : IsRightShape session_d
-shape_d = shape_by_tests session_d refl refl refl refl refl refl refl refl refl
+shape_d = shape_by_tests session_d refl refl refl refl refl refl refl refl refl refl
 
 abbrev runs_d : List Run
 runs_d =

@@ -9,7 +9,7 @@ use Rattle.migration_types.specs.declared.records.LogName.TheVariants.{Guest, So
 use Rattle.migration_types.specs.declared.records.GuestRec.{GuestRec}
 use Rattle.migration_types.specs.declared.records.GuestRec.TheVariants.{Read, Write, Release, Miss, Halt, Resume, See}
 use Rattle.migration_types.specs.declared.records.SourceRec.{SourceRec}
-use Rattle.migration_types.specs.declared.records.SourceRec.TheVariants.{Halted, State, Send, Again, Ask, Done}
+use Rattle.migration_types.specs.declared.records.SourceRec.TheVariants.{Halted, State, Send, Again, Ask, Done, Back}
 use Rattle.migration_types.specs.declared.records.LinkRec.{LinkRec}
 use Rattle.migration_types.specs.declared.records.LinkRec.TheVariants.{Down, Up}
 use Rattle.migration_types.specs.declared.records.LaneRec.{LaneRec}
@@ -22,7 +22,7 @@ use Rattle.migration_types.specs.Extents.{Extent}
 use Rattle.migration_types.specs.Contents.{IsContent}
 use Rattle.migration_types.specs.Receipts.{Name}
 use Rattle.migration_types.specs.Rows.{Consists, row_of, guest_row, source_row, link_row, lane_row, pager_row, source_contents, pager_contents}
-use Rattle.migration_types.specs.Sessions.{Recorded, IsSession, HasLog, HasLane, GuestRecFits, SourceRecFits, LinkRecFits, LaneRecFits, PagerRecFits, log_length}
+use Rattle.migration_types.specs.Sessions.{Recorded, IsSession, HasLog, HasLane, HasSourceRec, GuestRecFits, SourceRecFits, LinkRecFits, LaneRecFits, PagerRecFits, log_length}
 use Rattle.audit_model.specs.Names.{if_there}
 use Rattle.audit_model.specs.Fitting.{FieldIsOf, contents_of, Fits, NamesInReach, IsWithinLimits}
 use Rattle.audit_model.proofs.Lists.{each_at, each_from}
@@ -59,13 +59,14 @@ module _ (v : Version) (e : Extent) where
   content_is : (ys : List ℕ) → IsContent e.cells ys → (content : List ℕ) → Some ys ≡ Some content → IsContent e.cells content
   content_is ys h content is = let same : ys ≡ content = cc in subst (IsContent e.cells) same h
 
-  source_splits : (r : SourceRec) → SourceRecFits e r ↔ Splits v e (source_row r) (source_contents r)
-  source_splits (Halted i) = (λ h. bare (source_row (Halted i)) (tt, tt) (h, tt), λ h. h.numbers.0)
-  source_splits State = (λ h. bare (source_row State) tt tt, λ h. tt)
-  source_splits (Send p ys) = (λ h. record { fields = (h.0, tt); numbers = (tt, tt); contents = content_is ys h.1 }, λ h. (h.fields.0, h.contents ys refl))
-  source_splits (Again i) = (λ h. bare (source_row (Again i)) (tt, tt) (h, tt), λ h. h.numbers.0)
-  source_splits (Ask i) = (λ h. bare (source_row (Ask i)) (tt, tt) (h, tt), λ h. h.numbers.0)
-  source_splits Done = (λ h. bare (source_row Done) tt tt, λ h. tt)
+  source_splits : (r : SourceRec) → SourceRecFits e r ↔ (HasSourceRec e.size r × Splits v e (source_row r) (source_contents r))
+  source_splits (Halted i) = (λ h. (tt, bare (source_row (Halted i)) (tt, tt) (h, tt)), λ h. h.1.numbers.0)
+  source_splits State = (λ h. (tt, bare (source_row State) tt tt), λ h. tt)
+  source_splits (Send p ys) = (λ h. (tt, record { fields = (h.0, tt); numbers = (tt, tt); contents = content_is ys h.1 }), λ h. (h.1.fields.0, h.1.contents ys refl))
+  source_splits (Again i) = (λ h. (tt, bare (source_row (Again i)) (tt, tt) (h, tt)), λ h. h.1.numbers.0)
+  source_splits (Ask i) = (λ h. (tt, bare (source_row (Ask i)) (tt, tt) (h, tt)), λ h. h.1.numbers.0)
+  source_splits Done = (λ h. (tt, bare (source_row Done) tt tt), λ h. tt)
+  source_splits Back = (λ h. (h, bare (source_row Back) tt tt), λ h. h.0)
 
   link_splits : (r : LinkRec) → LinkRecFits e r ↔ Splits v e (link_row r) None
   link_splits (Down i) = (λ h. bare (link_row (Down i)) (tt, tt) (h, tt), λ h. h.numbers.0)
@@ -111,7 +112,7 @@ module _ (s : Recorded) where
 
   module _ (h : IsSession s) where
     pub session_fits : Fits s
-    session_fits = record { init = h.init; logs = logs; fields = fields; contents = contents }
+    session_fits = record { init = h.init; logs = logs; source = source; fields = fields; contents = contents }
       where
         logs : (name : Name) (row : Consists) → row_of s name ≡ Some row → HasLog s.version name.0
         logs (Guest, n) row is = tt
@@ -120,15 +121,18 @@ module _ (s : Recorded) where
         logs (Lane, n) row is = let f = row_from (LaneRecFits s.version s.geometry) lane_row s.lane n row h.lane is in ((lane_splits s.version s.geometry f.0).0 f.1).0
         logs (Pager, n) row is = tt
 
+        source : (n : ℕ) (r : SourceRec) → slice_get s.source n ≡ Some r → HasSourceRec s.geometry.size r
+        source n r is = ((source_splits s.version s.geometry r).0 (each_at (SourceRecFits s.geometry) s.source n r h.source is)).0
+
         fields : (name : Name) (row : Consists) → row_of s name ≡ Some row → InFields (FieldIsOf s.version s.geometry) row
         fields (Guest, n) row is = let f = row_from (GuestRecFits s.geometry) guest_row s.guest n row h.guest is in subst (InFields (FieldIsOf s.version s.geometry)) f.2 ((guest_splits s.version s.geometry f.0).0 f.1).fields
-        fields (Source, n) row is = let f = row_from (SourceRecFits s.geometry) source_row s.source n row h.source is in subst (InFields (FieldIsOf s.version s.geometry)) f.2 ((source_splits s.version s.geometry f.0).0 f.1).fields
+        fields (Source, n) row is = let f = row_from (SourceRecFits s.geometry) source_row s.source n row h.source is in subst (InFields (FieldIsOf s.version s.geometry)) f.2 ((source_splits s.version s.geometry f.0).0 f.1).1.fields
         fields (Link, n) row is = let f = row_from (LinkRecFits s.geometry) link_row s.link n row h.link is in subst (InFields (FieldIsOf s.version s.geometry)) f.2 ((link_splits s.version s.geometry f.0).0 f.1).fields
         fields (Lane, n) row is = let f = row_from (LaneRecFits s.version s.geometry) lane_row s.lane n row h.lane is in subst (InFields (FieldIsOf s.version s.geometry)) f.2 ((lane_splits s.version s.geometry f.0).0 f.1).1.fields
         fields (Pager, n) row is = let f = row_from (PagerRecFits s.version s.geometry) pager_row s.pager n row h.pager is in subst (InFields (FieldIsOf s.version s.geometry)) f.2 ((pager_splits s.version s.geometry f.0).0 f.1).fields
 
         contents : (name : Name) (content : List ℕ) → contents_of s name ≡ Some content → IsContent s.geometry.cells content
-        contents (Source, n) content is = let f = contents_from (SourceRecFits s.geometry) source_contents s.source n content h.source is in ((source_splits s.version s.geometry f.0).0 f.1).contents content f.2
+        contents (Source, n) content is = let f = contents_from (SourceRecFits s.geometry) source_contents s.source n content h.source is in ((source_splits s.version s.geometry f.0).0 f.1).1.contents content f.2
         contents (Pager, n) content is = let f = contents_from (PagerRecFits s.version s.geometry) pager_contents s.pager n content h.pager is in ((pager_splits s.version s.geometry f.0).0 f.1).contents content f.2
         contents (Guest, n) content is = absurd (cc)
         contents (Link, n) content is = absurd (cc)
@@ -139,7 +143,7 @@ module _ (s : Recorded) where
       where
         numbers : (name : Name) (row : Consists) → row_of s name ≡ Some row → InFields (NamesInReach s.geometry.size) row
         numbers (Guest, n) row is = let f = row_from (GuestRecFits s.geometry) guest_row s.guest n row h.guest is in subst (InFields (NamesInReach s.geometry.size)) f.2 ((guest_splits s.version s.geometry f.0).0 f.1).numbers
-        numbers (Source, n) row is = let f = row_from (SourceRecFits s.geometry) source_row s.source n row h.source is in subst (InFields (NamesInReach s.geometry.size)) f.2 ((source_splits s.version s.geometry f.0).0 f.1).numbers
+        numbers (Source, n) row is = let f = row_from (SourceRecFits s.geometry) source_row s.source n row h.source is in subst (InFields (NamesInReach s.geometry.size)) f.2 ((source_splits s.version s.geometry f.0).0 f.1).1.numbers
         numbers (Link, n) row is = let f = row_from (LinkRecFits s.geometry) link_row s.link n row h.link is in subst (InFields (NamesInReach s.geometry.size)) f.2 ((link_splits s.version s.geometry f.0).0 f.1).numbers
         numbers (Lane, n) row is = let f = row_from (LaneRecFits s.version s.geometry) lane_row s.lane n row h.lane is in subst (InFields (NamesInReach s.geometry.size)) f.2 ((lane_splits s.version s.geometry f.0).0 f.1).1.numbers
         numbers (Pager, n) row is = let f = row_from (PagerRecFits s.version s.geometry) pager_row s.pager n row h.pager is in subst (InFields (NamesInReach s.geometry.size)) f.2 ((pager_splits s.version s.geometry f.0).0 f.1).numbers
@@ -163,7 +167,7 @@ module _ (s : Recorded) where
       few_pager = few_at_most Pager;
       own = within.size.few;
       guest = each_from (GuestRecFits s.geometry) s.guest (λ n r is. (guest_splits s.version s.geometry r).1 (splits_at (Guest, n) (guest_row r) (ap (option_map guest_row) is) None (λ content e. absurd (cc))));
-      source = each_from (SourceRecFits s.geometry) s.source (λ n r is. (source_splits s.version s.geometry r).1 (splits_at (Source, n) (source_row r) (ap (option_map source_row) is) (source_contents r) (λ content e. ap (if_there source_contents) is ∙ e)));
+      source = each_from (SourceRecFits s.geometry) s.source (λ n r is. (source_splits s.version s.geometry r).1 (fits.source n r is, splits_at (Source, n) (source_row r) (ap (option_map source_row) is) (source_contents r) (λ content e. ap (if_there source_contents) is ∙ e)));
       link = each_from (LinkRecFits s.geometry) s.link (λ n r is. (link_splits s.version s.geometry r).1 (splits_at (Link, n) (link_row r) (ap (option_map link_row) is) None (λ content e. absurd (cc))));
       lane = each_from (LaneRecFits s.version s.geometry) s.lane (λ n r is. let at = ap (option_map lane_row) is in (lane_splits s.version s.geometry r).1 (fits.logs (Lane, n) (lane_row r) at, splits_at (Lane, n) (lane_row r) at None (λ content e. absurd (cc))));
       pager = each_from (PagerRecFits s.version s.geometry) s.pager (λ n r is. (pager_splits s.version s.geometry r).1 (splits_at (Pager, n) (pager_row r) (ap (option_map pager_row) is) (pager_contents r) (λ content e. ap (if_there pager_contents) is ∙ e)));

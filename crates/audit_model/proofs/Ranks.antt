@@ -1,6 +1,7 @@
 -- What is kept of a log, and where it stands there.
-use Rattle.std.proofs.Common.{◌≡◌, ℕ, zero, suc, ◌<◌, ◌≤◌, ◌⊎◌, inl, inr, Bool, true, false, List, [], ◌∷◌, map, Option, Some, None, refl, sym, ap, ◌∙◌, subst, arith}
+use Rattle.std.proofs.Common.{◌≡◌, ℕ, zero, suc, ◌<◌, ◌≤◌, ◌⊎◌, inl, inr, Bool, true, false, ◌||◌, List, [], ◌∷◌, length, map, Option, Some, None, refl, sym, ap, ap₂, ◌∙◌, subst, arith}
 use Rattle.std.specs.Prelude.{slice_get, is_some}
+use Rattle.std.specs.List.{list_any}
 use Rattle.std.specs.Option.{option_map}
 use Rattle.std.proofs.lemmas.Option.{slice_get-map}
 use Rattle.std.proofs.lemmas.Bool.{cases_lt}
@@ -36,6 +37,28 @@ new_at new marks log n x is mark = slice_get-map new (kept_in marks log) (rank m
 -- each record has a mark, and there are no more
 abbrev pub Aligned : {A : Type 0} → List Bool → List A → Type 0
 Aligned marks log = (n : ℕ) → is_some (slice_get marks n) ≡ is_some (slice_get log n)
+
+-- what is kept of a whole log is as long as the rank of its end
+pub kept_length : {A : Type 0} (marks : List Bool) (log : List A) → Aligned marks log → length (kept_in marks log) ≡ rank marks (length log)
+kept_length [] [] aligned = refl
+kept_length [] (x ∷ log) aligned = let e : false ≡ true = aligned 0 in absurd (cc)
+kept_length (m ∷ marks) [] aligned = let e : true ≡ false = aligned 0 in absurd (cc)
+kept_length (true ∷ marks) (x ∷ log) aligned = ap suc (kept_length marks log (λ n. aligned (suc n))) ∙ sym (rank_cons true marks (length log))
+kept_length (false ∷ marks) (x ∷ log) aligned = kept_length marks log (λ n. aligned (suc n)) ∙ sym (rank_cons false marks (length log))
+
+-- A log has a record that passes a test where what is kept of it does, if those that pass are kept and what they become
+-- passes.
+pub any_kept : {A B : Type 0} (new : A → B) (marks : List Bool) (log : List A) (test : A → Bool) (new_test : B → Bool) → Aligned marks log →
+    ((x : A) → new_test (new x) ≡ test x) →
+    ((n : ℕ) (x : A) → slice_get log n ≡ Some x → slice_get marks n ≡ Some false → test x ≡ false) →
+    list_any new_test (map new (kept_in marks log)) ≡ list_any test log
+any_kept new [] [] test new_test aligned same gone = refl
+any_kept new [] (x ∷ log) test new_test aligned same gone = let e : false ≡ true = aligned 0 in absurd (cc)
+any_kept new (m ∷ marks) [] test new_test aligned same gone = let e : true ≡ false = aligned 0 in absurd (cc)
+any_kept new (true ∷ marks) (x ∷ log) test new_test aligned same gone =
+    ap₂ (λ a b. a || b) (same x) (any_kept new marks log test new_test (λ n. aligned (suc n)) same (λ n. gone (suc n)))
+any_kept new (false ∷ marks) (x ∷ log) test new_test aligned same gone =
+    any_kept new marks log test new_test (λ n. aligned (suc n)) same (λ n. gone (suc n)) ∙ sym (ap (λ b. b || list_any test log) (gone 0 x refl refl))
 
 -- What a log says before a place is what its kept records say before that place's rank, where those say it as before,
 -- and those that go do not change it: of what is said at that place alone.
@@ -76,6 +99,10 @@ aligned_map test (x ∷ log) (suc n) = aligned_map test log n
 
 pub mark_of : {A : Type 0} (test : A → Bool) (log : List A) (n : ℕ) (x : A) (b : Bool) → slice_get log n ≡ Some x → slice_get (map test log) n ≡ Some b → test x ≡ b
 mark_of test log n x b is mark = let e : Some (test x) ≡ Some b = sym (slice_get-map test log n ∙ ap (option_map test) is) ∙ mark in cc
+
+-- the mark of a record that is kept
+pub mark_is : {A : Type 0} (keeps : A → Bool) (log : List A) (n : ℕ) (x : A) → slice_get log n ≡ Some x → keeps x ≡ true → slice_get (map keeps log) n ≡ Some true
+mark_is keeps log n x is e = slice_get-map keeps log n ∙ ap (option_map keeps) is ∙ ap Some e
 
 -- what stands in what is kept came from a record that is
 pub came_from : {A B : Type 0} (new : A → B) (marks : List Bool) (log : List A) (k : ℕ) (y : B) → slice_get (map new (kept_in marks log)) k ≡ Some y → (n : ℕ) × (x : A) × (slice_get log n ≡ Some x) × (slice_get marks n ≡ Some true) × (rank marks n ≡ k) × (new x ≡ y)

@@ -6,7 +6,7 @@ use Rattle.migration_types.specs.declared.records.LogName.TheVariants.{Guest, So
 use Rattle.migration_types.specs.declared.records.GuestRec.{GuestRec}
 use Rattle.migration_types.specs.declared.records.GuestRec.TheVariants.{Read, Write, Release, Miss, Halt, Resume, See}
 use Rattle.migration_types.specs.declared.records.SourceRec.{SourceRec}
-use Rattle.migration_types.specs.declared.records.SourceRec.TheVariants.{Halted, State, Send, Again, Ask, Done}
+use Rattle.migration_types.specs.declared.records.SourceRec.TheVariants.{Halted, State, Send, Again, Ask, Done, Back}
 use Rattle.migration_types.specs.declared.records.PagerRec.{PagerRec}
 use Rattle.migration_types.specs.declared.records.PagerRec.TheVariants.{Got, Pull, Ready, Fault, Join, Want, Place, Zero, Skip, All}
 use Rattle.migration_types.specs.Sessions.{Recorded}
@@ -134,6 +134,7 @@ module _ (s : Recorded) (shape : IsRightShape s) (fits : Fits s) (kept : (page :
   source_demand_holds c w i left n (Again k) is = tt
   source_demand_holds c w i left n (Ask k) is = tt
   source_demand_holds c w i left n Done is = tt
+  source_demand_holds c w i left n Back is = tt
 
   pager_demand_holds : (c : Cursors) (w : World) → IsFlatAt s c w → home s (c Guest) ≢ AtSource → (r : PagerRec) → slice_get s.pager (c Pager) ≡ Some r → pager_demand s r w
   pager_demand_holds c w i left (Place q got content) is =

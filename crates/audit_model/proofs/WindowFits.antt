@@ -11,7 +11,7 @@ use Rattle.migration_types.specs.declared.records.LogName.TheVariants.{Guest, So
 use Rattle.migration_types.specs.declared.records.GuestRec.{GuestRec}
 use Rattle.migration_types.specs.declared.records.GuestRec.TheVariants.{Read, Write, Release, Miss, Halt, Resume, See}
 use Rattle.migration_types.specs.declared.records.SourceRec.{SourceRec}
-use Rattle.migration_types.specs.declared.records.SourceRec.TheVariants.{Halted, State, Send, Again, Ask, Done}
+use Rattle.migration_types.specs.declared.records.SourceRec.TheVariants.{Halted, State, Send, Again, Ask, Done, Back}
 use Rattle.migration_types.specs.declared.records.LinkRec.{LinkRec}
 use Rattle.migration_types.specs.declared.records.LinkRec.TheVariants.{Down, Up}
 use Rattle.migration_types.specs.declared.records.LaneRec.{LaneRec}
@@ -23,7 +23,7 @@ use Rattle.migration_types.specs.Contents.{IsContent}
 use Rattle.migration_types.specs.Pages.{InitPageFits}
 use Rattle.migration_types.specs.Receipts.{Name}
 use Rattle.migration_types.specs.Rows.{Consists, row_of, guest_row, source_row, link_row, lane_row, pager_row, source_contents, pager_contents}
-use Rattle.migration_types.specs.Sessions.{Recorded, HasLog}
+use Rattle.migration_types.specs.Sessions.{Recorded, HasLog, HasSourceRec}
 use Rattle.audit_model.specs.Names.{if_there}
 use Rattle.audit_model.specs.Fitting.{FieldIsOf, contents_of, Fits}
 use Rattle.audit_model.specs.Windows.{Numbers, numbers_from, IsNumbering, IsWindow, is_seen, new_page, kept_in, rank, keeps_source, keeps_guest, keeps_pager, marks, new_guest, new_source, new_link, new_lane, new_pager, keeps_init, new_init, window}
@@ -160,6 +160,7 @@ module _ (number : Numbers) (count : ℕ) (is : IsWindow number count) (s : Reco
   source_new (Again i) e h = h
   source_new (Ask i) e h = h
   source_new Done e h = tt
+  source_new Back e h = tt
 
   link_new : (x : LinkRec) → Old (link_row x) → New (link_row (new_link s number x))
   link_new (Down i) h = h
@@ -187,6 +188,22 @@ module _ (number : Numbers) (count : ℕ) (is : IsWindow number count) (s : Reco
   source_same (Again i) = refl
   source_same (Ask i) = refl
   source_same Done = refl
+  source_same Back = refl
+
+  -- its size is the session's, which has each record of the source
+  still_has : (x : SourceRec) → HasSourceRec s.geometry.size x → HasSourceRec s.geometry.size (new_source s number x)
+  still_has (Send p content) h = tt
+  still_has (Halted i) h = tt
+  still_has State h = tt
+  still_has (Again i) h = tt
+  still_has (Ask i) h = tt
+  still_has Done h = tt
+  still_has Back h = h
+
+  source_has : (m : ℕ) (y : SourceRec) → slice_get (window number count s).source m ≡ Some y → HasSourceRec s.geometry.size y
+  source_has m y at =
+      let f = came_from (new_source s number) (marks s number Source) s.source m y at in
+      subst (HasSourceRec s.geometry.size) f.5 (still_has f.1 (fits.source f.0 f.1 f.2))
 
   pager_same : (x : PagerRec) → pager_contents (new_pager s number x) ≡ pager_contents x
   pager_same (Place p i content) = refl
@@ -236,6 +253,7 @@ module _ (number : Numbers) (count : ℕ) (is : IsWindow number count) (s : Reco
   fits_through = record {
     init = record { each = each_from (InitPageFits extent) begun begun_fits; rising = begun_rises };
     logs = logs_new;
+    source = source_has;
     fields = fields_new;
     contents = contents_new;
   }

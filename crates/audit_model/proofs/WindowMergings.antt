@@ -9,7 +9,7 @@ use Rattle.migration_types.specs.declared.records.LogName.TheVariants.{Guest, So
 use Rattle.migration_types.specs.declared.records.GuestRec.{GuestRec}
 use Rattle.migration_types.specs.declared.records.GuestRec.TheVariants.{Read, Write, Release, Miss, Halt, Resume, See}
 use Rattle.migration_types.specs.declared.records.SourceRec.{SourceRec}
-use Rattle.migration_types.specs.declared.records.SourceRec.TheVariants.{Halted, State, Send, Again, Ask, Done}
+use Rattle.migration_types.specs.declared.records.SourceRec.TheVariants.{Halted, State, Send, Again, Ask, Done, Back}
 use Rattle.migration_types.specs.declared.records.LinkRec.{LinkRec}
 use Rattle.migration_types.specs.declared.records.LinkRec.TheVariants.{Down, Up}
 use Rattle.migration_types.specs.declared.records.LaneRec.{LaneRec}
@@ -99,6 +99,7 @@ sent_kept s number State e = refl
 sent_kept s number (Send p content) e = e
 sent_kept s number (Halted i) e = refl
 sent_kept s number Done e = refl
+sent_kept s number Back e = refl
 sent_kept s number x e = absurd (cc)
 
 pub sending_kept : (s : Recorded) (number : Numbers) (x : SourceRec) → is_or_repeats s (keeps_sending number) x ≡ true → keeps_source s number x ≡ true
@@ -108,6 +109,7 @@ sending_kept s number State e = refl
 sending_kept s number (Halted i) e = refl
 sending_kept s number (Ask i) e = absurd (cc)
 sending_kept s number Done e = refl
+sending_kept s number Back e = refl
 
 module _ (number : Numbers) (s : Recorded) (count : ℕ) (shape : IsRightShape s) where
   -- the cursors of the window

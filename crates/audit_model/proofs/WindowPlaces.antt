@@ -1,14 +1,13 @@
 -- Right shape of the pager's log through a window.
-use Rattle.std.proofs.Common.{◌≡◌, ℕ, ◌==◌, Bool, true, eqb-true, List, map, Option, Some, None, refl, sym, ap, ◌∙◌}
+use Rattle.std.proofs.Common.{◌≡◌, ℕ, ◌==◌, Bool, true, eqb-true, Option, Some, None, refl, sym, ap, ◌∙◌}
 use Rattle.std.specs.Prelude.{slice_get, is_some, nat_lt}
 use Rattle.std.specs.Option.{option_map}
-use Rattle.std.proofs.lemmas.Option.{slice_get-map}
 use Rattle.std.proofs.lemmas.Bool.{ltb-true, lt-ltb, and_parts, and_from}
 use Rattle.migration_types.specs.declared.records.LogName.TheVariants.{Guest, Source, Link, Lane, Pager}
 use Rattle.migration_types.specs.declared.records.GuestRec.{GuestRec}
 use Rattle.migration_types.specs.declared.records.GuestRec.TheVariants.{Miss}
 use Rattle.migration_types.specs.declared.records.SourceRec.{SourceRec}
-use Rattle.migration_types.specs.declared.records.SourceRec.TheVariants.{Halted, State, Send, Again, Ask, Done}
+use Rattle.migration_types.specs.declared.records.SourceRec.TheVariants.{Halted, State, Send, Again, Ask, Done, Back}
 use Rattle.migration_types.specs.declared.records.LinkRec.{LinkRec}
 use Rattle.migration_types.specs.declared.records.LinkRec.TheVariants.{Down, Up}
 use Rattle.migration_types.specs.declared.records.LaneRec.{LaneRec}
@@ -20,7 +19,7 @@ use Rattle.audit_model.specs.declared.reasons.ShapeReason.TheVariants.{Named}
 use Rattle.audit_model.specs.Names.{if_there}
 use Rattle.audit_model.specs.Shape.{passes, delivers, taken_sending, down_sending, lane_sending, pager_named, is_miss, is_down, is_want, is_taking, is_send_of, is_or_repeats, keeps, is_right, IsRightShape}
 use Rattle.audit_model.specs.Windows.{Numbers, IsNumbering, is_seen, new_page, keeps_sending, keeps_taking, keeps_asking, keeps_miss, keeps_source, keeps_link, keeps_lane, keeps_pager, marks, moved_to, new_guest, new_source, new_link, new_lane, new_pager, window}
-use Rattle.audit_model.proofs.Ranks.{rank_less, new_at, mark_of}
+use Rattle.audit_model.proofs.Ranks.{rank_less, new_at, mark_of, mark_is}
 use Rattle.audit_model.proofs.WindowCells.{same_page}
 use Rattle.audit_model.proofs.WindowFaults.{seen_at}
 use Rattle.audit_model.proofs.WindowShape.{passes_through, keeps_through}
@@ -30,10 +29,6 @@ use Rattle.audit_model.proofs.WindowMergings.{sent_kept, miss_kept, asking_kept,
 passes_wider : {A : Type 0} (test wide : A → Bool) → ((x : A) → test x ≡ true → wide x ≡ true) → (o : Option A) → passes test o ≡ true → passes wide o ≡ true
 passes_wider test wide h None e = absurd (cc)
 passes_wider test wide h (Some x) e = h x e
-
--- the mark of a record that is kept
-pub mark_is : {A : Type 0} (keeps : A → Bool) (log : List A) (n : ℕ) (x : A) → slice_get log n ≡ Some x → keeps x ≡ true → slice_get (map keeps log) n ≡ Some true
-mark_is keeps log n x is e = slice_get-map keeps log n ∙ ap (option_map keeps) is ∙ ap Some e
 
 module _ (number : Numbers) (s : Recorded) (count : ℕ) where
   -- a delivery of what is kept is kept, and delivers what that becomes
@@ -45,6 +40,7 @@ module _ (number : Numbers) (s : Recorded) (count : ℕ) where
     sends_kept (Halted i) e = narrow (Halted i) e
     sends_kept (Ask i) e = narrow (Ask i) e
     sends_kept Done e = narrow Done e
+    sends_kept Back e = narrow Back e
 
     sends_new : (x : SourceRec) → is_or_repeats s test x ≡ true → is_or_repeats (window number count s) new_test (new_source s number x) ≡ true
     sends_new (Again i) e = passes_through (new_source s number) (marks s number Source) s.source test new_test renews i (mark_by test (keeps_source s number) s.source (λ x f. sent_kept s number x (narrow x f)) i e) e
@@ -53,6 +49,7 @@ module _ (number : Numbers) (s : Recorded) (count : ℕ) where
     sends_new (Halted i) e = renews (Halted i) e
     sends_new (Ask i) e = renews (Ask i) e
     sends_new Done e = renews Done e
+    sends_new Back e = renews Back e
 
     source_through : (i : ℕ) → passes (is_or_repeats s test) (slice_get s.source i) ≡ true → passes (is_or_repeats (window number count s) new_test) (slice_get (window number count s).source (moved_to s number Source i)) ≡ true
     source_through i f = passes_through (new_source s number) (marks s number Source) s.source (is_or_repeats s test) (is_or_repeats (window number count s) new_test) sends_new i (mark_by (is_or_repeats s test) (keeps_source s number) s.source (λ x g. sending_kept s number x (sends_kept x g)) i f) f

@@ -8,7 +8,7 @@ use Rattle.migration_types.specs.declared.records.LogName.TheVariants.{Guest, So
 use Rattle.migration_types.specs.declared.records.GuestRec.{GuestRec}
 use Rattle.migration_types.specs.declared.records.GuestRec.TheVariants.{Read, Write, Release, Miss, Halt, Resume, See}
 use Rattle.migration_types.specs.declared.records.SourceRec.{SourceRec}
-use Rattle.migration_types.specs.declared.records.SourceRec.TheVariants.{Halted, State, Send, Again, Ask, Done}
+use Rattle.migration_types.specs.declared.records.SourceRec.TheVariants.{Halted, State, Send, Again, Ask, Done, Back}
 use Rattle.migration_types.specs.declared.records.LinkRec.{LinkRec}
 use Rattle.migration_types.specs.declared.records.LinkRec.TheVariants.{Down, Up}
 use Rattle.migration_types.specs.declared.records.LaneRec.{LaneRec}
@@ -65,6 +65,7 @@ module _ (s : Recorded) (shape : IsRightShape s) (fitting : FitsSize s) where
   source_reach n (Again i) e = (in_reach i (length s.source) (there_by is_sending s.source i (and_parts (nat_lt i n) (passes is_sending (slice_get s.source i)) e).1) (fitting.few Source), tt)
   source_reach n (Ask i) e = (in_reach i (length s.link) (there_by is_up s.link i e) (fitting.few Link), tt)
   source_reach n Done e = tt
+  source_reach n Back e = tt
 
   link_reach : (x : LinkRec) → link_named s x ≡ true → InReach (link_row x)
   link_reach (Down i) e = (in_reach i (length s.source) (there_by goes_down s.source i e) (fitting.few Source), tt)

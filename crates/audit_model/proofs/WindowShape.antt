@@ -1,12 +1,13 @@
 -- Right shape through a window.
 use Rattle.std.proofs.Common.{◌≡◌, ℕ, zero, suc, ◌-◌, ◌<◌, ◌||◌, not, Bool, true, false, List, map, Option, Some, None, refl, sym, ap, ◌∙◌, subst, arith}
 use Rattle.std.specs.Prelude.{slice_get, nat_lt}
+use Rattle.std.specs.List.{list_any}
 use Rattle.std.proofs.lemmas.Bool.{ltb-true, lt-ltb, and_parts, and_from}
 use Rattle.migration_types.specs.declared.records.LogName.TheVariants.{Guest, Source, Link, Lane, Pager}
 use Rattle.migration_types.specs.declared.records.GuestRec.{GuestRec}
 use Rattle.migration_types.specs.declared.records.GuestRec.TheVariants.{Read, Write, Release, Miss, Halt, Resume, See}
 use Rattle.migration_types.specs.declared.records.SourceRec.{SourceRec}
-use Rattle.migration_types.specs.declared.records.SourceRec.TheVariants.{Halted, State, Send, Again, Ask, Done}
+use Rattle.migration_types.specs.declared.records.SourceRec.TheVariants.{Halted, State, Send, Again, Ask, Done, Back}
 use Rattle.migration_types.specs.declared.records.LinkRec.{LinkRec}
 use Rattle.migration_types.specs.declared.records.LinkRec.TheVariants.{Down, Up}
 use Rattle.migration_types.specs.declared.records.LaneRec.{LaneRec}
@@ -15,10 +16,11 @@ use Rattle.migration_types.specs.declared.records.PagerRec.{PagerRec}
 use Rattle.migration_types.specs.declared.records.PagerRec.TheVariants.{Ready, Want, Place, Zero, All}
 use Rattle.migration_types.specs.declared.version.Version.{Version}
 use Rattle.migration_types.specs.Sessions.{Recorded}
-use Rattle.audit_model.specs.declared.reasons.ShapeReason.TheVariants.{Phases, Named, SecondSend}
-use Rattle.audit_model.specs.Shape.{passes, earlier, is_halt, is_resume, is_up, is_ready, is_sending, is_placement, is_send_of, goes_down, goes_up, is_or_repeats, in_phase_by, in_phase, guest_named, source_named, link_named, lane_named, keeps, is_first_send, is_right, IsRightShape}
+use Rattle.audit_model.specs.declared.reasons.ShapeReason.TheVariants.{Phases, Named, SecondSend, Both}
+use Rattle.audit_model.specs.Shape.{passes, earlier, is_halt, is_resume, is_up, is_ready, is_sending, is_placement, is_send_of, goes_down, goes_up, is_or_repeats, in_phase_by, in_phase, guest_named, source_named, link_named, lane_named, keeps, is_first_send, is_alone, is_right, IsRightShape}
 use Rattle.audit_model.specs.Windows.{Numbers, IsNumbering, new_page, kept_in, rank, reach, furthest, keeps_sending, keeps_asking, keeps_placement, keeps_source, keeps_guest, keeps_link, keeps_lane, keeps_pager, marks, moved_to, new_guest, new_source, new_link, new_lane, new_pager, window}
-use Rattle.audit_model.proofs.Ranks.{aligned_map, rank_less, new_at, mark_of, came_from, fold_kept}
+use Rattle.audit_model.specs.WindowLaws.{KeepsBoth}
+use Rattle.audit_model.proofs.Ranks.{aligned_map, rank_less, new_at, mark_of, came_from, fold_kept, any_kept, mark_is}
 use Rattle.audit_model.proofs.WindowCells.{guest_aligned, guest_marked, same_page, other_page}
 use Rattle.audit_model.proofs.WindowLooks.{newest_at, placement_mark}
 use Rattle.audit_model.proofs.WindowFaults.{seen_at}
@@ -45,6 +47,54 @@ passes_through {A} new marks log test new_test h n mark e = go (slice_get log n)
     go None is f = absurd (cc)
     go (Some x) is f = ap (passes new_test) (new_at new marks log n x is mark) ∙ h x f
 
+module _ (number : Numbers) (s : Recorded) where
+  new_resume : (x : GuestRec) → is_resume (new_guest s number x) ≡ is_resume x
+  new_resume Halt = refl
+  new_resume (Read c r d y) = refl
+  new_resume (Write c r d y) = refl
+  new_resume (Release c r) = refl
+  new_resume (Miss c r) = refl
+  new_resume (Resume i) = refl
+  new_resume (See i) = refl
+
+  gone_resume : (k : ℕ) (x : GuestRec) → keeps_guest s number k x ≡ false → is_resume x ≡ false
+  gone_resume k Halt e = refl
+  gone_resume k (Resume i) e = absurd (cc)
+  gone_resume k (Read c r d y) e = refl
+  gone_resume k (Write c r d y) e = refl
+  gone_resume k (Release c r) e = refl
+  gone_resume k (Miss c r) e = refl
+  gone_resume k (See i) e = refl
+
+  -- the window has a resume exactly where the session has
+  resumed_through : (count : ℕ) → list_any is_resume (window number count s).guest ≡ list_any is_resume s.guest
+  resumed_through count =
+      any_kept (new_guest s number) (marks s number Guest) s.guest is_resume is_resume (guest_aligned s number) new_resume
+      (λ n x is mark. gone_resume n x (guest_marked s number n x false is mark))
+
+  alone_through : (count : ℕ) (x : SourceRec) → is_alone (window number count s) (new_source s number x) ≡ is_alone s x
+  alone_through count Back = ap not (resumed_through count)
+  alone_through count (Halted i) = refl
+  alone_through count State = refl
+  alone_through count (Send p content) = refl
+  alone_through count (Again i) = refl
+  alone_through count (Ask i) = refl
+  alone_through count Done = refl
+
+  -- a `back` is kept, and so is what is wrong with it
+  pub keeps_both : (count : ℕ) → KeepsBoth s number count
+  keeps_both count n wrong = go (slice_get s.source n) refl wrong
+    where
+      kept : (x : SourceRec) → is_alone s x ≡ false → keeps_source s number x ≡ true
+      kept Back e = refl
+      kept x e = absurd (cc)
+
+      go : (o : Option SourceRec) → slice_get s.source n ≡ o → keeps (is_alone s) o ≡ false → is_right (window number count s) Both (Source, moved_to s number Source n) ≡ false
+      go None is e = absurd (cc)
+      go (Some x) is e =
+          ap (keeps (is_alone (window number count s))) (new_at (new_source s number) (marks s number Source) s.source n x is (mark_is (keeps_source s number) s.source n x is (kept x e)))
+          ∙ alone_through count x ∙ e
+
 module _ (number : Numbers) (s : Recorded) (count : ℕ) (shape : IsRightShape s) where
   new_halt : (x : GuestRec) → is_halt (new_guest s number x) ≡ is_halt x
   new_halt Halt = refl
@@ -55,15 +105,6 @@ module _ (number : Numbers) (s : Recorded) (count : ℕ) (shape : IsRightShape s
   new_halt (Resume i) = refl
   new_halt (See i) = refl
 
-  new_resume : (x : GuestRec) → is_resume (new_guest s number x) ≡ is_resume x
-  new_resume Halt = refl
-  new_resume (Read c r d y) = refl
-  new_resume (Write c r d y) = refl
-  new_resume (Release c r) = refl
-  new_resume (Miss c r) = refl
-  new_resume (Resume i) = refl
-  new_resume (See i) = refl
-
   gone_halt : (k : ℕ) (x : GuestRec) → keeps_guest s number k x ≡ false → is_halt x ≡ false
   gone_halt k Halt e = absurd (cc)
   gone_halt k (Resume i) e = refl
@@ -72,15 +113,6 @@ module _ (number : Numbers) (s : Recorded) (count : ℕ) (shape : IsRightShape s
   gone_halt k (Release c r) e = refl
   gone_halt k (Miss c r) e = refl
   gone_halt k (See i) e = refl
-
-  gone_resume : (k : ℕ) (x : GuestRec) → keeps_guest s number k x ≡ false → is_resume x ≡ false
-  gone_resume k Halt e = refl
-  gone_resume k (Resume i) e = absurd (cc)
-  gone_resume k (Read c r d y) e = refl
-  gone_resume k (Write c r d y) e = refl
-  gone_resume k (Release c r) e = refl
-  gone_resume k (Miss c r) e = refl
-  gone_resume k (See i) e = refl
 
   same_earlier : (test : GuestRec → Bool) → ((x : GuestRec) → test (new_guest s number x) ≡ test x) → ((k : ℕ) (x : GuestRec) → keeps_guest s number k x ≡ false → test x ≡ false) → (n : ℕ) → earlier test (window number count s).guest (moved_to s number Guest n) ≡ earlier test s.guest n
   same_earlier test same gone n =
@@ -103,7 +135,7 @@ module _ (number : Numbers) (s : Recorded) (count : ℕ) (shape : IsRightShape s
       keeps_through (new_guest s number) (marks s number Guest) s.guest (in_phase (window number count s))
       (λ n x is mark.
       ap (λ b. in_phase_by s.version b (earlier is_resume (window number count s).guest (moved_to s number Guest n)) (new_guest s number x)) (same_earlier is_halt new_halt gone_halt n)
-      ∙ ap (λ b. in_phase_by s.version (earlier is_halt s.guest n) b (new_guest s number x)) (same_earlier is_resume new_resume gone_resume n)
+      ∙ ap (λ b. in_phase_by s.version (earlier is_halt s.guest n) b (new_guest s number x)) (same_earlier is_resume (new_resume number s) (gone_resume number s) n)
       ∙ same_phase s.version (earlier is_halt s.guest n) (earlier is_resume s.guest n) x
       ∙ sym (ap (keeps (in_phase s n)) is) ∙ shape Phases (Guest, n))
 
@@ -169,6 +201,7 @@ module _ (number : Numbers) (s : Recorded) (count : ℕ) (shape : IsRightShape s
   source_right n State mark kept e = refl
   source_right n (Send p content) mark kept e = refl
   source_right n Done mark kept e = refl
+  source_right n Back mark kept e = refl
 
   pub source_named_right : (n : ℕ) → is_right (window number count s) Named (Source, n) ≡ true
   source_named_right =
@@ -205,6 +238,7 @@ module _ (number : Numbers) (s : Recorded) (count : ℕ) (shape : IsRightShape s
       new_send p q at (Again i) e = refl
       new_send p q at (Ask i) e = refl
       new_send p q at Done e = refl
+      new_send p q at Back e = refl
 
       gone_send : (p q : ℕ) → number p ≡ Some q → (x : SourceRec) → keeps_source s number x ≡ false → is_send_of p x ≡ false
       gone_send p q at (Send r content) e = other_page number ours p q at r e
@@ -213,6 +247,7 @@ module _ (number : Numbers) (s : Recorded) (count : ℕ) (shape : IsRightShape s
       gone_send p q at (Again i) e = refl
       gone_send p q at (Ask i) e = refl
       gone_send p q at Done e = refl
+      gone_send p q at Back e = refl
 
       same_sent : (p q : ℕ) → number p ≡ Some q → (n : ℕ) → earlier (is_send_of q) (window number count s).source (moved_to s number Source n) ≡ earlier (is_send_of p) s.source n
       same_sent p q at n =
@@ -228,3 +263,9 @@ module _ (number : Numbers) (s : Recorded) (count : ℕ) (shape : IsRightShape s
       first n (Again i) kept e = refl
       first n (Ask i) kept e = refl
       first n Done kept e = refl
+      first n Back kept e = refl
+
+  pub both_right : (n : ℕ) → is_right (window number count s) Both (Source, n) ≡ true
+  both_right =
+      keeps_through (new_source s number) (marks s number Source) s.source (λ n. is_alone (window number count s))
+      (λ n x is mark. alone_through number s count x ∙ sym (ap (keeps (is_alone s)) is) ∙ shape Both (Source, n))

@@ -1,21 +1,22 @@
 -- The first records of the source and of the pager through a window.
-use Rattle.std.proofs.Common.{◌≡◌, ℕ, zero, suc, ◌-◌, ◌<◌, ◌≤◌, Bool, true, List, [], ◌∷◌, length, Some, refl, sym, ap, ◌∙◌, subst, arith}
+use Rattle.std.proofs.Common.{◌≡◌, ℕ, zero, suc, ◌-◌, ◌<◌, ◌≤◌, Bool, true, List, [], ◌∷◌, length, Some, refl, sym, ap, ◌∙◌, subst, arith, eqb-true, eq-eqb}
 use Rattle.std.specs.Prelude.{slice_get, nat_lt}
 use Rattle.std.proofs.lemmas.Option.{slice_get_within}
+use Rattle.std.proofs.lemmas.List.{length-map}
 use Rattle.std.proofs.lemmas.Bool.{ltb-true, lt-ltb}
 use Rattle.migration_types.specs.declared.records.LogName.TheVariants.{Guest, Source, Link, Lane, Pager}
 use Rattle.migration_types.specs.declared.records.SourceRec.{SourceRec}
-use Rattle.migration_types.specs.declared.records.SourceRec.TheVariants.{Halted, State, Send, Again, Ask, Done}
+use Rattle.migration_types.specs.declared.records.SourceRec.TheVariants.{Halted, State, Send, Again, Ask, Done, Back}
 use Rattle.migration_types.specs.declared.records.PagerRec.{PagerRec}
 use Rattle.migration_types.specs.declared.records.PagerRec.TheVariants.{Got, Pull, Ready, Fault, Join, Want, Place, Zero, Skip, All}
 use Rattle.migration_types.specs.Sessions.{Recorded}
-use Rattle.audit_model.specs.declared.reasons.ShapeReason.TheVariants.{Phases, Named, Start, SecondSend}
+use Rattle.audit_model.specs.declared.reasons.ShapeReason.TheVariants.{Phases, Named, Start, SecondSend, Both}
 use Rattle.audit_model.specs.Shape.{delivers, is_state, source_start, pager_start, keeps, is_right, IsRightShape}
-use Rattle.audit_model.specs.Windows.{Numbers, IsNumbering, rank, keeps_sending, keeps_source, keeps_pager, marks, moved_to, new_source, new_pager, window}
+use Rattle.audit_model.specs.Windows.{Numbers, IsNumbering, kept_in, rank, keeps_sending, keeps_source, keeps_pager, marks, moved_to, new_source, new_pager, window}
 use Rattle.audit_model.proofs.Consistent.{there}
-use Rattle.audit_model.proofs.Ranks.{rank_next, rank_up, new_at}
-use Rattle.audit_model.proofs.WindowShape.{keeps_through, phase_right, guest_named_right, source_named_right, link_named_right, lane_named_right, second_right}
-use Rattle.audit_model.proofs.WindowPlaces.{mark_is, delivers_through, pager_named_right}
+use Rattle.audit_model.proofs.Ranks.{rank_next, rank_up, new_at, mark_is, aligned_map, kept_length}
+use Rattle.audit_model.proofs.WindowShape.{keeps_through, phase_right, guest_named_right, source_named_right, link_named_right, lane_named_right, second_right, both_right}
+use Rattle.audit_model.proofs.WindowPlaces.{delivers_through, pager_named_right}
 
 -- where a record stands, one stands at each place before it
 lower_there : {A : Type 0} (log : List A) (m n : ℕ) (x : A) → slice_get log n ≡ Some x → m ≤ n → (y : A) × (slice_get log m ≡ Some y)
@@ -60,13 +61,22 @@ module _ (number : Numbers) (s : Recorded) (count : ℕ) (shape : IsRightShape s
       let there = new_at (new_source s number) (marks s number Source) s.source 1 r.0 r.1 mark in
       lt-ltb 1 _ (subst (λ k. k < length (window number count s).source) one (slice_get_within _ _ _ there))
 
-  source_later : (n : ℕ) (x : SourceRec) → source_start s (suc (suc n)) x ≡ true → (j : ℕ) → source_start (window number count s) (suc (suc j)) (new_source s number x) ≡ true
-  source_later n (Halted i) e j = absurd (cc)
-  source_later n State e j = absurd (cc)
-  source_later n (Send p content) e j = refl
-  source_later n (Again i) e j = refl
-  source_later n (Ask i) e j = refl
-  source_later n Done e j = refl
+  -- a `back` that ends the log ends it through the window
+  ends : (n : ℕ) → slice_get s.source n ≡ Some Back → length s.source ≡ suc n → length (window number count s).source ≡ suc (moved_to s number Source n)
+  ends n is last =
+      length-map (kept_in (marks s number Source) s.source) (new_source s number)
+      ∙ kept_length (marks s number Source) s.source (aligned_map (keeps_source s number) s.source)
+      ∙ ap (rank (marks s number Source)) last
+      ∙ rank_next (marks s number Source) n (mark_is (keeps_source s number) s.source n Back is refl)
+
+  source_later : (n : ℕ) (x : SourceRec) → slice_get s.source (suc (suc n)) ≡ Some x → source_start s (suc (suc n)) x ≡ true → (j : ℕ) → moved_to s number Source (suc (suc n)) ≡ suc (suc j) → source_start (window number count s) (suc (suc j)) (new_source s number x) ≡ true
+  source_later n (Halted i) is e j at = absurd (cc)
+  source_later n State is e j at = absurd (cc)
+  source_later n (Send p content) is e j at = refl
+  source_later n (Again i) is e j at = refl
+  source_later n (Ask i) is e j at = refl
+  source_later n Done is e j at = refl
+  source_later n Back is e j at = eq-eqb _ _ (ends (suc (suc n)) is (eqb-true (length s.source) (suc (suc (suc n))) e) ∙ ap suc at)
 
   source_start_at : (n : ℕ) (x : SourceRec) → slice_get s.source n ≡ Some x → source_start s n x ≡ true → source_start (window number count s) (moved_to s number Source n) (new_source s number x) ≡ true
   source_start_at zero (Halted i) is e = long e
@@ -77,7 +87,7 @@ module _ (number : Numbers) (s : Recorded) (count : ℕ) (shape : IsRightShape s
       let two = second_rank (marks s number Source) (zeroth_mark (suc (suc n)) x is) (first_mark (suc (suc n)) x is (omega arith)) in
       let up = rank_up (marks s number Source) 2 (suc (suc n)) (omega arith) in
       let far = later (moved_to s number Source (suc (suc n))) (subst (λ k. k ≤ moved_to s number Source (suc (suc n))) two up) in
-      ap (λ k. source_start (window number count s) k (new_source s number x)) far.1 ∙ source_later n x e far.0
+      ap (λ k. source_start (window number count s) k (new_source s number x)) far.1 ∙ source_later n x is e far.0 far.1
 
   pub source_start_right : (n : ℕ) → is_right (window number count s) Start (Source, n) ≡ true
   source_start_right =
@@ -152,4 +162,5 @@ right_through number ours s count shape Named (Pager, n) = pager_named_right num
 right_through number ours s count shape Start (Source, n) = source_start_right number s count shape n
 right_through number ours s count shape Start (Pager, n) = pager_start_right number s count shape n
 right_through number ours s count shape SecondSend (Source, n) = second_right number s count shape ours n
+right_through number ours s count shape Both (Source, n) = both_right number s count shape n
 right_through number ours s count shape reason name = refl

@@ -14,12 +14,12 @@ use Rattle.migration_types.specs.declared.records.PagerRec.{PagerRec}
 use Rattle.migration_types.specs.Memory.{page_of}
 use Rattle.migration_types.specs.Receipts.{Name}
 use Rattle.migration_types.specs.Sessions.{Recorded, log_length}
-use Rattle.audit_model.specs.declared.reasons.ShapeReason.TheVariants.{Phases, Named, Start, SecondSend}
+use Rattle.audit_model.specs.declared.reasons.ShapeReason.TheVariants.{Phases, Named, Start, SecondSend, Both}
 use Rattle.audit_model.specs.Mergings.{Cursors}
 use Rattle.audit_model.specs.Walks.{next, Walks}
 use Rattle.audit_model.specs.Flat.{flat, in_ledger, home, is_target, at_halt}
 use Rattle.audit_model.specs.inner.MergingTests.{may}
-use Rattle.audit_model.specs.Shape.{IsRightShape, in_phase, guest_named, source_named, link_named, lane_named, pager_named, source_start, pager_start, is_first_send, keeps, is_placement_of}
+use Rattle.audit_model.specs.Shape.{IsRightShape, in_phase, guest_named, source_named, link_named, lane_named, pager_named, source_start, pager_start, is_first_send, is_alone, keeps, is_placement_of}
 use Rattle.audit_model.specs.Certificates.{is_touch_of, IsHonest, IsOnlyPlacement, IsLateTouch}
 use Rattle.audit_model.proofs.FirstNames.{may_Decides}
 use Rattle.audit_model.proofs.PageFaultTests.{not_true}
@@ -59,7 +59,7 @@ module _ (s : Recorded)
     (guest : each (λ n. guest_named s) s.guest ≡ true) (source : each (source_named s) s.source ≡ true)
     (link : each (λ n. link_named s) s.link ≡ true) (lane : each (λ n. lane_named s) s.lane ≡ true) (pager : each (pager_named s) s.pager ≡ true)
     (source_starts : each (source_start s) s.source ≡ true) (pager_starts : each (pager_start s) s.pager ≡ true)
-    (sends : each (is_first_send s) s.source ≡ true) where
+    (sends : each (is_first_send s) s.source ≡ true) (alone : each (λ n. is_alone s) s.source ≡ true) where
   pub shape_by_tests : IsRightShape s
   shape_by_tests Phases (Guest, n) = each_keeps (in_phase s) s.guest phases n
   shape_by_tests Named (Guest, n) = each_keeps (λ n. guest_named s) s.guest guest n
@@ -70,6 +70,7 @@ module _ (s : Recorded)
   shape_by_tests Start (Source, n) = each_keeps (source_start s) s.source source_starts n
   shape_by_tests Start (Pager, n) = each_keeps (pager_start s) s.pager pager_starts n
   shape_by_tests SecondSend (Source, n) = each_keeps (is_first_send s) s.source sends n
+  shape_by_tests Both (Source, n) = each_keeps (λ n. is_alone s) s.source alone n
   shape_by_tests Phases (Source, n) = refl
   shape_by_tests Phases (Link, n) = refl
   shape_by_tests Phases (Lane, n) = refl
@@ -81,6 +82,10 @@ module _ (s : Recorded)
   shape_by_tests SecondSend (Link, n) = refl
   shape_by_tests SecondSend (Lane, n) = refl
   shape_by_tests SecondSend (Pager, n) = refl
+  shape_by_tests Both (Guest, n) = refl
+  shape_by_tests Both (Link, n) = refl
+  shape_by_tests Both (Lane, n) = refl
+  shape_by_tests Both (Pager, n) = refl
 
 -- a walk by a test
 abbrev walk : Recorded → Cursors → List Name → Bool

@@ -5,6 +5,7 @@ use Rattle.std.specs.Option.{IfSome}
 use Rattle.migration_types.specs.declared.version.Version.{Version}
 use Rattle.migration_types.specs.declared.records.LogName.{LogName}
 use Rattle.migration_types.specs.declared.records.LogName.TheVariants.{Guest, Source, Link, Lane, Pager}
+use Rattle.migration_types.specs.declared.records.SourceRec.{SourceRec}
 use Rattle.migration_types.specs.declared.rows.Field.{Field}
 use Rattle.migration_types.specs.declared.rows.Field.TheVariants.{Vcpu, Page, Cell, Value, Number, Handover}
 use Rattle.migration_types.specs.declared.size.Size.{Size}
@@ -14,7 +15,7 @@ use Rattle.migration_types.specs.Contents.{IsContent}
 use Rattle.migration_types.specs.Pages.{AreInitPages}
 use Rattle.migration_types.specs.Receipts.{Name}
 use Rattle.migration_types.specs.Rows.{Consists, field_name, row_of, source_contents, pager_contents}
-use Rattle.migration_types.specs.Sessions.{Recorded, IsNumber, HasLog, log_length}
+use Rattle.migration_types.specs.Sessions.{Recorded, IsNumber, HasLog, HasSourceRec, log_length}
 use Rattle.audit_model.specs.Names.{if_there}
 
 -- A field of a record is of a machine of this extent: its virtual processor, its page and its cell are there, its value
@@ -35,12 +36,13 @@ contents_of s (Guest, n) = None
 contents_of s (Link, n) = None
 contents_of s (Lane, n) = None
 
--- A session of any size, each record of which fits its machine: the version has the record's log, its fields are of the
--- machine, and its contents have a value for each cell of a page. Nothing is said of how large the machine is, nor of
+-- A session of any size, each record of which fits its machine: the version has the record's log, the size has the
+-- source's record, its fields are of the machine, and its contents have a value for each cell of a page. Nothing is said of how large the machine is, nor of
 -- how many records there are.
 pub record Fits (s : Recorded) : Type 0 where
   pub init : AreInitPages s.geometry s.init
   pub logs : (name : Name) (row : Consists) → row_of s name ≡ Some row → HasLog s.version name.0
+  pub source : (n : ℕ) (r : SourceRec) → slice_get s.source n ≡ Some r → HasSourceRec s.geometry.size r
   pub fields : (name : Name) (row : Consists) → row_of s name ≡ Some row → AllByRecursion (FieldIsOf s.version s.geometry) row.fields
   pub contents : (name : Name) (content : List ℕ) → contents_of s name ≡ Some content → IsContent s.geometry.cells content
 

@@ -1,13 +1,13 @@
 -- The reasons of faults, in their order: the word of each in what is printed, and its place.
 use Rattle.std.specs.Prelude.{ℕ, List, [], ◌∷◌, codes}
 use Rattle.audit_model.specs.declared.reasons.ShapeReason.{ShapeReason}
-use Rattle.audit_model.specs.declared.reasons.ShapeReason.TheVariants.{Phases, Named, Start, SecondSend}
+use Rattle.audit_model.specs.declared.reasons.ShapeReason.TheVariants.{Phases, Named, Start, SecondSend, Both}
 use Rattle.audit_model.specs.declared.reasons.PageReason.{PageReason}
 use Rattle.audit_model.specs.declared.reasons.PageReason.TheVariants.{Read, Early, Given, Stale, Twice, Altered, Unfit, Over}
 
 -- why a record is not of the right shape: of several reasons the first counts
 abbrev pub shape_reasons : List ShapeReason
-shape_reasons = Phases ∷ Named ∷ Start ∷ SecondSend ∷ []
+shape_reasons = Phases ∷ Named ∷ Start ∷ SecondSend ∷ Both ∷ []
 
 -- the place of a reason of shape among these
 abbrev pub rank : ShapeReason → ℕ
@@ -15,6 +15,7 @@ rank Phases = 0
 rank Named = 1
 rank Start = 2
 rank SecondSend = 3
+rank Both = 4
 
 -- its word
 abbrev pub shape_word : ShapeReason → List ℕ
@@ -22,6 +23,7 @@ shape_word Phases = codes "phases"
 shape_word Named = codes "named"
 shape_word Start = codes "start"
 shape_word SecondSend = codes "second-send"
+shape_word Both = codes "both"
 
 -- why a record is a fault of its page: of several reasons the first counts
 abbrev pub page_reasons : List PageReason

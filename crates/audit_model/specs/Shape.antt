@@ -1,11 +1,12 @@
--- The right shape of a session: what each record needs so that it has none of the four faults of shape.
+-- The right shape of a session: what each record needs so that it has none of the five faults of shape.
 use Rattle.std.specs.Prelude.{◌≡◌, ℕ, zero, suc, Bool, true, false, not, ◌==◌, ◌&&◌, ◌||◌, nat_lt, List, length, Option, Some, None, is_some, slice_get}
+use Rattle.std.specs.List.{list_any}
 use Rattle.std.specs.Option.{option_map}
 use Rattle.migration_types.specs.declared.records.LogName.TheVariants.{Guest, Source, Link, Lane, Pager}
 use Rattle.migration_types.specs.declared.records.GuestRec.{GuestRec}
 use Rattle.migration_types.specs.declared.records.GuestRec.TheVariants.{Read, Write, Release, Miss, Halt, Resume, See}
 use Rattle.migration_types.specs.declared.records.SourceRec.{SourceRec}
-use Rattle.migration_types.specs.declared.records.SourceRec.TheVariants.{Halted, State, Send, Again, Ask}
+use Rattle.migration_types.specs.declared.records.SourceRec.TheVariants.{Halted, State, Send, Again, Ask, Back}
 use Rattle.migration_types.specs.declared.records.LinkRec.{LinkRec}
 use Rattle.migration_types.specs.declared.records.LinkRec.TheVariants.{Down, Up}
 use Rattle.migration_types.specs.declared.records.LaneRec.{LaneRec}
@@ -16,7 +17,7 @@ use Rattle.migration_types.specs.declared.version.Version.{Version}
 use Rattle.migration_types.specs.declared.version.Version.TheVariants.{One, Two}
 use Rattle.migration_types.specs.Sessions.{Recorded}
 use Rattle.audit_model.specs.declared.reasons.ShapeReason.{ShapeReason}
-use Rattle.audit_model.specs.declared.reasons.ShapeReason.TheVariants.{Phases, Named, Start, SecondSend}
+use Rattle.audit_model.specs.declared.reasons.ShapeReason.TheVariants.{Phases, Named, Start, SecondSend, Both}
 use Rattle.migration_types.specs.Receipts.{Name}
 use Rattle.audit_model.specs.Names.{if_there}
 use Rattle.audit_model.specs.Flat.{before}
@@ -196,7 +197,7 @@ pager_named s n (Skip got) = nat_lt got n && passes is_taking (slice_get s.pager
 pager_named s n (Place p got content) = nat_lt got n && delivers s (is_send_of p) got
 pager_named s n _ = true
 
--- The source's log begins with `halted` and the state, and has them nowhere else.
+-- The source's log begins with `halted` and the state, and has them nowhere else; it has `back` nowhere but at its end.
 abbrev pub source_start : Recorded → ℕ → SourceRec → Bool
 source_start s zero (Halted halt) = nat_lt 1 (length s.source)
 source_start s zero _ = false
@@ -204,6 +205,7 @@ source_start s (suc zero) State = true
 source_start s (suc zero) _ = false
 source_start s (suc (suc n)) (Halted halt) = false
 source_start s (suc (suc n)) State = false
+source_start s (suc (suc n)) Back = length s.source == suc (suc (suc n))
 source_start s (suc (suc n)) _ = true
 
 -- The pager's log begins with the state's `got` or `pull` and `ready`, and has `ready` nowhere else.
@@ -221,6 +223,11 @@ abbrev pub is_first_send : Recorded → ℕ → SourceRec → Bool
 is_first_send s n (Send p content) = not (earlier (is_send_of p) s.source n)
 is_first_send s n _ = true
 
+-- whether the source's record starts no guest again that was resumed at the target
+abbrev pub is_alone : Recorded → SourceRec → Bool
+is_alone s Back = not (list_any is_resume s.guest)
+is_alone s _ = true
+
 -- whether the record, if there is one, passes the test
 abbrev pub keeps : {A : Type 0} → (A → Bool) → Option A → Bool
 keeps test None = true
@@ -237,6 +244,7 @@ is_right s Named (Pager, n) = keeps (pager_named s n) (slice_get s.pager n)
 is_right s Start (Source, n) = keeps (source_start s n) (slice_get s.source n)
 is_right s Start (Pager, n) = keeps (pager_start s n) (slice_get s.pager n)
 is_right s SecondSend (Source, n) = keeps (is_first_send s n) (slice_get s.source n)
+is_right s Both (Source, n) = keeps (is_alone s) (slice_get s.source n)
 is_right s _ _ = true
 
 -- a session has the right shape when no record has a fault

@@ -1,10 +1,13 @@
 -- What windows keep of a session, and what they tell of it.
-use Rattle.std.specs.Prelude.{◌≡◌, ◌↔◌, ℕ, ◌<◌, true, List, [], ◌∷◌, slice_get, if◌then◌else◌}
+use Rattle.std.specs.Prelude.{◌≡◌, ◌↔◌, ℕ, ◌<◌, true, false, List, [], ◌∷◌, slice_get, if◌then◌else◌}
 use Rattle.migration_types.specs.Receipts.{Name}
 use Rattle.migration_types.specs.Sessions.{Recorded}
+use Rattle.migration_types.specs.declared.records.LogName.TheVariants.{Source}
 use Rattle.audit_model.specs.declared.reasons.PageReason.{PageReason}
+use Rattle.audit_model.specs.declared.reasons.ShapeReason.TheVariants.{Both}
 use Rattle.audit_model.specs.Mergings.{IsMerging}
 use Rattle.audit_model.specs.Faults.{IsPageFault, HasNoPageFault}
+use Rattle.audit_model.specs.Shape.{is_right}
 use Rattle.audit_model.specs.Windows.{Numbers, IsNumbering, is_seen, marks, is_marked, IsInWindow, new_name, window}
 
 -- a record of the window has a fault of its page exactly where it has it in the session, for the same reason
@@ -12,6 +15,11 @@ abbrev pub KeepsPageFaults : Recorded → Numbers → ℕ → Type 0
 KeepsPageFaults s number count =
     (reason : PageReason) (name : Name) → IsInWindow s number name →
     IsPageFault s reason name ↔ IsPageFault (window number count s) reason (new_name s number name)
+
+-- where the guest started again at both sides, it did through the window, at the same record
+abbrev pub KeepsBoth : Recorded → Numbers → ℕ → Type 0
+KeepsBoth s number count =
+    (n : ℕ) → is_right s Both (Source, n) ≡ false → is_right (window number count s) Both (new_name s number (Source, n)) ≡ false
 
 -- an order of a session's records, through a window: of those that are kept, by their new names
 abbrev pub order_through : Recorded → Numbers → List Name → List Name

@@ -7,7 +7,7 @@ use Rattle.migration_types.specs.declared.records.LogName.TheVariants.{Guest, So
 use Rattle.migration_types.specs.declared.records.GuestRec.{GuestRec}
 use Rattle.migration_types.specs.declared.records.GuestRec.TheVariants.{Read, Write, Release, Miss, Halt, Resume, See}
 use Rattle.migration_types.specs.declared.records.SourceRec.{SourceRec}
-use Rattle.migration_types.specs.declared.records.SourceRec.TheVariants.{Halted, State, Send, Again, Ask, Done}
+use Rattle.migration_types.specs.declared.records.SourceRec.TheVariants.{Halted, State, Send, Again, Ask, Done, Back}
 use Rattle.migration_types.specs.declared.records.LinkRec.{LinkRec}
 use Rattle.migration_types.specs.declared.records.LinkRec.TheVariants.{Down, Up}
 use Rattle.migration_types.specs.declared.records.LaneRec.{LaneRec}
@@ -113,6 +113,7 @@ keeps_source s number (Send p content) = is_seen (number p)
 keeps_source s number (Again sending) = passes (keeps_sending number) (slice_get s.source sending)
 keeps_source s number (Ask up) = passes (keeps_link s number) (slice_get s.link up)
 keeps_source s number Done = true
+keeps_source s number Back = true
 
 -- whether a record of the pager is kept
 abbrev pub keeps_pager : Recorded → Numbers → PagerRec → Bool
@@ -184,6 +185,7 @@ new_source s number (Send p content) = Send (new_page (number p)) content
 new_source s number (Again sending) = Again (moved_to s number Source sending)
 new_source s number (Ask up) = Ask (moved_to s number Link up)
 new_source s number Done = Done
+new_source s number Back = Back
 
 abbrev pub new_link : Recorded → Numbers → LinkRec → LinkRec
 new_link s number (Down sending) = Down (moved_to s number Source sending)

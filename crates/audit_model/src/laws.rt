@@ -15,7 +15,7 @@ ghost use Rattle.audit_model.specs.Shape.{IsRightShape};
 ghost use Rattle.audit_model.specs.Fitting.{Fits, FitsSize, IsWithinLimits};
 ghost use Rattle.audit_model.specs.Faults.{HasNoPageFault};
 ghost use Rattle.audit_model.specs.Windows.{Numbers, numbers_from, IsNumbering, IsWindow, window};
-ghost use Rattle.audit_model.specs.WindowLaws.{KeepsPageFaults, MergesThrough, IsCleanThroughWindows};
+ghost use Rattle.audit_model.specs.WindowLaws.{KeepsPageFaults, KeepsBoth, MergesThrough, IsCleanThroughWindows};
 ghost use Rattle.audit_model.specs.Laws.{IsCertified, FindsResident, ReadsFlat, PlacedOnce, PlacedUntouched, ReleasedAsZeros, IsMigrated, IsFaultless, FaultsBreak, DelayedBreaks, DelayedUnplaced, HasDelayedOrders, UnplacedBreaks, DelayedOver, SafeExactlyIfClean, HasCertificate, FirstVersionIsPlain, CertifiedFromSource, CertifiedOverLane, CertifiedBalloon, CertifiedFresh};
 
 /// A list of names is a merging exactly where it is a walk of one cursor for each log, to the end of each. Where
@@ -96,11 +96,13 @@ pub fn any_size_is_judged_alike()
 {}
 
 /// Through a window, which has the records of some pages alone, a record that is kept has the faults of its page that it
-/// has without, whatever the shape; a session of the right shape stays one, and keeps its mergings. So a session of any
+/// has without, whatever the shape; a guest that ran at both sides did through the window; a session of the right shape
+/// stays one, and keeps its mergings. So a session of any
 /// size that fits its machine is clean where each of its pages is in a window that is, and one of the right shape is then
 /// safe, and, where it has a merging, only then. That it has the right shape and a merging, no window tells.
 pub fn windows_keep_faults()
     ensures kept { (s : Recorded) (number : Numbers) (count : ℕ) → IsNumbering number → KeepsPageFaults s number count }
+    ensures both { (s : Recorded) (number : Numbers) (count : ℕ) → KeepsBoth s number count }
     ensures clean { (s : Recorded) (number : Numbers) (count : ℕ) → IsNumbering number → HasNoPageFault s → HasNoPageFault (window number count s) }
     ensures right { (s : Recorded) (number : Numbers) (count : ℕ) → IsNumbering number → IsRightShape s → IsRightShape (window number count s) }
     ensures merges { (s : Recorded) (number : Numbers) (count : ℕ) → IsRightShape s → MergesThrough s number count }

@@ -7,8 +7,9 @@
 //! to.
 #![tactic(auto)]
 
-ghost use Rattle.std.specs.Prelude.{◌≡◌, slice_get};
-ghost use Rattle.audit_model.specs.Shape.{is_halt, is_resume, is_miss, is_state, is_send_of, is_sending, goes_down, is_down, is_up, is_ready, is_taking, is_want, goes_up, is_placement, is_placement_of, taken_sending, delivery, is_or_repeats, delivers, passes, may_release, in_phase_by, guest_named, source_named, link_named, lane_named, pager_named, source_start, pager_start};
+ghost use Rattle.std.specs.Prelude.{◌≡◌, slice_get, ◌==◌, suc, length};
+ghost use Rattle.std.specs.List.{list_any};
+ghost use Rattle.audit_model.specs.Shape.{is_halt, is_resume, is_miss, is_state, is_send_of, is_sending, goes_down, is_down, is_up, is_ready, is_taking, is_want, goes_up, is_placement, is_placement_of, taken_sending, delivery, is_or_repeats, delivers, passes, may_release, in_phase_by, guest_named, source_named, link_named, lane_named, pager_named, source_start, pager_start, is_alone};
 
 mod home;
 mod laws;
@@ -262,7 +263,36 @@ pub fn source_start(session: &Session, place: usize, rec: &SourceRec) -> bool
     match place {
         0 => matches!(rec, SourceRec::Halted { .. }) && 1 < session.source().len(),
         1 => matches!(rec, SourceRec::State),
-        _ => !matches!(rec, SourceRec::Halted { .. } | SourceRec::State),
+        _ => match rec {
+            SourceRec::Halted { .. } | SourceRec::State => false,
+            SourceRec::Back => is_last(session.source(), place),
+            _ => true,
+        },
+    }
+}
+
+/// Whether a log ends with the record of this place.
+fn is_last(log: &[SourceRec], place: usize) -> bool
+    ensures { result ≡ (length log.now == suc place) }
+{
+    0 < log.len() && log.len() - 1 == place
+}
+
+/// Whether the guest was resumed. Takes a pass over its log.
+pub fn has_resume(guest: &[GuestRec]) -> bool
+    ensures { result ≡ list_any is_resume guest.now }
+{
+    guest.iter().any(is_resume)
+}
+
+/// Whether a record of the source starts no guest again that was resumed at the target. Takes, at a `back`, a pass over
+/// the guest's log.
+pub fn is_alone(session: &Session, rec: &SourceRec) -> bool
+    ensures { result ≡ is_alone session.now rec.now }
+{
+    match rec {
+        SourceRec::Back => !has_resume(session.guest()),
+        _ => true,
     }
 }
 

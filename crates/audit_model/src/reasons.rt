@@ -14,23 +14,26 @@ pub enum ShapeReason {
     /// It names no record of the kind that it has to name.
     Named,
     /// The source's log does not begin with its receipt for the halt and the processor state, or the pager's with the
-    /// state's arrival and its readiness; or one of these stands elsewhere.
+    /// state's arrival and its readiness; or one of these stands elsewhere, or the source's `back` before its log's end.
     Start,
     /// It sends a page that was sent before.
     SecondSend,
+    /// It starts the guest again at the source, and the guest was resumed at the target.
+    Both,
 }
 
 impl ShapeReason {
     /// The reasons, in their order.
-    pub const ALL: [ShapeReason; 4] = [
+    pub const ALL: [ShapeReason; 5] = [
         ShapeReason::Phases,
         ShapeReason::Named,
         ShapeReason::Start,
         ShapeReason::SecondSend,
+        ShapeReason::Both,
     ];
 
     /// The reasons, in their order.
-    pub fn all() -> [ShapeReason; 4]
+    pub fn all() -> [ShapeReason; 5]
         ensures list { result ≡ shape_reasons }
         ensures order { (reason : ShapeReason) → slice_get shape_reasons (rank reason) ≡ Some reason }
     {
@@ -46,6 +49,7 @@ impl ShapeReason {
             ShapeReason::Named => b"named",
             ShapeReason::Start => b"start",
             ShapeReason::SecondSend => b"second-send",
+            ShapeReason::Both => b"both",
         }
     }
 }

@@ -188,13 +188,13 @@ module _ (s : Recorded) where
   safe_if_clean law fits (Clean cert) is clean = law s (record { is_session = fits; shape = is.0; clean = is.1.has_no_fault })
   safe_if_clean law fits (Shape fault) is clean = absurd clean
   safe_if_clean law fits (Knot left found) is clean = absurd clean
-  safe_if_clean law fits (Faulty line fault order) is clean = absurd clean
+  safe_if_clean law fits (Faulty line fault order many) is clean = absurd clean
 
   clean_if_safe : SafeExactlyIfClean s → IsSession s → (report : Report) → IsReport s report → IsRightShape s → HasMerging s → IsSafe s → IsClean report
   clean_if_safe law fits (Clean cert) is shape has safe = tt
   clean_if_safe law fits (Shape fault) is shape has safe = absurd (clash _ (shape fault.reason (fault.log, fault.place)) is.is_first.is_wrong)
   clean_if_safe law fits (Knot left found) is shape has safe = absurd (is.1.has_no_merging has)
-  clean_if_safe law fits (Faulty line fault order) is shape has safe = absurd ((law (session_fits s fits) shape has).0 safe fault.reason (fault.log, fault.place) is.1.is_first.is_fault)
+  clean_if_safe law fits (Faulty line fault order many) is shape has safe = absurd ((law (session_fits s fits) shape has).0 safe fault.reason (fault.log, fault.place) is.1.is_first.is_fault)
 
   safe_exactly : ((t : Recorded) → IsFaultless t → IsSafe t) → SafeExactlyIfClean s → IsSession s → (report : Report) → IsReport s report → IsRightShape s → HasMerging s → IsSafe s ↔ IsClean report
   safe_exactly clean law fits report is shape has = (clean_if_safe law fits report is shape has, safe_if_clean clean fits report is)
@@ -213,7 +213,7 @@ module _ (s : Recorded) where
   fits_text (Clean cert) is = tt
   fits_text (Shape fault) is = tt
   fits_text (Knot left found) is = tt
-  fits_text (Faulty line fault order) is = are_widest s.version s.geometry.size order is.1.shows.are_runs
+  fits_text (Faulty line fault order many) is = are_widest s.version s.geometry.size order is.1.shows.are_runs
 
   pub fits_of : (r : Result Report AllocError) → IfOk r (IsReport s) → IfOk r ReportFits
   fits_of (Ok report) is = fits_text report is

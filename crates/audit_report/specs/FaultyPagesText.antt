@@ -22,14 +22,14 @@ faulty_pages_lines pages = counted (codes "faulty-pages ") faulty_page_line page
 abbrev pub JudgesPages : Report → Type 0
 JudgesPages (Shape fault) = ⊥
 JudgesPages (Knot left found) = ⊥
-JudgesPages (Faulty line fault order) = Unit {0}
+JudgesPages (Faulty line fault order many) = Unit {0}
 JudgesPages (Clean cert) = Unit {0}
 
 -- what stands after the first line
 abbrev pub pages_after : Report → List FaultyPage → List (List ℕ)
 pages_after (Shape fault) pages = []
 pages_after (Knot left found) pages = []
-pages_after (Faulty line fault order) pages = faulty_pages_lines pages
+pages_after (Faulty line fault order many) pages = faulty_pages_lines pages
 pages_after (Clean cert) pages = faulty_pages_lines pages
 
 -- the text of a report that tells these pages with a fault

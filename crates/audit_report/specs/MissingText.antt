@@ -10,6 +10,7 @@ use Rattle.completeness.specs.declared.missing.Missing.TheVariants as missing
 -- as in "incomplete page 7"; of what was taken, the line at which the session's text has the record that took it
 abbrev pub missing_line : Recorded → Missing → List ℕ
 missing_line s missing.Halt = codes "incomplete halt"
+missing_line s missing.Returned = codes "incomplete returned"
 missing_line s missing.Resume = codes "incomplete resume"
 missing_line s (missing.Page page) = codes "incomplete page " ++ decimal page
 missing_line s missing.All = codes "incomplete all"

@@ -26,14 +26,14 @@ knot_line line = at_line (codes "knot line ") line
 abbrev pub first_line : Report → List ℕ
 first_line (Shape fault) = shape_line fault
 first_line (Knot left found) = knot_line left.line
-first_line (Faulty line fault order) = faulty_line line fault.reason
+first_line (Faulty line fault order many) = faulty_line line fault.reason
 first_line (Clean cert) = clean_line
 
 -- what stands behind it: the text of the order's runs, or of the certificate
 abbrev pub lines_behind : Report → List (List ℕ)
 lines_behind (Shape fault) = []
 lines_behind (Knot left found) = []
-lines_behind (Faulty line fault order) = runs_text_header ∷ runs_lines order
+lines_behind (Faulty line fault order many) = runs_text_header ∷ runs_lines order
 lines_behind (Clean cert) = cert_lines cert
 
 -- the lines of a report

@@ -21,6 +21,7 @@ use Rattle.audit_model.specs.FoundOrder.{IsFound}
 use Rattle.audit_model.specs.Delayed.{IsFirstPlacement, IsDelayedOrder}
 use Rattle.audit_model.specs.Laws.{BreaksAt}
 use Rattle.page_facts.specs.declared.page_fault.PageFault.{PageFault}
+use Rattle.faulty_pages.specs.FaultyPages.{AreManyFaulty}
 use Rattle.cert_check.specs.Verdicts.{IsShapeFault}
 use Rattle.cert_maker.specs.Orders.{IsTied}
 use Rattle.cert_maker.specs.Made.{IsMade}
@@ -78,11 +79,12 @@ pub record ShowsFault (s : Recorded) (reason : PageReason) (name : Name) (runs :
   pub breaks : BreaksAt s (spelled runs) name
   pub is_order : IsOrderFor s reason name (spelled runs)
 
--- the session's first fault of a page, with its line, and runs that show it
-pub record IsFaulty (s : Recorded) (line : ℕ) (fault : PageFault) (runs : List Run) : Type 0 where
+-- the session's first fault of a page, with its line, runs that show it, and how many pages have a fault
+pub record IsFaulty (s : Recorded) (line : ℕ) (fault : PageFault) (runs : List Run) (many : ℕ) : Type 0 where
   pub is_line : line ≡ line_of s (fault.log, fault.place)
   pub is_first : IsFirstPageFault s fault.reason (fault.log, fault.place)
   pub shows : ShowsFault s fault.reason (fault.log, fault.place) runs
+  pub are_many : AreManyFaulty s many
 
 -- no page has a fault, and the certificate is right, with the earliest looks, and over the found order
 pub record IsCleanWith (s : Recorded) (cert : Certified) : Type 0 where
@@ -95,7 +97,7 @@ pub record IsCleanWith (s : Recorded) (cert : Certified) : Type 0 where
 abbrev pub IsReport : Recorded → Report → Type 0
 IsReport s (Shape fault) = IsShapeFault s fault
 IsReport s (Knot left found) = IsRightShape s × IsTied s left found
-IsReport s (Faulty line fault order) = IsRightShape s × IsFaulty s line fault order
+IsReport s (Faulty line fault order many) = IsRightShape s × IsFaulty s line fault order many
 IsReport s (Clean cert) = IsRightShape s × IsCleanWith s cert
 
 -- the report says that the session is clean
@@ -105,5 +107,5 @@ IsClean _ = ⊥
 
 -- the runs of a fault's order are within the limits of their text, which are those of the second version and of the large size
 abbrev pub ReportFits : Report → Type 0
-ReportFits (Faulty line fault order) = AreRuns Two Large order
+ReportFits (Faulty line fault order many) = AreRuns Two Large order
 ReportFits _ = Unit {0}

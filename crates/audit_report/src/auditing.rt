@@ -9,6 +9,7 @@ ghost use Rattle.audit_model.specs.Shape.{IsRightShape};
 ghost use Rattle.audit_model.specs.Faults.{HasNoPageFault};
 ghost use Rattle.audit_model.specs.FirstFault.{IsFirstPageFault};
 ghost use Rattle.page_facts.specs.PageFaults.{IsFirstFaultFrom};
+ghost use Rattle.faulty_pages.specs.FaultyPages.{AreManyFaulty, AreManyFrom};
 ghost use Rattle.cert_maker.specs.Orders.{AreFoundRuns};
 ghost use Rattle.cert_maker.specs.inner.Entries.{AreMadeFrom, HasBarePage};
 ghost use Rattle.audit_report.specs.Reports.{IsReport, IsClean, ReportFits};
@@ -18,6 +19,7 @@ use crate::report::Report;
 use audit_model::{clean_is_certified, faults_are_unsafe};
 use cert_check::shape;
 use cert_maker::{MadeEntries, Order, find_order, make_over};
+use faulty_pages::{HowMany, many_of_pages_are_many};
 use migration_types::{Entry, PageNo, Run, Seq, Session, line_of};
 use page_facts::{
     Findings, FirstFault, InThreads, Judges, PageFault, Question, answer_apart,
@@ -32,11 +34,13 @@ use std::thread::Threads;
 pub struct Audited {
     /// Their first fault.
     pub fault: Option<PageFault>,
+    /// How many of them have a fault.
+    pub faulty: usize,
     /// Their entries in a certificate; none where one has no right entry.
     pub entries: Option<Vec<Entry>>,
 }
 
-/// What is the first fault of the pages, and what are their entries?
+/// What is the first fault of the pages, how many have one, and what are their entries?
 #[derive(Clone, Copy)]
 pub struct FaultAndEntries;
 
@@ -45,12 +49,17 @@ impl Question for FaultAndEntries {
 
     ghost IsFor = { λ q s. ⊤ };
 
-    ghost IsAnswer = { λ q s first count audited. IsFirstFaultFrom s first count audited.fault × MatchOption audited.entries (HasBarePage s) (λ entries. AreMadeFrom s first count entries.items) };
+    ghost IsAnswer = { λ q s first count audited. IsFirstFaultFrom s first count audited.fault × AreManyFrom s first count audited.faulty × MatchOption audited.entries (HasBarePage s) (λ entries. AreMadeFrom s first count entries.items) };
 
     fn blank(&self, alloc: Global, room: usize) -> Result<Audited, AllocError> {
         let fault = FirstFault.blank(alloc, room)?;
+        let faulty = HowMany.blank(alloc, room)?;
         let entries = MadeEntries.blank(alloc, room)?;
-        Ok(Audited { fault, entries })
+        Ok(Audited {
+            fault,
+            faulty,
+            entries,
+        })
     }
 
     fn take(
@@ -61,12 +70,14 @@ impl Question for FaultAndEntries {
         findings: &Findings,
     ) -> Result<(), AllocError> {
         FirstFault.take(&mut audited.fault, session, page, findings)?;
+        HowMany.take(&mut audited.faulty, session, page, findings)?;
         MadeEntries.take(&mut audited.entries, session, page, findings)?;
         Ok(())
     }
 
     fn add(&self, audited: &mut Audited, next: Audited) -> Result<(), AllocError> {
         FirstFault.add(&mut audited.fault, next.fault)?;
+        HowMany.add(&mut audited.faulty, next.faulty)?;
         MadeEntries.add(&mut audited.entries, next.entries)?;
         Ok(())
     }
@@ -101,17 +112,19 @@ fn clean(session: &Session, entries: Option<Vec<Entry>>, found: Seq<Run>) -> Rep
     }
 }
 
-/// The report on a session with this first fault, whose found order has these runs.
+/// The report on a session with this first fault, of which so many pages have one, and whose found order has these runs.
 fn faulty(
     alloc: Global,
     session: &Session,
     found: Seq<Run>,
     fault: &PageFault,
+    pages: usize,
 ) -> Result<Report, AllocError>
     requires limits { IsSession session.now }
     requires shape { IsRightShape session.now }
     requires found { AreFoundRuns session.now found }
     requires fault { IsFirstPageFault session.now fault.now.reason (fault.now.log, fault.now.place) }
+    requires many { AreManyFaulty session.now pages }
     ensures { IfOk result (IsReport session.now) }
 {
     let line = line_of(session, fault.log, fault.place);
@@ -120,6 +133,7 @@ fn faulty(
         line,
         fault: *fault,
         order,
+        pages,
     })
 }
 
@@ -134,12 +148,14 @@ fn by_pages(
     requires shape { IsRightShape session.now }
     requires found { AreFoundRuns session.now found }
     requires fault { IsFirstFaultFrom session.now 0 session.now.geometry.pages audited.fault }
+    requires many { AreManyFrom session.now 0 session.now.geometry.pages audited.faulty }
     requires entries { MatchOption audited.entries (HasBarePage session.now) (λ made. AreMadeFrom session.now 0 session.now.geometry.pages made.items) }
     ensures { IfOk result (IsReport session.now) }
 {
     first_of_pages_is_first();
+    many_of_pages_are_many();
     match audited.fault {
-        Some(fault) => faulty(alloc, session, found, &fault),
+        Some(fault) => faulty(alloc, session, found, &fault, audited.faulty),
         None => Ok(clean(session, audited.entries, found)),
     }
 }

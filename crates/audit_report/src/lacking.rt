@@ -29,6 +29,7 @@ pub fn push_missing(
 {
     match missing {
         Missing::Halt => push_line(out, b"incomplete halt"),
+        Missing::Returned => push_line(out, b"incomplete returned"),
         Missing::Resume => push_line(out, b"incomplete resume"),
         Missing::Page(page) => push_keyed(out, b"incomplete page ", page.number()),
         Missing::All => push_line(out, b"incomplete all"),

@@ -18,11 +18,12 @@ pub enum Report {
         left: Left,
         found: FoundRuns,
     },
-    /// The session is not safe: the first fault of a page, the line of the faulty record, and the runs of a merging in
-    /// which the demand of this record fails.
+    /// The session is not safe: the first fault of a page, the line of the faulty record, the runs of a merging in
+    /// which the demand of this record fails, and how many pages have a fault.
     Faulty {
         line: u32,
         fault: PageFault,
         order: Seq<Run>,
+        pages: usize,
     },
 }

@@ -153,6 +153,7 @@ impl Copied for SourceRec {
             SourceRec::Again { sending } => Ok(SourceRec::Again { sending: *sending }),
             SourceRec::Ask { up } => Ok(SourceRec::Ask { up: *up }),
             SourceRec::Done => Ok(SourceRec::Done),
+            SourceRec::Back => Ok(SourceRec::Back),
         }
     }
 }

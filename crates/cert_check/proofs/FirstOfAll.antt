@@ -4,7 +4,7 @@ use Rattle.std.proofs.lemmas.Bool.{cases_lt, cases_order}
 use Rattle.migration_types.specs.declared.records.LogName.{LogName}
 use Rattle.migration_types.specs.declared.records.LogName.TheVariants.{Guest, Source, Link, Lane, Pager}
 use Rattle.audit_model.specs.declared.reasons.ShapeReason.{ShapeReason}
-use Rattle.audit_model.specs.declared.reasons.ShapeReason.TheVariants.{Phases, Named, Start, SecondSend}
+use Rattle.audit_model.specs.declared.reasons.ShapeReason.TheVariants.{Phases, Named, Start, SecondSend, Both}
 use Rattle.migration_types.specs.Receipts.{Name, log_index, logs}
 use Rattle.migration_types.specs.Sessions.{Recorded, IsSession, line_of}
 use Rattle.audit_model.specs.Names.{log_length}
@@ -17,80 +17,90 @@ use Rattle.merge_runs.proofs.Lines.{lines_rise}
 use Rattle.merge_runs.proofs.Logs.{index_small}
 use Rattle.cert_check.proofs.FirstOfLog.{past_end}
 
--- which of four tests a reason asks for
-abbrev test_of : ShapeReason → Bool → Bool → Bool → Bool → Bool
-test_of Phases a b c d = a
-test_of Named a b c d = b
-test_of Start a b c d = c
-test_of SecondSend a b c d = d
+-- which of five tests a reason asks for
+abbrev test_of : ShapeReason → Bool → Bool → Bool → Bool → Bool → Bool
+test_of Phases a b c d f = a
+test_of Named a b c d f = b
+test_of Start a b c d f = c
+test_of SecondSend a b c d f = d
+test_of Both a b c d f = f
 
-test_is : (s : Recorded) (r : ShapeReason) (name : Name) → is_right s r name ≡ test_of r (is_right s Phases name) (is_right s Named name) (is_right s Start name) (is_right s SecondSend name)
+test_is : (s : Recorded) (r : ShapeReason) (name : Name) → is_right s r name ≡ test_of r (is_right s Phases name) (is_right s Named name) (is_right s Start name) (is_right s SecondSend name) (is_right s Both name)
 test_is s Phases name = refl
 test_is s Named name = refl
 test_is s Start name = refl
 test_is s SecondSend name = refl
+test_is s Both name = refl
 
-all_true : (r : ShapeReason) (a b c d : Bool) → first_reason a b c d ≡ None → test_of r a b c d ≡ true
-all_true Phases true b c d e = refl
-all_true Phases false b c d e = absurd (cc)
-all_true Named true true c d e = refl
-all_true Named true false c d e = absurd (cc)
-all_true Named false b c d e = absurd (cc)
-all_true Start true true true d e = refl
-all_true Start true true false d e = absurd (cc)
-all_true Start true false c d e = absurd (cc)
-all_true Start false b c d e = absurd (cc)
-all_true SecondSend true true true true e = refl
-all_true SecondSend true true true false e = absurd (cc)
-all_true SecondSend true true false d e = absurd (cc)
-all_true SecondSend true false c d e = absurd (cc)
-all_true SecondSend false b c d e = absurd (cc)
+all_true : (r : ShapeReason) (a b c d f : Bool) → first_reason a b c d f ≡ None → test_of r a b c d f ≡ true
+all_true r false b c d f e = absurd (cc)
+all_true r true false c d f e = absurd (cc)
+all_true r true true false d f e = absurd (cc)
+all_true r true true true false f e = absurd (cc)
+all_true r true true true true false e = absurd (cc)
+all_true Phases true true true true true e = refl
+all_true Named true true true true true e = refl
+all_true Start true true true true true e = refl
+all_true SecondSend true true true true true e = refl
+all_true Both true true true true true e = refl
 
 pub right_from_none : (s : Recorded) (name : Name) → reason_at s name ≡ None → (r : ShapeReason) → is_right s r name ≡ true
-right_from_none s name e r = test_is s r name ∙ all_true r (is_right s Phases name) (is_right s Named name) (is_right s Start name) (is_right s SecondSend name) e
+right_from_none s name e r = test_is s r name ∙ all_true r (is_right s Phases name) (is_right s Named name) (is_right s Start name) (is_right s SecondSend name) (is_right s Both name) e
 
-some_reason : (r t : ShapeReason) (a b c d : Bool) → first_reason a b c d ≡ Some t → (test_of t a b c d ≡ false) × (test_of r a b c d ≡ false → rank t ≤ rank r)
-some_reason r t a b c d e = go a b c d e
+some_reason : (r t : ShapeReason) (a b c d f : Bool) → first_reason a b c d f ≡ Some t → (test_of t a b c d f ≡ false) × (test_of r a b c d f ≡ false → rank t ≤ rank r)
+some_reason r t a b c d f e = go a b c d f e
   where
-    at : (u : ShapeReason) (a b c d : Bool) → u ≡ t → test_of u a b c d ≡ false → (test_of r a b c d ≡ false → rank u ≤ rank r) → (test_of t a b c d ≡ false) × (test_of r a b c d ≡ false → rank t ≤ rank r)
-    at u a b c d same f le = (subst (λ v. test_of v a b c d ≡ false) same f, λ h. subst (λ v. rank v ≤ rank r) same (le h))
+    at : (u : ShapeReason) (a b c d f : Bool) → u ≡ t → test_of u a b c d f ≡ false → (test_of r a b c d f ≡ false → rank u ≤ rank r) → (test_of t a b c d f ≡ false) × (test_of r a b c d f ≡ false → rank t ≤ rank r)
+    at u a b c d f same wrong le = (subst (λ v. test_of v a b c d f ≡ false) same wrong, λ h. subst (λ v. rank v ≤ rank r) same (le h))
 
     least : (r : ShapeReason) → 0 ≤ rank r
     least Phases = omega arith
     least Named = omega arith
     least Start = omega arith
     least SecondSend = omega arith
+    least Both = omega arith
 
-    second : (r : ShapeReason) (b c d : Bool) → test_of r true b c d ≡ false → 1 ≤ rank r
-    second Phases b c d h = absurd (cc)
-    second Named b c d h = omega arith
-    second Start b c d h = omega arith
-    second SecondSend b c d h = omega arith
+    second : (r : ShapeReason) (b c d f : Bool) → test_of r true b c d f ≡ false → 1 ≤ rank r
+    second Phases b c d f h = absurd (cc)
+    second Named b c d f h = omega arith
+    second Start b c d f h = omega arith
+    second SecondSend b c d f h = omega arith
+    second Both b c d f h = omega arith
 
-    third : (r : ShapeReason) (c d : Bool) → test_of r true true c d ≡ false → 2 ≤ rank r
-    third Phases c d h = absurd (cc)
-    third Named c d h = absurd (cc)
-    third Start c d h = omega arith
-    third SecondSend c d h = omega arith
+    third : (r : ShapeReason) (c d f : Bool) → test_of r true true c d f ≡ false → 2 ≤ rank r
+    third Phases c d f h = absurd (cc)
+    third Named c d f h = absurd (cc)
+    third Start c d f h = omega arith
+    third SecondSend c d f h = omega arith
+    third Both c d f h = omega arith
 
-    fourth : (r : ShapeReason) (d : Bool) → test_of r true true true d ≡ false → 3 ≤ rank r
-    fourth Phases d h = absurd (cc)
-    fourth Named d h = absurd (cc)
-    fourth Start d h = absurd (cc)
-    fourth SecondSend d h = omega arith
+    fourth : (r : ShapeReason) (d f : Bool) → test_of r true true true d f ≡ false → 3 ≤ rank r
+    fourth Phases d f h = absurd (cc)
+    fourth Named d f h = absurd (cc)
+    fourth Start d f h = absurd (cc)
+    fourth SecondSend d f h = omega arith
+    fourth Both d f h = omega arith
 
-    go : (a b c d : Bool) → first_reason a b c d ≡ Some t → (test_of t a b c d ≡ false) × (test_of r a b c d ≡ false → rank t ≤ rank r)
-    go false b c d e = let h : Phases ≡ t = cc in at Phases false b c d h refl (λ h. least r)
-    go true false c d e = let h : Named ≡ t = cc in at Named true false c d h refl (λ h. second r false c d h)
-    go true true false d e = let h : Start ≡ t = cc in at Start true true false d h refl (λ h. third r false d h)
-    go true true true false e = let h : SecondSend ≡ t = cc in at SecondSend true true true false h refl (λ h. fourth r false h)
-    go true true true true e = absurd (cc)
+    fifth : (r : ShapeReason) (f : Bool) → test_of r true true true true f ≡ false → 4 ≤ rank r
+    fifth Phases f h = absurd (cc)
+    fifth Named f h = absurd (cc)
+    fifth Start f h = absurd (cc)
+    fifth SecondSend f h = absurd (cc)
+    fifth Both f h = omega arith
+
+    go : (a b c d f : Bool) → first_reason a b c d f ≡ Some t → (test_of t a b c d f ≡ false) × (test_of r a b c d f ≡ false → rank t ≤ rank r)
+    go false b c d f e = let h : Phases ≡ t = cc in at Phases false b c d f h refl (λ h. least r)
+    go true false c d f e = let h : Named ≡ t = cc in at Named true false c d f h refl (λ h. second r false c d f h)
+    go true true false d f e = let h : Start ≡ t = cc in at Start true true false d f h refl (λ h. third r false d f h)
+    go true true true false f e = let h : SecondSend ≡ t = cc in at SecondSend true true true false f h refl (λ h. fourth r false f h)
+    go true true true true false e = let h : Both ≡ t = cc in at Both true true true true false h refl (λ h. fifth r false h)
+    go true true true true true e = absurd (cc)
 
 pub wrong_at : (s : Recorded) (name : Name) (t : ShapeReason) → reason_at s name ≡ Some t → is_right s t name ≡ false
-wrong_at s name t e = test_is s t name ∙ (some_reason t t (is_right s Phases name) (is_right s Named name) (is_right s Start name) (is_right s SecondSend name) e).0
+wrong_at s name t e = test_is s t name ∙ (some_reason t t (is_right s Phases name) (is_right s Named name) (is_right s Start name) (is_right s SecondSend name) (is_right s Both name) e).0
 
 pub least_at : (s : Recorded) (name : Name) (t r : ShapeReason) → reason_at s name ≡ Some t → is_right s r name ≡ false → rank t ≤ rank r
-least_at s name t r e f = (some_reason r t (is_right s Phases name) (is_right s Named name) (is_right s Start name) (is_right s SecondSend name) e).1 (sym (test_is s r name) ∙ f)
+least_at s name t r e f = (some_reason r t (is_right s Phases name) (is_right s Named name) (is_right s Start name) (is_right s SecondSend name) (is_right s Both name) e).1 (sym (test_is s r name) ∙ f)
 
 none_wrong : {A : Type 0} (s : Recorded) (name : Name) (r : ShapeReason) → reason_at s name ≡ None → is_right s r name ≡ false → A
 none_wrong s name r e f = let t = right_from_none s name e r in absurd (cc)

@@ -7,7 +7,7 @@ use Rattle.migration_types.specs.declared.records.LogName.{LogName}
 use Rattle.migration_types.specs.declared.records.LogName.TheVariants.{Guest, Source, Link, Lane, Pager}
 use Rattle.migration_types.specs.declared.records.GuestRec.{GuestRec}
 use Rattle.migration_types.specs.declared.records.SourceRec.{SourceRec}
-use Rattle.migration_types.specs.declared.records.SourceRec.TheVariants.{Halted, State, Send, Again, Ask, Done}
+use Rattle.migration_types.specs.declared.records.SourceRec.TheVariants.{Halted, State, Send, Again, Ask, Done, Back}
 use Rattle.audit_model.specs.declared.reasons.ShapeReason.{ShapeReason}
 use Rattle.migration_types.specs.Sessions.{Recorded}
 use Rattle.migration_types.specs.declared.records.LinkRec.{LinkRec}
@@ -19,7 +19,7 @@ use Rattle.std.specs.Option.{MatchOption}
 use Rattle.cert_check.specs.declared.log_passes.Found.{Found}
 use Rattle.cert_check.specs.inner.Passes.{HaveNone, IsFirstFrom}
 use Rattle.audit_model.specs.Flat.{changed}
-use Rattle.audit_model.specs.Shape.{keeps, earlier, is_send_of, in_phase, guest_named, source_named, source_start, is_first_send, link_named, lane_named, pager_named, pager_start}
+use Rattle.audit_model.specs.Shape.{keeps, earlier, is_send_of, in_phase, guest_named, source_named, source_start, is_first_send, is_alone, link_named, lane_named, pager_named, pager_start}
 use Rattle.cert_check.specs.inner.FirstOfLog.{first_reason, is_unmarked, marked_by, sent_before, AreSent, reason_at, IsRightBelow, IsRightLog, IsFirstOfLog}
 
 -- one more record of a log
@@ -29,34 +29,34 @@ earlier_more test log n r e =
     ap (λ m. earlier test log m) one ∙ ap (λ o. changed (λ x found. test x || found) o (earlier test log n)) e
 
 guest_past : (s : Recorded) (n : ℕ) → length s.guest ≤ n → reason_at s (Guest, n) ≡ None
-guest_past s n past = ap (λ o. first_reason (keeps (in_phase s n) o) (keeps (guest_named s) o) true true) (slice_get_past s.guest n past)
+guest_past s n past = ap (λ o. first_reason (keeps (in_phase s n) o) (keeps (guest_named s) o) true true true) (slice_get_past s.guest n past)
 
-pub guest_reason_at : (s : Recorded) (n : ℕ) (r : GuestRec) → slice_get s.guest n ≡ Some r → reason_at s (Guest, n) ≡ first_reason (in_phase s n r) (guest_named s r) true true
-guest_reason_at s n r e = ap (λ o. first_reason (keeps (in_phase s n) o) (keeps (guest_named s) o) true true) e
+pub guest_reason_at : (s : Recorded) (n : ℕ) (r : GuestRec) → slice_get s.guest n ≡ Some r → reason_at s (Guest, n) ≡ first_reason (in_phase s n r) (guest_named s r) true true true
+guest_reason_at s n r e = ap (λ o. first_reason (keeps (in_phase s n) o) (keeps (guest_named s) o) true true true) e
 
 source_past : (s : Recorded) (n : ℕ) → length s.source ≤ n → reason_at s (Source, n) ≡ None
-source_past s n past = ap (λ o. first_reason true (keeps (source_named s n) o) (keeps (source_start s n) o) (keeps (is_first_send s n) o)) (slice_get_past s.source n past)
+source_past s n past = ap (λ o. first_reason true (keeps (source_named s n) o) (keeps (source_start s n) o) (keeps (is_first_send s n) o) (keeps (is_alone s) o)) (slice_get_past s.source n past)
 
-pub source_reason_at : (s : Recorded) (n : ℕ) (r : SourceRec) → slice_get s.source n ≡ Some r → reason_at s (Source, n) ≡ first_reason true (source_named s n r) (source_start s n r) (is_first_send s n r)
-source_reason_at s n r e = ap (λ o. first_reason true (keeps (source_named s n) o) (keeps (source_start s n) o) (keeps (is_first_send s n) o)) e
+pub source_reason_at : (s : Recorded) (n : ℕ) (r : SourceRec) → slice_get s.source n ≡ Some r → reason_at s (Source, n) ≡ first_reason true (source_named s n r) (source_start s n r) (is_first_send s n r) (is_alone s r)
+source_reason_at s n r e = ap (λ o. first_reason true (keeps (source_named s n) o) (keeps (source_start s n) o) (keeps (is_first_send s n) o) (keeps (is_alone s) o)) e
 
 link_past : (s : Recorded) (n : ℕ) → length s.link ≤ n → reason_at s (Link, n) ≡ None
-link_past s n past = ap (λ o. first_reason true (keeps (link_named s) o) true true) (slice_get_past s.link n past)
+link_past s n past = ap (λ o. first_reason true (keeps (link_named s) o) true true true) (slice_get_past s.link n past)
 
-pub link_reason_at : (s : Recorded) (n : ℕ) (r : LinkRec) → slice_get s.link n ≡ Some r → reason_at s (Link, n) ≡ first_reason true (link_named s r) true true
-link_reason_at s n r e = ap (λ o. first_reason true (keeps (link_named s) o) true true) e
+pub link_reason_at : (s : Recorded) (n : ℕ) (r : LinkRec) → slice_get s.link n ≡ Some r → reason_at s (Link, n) ≡ first_reason true (link_named s r) true true true
+link_reason_at s n r e = ap (λ o. first_reason true (keeps (link_named s) o) true true true) e
 
 lane_past : (s : Recorded) (n : ℕ) → length s.lane ≤ n → reason_at s (Lane, n) ≡ None
-lane_past s n past = ap (λ o. first_reason true (keeps (lane_named s) o) true true) (slice_get_past s.lane n past)
+lane_past s n past = ap (λ o. first_reason true (keeps (lane_named s) o) true true true) (slice_get_past s.lane n past)
 
-pub lane_reason_at : (s : Recorded) (n : ℕ) (r : LaneRec) → slice_get s.lane n ≡ Some r → reason_at s (Lane, n) ≡ first_reason true (lane_named s r) true true
-lane_reason_at s n r e = ap (λ o. first_reason true (keeps (lane_named s) o) true true) e
+pub lane_reason_at : (s : Recorded) (n : ℕ) (r : LaneRec) → slice_get s.lane n ≡ Some r → reason_at s (Lane, n) ≡ first_reason true (lane_named s r) true true true
+lane_reason_at s n r e = ap (λ o. first_reason true (keeps (lane_named s) o) true true true) e
 
 pager_past : (s : Recorded) (n : ℕ) → length s.pager ≤ n → reason_at s (Pager, n) ≡ None
-pager_past s n past = ap (λ o. first_reason true (keeps (pager_named s n) o) (keeps (pager_start s n) o) true) (slice_get_past s.pager n past)
+pager_past s n past = ap (λ o. first_reason true (keeps (pager_named s n) o) (keeps (pager_start s n) o) true true) (slice_get_past s.pager n past)
 
-pub pager_reason_at : (s : Recorded) (n : ℕ) (r : PagerRec) → slice_get s.pager n ≡ Some r → reason_at s (Pager, n) ≡ first_reason true (pager_named s n r) (pager_start s n r) true
-pager_reason_at s n r e = ap (λ o. first_reason true (keeps (pager_named s n) o) (keeps (pager_start s n) o) true) e
+pub pager_reason_at : (s : Recorded) (n : ℕ) (r : PagerRec) → slice_get s.pager n ≡ Some r → reason_at s (Pager, n) ≡ first_reason true (pager_named s n r) (pager_start s n r) true true
+pager_reason_at s n r e = ap (λ o. first_reason true (keeps (pager_named s n) o) (keeps (pager_start s n) o) true true) e
 
 pub past_end : (s : Recorded) (log : LogName) (n : ℕ) → log_length s log ≤ n → reason_at s (log, n) ≡ None
 past_end s Guest n le = guest_past s n le
@@ -73,9 +73,9 @@ to_the_end s log k past below n = go (cases_lt n k)
     go (inr l) = past n l
 
 pub source_turn : (s : Recorded) (marks : Values Bool) (n : ℕ) (x : SourceRec) (found : Option ShapeReason) → slice_get s.source n ≡ Some x → AreSent s n marks →
-    found ≡ first_reason true (source_named s n x) (source_start s n x) (is_unmarked (values marks) x) → reason_at s (Source, n) ≡ found
+    found ≡ first_reason true (source_named s n x) (source_start s n x) (is_unmarked (values marks) x) (is_alone s x) → reason_at s (Source, n) ≡ found
 source_turn s marks n x found is sent e =
-    source_reason_at s n x is ∙ ap (λ b. first_reason true (source_named s n x) (source_start s n x) b) (first x) ∙ sym e
+    source_reason_at s n x is ∙ ap (λ b. first_reason true (source_named s n x) (source_start s n x) b (is_alone s x)) (first x) ∙ sym e
   where
     first : (x : SourceRec) → is_first_send s n x ≡ is_unmarked (values marks) x
     first (Send p content) = ap (λ (f : ℕ → Bool). not (f p)) (sym sent.values_are)
@@ -84,6 +84,7 @@ source_turn s marks n x found is sent e =
     first (Again i) = refl
     first (Ask i) = refl
     first Done = refl
+    first Back = refl
 
 pub marks_turn : (s : Recorded) (n : ℕ) (x : SourceRec) (old new : Values Bool) → slice_get s.source n ≡ Some x → AreSent s n old → IsWith old new (marked_by x (values old)) → AreSent s (n + 1) new
 marks_turn s n x old new is was on = record {
@@ -102,6 +103,7 @@ marks_turn s n x old new is was on = record {
     also (Again i) p = refl
     also (Ask i) p = refl
     also Done p = refl
+    also Back p = refl
 
     at : (p : ℕ) → marked_by x (sent_before s n) p ≡ sent_before s (n + 1) p
     at p = also x p ∙ sym (earlier_more (is_send_of p) s.source n x is)

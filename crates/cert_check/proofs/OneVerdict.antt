@@ -14,7 +14,7 @@ use Rattle.audit_model.proofs.Cuts.{same_from_test}
 use Rattle.merge_runs.proofs.Lines.{lines_rise}
 use Rattle.cert_check.proofs.FirstOfAll.{wrong_there}
 use Rattle.audit_model.specs.declared.reasons.ShapeReason.{ShapeReason}
-use Rattle.audit_model.specs.declared.reasons.ShapeReason.TheVariants.{Phases, Named, Start, SecondSend}
+use Rattle.audit_model.specs.declared.reasons.ShapeReason.TheVariants.{Phases, Named, Start, SecondSend, Both}
 use Rattle.audit_model.specs.Mergings.{at_start, IsMerging, spelled}
 use Rattle.audit_model.specs.Reasons.{rank}
 use Rattle.audit_model.specs.Shape.{IsRightShape}
@@ -34,18 +34,27 @@ by_rank Phases Phases e = refl
 by_rank Phases Named e = absurd (omega arith)
 by_rank Phases Start e = absurd (omega arith)
 by_rank Phases SecondSend e = absurd (omega arith)
+by_rank Phases Both e = absurd (omega arith)
 by_rank Named Phases e = absurd (omega arith)
 by_rank Named Named e = refl
 by_rank Named Start e = absurd (omega arith)
 by_rank Named SecondSend e = absurd (omega arith)
+by_rank Named Both e = absurd (omega arith)
 by_rank Start Phases e = absurd (omega arith)
 by_rank Start Named e = absurd (omega arith)
 by_rank Start Start e = refl
 by_rank Start SecondSend e = absurd (omega arith)
+by_rank Start Both e = absurd (omega arith)
 by_rank SecondSend Phases e = absurd (omega arith)
 by_rank SecondSend Named e = absurd (omega arith)
 by_rank SecondSend Start e = absurd (omega arith)
 by_rank SecondSend SecondSend e = refl
+by_rank SecondSend Both e = absurd (omega arith)
+by_rank Both Phases e = absurd (omega arith)
+by_rank Both Named e = absurd (omega arith)
+by_rank Both Start e = absurd (omega arith)
+by_rank Both SecondSend e = absurd (omega arith)
+by_rank Both Both e = refl
 
 -- two records of a log that stand at one line are one
 one_place : (s : Recorded) (log : LogName) (n m : ℕ) → line_of s (log, n) ≡ line_of s (log, m) → n ≡ m

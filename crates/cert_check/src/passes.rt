@@ -4,7 +4,7 @@ ghost use Rattle.std.specs.Prelude.{◌≡◌, ◌||◌, true, MatchOption, IfOk
 ghost use Rattle.migration_types.specs.declared.records.LogName.TheVariants.{Guest, Source, Link, Lane, Pager};
 ghost use Rattle.migration_types.specs.Sessions.{IsSession};
 ghost use Rattle.audit_model.specs.Names.{log_length};
-ghost use Rattle.audit_model.specs.Shape.{in_phase_by, is_halt, is_resume, guest_named, source_named, link_named, lane_named, pager_named, source_start, pager_start};
+ghost use Rattle.audit_model.specs.Shape.{in_phase_by, is_halt, is_resume, guest_named, source_named, link_named, lane_named, pager_named, source_start, pager_start, is_alone};
 ghost use Rattle.page_store.specs.Tables.{pages_of, values, IsWith};
 ghost use Rattle.page_facts.specs.Moved.{SourcePage};
 ghost use Rattle.cert_check.specs.inner.FirstOfLog.{first_reason, is_unmarked, marked_by, reason_at, AreSent, IsRightLog, IsFirstOfLog};
@@ -12,8 +12,8 @@ ghost use Rattle.cert_check.specs.inner.Phases.{ArePhases, ArePhasesAfter};
 
 use crate::log_passes::{Found, Pass, first_found};
 use audit_model::{
-    ShapeReason, guest_named, in_phase, is_halt, is_resume, lane_named, link_named, pager_named,
-    pager_start, source_named, source_start,
+    ShapeReason, guest_named, in_phase, is_alone, is_halt, is_resume, lane_named, link_named,
+    pager_named, pager_start, source_named, source_start,
 };
 use migration_types::{GuestRec, LogName, PagerRec, Session, SourceRec};
 use page_store::Table;
@@ -43,7 +43,7 @@ struct PagerPass;
 
 /// Why a guest record is not of the right shape.
 fn guest_reason(session: &Session, rec: &GuestRec, phases: Phases) -> Option<ShapeReason>
-    ensures { result ≡ first_reason (in_phase_by session.now.version phases.halted phases.resumed rec.now) (guest_named session.now rec.now) true true }
+    ensures { result ≡ first_reason (in_phase_by session.now.version phases.halted phases.resumed rec.now) (guest_named session.now rec.now) true true true }
 {
     if !in_phase(session.version(), rec, phases.halted, phases.resumed) {
         return Some(ShapeReason::Phases);
@@ -114,7 +114,7 @@ fn source_reason(
     marks: &Table<bool>,
 ) -> Option<ShapeReason>
     requires { SourcePage (pages_of marks.now) rec.now }
-    ensures { result ≡ first_reason true (source_named session.now n rec.now) (source_start session.now n rec.now) (is_unmarked (values marks.now) rec.now) }
+    ensures { result ≡ first_reason true (source_named session.now n rec.now) (source_start session.now n rec.now) (is_unmarked (values marks.now) rec.now) (is_alone session.now rec.now) }
 {
     if !source_named(session, n, rec) {
         return Some(ShapeReason::Named);
@@ -124,6 +124,9 @@ fn source_reason(
     }
     if !is_unmarked(marks, rec) {
         return Some(ShapeReason::SecondSend);
+    }
+    if !is_alone(session, rec) {
+        return Some(ShapeReason::Both);
     }
     None
 }
@@ -189,7 +192,7 @@ impl Pass for LanePass {
 
 /// Why pager record n is not of the right shape.
 fn pager_reason(session: &Session, n: usize, rec: &PagerRec) -> Option<ShapeReason>
-    ensures { result ≡ first_reason true (pager_named session.now n rec.now) (pager_start session.now n rec.now) true }
+    ensures { result ≡ first_reason true (pager_named session.now n rec.now) (pager_start session.now n rec.now) true true }
 {
     if !pager_named(session, n, rec) {
         return Some(ShapeReason::Named);

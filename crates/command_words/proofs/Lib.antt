@@ -3,3 +3,4 @@ pub mod Numbers
 pub mod Rows
 pub mod Unplaced
 pub mod Plain
+pub mod Clashes

@@ -34,12 +34,6 @@ taken_certify program _ Dash = record { taken = refl; given = refl }
 taken_certify program _ Empty = record { taken = refl; given = refl }
 taken_certify program _ (Other b rest e) = record { taken = simp e; given = simp e }
 
-taken_audit : (program name : Text) → Form name → IsTaken (program ∷ codes "audit" ∷ name ∷ []) (One (Audit plain_audit) name)
-unfolding clap_on_literals
-taken_audit program _ Dash = record { taken = refl; given = refl }
-taken_audit program _ Empty = record { taken = refl; given = refl }
-taken_audit program _ (Other b rest e) = record { taken = simp e; given = simp e }
-
 -- what a word or an option is given, by the words or by default
 abbrev given_as : ValueSource → Text × Text → Row
 given_as source given = record { id = given.0; values = given.1 ∷ []; count = None; source = Some source; reading = AsWritten }
@@ -135,6 +129,27 @@ taken_check program first second f g =
     let is = is_check program first second f g in
     record { taken = is.takes_them; given = ap (option_and_then asked_in) is.found ∙ check_asks first second }
 
+-- what `audit` is given with a plain name
+abbrev audit_rows : Text → List Row
+audit_rows name =
+    given_as CommandLine (codes "SESSION", name)
+    ∷ map (given_as DefaultValue) ((codes "complete", codes "false") ∷ (codes "complete-pages", codes "false") ∷ (codes "all", codes "false") ∷ (codes "quiet", codes "false") ∷ (codes "format", codes "text") ∷ [])
+
+is_audit : (program name : Text) → Form name → IsGiven (program ∷ codes "audit" ∷ name ∷ []) (codes "audit") (audit_rows name)
+unfolding clap_on_literals
+is_audit program _ Dash = record { takes_them = refl; found = refl }
+is_audit program _ Empty = record { takes_them = refl; found = refl }
+is_audit program _ (Other b rest e) = record { takes_them = simp e; found = simp e }
+
+audit_asks : (name : Text) → asked_in (codes "audit", audit_rows name) ≡ Some (One (Audit plain_audit) name)
+unfolding clap_on_literals
+audit_asks name = refl
+
+taken_audit : (program name : Text) → Form name → IsTaken (program ∷ codes "audit" ∷ name ∷ []) (One (Audit plain_audit) name)
+taken_audit program name f =
+    let is = is_audit program name f in
+    record { taken = is.takes_them; given = ap (option_and_then asked_in) is.found ∙ audit_asks name }
+
 -- what `explain` is given with a plain name
 abbrev explain_rows : Text → List Row
 explain_rows name = given_as CommandLine (codes "SESSION", name) ∷ map (given_as DefaultValue) by_default
@@ -154,29 +169,55 @@ taken_explain program name f =
     let is = is_explain program name f in
     record { taken = is.takes_them; given = ap (option_and_then asked_in) is.found ∙ explain_asks name }
 
-taken_replay : (program first second : Text) → Form first → Form second → IsTaken (program ∷ codes "replay" ∷ first ∷ second ∷ []) (Two Replay first second)
+-- what `replay` is given with two plain names
+abbrev replay_rows : Text → Text → List Row
+replay_rows first second = map (given_as CommandLine) ((codes "SESSION", first) ∷ (codes "RUNS", second) ∷ [])
+
+is_replay : (program first second : Text) → Form first → Form second → IsGiven (program ∷ codes "replay" ∷ first ∷ second ∷ []) (codes "replay") (replay_rows first second)
 unfolding clap_on_literals
-taken_replay program _ _ Dash Dash = record { taken = refl; given = refl }
-taken_replay program _ _ Dash Empty = record { taken = refl; given = refl }
-taken_replay program _ _ Dash (Other b rest e) = record { taken = simp e; given = simp e }
-taken_replay program _ _ Empty Dash = record { taken = refl; given = refl }
-taken_replay program _ _ Empty Empty = record { taken = refl; given = refl }
-taken_replay program _ _ Empty (Other b rest e) = record { taken = simp e; given = simp e }
-taken_replay program _ _ (Other a front d) Dash = record { taken = simp d; given = simp d }
-taken_replay program _ _ (Other a front d) Empty = record { taken = simp d; given = simp d }
-taken_replay program _ _ (Other a front d) (Other b rest e) = record { taken = simp (d, e); given = simp (d, e) }
+is_replay program _ _ Dash Dash = record { takes_them = refl; found = refl }
+is_replay program _ _ Dash Empty = record { takes_them = refl; found = refl }
+is_replay program _ _ Dash (Other b rest e) = record { takes_them = simp e; found = simp e }
+is_replay program _ _ Empty Dash = record { takes_them = refl; found = refl }
+is_replay program _ _ Empty Empty = record { takes_them = refl; found = refl }
+is_replay program _ _ Empty (Other b rest e) = record { takes_them = simp e; found = simp e }
+is_replay program _ _ (Other a front d) Dash = record { takes_them = simp d; found = simp d }
+is_replay program _ _ (Other a front d) Empty = record { takes_them = simp d; found = simp d }
+is_replay program _ _ (Other a front d) (Other b rest e) = record { takes_them = simp (d, e); found = simp (d, e) }
+
+replay_asks : (first second : Text) → asked_in (codes "replay", replay_rows first second) ≡ Some (Two Replay first second)
+unfolding clap_on_literals
+replay_asks first second = refl
+
+taken_replay : (program first second : Text) → Form first → Form second → IsTaken (program ∷ codes "replay" ∷ first ∷ second ∷ []) (Two Replay first second)
+taken_replay program first second f g =
+    let is = is_replay program first second f g in
+    record { taken = is.takes_them; given = ap (option_and_then asked_in) is.found ∙ replay_asks first second }
+
+-- what `steps` is given with two plain names
+abbrev steps_rows : Text → Text → List Row
+steps_rows first second = map (given_as CommandLine) ((codes "SCRIPT", first) ∷ (codes "EVENTS", second) ∷ [])
+
+is_steps : (program first second : Text) → Form first → Form second → IsGiven (program ∷ codes "steps" ∷ first ∷ second ∷ []) (codes "steps") (steps_rows first second)
+unfolding clap_on_literals
+is_steps program _ _ Dash Dash = record { takes_them = refl; found = refl }
+is_steps program _ _ Dash Empty = record { takes_them = refl; found = refl }
+is_steps program _ _ Dash (Other b rest e) = record { takes_them = simp e; found = simp e }
+is_steps program _ _ Empty Dash = record { takes_them = refl; found = refl }
+is_steps program _ _ Empty Empty = record { takes_them = refl; found = refl }
+is_steps program _ _ Empty (Other b rest e) = record { takes_them = simp e; found = simp e }
+is_steps program _ _ (Other a front d) Dash = record { takes_them = simp d; found = simp d }
+is_steps program _ _ (Other a front d) Empty = record { takes_them = simp d; found = simp d }
+is_steps program _ _ (Other a front d) (Other b rest e) = record { takes_them = simp (d, e); found = simp (d, e) }
+
+steps_asks : (first second : Text) → asked_in (codes "steps", steps_rows first second) ≡ Some (Two Steps first second)
+unfolding clap_on_literals
+steps_asks first second = refl
 
 taken_steps : (program first second : Text) → Form first → Form second → IsTaken (program ∷ codes "steps" ∷ first ∷ second ∷ []) (Two Steps first second)
-unfolding clap_on_literals
-taken_steps program _ _ Dash Dash = record { taken = refl; given = refl }
-taken_steps program _ _ Dash Empty = record { taken = refl; given = refl }
-taken_steps program _ _ Dash (Other b rest e) = record { taken = simp e; given = simp e }
-taken_steps program _ _ Empty Dash = record { taken = refl; given = refl }
-taken_steps program _ _ Empty Empty = record { taken = refl; given = refl }
-taken_steps program _ _ Empty (Other b rest e) = record { taken = simp e; given = simp e }
-taken_steps program _ _ (Other a front d) Dash = record { taken = simp d; given = simp d }
-taken_steps program _ _ (Other a front d) Empty = record { taken = simp d; given = simp d }
-taken_steps program _ _ (Other a front d) (Other b rest e) = record { taken = simp (d, e); given = simp (d, e) }
+taken_steps program first second f g =
+    let is = is_steps program first second f g in
+    record { taken = is.takes_them; given = ap (option_and_then asked_in) is.found ∙ steps_asks first second }
 
 taken_migrate : (program name : Text) → Form name → IsTaken (program ∷ codes "migrate" ∷ name ∷ []) (Migrate Memory name)
 unfolding clap_on_literals
@@ -190,17 +231,30 @@ taken_draw program _ Dash = record { taken = refl; given = refl }
 taken_draw program _ Empty = record { taken = refl; given = refl }
 taken_draw program _ (Other b rest e) = record { taken = simp e; given = simp e }
 
-taken_draw_along : (program first second : Text) → Form first → Form second → IsTaken (program ∷ codes "draw" ∷ first ∷ second ∷ []) (Draw Report first (Some second))
+-- what `draw` is given with two plain names
+abbrev draw_along_rows : Text → Text → List Row
+draw_along_rows first second = map (given_as CommandLine) ((codes "SESSION", first) ∷ (codes "RUNS", second) ∷ [])
+
+is_draw_along : (program first second : Text) → Form first → Form second → IsGiven (program ∷ codes "draw" ∷ first ∷ second ∷ []) (codes "draw") (draw_along_rows first second)
 unfolding clap_on_literals
-taken_draw_along program _ _ Dash Dash = record { taken = refl; given = refl }
-taken_draw_along program _ _ Dash Empty = record { taken = refl; given = refl }
-taken_draw_along program _ _ Dash (Other b rest e) = record { taken = simp e; given = simp e }
-taken_draw_along program _ _ Empty Dash = record { taken = refl; given = refl }
-taken_draw_along program _ _ Empty Empty = record { taken = refl; given = refl }
-taken_draw_along program _ _ Empty (Other b rest e) = record { taken = simp e; given = simp e }
-taken_draw_along program _ _ (Other a front d) Dash = record { taken = simp d; given = simp d }
-taken_draw_along program _ _ (Other a front d) Empty = record { taken = simp d; given = simp d }
-taken_draw_along program _ _ (Other a front d) (Other b rest e) = record { taken = simp (d, e); given = simp (d, e) }
+is_draw_along program _ _ Dash Dash = record { takes_them = refl; found = refl }
+is_draw_along program _ _ Dash Empty = record { takes_them = refl; found = refl }
+is_draw_along program _ _ Dash (Other b rest e) = record { takes_them = simp e; found = simp e }
+is_draw_along program _ _ Empty Dash = record { takes_them = refl; found = refl }
+is_draw_along program _ _ Empty Empty = record { takes_them = refl; found = refl }
+is_draw_along program _ _ Empty (Other b rest e) = record { takes_them = simp e; found = simp e }
+is_draw_along program _ _ (Other a front d) Dash = record { takes_them = simp d; found = simp d }
+is_draw_along program _ _ (Other a front d) Empty = record { takes_them = simp d; found = simp d }
+is_draw_along program _ _ (Other a front d) (Other b rest e) = record { takes_them = simp (d, e); found = simp (d, e) }
+
+draw_along_asks : (first second : Text) → asked_in (codes "draw", draw_along_rows first second) ≡ Some (Draw Report first (Some second))
+unfolding clap_on_literals
+draw_along_asks first second = refl
+
+taken_draw_along : (program first second : Text) → Form first → Form second → IsTaken (program ∷ codes "draw" ∷ first ∷ second ∷ []) (Draw Report first (Some second))
+taken_draw_along program first second f g =
+    let is = is_draw_along program first second f g in
+    record { taken = is.takes_them; given = ap (option_and_then asked_in) is.found ∙ draw_along_asks first second }
 
 -- a command with so many names, which are plain, is taken
 one_taken : (task : OneText) (command : Text) (taken : (program name : Text) → Form name → IsTaken (program ∷ command ∷ name ∷ []) (One task name)) (program word : Text) (names : List Text) (job : Asked Text) → AllByRecursion IsPlainName names → with_names names (One task word) ≡ Some job → IsTaken (program ∷ command ∷ names) job

@@ -5,7 +5,7 @@ use Rattle.clap.specs.Words.{App, Row as Given, Text}
 use Rattle.command_words.specs.declared.building.Choices.{Choices}
 use Rattle.command_words.specs.declared.table.Row.{Row}
 use Rattle.command_words.specs.Table.{row_of, rows_of, table}
-use Rattle.command_words.specs.Words.{asked_in, given_in, with_command}
+use Rattle.command_words.specs.Words.{asked_of, given_in, with_command}
 
 -- the row of a name, in the program's table and in the definition
 pub find_rows : (rows : List Row) (name : Text) → find (λ row. bytes_eq row.0 name) (rows_of rows) ≡ option_map row_of (find (λ row. bytes_eq row.name.now name) rows)
@@ -13,7 +13,7 @@ find_rows [] name = refl
 find_rows (row ∷ rows) name = elim (bytes_eq row.name.now name) as (λ b. cond b (Some (row_of row)) (find (λ row. bytes_eq row.0 name) (rows_of rows)) ≡ option_map row_of (cond b (Some row) (find (λ row. bytes_eq row.name.now name) rows))) [ true ↦ refl | false ↦ find_rows rows name ]
 
 -- what is asked for is told by the row that was found
-pub asked_by_row : (rows : List Row) (name : Text) (given : List Given) (found : Option Row) → rows_of rows ≡ table → found ≡ find (λ row. bytes_eq row.name.now name) rows → asked_in (name, given) ≡ option_and_then (λ row. given_in given row.1) (option_map row_of found)
+pub asked_by_row : (rows : List Row) (name : Text) (given : List Given) (found : Option Row) → rows_of rows ≡ table → found ≡ find (λ row. bytes_eq row.name.now name) rows → asked_of (name, given) ≡ option_and_then (λ row. given_in given row.1) (option_map row_of found)
 asked_by_row rows name given found is e =
     ap (λ t. option_and_then (λ row. given_in given row.1) (find (λ row. bytes_eq row.0 name) t)) (sym is)
     ∙ ap (option_and_then (λ row. given_in given row.1)) (find_rows rows name ∙ ap (option_map row_of) (sym e))

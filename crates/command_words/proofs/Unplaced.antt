@@ -17,7 +17,7 @@ use Rattle.clap.specs.declared.builder.action.ArgAction.TheVariants as action
 use Rattle.clap.specs.declared.builder.value_parser.ValueParser.{ValueParser}
 use Rattle.clap.specs.declared.builder.value_parser.ValueParser.TheVariants as parser
 use Rattle.command_words.specs.declared.building.Choices.{Choices}
-use Rattle.command_words.specs.Table.{carrier_name, carriers as all_carriers, form_name, forms as all_forms}
+use Rattle.command_words.specs.Table.{carrier_name, carriers as all_carriers, format_name, formats as all_formats}
 use Rattle.command_words.specs.Words.{line_words, one_of, placeless, postcopy_words}
 
 -- a parser, whose names lie at no place
@@ -387,11 +387,11 @@ stop_of words = let a = built postcopy_words in stop_after a.top.rules (names_of
 
 -- parsers of these names
 abbrev parsers : Bor (List (Bor Text)) → Bor (List (Bor Text)) → Choices
-parsers carriers forms = record { carriers = parser.Names carriers; forms = parser.Names forms }
+parsers carriers forms = record { carriers = parser.Names carriers; formats = parser.Names forms }
 
 -- parsers of these texts, which lie at no place
 abbrev parsers_of : List Text → List Text → Choices
-parsers_of carriers forms = record { carriers = one_of carriers; forms = one_of forms }
+parsers_of carriers forms = record { carriers = one_of carriers; formats = one_of forms }
 
 -- the names behind references
 abbrev texts : Bor (List (Bor Text)) → List Text
@@ -409,10 +409,10 @@ line_takes carriers forms words =
     (ap (λ found. level_passes a.top (names_of a) nothing_held (argument_words postcopy_words words) (is_some found)) (entered_alike a (stop_of words)))
 
 -- the program takes these words, and finds this in them, wherever the names of the carriers and of the forms lie
-pub takes_anywhere : (carriers forms : Bor (List (Bor Text))) (words : List Text) → texts carriers ≡ map carrier_name all_carriers → texts forms ≡ map form_name all_forms
-    → takes postcopy_words words ≡ takes (line_words (record { carriers = parser.Names carriers; forms = parser.Names forms })) words
+pub takes_anywhere : (carriers forms : Bor (List (Bor Text))) (words : List Text) → texts carriers ≡ map carrier_name all_carriers → texts forms ≡ map format_name all_formats
+    → takes postcopy_words words ≡ takes (line_words (record { carriers = parser.Names carriers; formats = parser.Names forms })) words
 takes_anywhere carriers forms words e d = ap₂ (λ c f. takes (line_words (parsers_of c f)) words) (sym e) (sym d) ∙ line_takes carriers forms words
 
-pub found_anywhere : (carriers forms : Bor (List (Bor Text))) (words : List Text) → texts carriers ≡ map carrier_name all_carriers → texts forms ≡ map form_name all_forms
-    → subcommand_of postcopy_words words ≡ subcommand_of (line_words (record { carriers = parser.Names carriers; forms = parser.Names forms })) words
+pub found_anywhere : (carriers forms : Bor (List (Bor Text))) (words : List Text) → texts carriers ≡ map carrier_name all_carriers → texts forms ≡ map format_name all_formats
+    → subcommand_of postcopy_words words ≡ subcommand_of (line_words (record { carriers = parser.Names carriers; formats = parser.Names forms })) words
 found_anywhere carriers forms words e d = ap₂ (λ c f. subcommand_of (line_words (parsers_of c f)) words) (sym e) (sym d) ∙ line_entered carriers forms words

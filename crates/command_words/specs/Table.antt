@@ -8,34 +8,37 @@ use Rattle.command_words.specs.declared.asked.Asked.TheVariants.{One, Two, Migra
 use Rattle.command_words.specs.declared.asked.Pages.{Pages}
 use Rattle.command_words.specs.declared.asked.Carrier.{Carrier}
 use Rattle.command_words.specs.declared.asked.Carrier.TheVariants.{Memory, Tcp}
-use Rattle.command_words.specs.declared.asked.Asking.{Asking}
+use Rattle.command_words.specs.declared.asked.Checks.{Checks}
 use Rattle.command_words.specs.declared.asked.Audits.{Audits}
 use Rattle.command_words.specs.declared.asked.Explains.{Explains}
-use Rattle.command_words.specs.declared.asked.Faults.TheVariants as faults
+use Rattle.command_words.specs.declared.asked.Lists.{Lists}
+use Rattle.command_words.specs.declared.asked.VerdictForm.TheVariants as verdict
+use Rattle.command_words.specs.declared.asked.ReportForm.TheVariants as report
+use Rattle.command_words.specs.declared.asked.StoryForm.TheVariants as story
 use Rattle.command_words.specs.declared.asked.Several.{Several}
 use Rattle.command_words.specs.declared.asked.Topic.TheVariants as topic
 use Rattle.command_words.specs.declared.asked.Wish.{Wish}
 use Rattle.command_words.specs.declared.asked.Wish.TheVariants.{Job}
 use Rattle.command_words.specs.declared.asked.Wish.TheVariants as wish
 use Rattle.command_words.specs.declared.asked.Demand.TheVariants.{Safety}
-use Rattle.command_words.specs.declared.asked.Form.{Form}
-use Rattle.command_words.specs.declared.asked.Form.TheVariants as form
+use Rattle.command_words.specs.declared.asked.Format.{Format}
+use Rattle.command_words.specs.declared.asked.Format.TheVariants as format
 use Rattle.command_words.specs.declared.asked.OneText.TheVariants.{Certify, Audit, Explain}
 use Rattle.command_words.specs.declared.asked.TwoTexts.TheVariants.{Check, Replay, Steps}
 use Rattle.command_words.specs.declared.table.Word.{Word}
 use Rattle.command_words.specs.declared.table.Row.{Row}
 
--- what is asked where no option says more: a safe session, and an answer in lines of text
-abbrev pub plain : Asking
-plain = record { demand = Safety; form = form.Text }
+-- what is asked of a certificate where no option says more: a safe session, and the verdict in a line
+abbrev pub plain : Checks
+plain = record { demand = Safety; form = verdict.Line }
 
--- and of an audit: the first fault alone
+-- and of an audit: a safe session, and the report in lines
 abbrev pub plain_audit : Audits
-plain_audit = record { asking = plain; faults = faults.First }
+plain_audit = record { demand = Safety; form = report.Lines }
 
--- and of an explanation: what the report names, in words
+-- and of an explanation: a safe session, and what the report names, in words
 abbrev pub plain_explanation : Explains
-plain_explanation = record { asking = plain; topic = topic.Report }
+plain_explanation = record { demand = Safety; form = story.Words topic.Report }
 
 -- the pages of a window, in the place of those that its words tell
 abbrev pub no_pages : Pages
@@ -70,18 +73,17 @@ abbrev pub carrier_named : Text → Option Carrier
 carrier_named name = find (λ carrier. bytes_eq (carrier_name carrier) name) carriers
 
 -- the name of the form of an answer
-abbrev pub form_name : Form → Text
-form_name form.Text = codes "text"
-form_name form.Line = codes "line"
-form_name form.Json = codes "json"
+abbrev pub format_name : Format → Text
+format_name format.Text = codes "text"
+format_name format.Json = codes "json"
 
 -- the forms that an answer may have by the option `--format`
-abbrev pub forms : List Form
-forms = form.Text ∷ form.Json ∷ []
+abbrev pub formats : List Format
+formats = format.Text ∷ format.Json ∷ []
 
 -- what has this name, of these forms
-abbrev pub form_named : Text → Option Form
-form_named name = find (λ form. bytes_eq (form_name form) name) forms
+abbrev pub format_named : Text → Option Format
+format_named name = find (λ format. bytes_eq (format_name format) name) formats
 
 -- a command, with another word for each of its texts
 abbrev pub asked_map : {V W : Type 0} → (V → W) → Asked V → Asked W
@@ -96,8 +98,8 @@ abbrev pub asked_names : Asked (Bor Text) → Asked Text
 asked_names asked = asked_map (λ name. name.now) asked
 
 -- the sessions that are to be audited, by their names, with what is asked of them
-abbrev pub several_names : Several → Audits × List Text
-several_names several = (several.audits, map (λ name. name.now) several.names.items)
+abbrev pub several_names : Several → Lists × List Text
+several_names several = (several.lists, map (λ name. name.now) several.names.items)
 
 -- the command that is wished
 abbrev pub job_of : Wish → Option (Asked Text)
@@ -105,7 +107,7 @@ job_of (Job job) = Some (asked_names job)
 job_of (wish.Several several) = None
 
 -- the sessions that are wished to be audited
-abbrev pub several_of : Wish → Option (Audits × List Text)
+abbrev pub several_of : Wish → Option (Lists × List Text)
 several_of (Job job) = None
 several_of (wish.Several several) = Some (several_names several)
 

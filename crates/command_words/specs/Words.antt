@@ -1,10 +1,13 @@
 -- The words of the command line.
-use Rattle.std.specs.Prelude.{◌≡◌, ◌≢◌, ℕ, [], ◌∷◌, ◌++◌, ◌⊎◌, Bool, List, Option, Some, None, true, codes, fold, find, map, option_and_then, option_map, unwrap_or, if◌then◌else◌, false, is_some}
+use Rattle.std.specs.Prelude.{◌≡◌, ◌≢◌, ℕ, [], ◌∷◌, ◌++◌, ◌⊎◌, Bool, List, Option, Some, None, true, codes, fold, find, map, option_and_then, option_map, unwrap_or, if◌then◌else◌, false, is_some, not, ◌&&◌, ◌||◌}
 use Rattle.std.specs.List.{AllByRecursion}
+use Rattle.std.specs.Option.{option_map_or}
 use Rattle.std.specs.Str.{bytes_eq}
 use Rattle.std.specs.Borrow.{Bor}
 use Rattle.std.specs.Str.Parse.{digits_value, without_leading_plus}
 use Rattle.clap.specs.Simple.{on_top}
+use Rattle.clap.specs.declared.error.kind.ErrorKind.{ErrorKind}
+use Rattle.clap.specs.declared.error.kind.ErrorKind.TheVariants.{ArgumentConflict, OutOfMemory}
 use Rattle.clap.specs.ValueTests.{is_unsigned_in}
 use Rattle.clap.specs.Words.{App, Row, Rule, Text, all_of, first_of, new_app, new_rule, subcommand_of, with_rule, with_subcommand}
 use Rattle.command_words.specs.declared.asked.Asked.{Asked}
@@ -13,17 +16,25 @@ use Rattle.command_words.specs.declared.asked.Pages.{Pages}
 use Rattle.clap.specs.declared.builder.value_parser.ValueParser.{ValueParser}
 use Rattle.clap.specs.declared.builder.value_parser.ValueParser.TheVariants as parser
 use Rattle.command_words.specs.declared.asked.Carrier.{Carrier}
-use Rattle.command_words.specs.declared.asked.Asking.{Asking}
+use Rattle.command_words.specs.declared.asked.Checks.{Checks}
+use Rattle.command_words.specs.declared.asked.VerdictForm.{VerdictForm}
+use Rattle.command_words.specs.declared.asked.VerdictForm.TheVariants as verdict
+use Rattle.command_words.specs.declared.asked.ReportForm.{ReportForm}
+use Rattle.command_words.specs.declared.asked.ReportForm.TheVariants as report
+use Rattle.command_words.specs.declared.asked.StoryForm.{StoryForm}
+use Rattle.command_words.specs.declared.asked.StoryForm.TheVariants as story
+use Rattle.command_words.specs.declared.asked.Lists.{Lists}
+use Rattle.command_words.specs.declared.asked.ListForm.{ListForm}
+use Rattle.command_words.specs.declared.asked.ListForm.TheVariants as list
 use Rattle.command_words.specs.declared.asked.Audits.{Audits}
 use Rattle.command_words.specs.declared.asked.Explains.{Explains}
-use Rattle.command_words.specs.declared.asked.Faults.{Faults}
-use Rattle.command_words.specs.declared.asked.Faults.TheVariants.{All}
 use Rattle.command_words.specs.declared.asked.Topic.{Topic}
 use Rattle.command_words.specs.declared.asked.Topic.TheVariants.{Page, Line}
+use Rattle.command_words.specs.declared.asked.Topic.TheVariants as topic
 use Rattle.command_words.specs.declared.asked.Demand.{Demand}
 use Rattle.command_words.specs.declared.asked.Demand.TheVariants as demand
-use Rattle.command_words.specs.declared.asked.Form.{Form}
-use Rattle.command_words.specs.declared.asked.Form.TheVariants as form
+use Rattle.command_words.specs.declared.asked.Format.{Format}
+use Rattle.command_words.specs.declared.asked.Format.TheVariants as format
 use Rattle.command_words.specs.declared.asked.OneText.{OneText}
 use Rattle.command_words.specs.declared.asked.OneText.TheVariants.{Certify, Audit, Explain}
 use Rattle.command_words.specs.declared.asked.TwoTexts.{TwoTexts}
@@ -32,7 +43,7 @@ use Rattle.command_words.specs.declared.asked.TwoTexts.TheVariants as two
 use Rattle.clap.specs.declared.builder.action.ArgAction.TheVariants.{Append, SetTrue}
 use Rattle.command_words.specs.declared.asked.Targets.{Targets}
 use Rattle.command_words.specs.declared.building.Choices.{Choices}
-use Rattle.command_words.specs.Table.{carriers, carrier_name, carrier_named, form_name, form_named, forms, plain_audit, table}
+use Rattle.command_words.specs.Table.{carriers, carrier_name, carrier_named, format_name, format_named, formats, table}
 
 -- a word that has to be there
 abbrev pub needed : Text → Rule
@@ -96,9 +107,9 @@ with_complete_pages app = with_rule app (flag_rule (codes "complete-pages"))
 abbrev pub with_demand : App → App
 with_demand app = with_complete_pages (with_complete app)
 
--- a command with the option that names the form of its answer; where it is not there, this one is meant
-abbrev pub with_format : ValueParser → Form → App → App
-with_format parser otherwise app = with_rule app (choice_rule (codes "format") parser (form_name otherwise))
+-- a command with the option that names the form of its answer; where it is not there, lines of text are meant
+abbrev pub with_format : ValueParser → App → App
+with_format parser app = with_rule app (choice_rule (codes "format") parser (format_name format.Text))
 
 -- a command with the option that asks for the first line alone
 abbrev pub with_quiet : App → App
@@ -106,12 +117,12 @@ with_quiet app = with_rule app (flag_rule (codes "quiet"))
 
 -- a command on one text, and one on two, with its options
 abbrev pub with_one : ValueParser → OneText → App → App
-with_one parser (Audit audits) app = with_format parser audits.asking.form (with_quiet (with_all (with_demand app)))
+with_one parser (Audit audits) app = with_format parser (with_quiet (with_all (with_demand app)))
 with_one parser Certify app = app
-with_one parser (Explain explains) app = with_format parser explains.asking.form (with_lines (with_line (with_page (with_demand app))))
+with_one parser (Explain explains) app = with_format parser (with_lines (with_line (with_page (with_demand app))))
 
 abbrev pub with_two : ValueParser → TwoTexts → App → App
-with_two parser (Check asking) app = with_format parser asking.form (with_demand app)
+with_two parser (Check checks) app = with_format parser (with_demand app)
 with_two parser Replay app = app
 with_two parser Steps app = with_output app
 with_two parser (two.Explain explains) app = app
@@ -123,8 +134,8 @@ with_further app (Some word) = with_rule app (new_rule word)
 
 -- a command with a word for each of its texts, and its options
 abbrev pub with_words : Choices → App → Asked Text → App
-with_words choices app (One task word) = with_one choices.forms task (with_rule app (text_word task word))
-with_words choices app (Two task first second) = with_two choices.forms task (with_rule (with_rule app (needed first)) (needed second))
+with_words choices app (One task word) = with_one choices.formats task (with_rule app (text_word task word))
+with_words choices app (Two task first second) = with_two choices.formats task (with_rule (with_rule app (needed first)) (needed second))
 with_words choices app (Migrate carrier word) = with_output (with_rule (with_rule app (needed word)) (choice_rule (codes "link") choices.carriers (carrier_name carrier)))
 with_words choices app (Draw topic word further) = with_page (with_further (with_rule app (needed word)) further)
 with_words choices app (Window pages word lines) = with_output (with_lines (with_rule (with_rule (with_rule app (needed word)) (count_rule (codes "FIRST"))) (count_rule (codes "COUNT"))))
@@ -155,7 +166,7 @@ one_of texts = parser.Names (placeless (map placeless texts))
 
 -- `postcopy` with one of the commands of the table
 abbrev pub postcopy_words : App
-postcopy_words = line_words (record { carriers = one_of (map carrier_name carriers); forms = one_of (map form_name forms) })
+postcopy_words = line_words (record { carriers = one_of (map carrier_name carriers); formats = one_of (map format_name formats) })
 
 -- the words behind references
 abbrev pub word_texts : List (Bor Text) → List Text
@@ -186,37 +197,57 @@ is_set None = false
 is_set (Some text) = bytes_eq text (codes "true")
 
 -- what is asked of a session: the whole of a migration, or how its pages came, where that option is among what was given, or
--- else this
-abbrev pub demand_in : List Row → Demand → Demand
-demand_in rows otherwise =
+-- else that it is safe
+abbrev pub demand_in : List Row → Demand
+demand_in rows =
     if is_set (first_of (codes "complete") rows) then demand.Whole
-    else if is_set (first_of (codes "complete-pages") rows) then demand.Pages else otherwise
+    else if is_set (first_of (codes "complete-pages") rows) then demand.Pages else demand.Safety
 
--- the form that is named among what was given, or else this one
-abbrev pub format_in : List Row → Form → Form
-format_in rows otherwise = unwrap_or (option_and_then form_named (first_of (codes "format") rows)) otherwise
+-- whether this form is an object
+abbrev pub is_json : Option Format → Bool
+is_json (Some format.Json) = true
+is_json (Some format.Text) = false
+is_json None = false
 
--- of lines of text the first; an object is one line
-abbrev pub shortened : Form → Form
-shortened form.Text = form.Line
-shortened form.Line = form.Line
-shortened form.Json = form.Json
+-- whether an object is asked for
+abbrev pub wants_object : List Row → Bool
+wants_object rows = is_json (option_and_then format_named (first_of (codes "format") rows))
 
--- the form of an answer: the one that is named, or else this, and its first line where that option is among what was given
-abbrev pub form_in : List Row → Form → Form
-form_in rows otherwise = if is_set (first_of (codes "quiet") rows) then shortened (format_in rows otherwise) else format_in rows otherwise
+-- whether the faults of all pages are asked for, and whether the first line alone
+abbrev pub wants_all : List Row → Bool
+wants_all rows = is_set (first_of (codes "all") rows)
 
--- what is asked, where no option says more than this
-abbrev pub asking_in : List Row → Asking → Asking
-asking_in rows otherwise = record { demand = demand_in rows otherwise.demand; form = form_in rows otherwise.form }
+abbrev pub wants_a_line : List Row → Bool
+wants_a_line rows = is_set (first_of (codes "quiet") rows)
 
--- which faults are told: those of all pages where the option is among what was given, or else these
-abbrev pub faults_in : List Row → Faults → Faults
-faults_in rows otherwise = if is_set (first_of (codes "all") rows) then All else otherwise
+-- how the verdict on a certificate is told, and what is asked of a session with one
+abbrev pub verdict_form_in : List Row → VerdictForm
+verdict_form_in rows = if wants_object rows then verdict.Object else verdict.Line
 
--- what is asked of an audit, where no option says more than this
-abbrev pub audits_in : List Row → Audits → Audits
-audits_in rows otherwise = record { asking = asking_in rows otherwise.asking; faults = faults_in rows otherwise.faults }
+abbrev pub checks_in : List Row → Checks
+checks_in rows = record { demand = demand_in rows; form = verdict_form_in rows }
+
+-- how a report is told: with the faults of all pages, by its first line or in lines, or as an object; and what is asked of an
+-- audit
+abbrev pub all_faults_form_in : List Row → ReportForm
+all_faults_form_in rows = if wants_object rows then report.AllFaultsObject else report.AllFaults
+
+abbrev pub short_form_in : List Row → ReportForm
+short_form_in rows = if wants_a_line rows then report.FirstLine else report.Lines
+
+abbrev pub report_form_in : List Row → ReportForm
+report_form_in rows = if wants_all rows then all_faults_form_in rows else if wants_object rows then report.Object else short_form_in rows
+
+abbrev pub audits_in : List Row → Audits
+audits_in rows = record { demand = demand_in rows; form = report_form_in rows }
+
+-- how the reports on several sessions are told, and what is asked of their audit
+abbrev pub list_form_in : List Row → ListForm
+list_form_in rows =
+    if not (wants_object rows) then list.FirstLines else if wants_all rows then list.AllFaultsObjects else list.Objects
+
+abbrev pub lists_in : List Row → Lists
+lists_in rows = record { demand = demand_in rows; form = list_form_in rows }
 
 -- the number of 32 bits that a text tells, if it does
 abbrev pub number_of : Text → Option ℕ
@@ -255,18 +286,21 @@ page_in rows otherwise = unwrap_or (option_map Page (number_in (codes "page") ro
 abbrev pub topic_in : List Row → Topic → Topic
 topic_in rows otherwise = unwrap_or (option_map Line (number_in (codes "line") rows)) (page_in rows otherwise)
 
--- what is asked of an explanation, where no option says more than this
-abbrev pub explains_in : List Row → Explains → Explains
-explains_in rows otherwise = record { asking = asking_in rows otherwise.asking; topic = topic_in rows otherwise.topic }
+-- how it is told what happened in a session, and what is asked of an explanation
+abbrev pub story_form_in : List Row → StoryForm
+story_form_in rows = if wants_object rows then story.Object else story.Words (topic_in rows topic.Report)
+
+abbrev pub explains_in : List Row → Explains
+explains_in rows = record { demand = demand_in rows; form = story_form_in rows }
 
 -- a command on one text, and one on two, with what is asked of them
 abbrev pub one_in : List Row → OneText → OneText
-one_in rows (Audit audits) = Audit (audits_in rows audits)
+one_in rows (Audit audits) = Audit (audits_in rows)
 one_in rows Certify = Certify
-one_in rows (Explain explains) = Explain (explains_in rows explains)
+one_in rows (Explain explains) = Explain (explains_in rows)
 
 abbrev pub two_in : List Row → TwoTexts → TwoTexts
-two_in rows (Check asking) = Check (asking_in rows asking)
+two_in rows (Check checks) = Check (checks_in rows)
 two_in rows Replay = Replay
 two_in rows Steps = Steps
 two_in rows (two.Explain explains) = two.Explain explains
@@ -291,31 +325,71 @@ given_in rows (Draw topic word further) = option_map (λ name. Draw (page_in row
 given_in rows (Window pages word lines) = window_in rows word
 
 -- what a command and what it was given ask for, by the table
-abbrev pub asked_in : Text × List Row → Option (Asked Text)
-asked_in given = option_and_then (λ row. given_in given.1 row.1) (find (λ row. bytes_eq row.0 given.0) table)
-
--- what the words ask for
-abbrev pub asked : List Text → Option (Asked Text)
-asked words = option_and_then asked_in (subcommand_of postcopy_words words)
+abbrev pub asked_of : Text × List Row → Option (Asked Text)
+asked_of given = option_and_then (λ row. given_in given.1 row.1) (find (λ row. bytes_eq row.0 given.0) table)
 
 -- some texts, if there are two or more
 abbrev pub several : List Text → Option (List Text)
 several (first ∷ second ∷ more) = Some (first ∷ second ∷ more)
 several texts = None
 
--- the sessions that `audit` was given, if they are several, with what is asked of them
-abbrev pub several_among : List Row → Option (Audits × List Text)
-several_among rows = option_map (λ names. (audits_in rows plain_audit, names)) (option_and_then several (all_of (codes "SESSION") rows))
+-- the sessions among what was given, if they are several
+abbrev pub sessions_in : List Row → Option (List Text)
+sessions_in rows = option_and_then several (all_of (codes "SESSION") rows)
 
-abbrev pub several_in : Text × List Row → Option (Audits × List Text)
-several_in given = if bytes_eq given.0 (codes "audit") then several_among given.1 else None
+-- whether an option that has a value is among what was given
+abbrev pub has : Text → List Row → Bool
+has option rows = is_some (first_of option rows)
+
+-- A page and a line mean nothing together, and neither does with an object, which is of the report.
+abbrev pub topics_clash : List Row → Bool
+topics_clash rows =
+    (has (codes "page") rows && has (codes "line") rows) || ((has (codes "page") rows || has (codes "line") rows) && wants_object rows)
+
+-- The faults of all pages are not told where the first line alone is: where that is asked for, and of several sessions, of which
+-- each has a line.
+abbrev pub faults_clash : List Row → Bool
+faults_clash rows =
+    wants_all rows && (wants_a_line rows || (is_some (sessions_in rows) && not (wants_object rows)))
+
+-- whether options are among what was given that mean nothing together
+abbrev pub clashes : List Row → Bool
+clashes rows = topics_clash rows || faults_clash rows
+
+-- what a command and what it was given ask for, where they do not clash
+abbrev pub asked_in : Text × List Row → Option (Asked Text)
+asked_in given = if clashes given.1 then None else asked_of given
+
+-- what the words ask for
+abbrev pub asked : List Text → Option (Asked Text)
+asked words = option_and_then asked_in (subcommand_of postcopy_words words)
+
+-- the sessions that `audit` was given, if they are several, with what is asked of them
+abbrev pub several_among : List Row → Option (Lists × List Text)
+several_among rows = option_map (λ names. (lists_in rows, names)) (sessions_in rows)
+
+-- so where the options do not clash
+abbrev pub several_unclashed : List Row → Option (Lists × List Text)
+several_unclashed rows = if clashes rows then None else several_among rows
+
+abbrev pub several_in : Text × List Row → Option (Lists × List Text)
+several_in given = if bytes_eq given.0 (codes "audit") then several_unclashed given.1 else None
 
 -- the sessions that are asked to be audited, where nothing else is asked for
-abbrev pub several_found : Option (Text × List Row) → Option (Audits × List Text)
+abbrev pub several_found : Option (Text × List Row) → Option (Lists × List Text)
 several_found given = if is_some (option_and_then asked_in given) then None else option_and_then several_in given
 
-abbrev pub several_asked : List Text → Option (Audits × List Text)
+abbrev pub several_asked : List Text → Option (Lists × List Text)
 several_asked words = several_found (subcommand_of postcopy_words words)
+
+-- whether the words have options that mean nothing together
+abbrev pub clashing : List Text → Bool
+clashing words = option_map_or (λ given. clashes given.1) (subcommand_of postcopy_words words) false
+
+-- why words are refused that the command line takes: they clash, or there is no memory
+abbrev pub IsRefusedFor : Bool → ErrorKind → Type 0
+IsRefusedFor true kind = (kind ≡ ArgumentConflict) ⊎ (kind ≡ OutOfMemory)
+IsRefusedFor false kind = kind ≡ OutOfMemory
 
 -- the file that the words name for the answer
 abbrev pub output_named : List Text → Option Text

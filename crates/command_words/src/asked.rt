@@ -1,7 +1,7 @@
 //! What a command is asked with.
 
 ghost use Rattle.std.specs.Prelude.{◌≡◌};
-ghost use Rattle.command_words.specs.Table.{carrier_name, form_name};
+ghost use Rattle.command_words.specs.Table.{carrier_name, format_name};
 
 /// What is asked of a session before all is well.
 #[derive(Clone, Copy)]
@@ -14,51 +14,79 @@ pub enum Demand {
     Whole,
 }
 
-/// How an answer is written.
+/// The form of an answer, by the name that an option gives it.
 #[derive(Clone, Copy)]
-pub enum Form {
-    /// As lines of text.
+pub enum Format {
+    /// Lines of text.
     Text,
-    /// The first of these lines alone.
-    Line,
-    /// As an object of JSON, on one line.
+    /// An object of JSON, on one line.
     Json,
 }
 
-impl Form {
-    /// The name that the option `--format` gives it. (`--quiet` asks for the first line.)
+impl Format {
+    /// The name that the option `--format` gives it.
     pub fn name(self) -> &'static str
-        ensures { result.now ≡ form_name self }
+        ensures { result.now ≡ format_name self }
     {
         match self {
-            Form::Text => "text",
-            Form::Line => "line",
-            Form::Json => "json",
+            Format::Text => "text",
+            Format::Json => "json",
         }
     }
 }
 
-/// What is asked of a session, and how the answer is written.
+/// How the verdict on a certificate is told.
 #[derive(Clone, Copy)]
-pub struct Asking {
-    pub demand: Demand,
-    pub form: Form,
+pub enum VerdictForm {
+    Line,
+    Object,
 }
 
-/// Which faults of a session are told.
+/// What is asked of a session and its certificate.
 #[derive(Clone, Copy)]
-pub enum Faults {
-    /// The first of all.
-    First,
-    /// The first of each page.
-    All,
+pub struct Checks {
+    pub demand: Demand,
+    pub form: VerdictForm,
+}
+
+/// How the report on a session is told.
+#[derive(Clone, Copy)]
+pub enum ReportForm {
+    /// In lines, with the order that shows the first fault of all, or the certificate.
+    Lines,
+    /// By its first line.
+    FirstLine,
+    /// In lines, with each page that has a fault.
+    AllFaults,
+    /// As an object.
+    Object,
+    /// As an object with each page that has a fault.
+    AllFaultsObject,
 }
 
 /// What is asked of an audit.
 #[derive(Clone, Copy)]
 pub struct Audits {
-    pub asking: Asking,
-    pub faults: Faults,
+    pub demand: Demand,
+    pub form: ReportForm,
+}
+
+/// How the reports on several sessions are told.
+#[derive(Clone, Copy)]
+pub enum ListForm {
+    /// By the first line of each, and how many are clean.
+    FirstLines,
+    /// By an object for each.
+    Objects,
+    /// By an object for each, with each page that has a fault.
+    AllFaultsObjects,
+}
+
+/// What is asked of the audit of several sessions.
+#[derive(Clone, Copy)]
+pub struct Lists {
+    pub demand: Demand,
+    pub form: ListForm,
 }
 
 /// What of a session is told, or drawn.
@@ -72,11 +100,20 @@ pub enum Topic {
     Line(u32),
 }
 
+/// How it is told what happened in a session.
+#[derive(Clone, Copy)]
+pub enum StoryForm {
+    /// In words, of this topic.
+    Words(Topic),
+    /// As an object, of what the report names.
+    Object,
+}
+
 /// What is asked of an explanation.
 #[derive(Clone, Copy)]
 pub struct Explains {
-    pub asking: Asking,
-    pub topic: Topic,
+    pub demand: Demand,
+    pub form: StoryForm,
 }
 
 /// A command on one text.
@@ -86,7 +123,7 @@ pub enum OneText {
     Certify,
     /// The report on a session, where this is asked.
     Audit(Audits),
-    /// What happened in a session, where this is asked, in words.
+    /// What happened in a session, where this is asked.
     Explain(Explains),
 }
 
@@ -94,7 +131,7 @@ pub enum OneText {
 #[derive(Clone, Copy)]
 pub enum TwoTexts {
     /// The verdict on a session and its certificate, where this is asked.
-    Check(Asking),
+    Check(Checks),
     /// What becomes of a merging of a session along its runs.
     Replay,
     /// The session that events record of a script.
@@ -154,7 +191,7 @@ pub type Job<'a> = Asked<&'a str>;
 /// Several sessions that are to be audited.
 #[derive(Drop)]
 pub struct Several<'a> {
-    pub audits: Audits,
+    pub lists: Lists,
     /// Their names: two or more.
     pub names: Vec<&'a str>,
 }

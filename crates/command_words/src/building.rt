@@ -3,15 +3,16 @@
 ghost use Rattle.std.specs.Prelude.{◌≡◌, IfOk, false};
 ghost use Rattle.command_words.specs.Table.{further_name, row_of};
 ghost use Rattle.command_words.specs.Words.{choice_rule, command_words, flag_rule, line_words, needed, number_rule, program_words, with_all, with_complete, with_complete_pages, with_demand, with_format, with_further, with_line, with_lines, with_one, with_output, with_page, with_quiet, with_two, count_rule, text_word};
-ghost use Rattle.clap.specs.Words.{app_of, rule_of, with_rule};
+ghost use Rattle.clap.specs.Words.{app_of, kind_of, rule_of, with_rule};
 ghost use Rattle.clap.specs.declared.builder.command.Command.TheViews.{out-Command as fields_of};
 
-use crate::asked::{Asked, Form, OneText, TwoTexts};
+use crate::asked::{Asked, Format, OneText, TwoTexts};
 use crate::table::{
     ALL, COMPLETE, COMPLETE_PAGES, COUNT, FIRST, FORMAT, LINE, LINES, LINK, OUTPUT, PAGE, QUIET,
     Row, Word, commands,
 };
 use clap::builder::ValueParser;
+use clap::error::ErrorKind;
 use clap::{Arg, ArgAction, Command};
 use std::alloc::{AllocError, Global};
 
@@ -85,7 +86,7 @@ pub struct Choices<'a> {
     /// Of what carries a migration.
     pub carriers: ValueParser<'a>,
     /// Of the forms that an answer may have.
-    pub forms: ValueParser<'a>,
+    pub formats: ValueParser<'a>,
 }
 
 // The command with one more word that has to be there.
@@ -284,18 +285,17 @@ fn with_quiet<'a>(alloc: Global, command: Command<'a>) -> Result<Command<'a>, Al
     with_flag(alloc, command, QUIET, QUIET_HELP)
 }
 
-// The command with the option that names the form of its answer; where it is not there, this one is meant.
+// The command with the option that names the form of its answer; where it is not there, lines of text are meant.
 fn with_format<'a>(
     alloc: Global,
     command: Command<'a>,
-    forms: ValueParser<'a>,
-    otherwise: Form,
+    formats: ValueParser<'a>,
 ) -> Result<Command<'a>, AllocError>
     requires { (fields_of command).has_globals ≡ false }
-    ensures app { IfOk result (λ c. app_of c ≡ with_format forms.entry otherwise (app_of command.entry)) }
+    ensures app { IfOk result (λ c. app_of c ≡ with_format formats.entry (app_of command.entry)) }
     ensures local { IfOk result (λ c. (fields_of c).has_globals ≡ false) }
 {
-    with_choice(alloc, command, &FORMAT_CHOICE, forms, otherwise.name())
+    with_choice(alloc, command, &FORMAT_CHOICE, formats, Format::Text.name())
 }
 
 // The command with the word that names its text; more than one session may be audited.
@@ -325,26 +325,26 @@ fn with_text<'a>(
 fn with_one<'a>(
     alloc: Global,
     command: Command<'a>,
-    forms: ValueParser<'a>,
+    formats: ValueParser<'a>,
     task: OneText,
 ) -> Result<Command<'a>, AllocError>
     requires { (fields_of command).has_globals ≡ false }
-    ensures app { IfOk result (λ c. app_of c ≡ with_one forms.entry task (app_of command.entry)) }
+    ensures app { IfOk result (λ c. app_of c ≡ with_one formats.entry task (app_of command.entry)) }
     ensures local { IfOk result (λ c. (fields_of c).has_globals ≡ false) }
 {
     match task {
-        OneText::Audit(audits) => {
+        OneText::Audit(_) => {
             let command = with_demand(alloc, command)?;
             let command = with_all(alloc, command)?;
             let command = with_quiet(alloc, command)?;
-            with_format(alloc, command, forms, audits.asking.form)
+            with_format(alloc, command, formats)
         }
-        OneText::Explain(explains) => {
+        OneText::Explain(_) => {
             let command = with_demand(alloc, command)?;
             let command = with_page(alloc, command)?;
             let command = with_line(alloc, command)?;
             let command = with_lines(alloc, command)?;
-            with_format(alloc, command, forms, explains.asking.form)
+            with_format(alloc, command, formats)
         }
         OneText::Certify => Ok(command),
     }
@@ -354,17 +354,17 @@ fn with_one<'a>(
 fn with_two<'a>(
     alloc: Global,
     command: Command<'a>,
-    forms: ValueParser<'a>,
+    formats: ValueParser<'a>,
     task: TwoTexts,
 ) -> Result<Command<'a>, AllocError>
     requires { (fields_of command).has_globals ≡ false }
-    ensures app { IfOk result (λ c. app_of c ≡ with_two forms.entry task (app_of command.entry)) }
+    ensures app { IfOk result (λ c. app_of c ≡ with_two formats.entry task (app_of command.entry)) }
     ensures local { IfOk result (λ c. (fields_of c).has_globals ≡ false) }
 {
     match task {
-        TwoTexts::Check(asking) => {
+        TwoTexts::Check(_) => {
             let command = with_demand(alloc, command)?;
-            with_format(alloc, command, forms, asking.form)
+            with_format(alloc, command, formats)
         }
         TwoTexts::Steps => with_output(alloc, command),
         TwoTexts::Replay | TwoTexts::Explain(_) => Ok(command),
@@ -380,12 +380,12 @@ fn command_of<'a>(alloc: Global, choices: Choices<'a>, row: &Row) -> Result<Comm
     match &row.asked {
         Asked::One(task, word) => {
             let command = with_text(alloc, command, *task, word)?;
-            with_one(alloc, command, choices.forms, *task)
+            with_one(alloc, command, choices.formats, *task)
         }
         Asked::Two(task, first, second) => {
             let command = with_word(alloc, command, first)?;
             let command = with_word(alloc, command, second)?;
-            with_two(alloc, command, choices.forms, *task)
+            with_two(alloc, command, choices.formats, *task)
         }
         Asked::Migrate(carrier, word) => {
             let command = with_word(alloc, command, word)?;
@@ -423,6 +423,13 @@ fn program<'a>(alloc: Global) -> Command<'a>
         .about(ABOUT)
         .after_help(AFTER_HELP)
         .subcommand_required(true)
+}
+
+/// The error of words that have options which mean nothing together, as this tells.
+pub(crate) fn refused_for(alloc: Global, clash: &str) -> Result<clap::Error, AllocError>
+    ensures { IfOk result (λ e. kind_of e ≡ ErrorKind.ArgumentConflict) }
+{
+    program(alloc).error(ErrorKind::ArgumentConflict, clash)
 }
 
 /// The command line of the program, where these parsers read what options name.

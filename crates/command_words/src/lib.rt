@@ -7,7 +7,7 @@ mod matching;
 mod table;
 
 pub use asked::{
-    Asked, Asking, Audits, Carrier, Demand, Explains, Faults, Form, Job, OneText, Pages, Several,
-    Targets, Topic, TwoTexts, Wish,
+    Asked, Audits, Carrier, Checks, Demand, Explains, Job, ListForm, Lists, OneText, Pages,
+    ReportForm, Several, StoryForm, Targets, Topic, TwoTexts, VerdictForm, Wish,
 };
 pub use matching::{read_targets, read_words};

@@ -1,25 +1,35 @@
 //! What words ask for.
 
-ghost use Rattle.std.specs.Prelude.{◌≡◌, IfOk, IfErr, codes, option_and_then, option_map, true, find};
+ghost use Rattle.std.specs.Prelude.{◌≡◌, IfOk, IfErr, codes, false, is_some, option_and_then, option_map, true, find};
+ghost use Rattle.std.specs.Option.{option_map_or};
 ghost use Rattle.std.specs.Str.{bytes_eq};
 ghost use Rattle.command_words.specs.Table.{asked_names, further_name, job_of, several_names, several_of, word_names};
-ghost use Rattle.command_words.specs.Words.{asked, asked_in, asking_in, audits_in, carrier_in, count_in, count_of, demand_in, explains_in, faults_in, form_in, format_in, further_in, given_in, is_set, lines_file, number_in, number_of, one_in, only_of, page_in, postcopy_words, several_among, several_asked, several_found, several_in, shortened, target_names, targets_named, told_with, topic_in, two_in, window_in, word_texts};
+ghost use Rattle.command_words.specs.Words.{IsRefusedFor, all_faults_form_in, asked, asked_in, asked_of, audits_in, carrier_in, checks_in, clashes, clashing, count_in, count_of, demand_in, explains_in, faults_clash, further_in, given_in, has, is_set, lines_file, list_form_in, lists_in, number_in, number_of, one_in, only_of, page_in, postcopy_words, report_form_in, sessions_in, several_among, several_asked, several_found, several_in, several_unclashed, short_form_in, story_form_in, target_names, targets_named, told_with, topic_in, topics_clash, two_in, verdict_form_in, wants_object, window_in, word_texts};
 ghost use Rattle.clap.specs.Words.{all_of, first_of, found_of, kind_of, rows_of, subcommand_of, subcommand_rows_of, takes};
 
 use crate::asked::{
-    Asked, Asking, Audits, Carrier, Demand, Explains, Faults, Form, Job, OneText, Pages, Several,
-    Targets, Topic, TwoTexts, Wish,
+    Asked, Audits, Carrier, Checks, Demand, Explains, Format, Job, ListForm, Lists, OneText, Pages,
+    ReportForm, Several, StoryForm, Targets, Topic, TwoTexts, VerdictForm, Wish,
 };
-use crate::building::{Choices, command_line};
+use crate::building::{Choices, command_line, refused_for};
 use crate::table::{
-    ALL, COMPLETE, COMPLETE_PAGES, COUNT, FIRST, FORMAT, LINE, LINES, LINK, OUTPUT, PAGE,
-    PLAIN_AUDIT, QUIET, Row, SESSION, Word, carrier_named, carrier_names, commands, form_named,
-    form_names,
+    ALL, COMPLETE, COMPLETE_PAGES, COUNT, FIRST, FORMAT, LINE, LINES, LINK, OUTPUT, PAGE, QUIET,
+    Row, SESSION, Word, carrier_named, carrier_names, commands, format_named, format_names,
 };
 use clap::ArgMatches;
 use clap::builder::ValueParser;
 use clap::error::ErrorKind;
 use std::alloc::{AllocError, Global};
+
+const PAGE_WITH_LINE: &str = "the argument '--page <NUMBER>' cannot be used with '--line <NUMBER>'";
+
+const TOPIC_IN_OBJECT: &str =
+    "the arguments '--page <NUMBER>' and '--line <NUMBER>' cannot be used with '--format json', which is of the report";
+
+const ALL_IN_A_LINE: &str = "the argument '--all' cannot be used with '--quiet'";
+
+const ALL_OF_SEVERAL: &str =
+    "the argument '--all' cannot be used with several sessions in lines, of which each has one: '--format json' tells all";
 
 // What was given for a word or an option.
 fn name_given<'a>(id: &str, matches: &ArgMatches<'a>) -> Option<&'a str>
@@ -65,79 +75,115 @@ fn is_given(option: &str, matches: &ArgMatches<'_>) -> bool
     }
 }
 
-// What is asked of a session: that it is complete where an option was given, or else this. Of both the whole counts.
-fn demand_given(otherwise: Demand, matches: &ArgMatches<'_>) -> Demand
-    ensures { result ≡ demand_in (rows_of (found_of matches.now)) otherwise }
+// What is asked of a session: that it is complete where an option was given, or else that it is safe. Of both the whole counts.
+fn demand_given(matches: &ArgMatches<'_>) -> Demand
+    ensures { result ≡ demand_in (rows_of (found_of matches.now)) }
 {
     if is_given(COMPLETE, matches) {
         Demand::Whole
     } else if is_given(COMPLETE_PAGES, matches) {
         Demand::Pages
     } else {
-        otherwise
+        Demand::Safety
     }
 }
 
-// The form that was named, or else this.
-fn format_given(otherwise: Form, matches: &ArgMatches<'_>) -> Form
-    ensures { result ≡ format_in (rows_of (found_of matches.now)) otherwise }
+// Whether an object was asked for.
+fn wants_object(matches: &ArgMatches<'_>) -> bool
+    ensures { result ≡ wants_object (rows_of (found_of matches.now)) }
 {
     match name_given(FORMAT, matches) {
-        Some(name) => form_named(name).unwrap_or(otherwise),
-        None => otherwise,
+        Some(name) => matches!(format_named(name), Some(Format::Json)),
+        None => false,
     }
 }
 
-// Of lines of text the first; an object is one line.
-fn shortened(form: Form) -> Form
-    ensures { result ≡ shortened form }
+// How the verdict on a certificate is told.
+fn verdict_form(matches: &ArgMatches<'_>) -> VerdictForm
+    ensures { result ≡ verdict_form_in (rows_of (found_of matches.now)) }
 {
-    match form {
-        Form::Text | Form::Line => Form::Line,
-        Form::Json => Form::Json,
-    }
-}
-
-// The form of an answer: the one that was named, or else this, and its first line where that is asked for.
-fn form_given(otherwise: Form, matches: &ArgMatches<'_>) -> Form
-    ensures { result ≡ form_in (rows_of (found_of matches.now)) otherwise }
-{
-    let form = format_given(otherwise, matches);
-    if is_given(QUIET, matches) {
-        shortened(form)
+    if wants_object(matches) {
+        VerdictForm::Object
     } else {
-        form
+        VerdictForm::Line
     }
 }
 
-// What is asked, where no option says more than this.
-fn asking_given(otherwise: Asking, matches: &ArgMatches<'_>) -> Asking
-    ensures { result ≡ asking_in (rows_of (found_of matches.now)) otherwise }
+// What is asked of a session and its certificate.
+fn checks_given(matches: &ArgMatches<'_>) -> Checks
+    ensures { result ≡ checks_in (rows_of (found_of matches.now)) }
 {
-    Asking {
-        demand: demand_given(otherwise.demand, matches),
-        form: form_given(otherwise.form, matches),
+    Checks {
+        demand: demand_given(matches),
+        form: verdict_form(matches),
     }
 }
 
-// Which faults are told: those of all pages where the option was given, or else these.
-fn faults_given(otherwise: Faults, matches: &ArgMatches<'_>) -> Faults
-    ensures { result ≡ faults_in (rows_of (found_of matches.now)) otherwise }
+// How the faults of all pages are told.
+fn all_faults_form(matches: &ArgMatches<'_>) -> ReportForm
+    ensures { result ≡ all_faults_form_in (rows_of (found_of matches.now)) }
+{
+    if wants_object(matches) {
+        ReportForm::AllFaultsObject
+    } else {
+        ReportForm::AllFaults
+    }
+}
+
+// How a report is told, of which the first line is asked for where it is told in lines.
+fn short_form(matches: &ArgMatches<'_>) -> ReportForm
+    ensures { result ≡ short_form_in (rows_of (found_of matches.now)) }
+{
+    if is_given(QUIET, matches) {
+        ReportForm::FirstLine
+    } else {
+        ReportForm::Lines
+    }
+}
+
+// How the report on a session is told.
+fn report_form(matches: &ArgMatches<'_>) -> ReportForm
+    ensures { result ≡ report_form_in (rows_of (found_of matches.now)) }
 {
     if is_given(ALL, matches) {
-        Faults::All
+        all_faults_form(matches)
+    } else if wants_object(matches) {
+        ReportForm::Object
     } else {
-        otherwise
+        short_form(matches)
     }
 }
 
-// What is asked of an audit, where no option says more than this.
-fn audits_given(otherwise: Audits, matches: &ArgMatches<'_>) -> Audits
-    ensures { result ≡ audits_in (rows_of (found_of matches.now)) otherwise }
+// What is asked of an audit.
+fn audits_given(matches: &ArgMatches<'_>) -> Audits
+    ensures { result ≡ audits_in (rows_of (found_of matches.now)) }
 {
     Audits {
-        asking: asking_given(otherwise.asking, matches),
-        faults: faults_given(otherwise.faults, matches),
+        demand: demand_given(matches),
+        form: report_form(matches),
+    }
+}
+
+// How the reports on several sessions are told.
+fn list_form(matches: &ArgMatches<'_>) -> ListForm
+    ensures { result ≡ list_form_in (rows_of (found_of matches.now)) }
+{
+    if !wants_object(matches) {
+        ListForm::FirstLines
+    } else if is_given(ALL, matches) {
+        ListForm::AllFaultsObjects
+    } else {
+        ListForm::Objects
+    }
+}
+
+// What is asked of the audit of several sessions.
+fn lists_given(matches: &ArgMatches<'_>) -> Lists
+    ensures { result ≡ lists_in (rows_of (found_of matches.now)) }
+{
+    Lists {
+        demand: demand_given(matches),
+        form: list_form(matches),
     }
 }
 
@@ -206,13 +252,24 @@ fn topic_given(otherwise: Topic, matches: &ArgMatches<'_>) -> Topic
     }
 }
 
-// What is asked of an explanation, where no option says more than this.
-fn explains_given(otherwise: Explains, matches: &ArgMatches<'_>) -> Explains
-    ensures { result ≡ explains_in (rows_of (found_of matches.now)) otherwise }
+// How it is told what happened in a session.
+fn story_form(matches: &ArgMatches<'_>) -> StoryForm
+    ensures { result ≡ story_form_in (rows_of (found_of matches.now)) }
+{
+    if wants_object(matches) {
+        StoryForm::Object
+    } else {
+        StoryForm::Words(topic_given(Topic::Report, matches))
+    }
+}
+
+// What is asked of an explanation.
+fn explains_given(matches: &ArgMatches<'_>) -> Explains
+    ensures { result ≡ explains_in (rows_of (found_of matches.now)) }
 {
     Explains {
-        asking: asking_given(otherwise.asking, matches),
-        topic: topic_given(otherwise.topic, matches),
+        demand: demand_given(matches),
+        form: story_form(matches),
     }
 }
 
@@ -221,8 +278,8 @@ fn one_given(task: OneText, matches: &ArgMatches<'_>) -> OneText
     ensures { result ≡ one_in (rows_of (found_of matches.now)) task }
 {
     match task {
-        OneText::Audit(audits) => OneText::Audit(audits_given(audits, matches)),
-        OneText::Explain(explains) => OneText::Explain(explains_given(explains, matches)),
+        OneText::Audit(_) => OneText::Audit(audits_given(matches)),
+        OneText::Explain(_) => OneText::Explain(explains_given(matches)),
         OneText::Certify => task,
     }
 }
@@ -232,7 +289,7 @@ fn two_given(task: TwoTexts, matches: &ArgMatches<'_>) -> TwoTexts
     ensures { result ≡ two_in (rows_of (found_of matches.now)) task }
 {
     match task {
-        TwoTexts::Check(asking) => TwoTexts::Check(asking_given(asking, matches)),
+        TwoTexts::Check(_) => TwoTexts::Check(checks_given(matches)),
         TwoTexts::Replay | TwoTexts::Steps | TwoTexts::Explain(_) => task,
     }
 }
@@ -296,11 +353,89 @@ fn row_named<'a>(rows: &'a [Row], name: &str) -> Option<&'a Row>
 
 // What the matches of the command of this name ask for.
 fn job_of<'a>(name: &str, matches: &ArgMatches<'a>) -> Option<Job<'a>>
-    ensures { option_map asked_names result ≡ asked_in (name.now, rows_of (found_of matches.now)) }
+    ensures { option_map asked_names result ≡ asked_of (name.now, rows_of (found_of matches.now)) }
 {
     match row_named(commands(), name) {
         Some(row) => given(&row.asked, matches),
         None => None,
+    }
+}
+
+// Whether an option that has a value was given.
+fn is_named(option: &str, matches: &ArgMatches<'_>) -> bool
+    ensures { result ≡ has option.now (rows_of (found_of matches.now)) }
+{
+    name_given(option, matches).is_some()
+}
+
+// The sessions that were given, if they are several.
+fn sessions_given<'m, 'a>(matches: &'m ArgMatches<'a>) -> Option<&'m [&'a str]>
+    ensures { option_map (λ names. word_texts names.now) result ≡ sessions_in (rows_of (found_of matches.now)) }
+{
+    match names_given(SESSION.name, matches) {
+        Some(names) if names.len() > 1 => Some(names),
+        _ => None,
+    }
+}
+
+// Which of the options that name what is told mean nothing together, if they do.
+fn clash_of_topics(matches: &ArgMatches<'_>) -> Option<&'static str>
+    ensures { is_some result ≡ topics_clash (rows_of (found_of matches.now)) }
+{
+    let page = is_named(PAGE, matches);
+    let line = is_named(LINE, matches);
+    if page && line {
+        return Some(PAGE_WITH_LINE);
+    }
+    if (page || line) && wants_object(matches) {
+        return Some(TOPIC_IN_OBJECT);
+    }
+    None
+}
+
+// Why the faults of all pages cannot be told so, if they cannot.
+fn clash_of_faults(matches: &ArgMatches<'_>) -> Option<&'static str>
+    ensures { is_some result ≡ faults_clash (rows_of (found_of matches.now)) }
+{
+    if !is_given(ALL, matches) {
+        return None;
+    }
+    if is_given(QUIET, matches) {
+        return Some(ALL_IN_A_LINE);
+    }
+    if sessions_given(matches).is_some() && !wants_object(matches) {
+        return Some(ALL_OF_SEVERAL);
+    }
+    None
+}
+
+// Which options mean nothing together, if some do.
+fn clash_of(matches: &ArgMatches<'_>) -> Option<&'static str>
+    ensures { is_some result ≡ clashes (rows_of (found_of matches.now)) }
+{
+    match clash_of_topics(matches) {
+        Some(clash) => Some(clash),
+        None => clash_of_faults(matches),
+    }
+}
+
+// Which options of the command that was found mean nothing together, if some do.
+fn clash_in(matches: &ArgMatches<'_>) -> Option<&'static str>
+    ensures { is_some result ≡ option_map_or (λ given. clashes given.1) (subcommand_rows_of matches.now) false }
+{
+    match matches.subcommand() {
+        Some((_, inner)) => clash_of(inner),
+        None => None,
+    }
+}
+
+// What the matches of the command of this name ask for, where their options do not clash.
+fn job_unclashed<'a>(name: &str, matches: &ArgMatches<'a>) -> Option<Job<'a>>
+    ensures { option_map asked_names result ≡ asked_in (name.now, rows_of (found_of matches.now)) }
+{
+    match clash_of(matches) {
+        Some(_) => None,
+        None => job_of(name, matches),
     }
 }
 
@@ -309,7 +444,7 @@ fn job_in<'a>(matches: &ArgMatches<'a>) -> Option<Job<'a>>
     ensures { option_map asked_names result ≡ option_and_then asked_in (subcommand_rows_of matches.now) }
 {
     match matches.subcommand() {
-        Some((name, inner)) => job_of(name, inner),
+        Some((name, inner)) => job_unclashed(name, inner),
         None => None,
     }
 }
@@ -321,7 +456,7 @@ fn matches_in<'a>(alloc: Global, words: &'a [&'a str]) -> Result<ArgMatches<'a>,
 {
     let choices = Choices {
         carriers: ValueParser::Names(carrier_names()),
-        forms: ValueParser::Names(form_names()),
+        formats: ValueParser::Names(format_names()),
     };
     let line = command_line(alloc, choices)?;
     match line.try_get_matches_from(words) {
@@ -337,16 +472,28 @@ fn several_given<'a>(
 ) -> Result<Option<Several<'a>>, AllocError>
     ensures { IfOk result (λ r. option_map several_names r ≡ several_among (rows_of (found_of matches.now))) }
 {
-    let names = match names_given(SESSION.name, matches) {
-        Some(names) if names.len() > 1 => names,
-        _ => return Ok(None),
+    let Some(names) = sessions_given(matches) else {
+        return Ok(None);
     };
     let mut kept = Vec::new(alloc);
     kept.extend_from_slice(names)?;
     Ok(Some(Several {
-        audits: audits_given(PLAIN_AUDIT, matches),
+        lists: lists_given(matches),
         names: kept,
     }))
+}
+
+// What is asked of the sessions of an audit, if they are several and the options do not clash.
+fn several_unclashed<'a>(
+    alloc: Global,
+    matches: &ArgMatches<'a>,
+) -> Result<Option<Several<'a>>, AllocError>
+    ensures { IfOk result (λ r. option_map several_names r ≡ several_unclashed (rows_of (found_of matches.now))) }
+{
+    match clash_of(matches) {
+        Some(_) => Ok(None),
+        None => several_given(alloc, matches),
+    }
 }
 
 // The sessions that the matches ask to audit, if they are several.
@@ -357,7 +504,7 @@ fn several_in<'a>(
     ensures { IfOk result (λ r. option_map several_names r ≡ option_and_then several_in (subcommand_rows_of matches.now)) }
 {
     match matches.subcommand() {
-        Some(("audit", inner)) => several_given(alloc, inner),
+        Some(("audit", inner)) => several_unclashed(alloc, inner),
         _ => Ok(None),
     }
 }
@@ -377,13 +524,18 @@ fn wish_in<'a>(alloc: Global, matches: &ArgMatches<'a>) -> Result<Option<Wish<'a
 }
 
 /// What the words ask for, of which the first is the program's own name. The error is clap's: it tells why the words are
-/// no command, or is the help or the version that was asked for, or that memory ran out.
+/// no command, that they have options which mean nothing together, or is the help or the version that was asked for, or that
+/// memory ran out.
 pub fn read_words<'a>(alloc: Global, words: &'a [&'a str]) -> Result<Option<Wish<'a>>, clap::Error>
     ensures job { IfOk result (λ r. option_and_then job_of r ≡ asked (word_texts words.entry.now)) }
     ensures several { IfOk result (λ r. option_and_then several_of r ≡ several_asked (word_texts words.entry.now)) }
-    ensures err { IfErr result (λ e. takes postcopy_words (word_texts words.entry.now) ≡ true → kind_of e ≡ ErrorKind.OutOfMemory) }
+    ensures alike { IfOk result (λ _. clashing (word_texts words.entry.now) ≡ false) }
+    ensures err { IfErr result (λ e. takes postcopy_words (word_texts words.entry.now) ≡ true → IsRefusedFor (clashing (word_texts words.entry.now)) (kind_of e)) }
 {
     let matches = matches_in(alloc, words)?;
+    if let Some(clash) = clash_in(&matches) {
+        return Err(refused_for(alloc, clash)?);
+    }
     let wish = wish_in(alloc, &matches)?;
     Ok(wish)
 }

@@ -1,10 +1,11 @@
 //! The table of commands.
 
 ghost use Rattle.std.specs.Prelude.{◌≡◌, map};
-ghost use Rattle.command_words.specs.Table.{carriers, carrier_name, carrier_named, form_name, form_named, forms, rows_of, table};
+ghost use Rattle.command_words.specs.Table.{carriers, carrier_name, carrier_named, format_name, format_named, formats, rows_of, table};
 
 use crate::asked::{
-    Asked, Asking, Audits, Carrier, Demand, Explains, Faults, Form, OneText, Pages, Topic, TwoTexts,
+    Asked, Audits, Carrier, Checks, Demand, Explains, Format, OneText, Pages, ReportForm,
+    StoryForm, Topic, TwoTexts, VerdictForm,
 };
 
 /// A word of the command line that names a text.
@@ -98,37 +99,37 @@ pub const LINES: &str = "lines";
 /// The option that names the file that an answer goes to.
 pub const OUTPUT: &str = "output";
 
-/// What is asked where no option says more: a safe session, and an answer in lines of text.
-const PLAIN: Asking = Asking {
+/// What is asked of a certificate where no option says more: a safe session, and the verdict in a line.
+const PLAIN_CHECK: Checks = Checks {
     demand: Demand::Safety,
-    form: Form::Text,
+    form: VerdictForm::Line,
 };
 
-/// What is asked of an audit where no option says more: the first fault alone.
-pub const PLAIN_AUDIT: Audits = Audits {
-    asking: PLAIN,
-    faults: Faults::First,
+/// What is asked of an audit where no option says more: a safe session, and the report in lines.
+const PLAIN_AUDIT: Audits = Audits {
+    demand: Demand::Safety,
+    form: ReportForm::Lines,
 };
 
 /// The pages of a window, in the place of those that its words tell.
 const NO_PAGES: Pages = Pages { first: 0, count: 0 };
 
-static FORMS: [Form; 2] = [Form::Text, Form::Json];
+static FORMATS: [Format; 2] = [Format::Text, Format::Json];
 
-static FORM_NAMES: [&str; 2] = ["text", "json"];
+static FORMAT_NAMES: [&str; 2] = ["text", "json"];
 
 /// The names of the forms that an answer may have.
-pub fn form_names() -> &'static [&'static str]
-    ensures { map (λ name. name.now) result.now ≡ map form_name forms }
+pub fn format_names() -> &'static [&'static str]
+    ensures { map (λ name. name.now) result.now ≡ map format_name formats }
 {
-    &FORM_NAMES
+    &FORMAT_NAMES
 }
 
 /// What has this name, of the forms that an answer may have.
-pub fn form_named(name: &str) -> Option<Form>
-    ensures { result ≡ form_named name.now }
+pub fn format_named(name: &str) -> Option<Format>
+    ensures { result ≡ format_named name.now }
 {
-    FORMS.iter().find(|form| form.name() == name).copied()
+    FORMATS.iter().find(|format| format.name() == name).copied()
 }
 
 static CARRIERS: [Carrier; 2] = [Carrier::Memory, Carrier::Tcp];
@@ -156,7 +157,7 @@ static COMMANDS: [Row; 9] = [
     Row {
         name: "check",
         about: "Judges the certificate of a session, as in: postcopy check session cert",
-        asked: Asked::Two(TwoTexts::Check(PLAIN), SESSION, CERT),
+        asked: Asked::Two(TwoTexts::Check(PLAIN_CHECK), SESSION, CERT),
     },
     Row {
         name: "certify",
@@ -173,8 +174,8 @@ static COMMANDS: [Row; 9] = [
         about: "Tells what happened in a session, with the records of its fault, as in: postcopy explain session",
         asked: Asked::One(
             OneText::Explain(Explains {
-                asking: PLAIN,
-                topic: Topic::Report,
+                demand: Demand::Safety,
+                form: StoryForm::Words(Topic::Report),
             }),
             SESSION,
         ),

@@ -2,6 +2,5 @@ pub mod Settled
 pub mod Judged
 pub mod Recorded
 pub mod Drawn
-pub mod Beside
 pub mod Lined
 pub mod Shown

@@ -3,7 +3,7 @@ use Rattle.std.proofs.Common.{◌≡◌, ◌∙◌, ℕ, List, refl}
 use Rattle.session_log.specs.Grammar.{session_lines}
 use Rattle.judged_texts.specs.declared.wanted.Wanted.{Wanted}
 use Rattle.judge_commands.specs.Answers.{IsAuditAnswer}
-use Rattle.judge_commands.specs.Judged.{IsJudged, Judged, judged_status}
+use Rattle.session_answers.specs.Judged.{IsJudged, Judged, judged_status}
 use Rattle.judge_commands.proofs.Judged.{judged_clean}
 use Rattle.host_commands.specs.Steps.{AreSteps, EventsText, IsStepsAnswer, LogFull, Records, ScriptText, Steps as Stepped, steps_status, steps_text}
 

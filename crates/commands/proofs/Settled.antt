@@ -1,5 +1,5 @@
 -- What was done and settled.
-use Rattle.std.proofs.Common.{◌≡◌, ℕ, ◌<◌, ◌≤◌, List, ◌∷◌, length, suc-le-suc, Result, Ok, Err, MatchResult, IfOk, arith, Option, Some, None, inl, inr, subst, refl}
+use Rattle.std.proofs.Common.{◌≡◌, ◌⊎◌, ℕ, ◌<◌, ◌≤◌, true, List, ◌∷◌, length, suc-le-suc, Result, Ok, Err, MatchResult, IfOk, arith, Option, Some, None, inl, inr, subst, refl}
 use Rattle.std.specs.Prelude.{IfErr, IfSome}
 use Rattle.std.specs.Io.KnownBytes.{Keeps}
 use Rattle.std.proofs.KnownBytes.{Keeps-refl}
@@ -7,14 +7,15 @@ use Rattle.clap.specs.Words.{Text}
 use Rattle.clap.specs.declared.error.kind.ErrorKind.{ErrorKind}
 use Rattle.command_words.specs.declared.asked.Asked.{Asked}
 use Rattle.command_words.specs.declared.asked.Asked.TheVariants.{One, Two, Migrate, Draw, Window}
-use Rattle.command_words.specs.declared.asked.Audits.{Audits}
+use Rattle.command_words.specs.declared.asked.Lists.{Lists}
 use Rattle.command_texts.specs.declared.answer.Fault.{Fault}
 use Rattle.command_texts.specs.declared.answer.Fault.TheVariants.{Output, Memory}
 use Rattle.command_texts.specs.Answers.{IsTextFault, fault_line, fault_status}
 use Rattle.command_texts.specs.Several.{IsOneOf}
 use Rattle.command_texts.specs.Written.{AppendsFront, BothGain, Gains, Streams}
 use Rattle.command_texts.proofs.Fronts.{both_gain, front_gains, kept_gains, same_gains}
-use Rattle.commands.specs.Refused.{IsRefusalOf, IsStarved}
+use Rattle.command_words.specs.Words.{IsRefusedFor}
+use Rattle.commands.specs.Refused.{IsAsking, IsRefusalOf, IsStarved}
 use Rattle.commands.specs.Told.{EndsAsked, EndsSeveral, IsFaultTold, IsSettled, TellsSeveralAsked}
 
 -- what was done is settled in a status
@@ -29,7 +30,7 @@ pub told_after : (a b c : Option (List ℕ)) (status : ℕ) → Gains a b → Is
 told_after a b c status gains h = record { fault = h.fault; is_status = h.is_status; before = h.before; gained = both_gain a b h.before gains h.gained; told = h.told }
 
 -- how the audits of several sessions end
-pub ends_several : (several : Audits × List Text) (files : List ℕ → Option (List ℕ)) (old new : Streams) (done : Result ℕ Fault) → IfOk done (TellsSeveralAsked several files old new) → IfErr done (IsTextFault (IsOneOf several.1)) → BothGain old new → EndsSeveral several files old new done
+pub ends_several : (several : Lists × List Text) (files : List ℕ → Option (List ℕ)) (old new : Streams) (done : Result ℕ Fault) → IfOk done (TellsSeveralAsked several files old new) → IfErr done (IsTextFault (IsOneOf several.1)) → BothGain old new → EndsSeveral several files old new done
 ends_several several files old new (Ok s) told fault gains = told
 ends_several several files old new (Err f) told fault gains = record { is_fault = fault; gains = gains }
 
@@ -42,10 +43,17 @@ starved (Draw topic name None) files input old new status h = inr record { fault
 starved (Draw topic name (Some second)) files input old new status h = inr record { fault = Memory; is_status = h.is_status; before = old.1; ends = record { is_fault = tt; output = h.output; errors = Keeps-refl old.1 }; told = h.errors }
 starved (Window pages name lines) files input old new status h = inr record { fault = Memory; is_status = h.is_status; before = old.1; ends = record { is_fault = tt; output = h.output; errors = Keeps-refl old.1 }; told = h.errors }
 
-pub starved_several : (several : Audits × List Text) (files : List ℕ → Option (List ℕ)) (old new : Streams) (status : ℕ) → IsStarved old new status → IsSettled (EndsSeveral several files old) new status
+pub starved_several : (several : Lists × List Text) (files : List ℕ → Option (List ℕ)) (old new : Streams) (status : ℕ) → IsStarved old new status → IsSettled (EndsSeveral several files old) new status
 starved_several several files old new status h = inr record { fault = Memory; is_status = h.is_status; before = old.1; ends = record { is_fault = tt; gains = (kept_gains old.0 new.0 h.output, same_gains old.1) }; told = h.errors }
 
 -- ---- words that are refused
+
+-- words that clash ask for no help and no version
+no_asking : (kind : ErrorKind) → IsAsking kind → IsRefusedFor true kind → ⊥
+no_asking kind (inl help) (inl clash) = absurd cc
+no_asking kind (inl help) (inr memory) = absurd cc
+no_asking kind (inr version) (inl clash) = absurd cc
+no_asking kind (inr version) (inr memory) = absurd cc
 
 module _ (kind : ErrorKind) (old new : Streams) (status : ℕ) where
   pub refusal_known : IsRefusalOf kind old new status → status ≤ 4
@@ -71,6 +79,13 @@ module _ (kind : ErrorKind) (old new : Streams) (status : ℕ) where
   refusal_fault (inr (inl h)) lt = absurd (omega (arith, h.is_status))
   refusal_fault (inr (inr (inl h))) lt = record { fault = Output; is_status = h.is_status; before = old.1; gained = same_gains old.1; told = h.errors }
   refusal_fault (inr (inr (inr h))) lt = record { fault = Memory; is_status = h.is_status; before = old.1; gained = same_gains old.1; told = h.errors }
+
+-- words that clash are misuse, where there is memory for telling so
+pub refused_clash : (kind : ErrorKind) (old new : Streams) (status : ℕ) → IsRefusalOf kind old new status → IsRefusedFor true kind → (status ≡ 2) ⊎ (status ≡ 4)
+refused_clash kind old new status (inl h) why = inl h.is_status
+refused_clash kind old new status (inr (inl h)) why = absurd (no_asking kind h.asked why)
+refused_clash kind old new status (inr (inr (inl h))) why = absurd (no_asking kind h.asked why)
+refused_clash kind old new status (inr (inr (inr h))) why = inr h.is_status
 
 -- a fact of what is there, of this that is there
 pub some_given : {X : Type 0} (found : Option X) (x : X) (P : X → Type 0) → found ≡ Some x → IfSome found P → P x

@@ -1,20 +1,16 @@
 -- A `check` that ends with status 0 shows the headline of its two texts.
-use Rattle.std.proofs.Common.{◌≡◌, ◌∙◌, ℕ, List, [], ◌∷◌, Option, Some, Result, Ok, inl, inr, refl, subst, sym}
+use Rattle.std.proofs.Common.{◌≡◌, ◌∙◌, ℕ, List, [], ◌∷◌, Option, Some, None, Result, Ok, inl, inr, refl, subst, sym}
 use Rattle.std.specs.Prelude.{codes}
 use Rattle.clap.specs.Words.{Text}
 use Rattle.command_words.specs.declared.asked.Asked.{Asked}
 use Rattle.command_words.specs.declared.asked.Asked.TheVariants.{Two}
-use Rattle.command_words.specs.declared.asked.Asking.{Asking}
-use Rattle.command_words.specs.declared.asked.Demand.{Demand}
-use Rattle.command_words.specs.declared.asked.Demand.TheVariants.{Safety, Pages as PagesAsked, Whole}
-use Rattle.command_words.specs.declared.asked.Form.{Form}
-use Rattle.command_words.specs.declared.asked.Form.TheVariants.{Text as InText, Line, Json}
+use Rattle.command_words.specs.declared.asked.Checks.{Checks}
+use Rattle.command_words.specs.declared.asked.VerdictForm.{VerdictForm}
 use Rattle.command_words.specs.declared.asked.TwoTexts.TheVariants.{Check}
 use Rattle.command_words.specs.Table.{plain}
 use Rattle.command_words.specs.Words.{asked, asked_by}
 use Rattle.command_words.proofs.Plain.{IsTaken, taken_plain}
-use Rattle.migration_types.specs.Sessions.{Recorded}
-use Rattle.completeness.specs.declared.missing.Missing.{Missing}
+use Rattle.completeness.specs.declared.missing.Extent.{Extent}
 use Rattle.cert_check.specs.declared.verdict.Verdict.{Verdict}
 use Rattle.cert_check.specs.declared.verdict.Verdict.TheVariants.{SessionText, CertText, Shape, Pages, Runs, Page, Yes}
 use Rattle.judged_texts.specs.Checked.{HeadlineHolds, IsTextVerdict}
@@ -23,9 +19,11 @@ use Rattle.command_texts.specs.declared.answer.Fault.TheVariants.{File, Changed,
 use Rattle.command_texts.specs.Answers.{fault_status}
 use Rattle.command_texts.specs.Told.{Ends}
 use Rattle.command_texts.specs.Written.{Streams}
-use Rattle.judge_commands.specs.Answers.{IsVerdictTold, verdict_status}
+use Rattle.session_answers.specs.declared.forms.LackForm.{LackForm}
+use Rattle.judge_commands.specs.Answers.{IsVerdictTold, verdict_lack, verdict_status, verdict_text}
+use Rattle.judge_commands.specs.Completed.{IsChecked, IsDemanded}
 use Rattle.commands.specs.Shown.{AsksCheck, IsTakenAsCheck, ShowsHeadline}
-use Rattle.commands.specs.Told.{IsCheckIn, IsDemanded, IsSettled, IsTwoAnswer, TellsLack}
+use Rattle.commands.specs.Told.{IsSettled, IsTwoAnswer, extent_of}
 
 -- no fault has the status 0
 no_fault : (fault : Fault) → 0 ≡ fault_status fault → ⊥
@@ -49,42 +47,39 @@ yes_of session cert Yes is zero = is
 yes_told : (words : Verdict → List ℕ) (texts : List ℕ × List ℕ) (text : List ℕ) → IsVerdictTold words texts text 0 → IsTextVerdict texts.0 texts.1 Yes
 yes_told words texts text h = yes_of texts.0 texts.1 h.value h.is_right h.is_status
 
-yes_in : (form : Form) (texts : List ℕ × List ℕ) (text : List ℕ) → IsCheckIn form texts text 0 → IsTextVerdict texts.0 texts.1 Yes
-yes_in InText texts text h = yes_told _ texts text h
-yes_in Line texts text h = yes_told _ texts text h
-yes_in Json texts text h = yes_told _ texts text h
-
 -- what is answered with status 0 where more is asked is answered so without asking
-without_asking : (demand : Demand) (Tells : Recorded → Missing → List ℕ → Type 0) (IsPlain : List ℕ → ℕ → Type 0) (session text : List ℕ) → IsDemanded demand Tells IsPlain session text 0 → IsPlain text 0
-without_asking Safety Tells IsPlain session text h = h
-without_asking PagesAsked Tells IsPlain session text (inl h) = h.is_plain
-without_asking PagesAsked Tells IsPlain session text (inr h) = let refused : 0 ≡ 1 = h.refused in absurd cc
-without_asking Whole Tells IsPlain session text (inl h) = h.is_plain
-without_asking Whole Tells IsPlain session text (inr h) = let refused : 0 ≡ 1 = h.refused in absurd cc
+without_asking : (complete : Option Extent) (form : LackForm) (IsPlain : List ℕ → ℕ → Type 0) (session text : List ℕ) → IsDemanded complete form IsPlain session text 0 → IsPlain text 0
+without_asking None form IsPlain session text h = h
+without_asking (Some extent) form IsPlain session text (inl h) = h.is_plain
+without_asking (Some extent) form IsPlain session text (inr h) = let refused : 0 ≡ 1 = h.refused in absurd cc
+
+yes_in : (form : VerdictForm) (complete : Option Extent) (texts : List ℕ × List ℕ) (text : List ℕ) → IsChecked form complete texts text 0 → IsTextVerdict texts.0 texts.1 Yes
+yes_in form complete texts text h =
+    yes_told (verdict_text form) texts text (without_asking complete (verdict_lack form) (IsVerdictTold (verdict_text form) texts) texts.0 text h)
 
 -- where it ends without a fault
-shown_at : (asking : Asking) (IsFault : Fault → Type 0) (AreTexts : List ℕ × List ℕ → Type 0) (IsBeside : List ℕ × List ℕ → ℕ → Option (List ℕ) → Option (List ℕ) → Type 0) (old new : Streams)
+shown_at : (checks : Checks) (IsFault : Fault → Type 0) (AreTexts : List ℕ × List ℕ → Type 0) (IsBeside : List ℕ × List ℕ → ℕ → Option (List ℕ) → Option (List ℕ) → Type 0) (old new : Streams)
     → ((session cert : List ℕ) → IsTextVerdict session cert Yes → HeadlineHolds session cert)
-    → Ends IsFault AreTexts (IsTwoAnswer (Check asking)) IsBeside old new (Ok 0) → ShowsHeadline AreTexts
-shown_at asking IsFault AreTexts IsBeside old new law h =
+    → Ends IsFault AreTexts (IsTwoAnswer (Check checks)) IsBeside old new (Ok 0) → ShowsHeadline AreTexts
+shown_at checks IsFault AreTexts IsBeside old new law h =
     let texts = h.texts in
     let text = h.told.text in
     record {
       texts = texts;
       are_texts = h.are_texts;
-      holds = law texts.0 texts.1 (yes_in asking.form texts text (without_asking asking.demand (TellsLack asking.form) (IsCheckIn asking.form texts) texts.0 text h.told.is_answer));
+      holds = law texts.0 texts.1 (yes_in checks.form (extent_of checks.demand) texts text h.told.is_answer);
     }
 
-pub shown : (asking : Asking) (IsFault : Fault → Type 0) (AreTexts : List ℕ × List ℕ → Type 0) (IsBeside : List ℕ × List ℕ → ℕ → Option (List ℕ) → Option (List ℕ) → Type 0) (old new : Streams) (status : ℕ)
+pub shown : (checks : Checks) (IsFault : Fault → Type 0) (AreTexts : List ℕ × List ℕ → Type 0) (IsBeside : List ℕ × List ℕ → ℕ → Option (List ℕ) → Option (List ℕ) → Type 0) (old new : Streams) (status : ℕ)
     → ((session cert : List ℕ) → IsTextVerdict session cert Yes → HeadlineHolds session cert)
-    → IsSettled (Ends IsFault AreTexts (IsTwoAnswer (Check asking)) IsBeside old) new status → status ≡ 0 → ShowsHeadline AreTexts
-shown asking IsFault AreTexts IsBeside old new status law (inl h) zero =
-    shown_at asking IsFault AreTexts IsBeside old new law (subst (λ (s : ℕ). Ends IsFault AreTexts (IsTwoAnswer (Check asking)) IsBeside old new (Ok s)) zero h.1)
-shown asking IsFault AreTexts IsBeside old new status law (inr h) zero = absurd (no_fault h.fault (sym zero ∙ h.is_status))
+    → IsSettled (Ends IsFault AreTexts (IsTwoAnswer (Check checks)) IsBeside old) new status → status ≡ 0 → ShowsHeadline AreTexts
+shown checks IsFault AreTexts IsBeside old new status law (inl h) zero =
+    shown_at checks IsFault AreTexts IsBeside old new law (subst (λ (s : ℕ). Ends IsFault AreTexts (IsTwoAnswer (Check checks)) IsBeside old new (Ok s)) zero h.1)
+shown checks IsFault AreTexts IsBeside old new status law (inr h) zero = absurd (no_fault h.fault (sym zero ∙ h.is_status))
 
 -- words that ask for a `check` are taken as one
 pub taken_check : (words : List Text) (first second : Text) → AsksCheck words first second → IsTakenAsCheck words first second
 taken_check words first second (inl is) =
     let taken = taken_plain words (codes "check") (first ∷ second ∷ []) (Two (Check plain) first second) is refl in
-    record { asking = plain; taken = taken.taken; asks = taken.given }
+    record { checks = plain; taken = taken.taken; asks = taken.given }
 taken_check words first second (inr is) = is

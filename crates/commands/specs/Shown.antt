@@ -2,16 +2,16 @@
 use Rattle.std.specs.Prelude.{◌≡◌, ◌⊎◌, List, [], ◌∷◌, Some, true, codes, ℕ}
 use Rattle.clap.specs.Words.{Text, takes}
 use Rattle.command_words.specs.declared.asked.Asked.TheVariants.{Two}
-use Rattle.command_words.specs.declared.asked.Asking.{Asking}
+use Rattle.command_words.specs.declared.asked.Checks.{Checks}
 use Rattle.command_words.specs.declared.asked.TwoTexts.TheVariants.{Check}
 use Rattle.command_words.specs.Words.{IsPlain, asked, postcopy_words}
 use Rattle.judged_texts.specs.Checked.{HeadlineHolds}
 
 -- the command line takes the words, and they ask for a `check` of the texts under these names, with whatever options
 pub record IsTakenAsCheck (words : List Text) (first second : Text) : Type 0 where
-  pub asking : Asking
+  pub checks : Checks
   pub taken : takes postcopy_words words ≡ true
-  pub asks : asked words ≡ Some (Two (Check asking) first second)
+  pub asks : asked words ≡ Some (Two (Check checks) first second)
 
 -- the words are `check FIRST SECOND`, with names that are no options, or the command line takes them as a `check` of these
 abbrev pub AsksCheck : List Text → Text → Text → Type 0

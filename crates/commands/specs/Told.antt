@@ -8,12 +8,15 @@ use Rattle.window_commands.specs.Windows.{EndsWindow}
 use Rattle.command_words.specs.declared.asked.Demand.{Demand}
 use Rattle.command_words.specs.declared.asked.Demand.TheVariants.{Safety}
 use Rattle.command_words.specs.declared.asked.Demand.TheVariants as demand
-use Rattle.command_words.specs.declared.asked.Form.{Form}
-use Rattle.command_words.specs.declared.asked.Form.TheVariants.{Text, Line, Json}
-use Rattle.command_words.specs.declared.asked.Asking.{Asking}
 use Rattle.command_words.specs.declared.asked.Audits.{Audits}
-use Rattle.command_words.specs.declared.asked.Faults.{Faults}
-use Rattle.command_words.specs.declared.asked.Faults.TheVariants.{First, All}
+use Rattle.command_words.specs.declared.asked.Explains.{Explains}
+use Rattle.command_words.specs.declared.asked.Lists.{Lists}
+use Rattle.command_words.specs.declared.asked.ReportForm.{ReportForm}
+use Rattle.command_words.specs.declared.asked.ReportForm.TheVariants as report
+use Rattle.command_words.specs.declared.asked.ListForm.{ListForm}
+use Rattle.command_words.specs.declared.asked.ListForm.TheVariants as list
+use Rattle.command_words.specs.declared.asked.StoryForm.{StoryForm}
+use Rattle.command_words.specs.declared.asked.StoryForm.TheVariants as story
 use Rattle.command_words.specs.declared.asked.OneText.{OneText}
 use Rattle.command_words.specs.declared.asked.OneText.TheVariants.{Certify, Audit, Explain}
 use Rattle.command_words.specs.declared.asked.TwoTexts.{TwoTexts}
@@ -27,11 +30,11 @@ use Rattle.command_words.specs.declared.asked.Topic.{Topic as Named}
 use Rattle.command_words.specs.declared.asked.Topic.TheVariants as named
 use Rattle.session_story.specs.declared.topics.Topic.{Topic}
 use Rattle.session_story.specs.declared.topics.Topic.TheVariants as topic
-use Rattle.judge_commands.specs.declared.reports.AllFaults.TheVariants.{Lines, Object}
+use Rattle.session_answers.specs.declared.forms.Ask.{Ask}
+use Rattle.session_answers.specs.declared.forms.Form.{Form}
+use Rattle.session_answers.specs.declared.forms.Form.TheVariants as form
 use Rattle.judged_texts.specs.declared.wanted.Wanted.TheVariants as wanted
 use Rattle.command_words.specs.Table.{plain}
-use Rattle.migration_types.specs.Sessions.{Recorded}
-use Rattle.completeness.specs.declared.missing.Missing.{Missing}
 use Rattle.completeness.specs.declared.missing.Extent.{Extent}
 use Rattle.completeness.specs.declared.missing.Extent.TheVariants as extent
 use Rattle.session_log.specs.Grammar.{SpellsSession}
@@ -40,15 +43,14 @@ use Rattle.cert_text.specs.Order.{SpellsOrder}
 use Rattle.guest_script.specs.Events.{SpellsEvents}
 use Rattle.guest_script.specs.Scripts.{SpellsScript}
 use Rattle.command_texts.specs.declared.answer.Fault.{Fault}
-use Rattle.command_texts.specs.declared.why.Telling.{Telling}
-use Rattle.command_texts.specs.declared.why.Telling.TheVariants.{Short, Full}
+use Rattle.command_texts.specs.declared.why.Telling.TheVariants.{Short}
 use Rattle.command_texts.specs.Answers.{IsHostFault, IsTextFault, fault_line, fault_status}
 use Rattle.command_texts.specs.Reasons.{IsRefusedAt, TellsBeside, TellsWhyOf}
 use Rattle.command_texts.specs.Several.{IsOneOf, Style, TellsSeveral}
 use Rattle.command_texts.specs.Told.{AreNamed, AreOfInput, Ends, IsNamed}
 use Rattle.command_texts.specs.Written.{AppendsFront, BothGain, Gains, Streams}
-use Rattle.judge_commands.specs.Answers.{AddsMisfitOf, IsAllFaultsAnswer, IsAuditAnswer, IsAuditObject, IsExplainAnswer, IsExplainObject, IsVerdictAnswer, IsVerdictObject}
-use Rattle.judge_commands.specs.Completed.{IsCompleteAnswer, TellsInLine, TellsInObject, TellsInWords}
+use Rattle.judge_commands.specs.Answers.{AddsMisfitOf, how_much}
+use Rattle.judge_commands.specs.Completed.{IsAnswered, IsChecked}
 use Rattle.judge_commands.specs.Noted.{TellsNoUse}
 use Rattle.judge_commands.specs.Replayed.{IsReplayAnswer}
 use Rattle.host_commands.specs.Steps.{IsStepsAnswer}
@@ -61,106 +63,68 @@ told_topic named.Report = topic.Report
 told_topic (named.Page page) = topic.Page page
 told_topic (named.Line line) = topic.Line line
 
--- the answer of `audit`, in this form, with these faults
-abbrev pub IsAuditIn : Form → Faults → List ℕ → List ℕ → ℕ → Type 0
-IsAuditIn Text First = IsAuditAnswer wanted.Report
-IsAuditIn Text All = IsAllFaultsAnswer Lines
-IsAuditIn Line faults = IsAuditAnswer wanted.FirstLine
-IsAuditIn Json First = IsAuditObject
-IsAuditIn Json All = IsAllFaultsAnswer Object
-
--- the answer of `check`, in this form; as text it is a line
-abbrev pub IsCheckIn : Form → List ℕ × List ℕ → List ℕ → ℕ → Type 0
-IsCheckIn Text texts = IsVerdictAnswer texts.0 texts.1
-IsCheckIn Line texts = IsVerdictAnswer texts.0 texts.1
-IsCheckIn Json texts = IsVerdictObject texts
-
--- how it is told in this form what a session lacks
-abbrev pub TellsLack : Form → Recorded → Missing → List ℕ → Type 0
-TellsLack Text = TellsInLine
-TellsLack Line = TellsInLine
-TellsLack Json = TellsInObject
-
--- the one answer where a safe session is asked for, and the other where a complete one is
-abbrev pub answered : Demand → (List ℕ → ℕ → Type 0) → (List ℕ → ℕ → Type 0) → List ℕ → ℕ → Type 0
-answered Safety IsPlain IsWhole = IsPlain
-answered demand.Pages IsPlain IsWhole = IsWhole
-answered demand.Whole IsPlain IsWhole = IsWhole
-
--- the one where a safe session is asked for, and the other where a complete one is
-abbrev pub chosen : Demand → Type 0 → Type 0 → Type 0
-chosen Safety Plain Whole = Plain
-chosen demand.Pages Plain Whole = Whole
-chosen demand.Whole Plain Whole = Whole
-
 -- to what extent a session has to be complete, where that is asked
-abbrev pub extent_of : Demand → Extent
-extent_of Safety = extent.Pages
-extent_of demand.Pages = extent.Pages
-extent_of demand.Whole = extent.Whole
+abbrev pub extent_of : Demand → Option Extent
+extent_of Safety = None
+extent_of demand.Pages = Some extent.Pages
+extent_of demand.Whole = Some extent.Whole
 
--- the answer to what is asked of a session, by how it is told what it lacks, and what is answered without asking more
-abbrev pub IsDemanded : Demand → (Recorded → Missing → List ℕ → Type 0) → (List ℕ → ℕ → Type 0) → List ℕ → List ℕ → ℕ → Type 0
-IsDemanded asked Tells IsPlain session = answered asked IsPlain (IsCompleteAnswer (extent_of asked) Tells IsPlain session)
+-- how a report is told, alone and in a list, and what happened
+abbrev pub report_form : ReportForm → Form
+report_form report.Lines = form.Lines wanted.Report
+report_form report.FirstLine = form.Lines wanted.FirstLine
+report_form report.AllFaults = form.AllFaults
+report_form report.Object = form.Object
+report_form report.AllFaultsObject = form.AllFaultsObject
 
--- the answer of `audit`, as this is asked
-abbrev pub IsAsked : Asking → Faults → List ℕ → List ℕ → ℕ → Type 0
-IsAsked asking faults session = IsDemanded asking.demand (TellsLack asking.form) (IsAuditIn asking.form faults session) session
+abbrev pub list_form : ListForm → Form
+list_form list.FirstLines = form.Lines wanted.FirstLine
+list_form list.Objects = form.Object
+list_form list.AllFaultsObjects = form.AllFaultsObject
 
--- the answer of `explain`, in this form and on this topic (an object is of the report), and how it is told what a session lacks
-abbrev pub IsExplainIn : Form → Topic → List ℕ → List ℕ → ℕ → Type 0
-IsExplainIn Text topic = IsExplainAnswer topic
-IsExplainIn Line topic = IsExplainAnswer topic
-IsExplainIn Json topic = IsExplainObject
+abbrev pub story_form : StoryForm → Form
+story_form (story.Words topic) = form.Words (told_topic topic)
+story_form story.Object = form.StoryObject
 
-abbrev pub TellsLackOf : Form → Recorded → Missing → List ℕ → Type 0
-TellsLackOf Text = TellsInWords
-TellsLackOf Line = TellsInWords
-TellsLackOf Json = TellsInObject
+-- what an audit asks of a session, an explanation, and an audit of several sessions of each
+abbrev pub audit_ask : Audits → Ask
+audit_ask audits = record { form = report_form audits.form; complete = extent_of audits.demand }
 
-abbrev pub IsExplained : Demand → Form → Topic → List ℕ → List ℕ → ℕ → Type 0
-IsExplained demand form topic session = IsDemanded demand (TellsLackOf form) (IsExplainIn form topic session) session
+abbrev pub explain_ask : Explains → Ask
+explain_ask explains = record { form = story_form explains.form; complete = extent_of explains.demand }
+
+abbrev pub list_ask : Lists → Ask
+list_ask lists = record { form = list_form lists.form; complete = extent_of lists.demand }
+
+-- what a command on one text asks of it
+abbrev pub ask_of : OneText → Ask
+ask_of Certify = record { form = form.Lines wanted.Certificate; complete = None }
+ask_of (Audit audits) = audit_ask audits
+ask_of (Explain explains) = explain_ask explains
 
 -- the answer of a command on one text
 abbrev pub IsOneAnswer : OneText → List ℕ → List ℕ → ℕ → Type 0
-IsOneAnswer Certify session = IsAuditAnswer wanted.Certificate session
-IsOneAnswer (Audit audits) session = IsAsked audits.asking audits.faults session
-IsOneAnswer (Explain explains) session = IsExplained explains.asking.demand explains.asking.form (told_topic explains.topic) session
+IsOneAnswer task = IsAnswered (ask_of task)
 
--- the answer of `check`, as this is asked
-abbrev pub IsChecked : Asking → List ℕ × List ℕ → List ℕ → ℕ → Type 0
-IsChecked asking texts = IsDemanded asking.demand (TellsLack asking.form) (IsCheckIn asking.form texts) texts.0
+-- where an explanation tells lines
+abbrev pub lines_in : StoryForm → LinesIn
+lines_in (story.Words topic) = Words
+lines_in story.Object = Object
 
--- where `explain` tells lines in this form
-abbrev pub lines_in : Form → LinesIn
-lines_in Text = Words
-lines_in Line = Words
-lines_in Json = Object
-
--- the answer of `explain`, as this is asked, with its lines told by the table that a second text spells
-abbrev pub IsRetold : Demand → Form → Topic → List ℕ × List ℕ → List ℕ → ℕ → Type 0
-IsRetold demand form topic = IsRelinedAnswer (IsExplained demand form topic) (lines_in form)
+-- the answer of an explanation with its lines told by the table that a second text spells
+abbrev pub IsRetold : Explains → List ℕ × List ℕ → List ℕ → ℕ → Type 0
+IsRetold explains = IsRelinedAnswer (IsAnswered (explain_ask explains)) (lines_in explains.form)
 
 -- the answer of a command on two texts
 abbrev pub IsTwoAnswer : TwoTexts → List ℕ × List ℕ → List ℕ → ℕ → Type 0
-IsTwoAnswer (Check asking) texts = IsChecked asking texts
+IsTwoAnswer (Check checks) texts = IsChecked checks.form (extent_of checks.demand) texts
 IsTwoAnswer Replay texts = IsReplayAnswer texts.0 texts.1
 IsTwoAnswer Steps texts = IsStepsAnswer texts.0 texts.1
-IsTwoAnswer (two.Explain explains) texts = IsRetold explains.asking.demand explains.asking.form (told_topic explains.topic) texts
+IsTwoAnswer (two.Explain explains) texts = IsRetold explains texts
 
 -- the answer where there are no words: the one of `check` that no option changes
 abbrev pub IsPlainCheck : List ℕ × List ℕ → List ℕ → ℕ → Type 0
 IsPlainCheck = IsTwoAnswer (Check plain)
-
--- how much `explain` tells in this form of a text that is refused
-abbrev pub how_much_in : Form → Telling
-how_much_in Text = Full
-how_much_in Line = Full
-how_much_in Json = Short
-
-abbrev pub how_much : OneText → Telling
-how_much (Explain explains) = how_much_in explains.asking.form
-how_much other = Short
 
 -- there is no note
 abbrev pub NoNote : {T : Type 0} → T → Type 0
@@ -172,7 +136,7 @@ NotesFirst texts = TellsNoUse texts.0
 
 -- what is told beside the answer of a command on one text: why it is refused, and that a session tells of no use
 abbrev pub IsBesideOne : OneText → List ℕ → List ℕ → ℕ → Option (List ℕ) → Option (List ℕ) → Type 0
-IsBesideOne task name = TellsWhyOf (IsRefusedAt SpellsSession) TellsNoUse (how_much task) name
+IsBesideOne task name = TellsWhyOf (IsRefusedAt SpellsSession) TellsNoUse (how_much (ask_of task).form) name
 
 -- nothing more is told of two texts
 abbrev pub AddsNothing : List ℕ × List ℕ → List ℕ → List ℕ → List ℕ → Type 0
@@ -181,7 +145,7 @@ AddsNothing texts name before after = after ≡ before
 -- what is told beside the answer of a command on two texts: why one is refused, of `check` what of the certificate does not fit
 -- the session, and that a session that is judged tells of no use
 abbrev pub IsBesideTwo : TwoTexts → List ℕ → List ℕ → List ℕ × List ℕ → ℕ → Option (List ℕ) → Option (List ℕ) → Type 0
-IsBesideTwo (Check asking) = TellsBeside (IsRefusedAt SpellsSession) (IsRefusedAt SpellsCert) AddsMisfitOf NotesFirst
+IsBesideTwo (Check checks) = TellsBeside (IsRefusedAt SpellsSession) (IsRefusedAt SpellsCert) AddsMisfitOf NotesFirst
 IsBesideTwo Replay = TellsBeside (IsRefusedAt SpellsSession) (IsRefusedAt SpellsOrder) AddsNothing NoNote
 IsBesideTwo Steps = TellsBeside (IsRefusedAt SpellsScript) (IsRefusedAt SpellsEvents) AddsNothing NoNote
 IsBesideTwo (two.Explain explains) = TellsBeside (IsRefusedAt SpellsSession) (IsRefusedAt SpellsTable) AddsNothing NotesFirst
@@ -235,38 +199,20 @@ pub record IsFaultTold (old new : Option (List ℕ)) (status : ℕ) : Type 0 whe
 abbrev pub EndsBare : Option (List ℕ) → Streams → Streams → Result ℕ Fault → Type 0
 EndsBare input = Ends (IsFaultOfTwo (codes "-") (codes "-")) (AreOfInput input) IsPlainCheck (IsBesideTwo (Check plain) (codes "-") (codes "-"))
 
--- of several sessions each is told by the first line, where it is told in lines
-abbrev pub in_list : Form → Form
-in_list Text = Line
-in_list Line = Line
-in_list Json = Json
-
--- lines stand after the names of the sessions, with "2 of 3 sessions are clean" or the like at the end
-abbrev pub lines_style : Style
-lines_style = Some (codes " sessions are clean\n")
-
--- and objects as they are
-abbrev pub list_style : Form → Style
-list_style Text = lines_style
-list_style Line = lines_style
-list_style Json = None
-
--- what is asked of each session, where it is told by a line
-abbrev pub lines_asked : Demand → Asking
-lines_asked demand = record { demand = demand; form = Line }
-
--- the answer for each of several sessions
-abbrev pub IsAskedOfEach : Asking → Faults → List ℕ → List ℕ → ℕ → Type 0
-IsAskedOfEach asking faults = IsAsked (record asking { form = in_list asking.form }) faults
+-- lines stand after the names of the sessions, with "2 of 3 sessions are clean" or the like at the end, and objects have the names
+abbrev pub list_style : ListForm → Style
+list_style list.FirstLines = Some (codes " sessions are clean\n")
+list_style list.Objects = None
+list_style list.AllFaultsObjects = None
 
 -- the audits of the sessions under these names were told, as this is asked
-abbrev pub TellsSeveralAsked : Audits × List (List ℕ) → (List ℕ → Option (List ℕ)) → Streams → Streams → ℕ → Type 0
-TellsSeveralAsked several files = TellsSeveral files (IsAskedOfEach several.0.asking several.0.faults) (IsRefusedAt SpellsSession) TellsNoUse (list_style several.0.asking.form) several.1
+abbrev pub TellsSeveralAsked : Lists × List (List ℕ) → (List ℕ → Option (List ℕ)) → Streams → Streams → ℕ → Type 0
+TellsSeveralAsked several files = TellsSeveral files (IsAnswered (list_ask several.0)) (IsRefusedAt SpellsSession) TellsNoUse (list_style several.0.form) several.1
 
 -- or it came to a fault, and the errors may tell why texts before it are refused
 pub record FailsSeveral (names : List (List ℕ)) (old new : Streams) (fault : Fault) : Type 0 where
   pub is_fault : IsTextFault (IsOneOf names) fault
   pub gains : BothGain old new
 
-abbrev pub EndsSeveral : Audits × List (List ℕ) → (List ℕ → Option (List ℕ)) → Streams → Streams → Result ℕ Fault → Type 0
+abbrev pub EndsSeveral : Lists × List (List ℕ) → (List ℕ → Option (List ℕ)) → Streams → Streams → Result ℕ Fault → Type 0
 EndsSeveral several files old new done = MatchResult done (TellsSeveralAsked several files old new) (FailsSeveral several.1 old new)

@@ -13,8 +13,7 @@ ghost use Rattle.window_commands.specs.Windows.{EndsWindow};
 ghost use Rattle.commands.specs.Told.{EndsAsked, IsBesideOne, IsBesideTwo, IsOneAnswer, IsTwoAnswer, NoNote, window_of};
 
 use crate::drawing::{DrawAlongCommand, DrawCommand};
-use crate::judging::{asked_audit, asked_check, asked_explain};
-use crate::retelling::asked_retold;
+use crate::judging::{ask_of, explain_ask, extent_of, lines_in};
 use crate::topics::told_topic;
 use command_texts::{
     Fault, Gathered, Telling, TextSource, perform_one, perform_two, read_named, tell_why, written,
@@ -22,14 +21,13 @@ use command_texts::{
 use command_words::{Asked, Carrier, Job, OneText, Pages, Topic, TwoTexts};
 use guest_script::ScriptParts;
 use host_commands::{StepsCommand, migrate_read};
-use judge_commands::{AuditCommand, ReplayCommand};
-use judged_texts::Wanted;
+use judge_commands::{AuditCommand, CheckCommand, ReplayCommand};
 use std::alloc::Global;
 use std::io::{Read, Write};
 use std::net::{Net, TcpListener, TcpStream};
 use std::sync::Wait;
 use std::thread::Threads;
-use window_commands::perform_window;
+use window_commands::{Relined, perform_window};
 use window_cut::Window;
 
 // Does a command on the text under a name.
@@ -47,21 +45,11 @@ fn asked_one<'a, R: Threads + Sync, S: TextSource, I: Read + Send, O: Write, E: 
     ensures told { Ends (IsTextFault (λ n. n ≡ name.entry.now)) (IsNamed name.entry.now (S.bytes_of texts.now) (I.remaining input.old)) (IsOneAnswer task) (IsBesideOne task name.entry.now) (O.contents output.old, E.contents errors.old) (O.contents output.new, E.contents errors.new) result }
     ensures gains { BothGain (O.contents output.old, E.contents errors.old) (O.contents output.new, E.contents errors.new) }
 {
-    match task {
-        OneText::Certify => {
-            let command = AuditCommand {
-                rt,
-                form: Wanted::Certificate,
-            };
-            perform_one(rt, alloc, &command, name, texts, input, output, errors)
-        }
-        OneText::Audit(audits) => asked_audit(
-            rt, alloc, audits, name, texts, input, output, errors,
-        ),
-        OneText::Explain(explains) => asked_explain(
-            rt, alloc, explains, name, texts, input, output, errors,
-        ),
-    }
+    let command = AuditCommand {
+        rt,
+        ask: ask_of(task),
+    };
+    perform_one(rt, alloc, &command, name, texts, input, output, errors)
 }
 
 // Does a command on the texts under two names, read in this order.
@@ -81,9 +69,14 @@ fn asked_two<'a, R: Threads + Sync, S: TextSource, I: Read + Send, O: Write, E: 
     ensures gains { BothGain (O.contents output.old, E.contents errors.old) (O.contents output.new, E.contents errors.new) }
 {
     match task {
-        TwoTexts::Check(asking) => {
-            asked_check(
-                rt, alloc, asking, first, second, texts, input, output, errors,
+        TwoTexts::Check(checks) => {
+            let command = CheckCommand {
+                rt,
+                form: checks.form,
+                complete: extent_of(checks.demand),
+            };
+            perform_two(
+                rt, alloc, &command, first, second, texts, input, output, errors,
             )
         }
         TwoTexts::Replay => perform_two(
@@ -108,9 +101,18 @@ fn asked_two<'a, R: Threads + Sync, S: TextSource, I: Read + Send, O: Write, E: 
             output,
             errors,
         ),
-        TwoTexts::Explain(explains) => asked_retold(
-            rt, alloc, explains, first, second, texts, input, output, errors,
-        ),
+        TwoTexts::Explain(explains) => {
+            let command = Relined {
+                command: AuditCommand {
+                    rt,
+                    ask: explain_ask(explains),
+                },
+                lines: lines_in(explains.form),
+            };
+            perform_two(
+                rt, alloc, &command, first, second, texts, input, output, errors,
+            )
+        }
     }
 }
 

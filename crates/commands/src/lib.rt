@@ -6,7 +6,6 @@ mod drawing;
 mod judging;
 mod laws;
 mod program;
-mod retelling;
 mod several;
 mod topics;
 

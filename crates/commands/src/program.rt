@@ -1,10 +1,10 @@
 //! The program, from its words to its status.
 
-ghost use Rattle.std.specs.Prelude.{◌≡◌, ◌≢◌, ◌<◌, ◌≤◌, ◌⊎◌, ℕ, List, IfOk, IfSome, MatchResult, None, length, true};
+ghost use Rattle.std.specs.Prelude.{◌≡◌, ◌≢◌, ◌<◌, ◌≤◌, ◌⊎◌, ℕ, List, IfOk, IfSome, MatchResult, None, false, length, true};
 ghost use Rattle.std.specs.Io.KnownBytes.{Keeps};
 ghost use Rattle.clap.specs.Words.{kind_of, takes};
 ghost use Rattle.command_words.specs.Table.{job_of, several_of};
-ghost use Rattle.command_words.specs.Words.{IsPlain, asked, asked_by, postcopy_words, several_asked, target_names, targets_named, word_texts};
+ghost use Rattle.command_words.specs.Words.{IsPlain, asked, asked_by, clashing, postcopy_words, several_asked, target_names, targets_named, word_texts};
 ghost use Rattle.command_texts.specs.Answers.{fault_line, fault_status};
 ghost use Rattle.command_texts.specs.Told.{AreNamed, AreOfInput};
 ghost use Rattle.command_texts.specs.Written.{AppendsFront, BothGain, Gains};
@@ -16,8 +16,8 @@ use crate::answering::perform;
 use crate::several::asked_several;
 use clap::error::ErrorKind;
 use command_texts::{ACCEPTED, Fault, TextSource, USAGE, perform_two, tell, write_whole};
-use command_words::{Targets, Wish, read_targets, read_words};
-use judge_commands::{CheckCommand, InLine};
+use command_words::{Targets, VerdictForm, Wish, read_targets, read_words};
+use judge_commands::CheckCommand;
 use judged_texts::headline_holds_at_yes;
 use std::alloc::{AllocError, Global};
 use std::io::{Read, Write};
@@ -41,7 +41,11 @@ fn check_input<R: Threads + Sync, S: TextSource, I: Read + Send, O: Write, E: Wr
     perform_two(
         rt,
         alloc,
-        &CheckCommand { rt, form: InLine },
+        &CheckCommand {
+            rt,
+            form: VerdictForm::Line,
+            complete: None,
+        },
         "-",
         "-",
         texts,
@@ -166,12 +170,12 @@ fn check_bare<R: Threads + Sync, S: TextSource, I: Read + Send, O: Write, E: Wri
 /// The program: it reads the texts that the words name, writes what the command answers to them, and answers its status.
 ///
 /// The first of the words is the program's own name; with no other it checks the two texts of the input. The status is
-/// 0 where all is well or help was asked for, 1 for another answer, 2 where the words are no command, 3 where a text was
-/// not read whole, has too many bytes or takes too many reads (`FORMATS` says how many), where a migration's link failed, or the output
-/// was not written, and 4 where memory ran out. At 2 to 4 the errors tell why. At 1 they tell why a text is refused, or what of
-/// a certificate does not fit its session. The texts are read in the order of the words, and both before an answer is sought;
-/// of several sessions each is audited before the next is read, and of the input among them nothing is said. The output gains the
-/// answer also where the words name a file for it: [`targets_named`] tells which.
+/// 0 where all is well or help was asked for, 1 for another answer, 2 where the words are no command or have options that mean
+/// nothing together, 3 where a text was not read whole, has too many bytes or takes too many reads (`FORMATS` says how many),
+/// where a migration's link failed, or the output was not written, and 4 where memory ran out. At 2 to 4 the errors tell why. At 1
+/// they tell why a text is refused, or what of a certificate does not fit its session. The texts are read in the order of the
+/// words, and both before an answer is sought; of several sessions each is audited before the next is read, and of the input among
+/// them nothing is said. The output gains the answer also where the words name a file for it: [`targets_named`] tells which.
 ///
 /// Where a `check` ends with status 0, whatever its options are, the bytes that were read as its first text spell one session,
 /// and the headline holds of it: it has a merging, and in every merging each read or write after handover finds its page
@@ -201,7 +205,8 @@ pub fn run<
     ensures misuse { result ≡ 2 → Keeps (O.contents output.old) (O.contents output.new) }
     ensures bare_usage { length words.entry.now ≤ 1 → result ≢ 2 }
     ensures bare { length words.entry.now ≤ 1 → IsSettled (EndsBare (I.remaining input.old) (O.contents output.old, E.contents errors.old)) (O.contents output.new, E.contents errors.new) result }
-    ensures usage { takes postcopy_words (word_texts words.entry.now) ≡ true → result ≢ 2 }
+    ensures usage { takes postcopy_words (word_texts words.entry.now) ≡ true → clashing (word_texts words.entry.now) ≡ false → result ≢ 2 }
+    ensures clash { takes postcopy_words (word_texts words.entry.now) ≡ true → clashing (word_texts words.entry.now) ≡ true → (result ≡ 2) ⊎ (result ≡ 4) }
     ensures told { takes postcopy_words (word_texts words.entry.now) ≡ true → IfSome (asked (word_texts words.entry.now)) (λ job. IsSettled (EndsAsked job (S.bytes_of texts.now) (I.remaining input.old) (O.contents output.old, E.contents errors.old)) (O.contents output.new, E.contents errors.new) result) }
     ensures several { takes postcopy_words (word_texts words.entry.now) ≡ true → IfSome (several_asked (word_texts words.entry.now)) (λ asked. IsSettled (EndsSeveral asked (S.bytes_of texts.now) (O.contents output.old, E.contents errors.old)) (O.contents output.new, E.contents errors.new) result) }
     ensures plain { (name : List ℕ) (names : List (List ℕ)) → IsPlain (word_texts words.entry.now) name names → IfSome (asked_by name names) (λ job. (result ≢ 2) × IsSettled (EndsAsked job (S.bytes_of texts.now) (I.remaining input.old) (O.contents output.old, E.contents errors.old)) (O.contents output.new, E.contents errors.new) result) }

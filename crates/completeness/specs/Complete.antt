@@ -2,7 +2,7 @@
 use Rattle.std.specs.Prelude.{◌≡◌, ◌<◌, ◌≤◌, ℕ, zero, suc, Bool, true, false, not, ◌==◌, ◌&&◌, ◌||◌, ◌⊎◌, nat_lt, length, drop, slice_get, if◌then◌else◌}
 use Rattle.std.specs.List.{list_any}
 use Rattle.migration_types.specs.declared.records.SourceRec.{SourceRec}
-use Rattle.migration_types.specs.declared.records.SourceRec.TheVariants.{Ask, Done}
+use Rattle.migration_types.specs.declared.records.SourceRec.TheVariants.{Ask, Done, Back}
 use Rattle.migration_types.specs.declared.records.LinkRec.{LinkRec}
 use Rattle.migration_types.specs.declared.records.LinkRec.TheVariants.{Down, Up}
 use Rattle.migration_types.specs.declared.records.PagerRec.{PagerRec}
@@ -25,6 +25,15 @@ is_all _ = false
 abbrev pub is_done : SourceRec → Bool
 is_done Done = true
 is_done _ = false
+
+-- whether it starts the guest again at the source
+abbrev pub is_back : SourceRec → Bool
+is_back Back = true
+is_back _ = false
+
+-- whether the guest returned to the source: it was started again there, and never resumed at the target
+abbrev pub has_returned : Recorded → Bool
+has_returned s = list_any is_back s.source && not (list_any is_resume s.guest)
 
 -- whether it places or drops what the pager's record of this number took
 abbrev pub settles : ℕ → PagerRec → Bool
@@ -95,9 +104,10 @@ abbrev pub IsComplete : Extent → Recorded → Type 0
 IsComplete extent.Pages = HasPages
 IsComplete extent.Whole = IsWhole
 
--- it is missing from the logs
+-- it is missing from the logs; of a guest that returned to the source, all that follows a resume is
 abbrev pub IsMissing : Recorded → Missing → Type 0
 IsMissing s missing.Halt = list_any is_halt s.guest ≡ false
+IsMissing s missing.Returned = has_returned s ≡ true
 IsMissing s missing.Resume = list_any is_resume s.guest ≡ false
 IsMissing s (missing.Page page) = (page < s.geometry.pages) × (is_page_left s page ≡ true)
 IsMissing s missing.All = has_end s ≡ false
@@ -107,11 +117,12 @@ IsMissing s (missing.Taken n) = is_taken_left s n ≡ true
 -- the order in which what is missing is told: by its kind, and then by the number of the page or the record
 abbrev pub kind : Missing → ℕ
 kind missing.Halt = 0
-kind missing.Resume = 1
-kind (missing.Page page) = 2
-kind missing.All = 3
-kind missing.Done = 4
-kind (missing.Taken n) = 5
+kind missing.Returned = 1
+kind missing.Resume = 2
+kind (missing.Page page) = 3
+kind missing.All = 4
+kind missing.Done = 5
+kind (missing.Taken n) = 6
 
 abbrev pub number : Missing → ℕ
 number (missing.Page page) = page
@@ -121,6 +132,7 @@ number _ = 0
 -- whether a session that is complete to this extent has to have it
 abbrev pub is_asked : Extent → Missing → Bool
 is_asked extent.Pages missing.Halt = true
+is_asked extent.Pages missing.Returned = true
 is_asked extent.Pages missing.Resume = true
 is_asked extent.Pages (missing.Page page) = true
 is_asked extent.Pages missing.All = false

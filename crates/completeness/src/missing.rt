@@ -16,6 +16,8 @@ pub enum Extent {
 pub enum Missing {
     /// The guest's `halt`.
     Halt,
+    /// The guest's `resume`, where the source started the guest again: it returned there.
+    Returned,
     /// The guest's `resume`.
     Resume,
     /// A placement of this owed page, or its release at the target.

@@ -2,17 +2,17 @@
 
 ghost use Rattle.std.specs.Prelude.{◌≡◌, IfOk, MatchOption};
 ghost use Rattle.std.specs.List.{list_any};
-ghost use Rattle.audit_model.specs.Shape.{is_halt, is_resume};
+ghost use Rattle.audit_model.specs.Shape.{is_halt};
 ghost use Rattle.migration_types.specs.Sessions.{IsSession};
-ghost use Rattle.completeness.specs.Complete.{HasPages, IsComplete, IsWhole, Lacks};
+ghost use Rattle.completeness.specs.Complete.{is_back, HasPages, IsComplete, IsWhole, Lacks};
 ghost use Rattle.completeness.specs.inner.Walks.{AreSeen};
 
 use crate::ending::{has_done, has_end, placed_to};
 use crate::missing::{Extent, Missing};
 use crate::pages::{Seen, first_page};
 use crate::taken::first_taken;
-use audit_model::{is_halt, is_resume};
-use migration_types::{GuestRec, Session};
+use audit_model::{has_resume, is_halt};
+use migration_types::{GuestRec, Session, SourceRec};
 use std::alloc::{AllocError, Global};
 
 /// Whether the guest was halted.
@@ -22,11 +22,18 @@ fn has_halt(guest: &[GuestRec]) -> bool
     guest.iter().any(is_halt)
 }
 
-/// Whether the guest was resumed.
-fn has_resume(guest: &[GuestRec]) -> bool
-    ensures { result ≡ list_any is_resume guest.now }
+/// Whether it starts the guest again at the source.
+fn is_back(rec: &SourceRec) -> bool
+    ensures { result ≡ is_back rec.now }
 {
-    guest.iter().any(is_resume)
+    matches!(rec, SourceRec::Back)
+}
+
+/// Whether the source started the guest again.
+fn has_back(source: &[SourceRec]) -> bool
+    ensures { result ≡ list_any is_back source.now }
+{
+    source.iter().any(is_back)
 }
 
 /// The first thing that is missing from a session that has its pages, where it has to tell of a whole migration.
@@ -68,7 +75,10 @@ pub fn first_missing(
         return Ok(Some(Missing::Halt));
     }
     if !has_resume(session.guest()) {
-        return Ok(Some(Missing::Resume));
+        return match has_back(session.source()) {
+            true => Ok(Some(Missing::Returned)),
+            false => Ok(Some(Missing::Resume)),
+        };
     }
     let seen = Seen::of(alloc, session)?;
     if let Some(page) = first_page(session, &seen) {

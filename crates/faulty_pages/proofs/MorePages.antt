@@ -1,13 +1,15 @@
 -- Faulty pages of no page, of one more, and of more behind them.
-use Rattle.std.proofs.Common.{◌≡◌, ◌≢◌, ℕ, suc, ◌+◌, ◌<◌, ◌≤◌, ◌⊎◌, inl, inr, List, [], ◌∷◌, ◌++◌, Some, refl, sym, subst, arith}
+use Rattle.std.proofs.Common.{◌≡◌, ◌≢◌, ℕ, suc, ◌+◌, ◌<◌, ◌≤◌, ◌⊎◌, inl, inr, List, [], ◌∷◌, ◌++◌, Some, length, refl, sym, ◌∙◌, subst, arith, length-append}
 use Rattle.std.specs.List.{All, AllPairs}
 use Rattle.std.proofs.lemmas.Bool.{cases_lt}
 use Rattle.std.proofs.lemmas.List.Elements.{All-nil, All-cons, All-head, All-tail, All-append, All-weaker}
 use Rattle.std.proofs.lemmas.List.Kept.{AllPairs-cons}
-use Rattle.migration_types.specs.Sessions.{Recorded}
-use Rattle.page_facts.specs.PageFaults.{IsClean}
+use Rattle.migration_types.specs.Limits.{most_pages}
+use Rattle.migration_types.specs.Sessions.{Recorded, line_of}
+use Rattle.page_facts.specs.declared.page_fault.PageFault.{PageFault}
+use Rattle.page_facts.specs.PageFaults.{IsClean, IsFirstFault}
 use Rattle.faulty_pages.specs.declared.FaultyPage.{FaultyPage}
-use Rattle.faulty_pages.specs.FaultyPages.{AreFaultyBelow, AreFaultyFrom, IsFaultyPage}
+use Rattle.faulty_pages.specs.FaultyPages.{AreFaultyBelow, AreFaultyFrom, AreManyFrom, IsFaultyPage}
 
 -- ---- lists one behind the other
 
@@ -24,6 +26,17 @@ pairs_joined R [] ys low high across = high
 pairs_joined {A} R (x ∷ xs) ys low high across =
     AllPairs-cons R x (xs ++ ys) (All-append (R x) xs ys (λ k d lt. low 0 (suc k) d (omega arith) (omega (arith, lt))) (All-head (λ (z : A). All (R z) ys) x xs across))
     (pairs_joined R xs ys (λ i j d lt within. low (suc i) (suc j) d (omega (arith, lt)) (omega (arith, within))) high (All-tail (λ (z : A). All (R z) ys) x xs across))
+
+-- ---- numbers that ascend
+
+-- pages that ascend, from one on and below another, are no more than lie between
+few_between : (first end : ℕ) (xs : List FaultyPage) → first ≤ end → AllPairs (λ a b. a.page < b.page) xs → All (λ (f : FaultyPage). first ≤ f.page) xs → All (λ (f : FaultyPage). f.page < end) xs → first + length xs ≤ end
+few_between first end [] le pairs from below = omega (arith, le)
+few_between first end (x ∷ xs) le pairs from below =
+    let ge = All-head (λ (f : FaultyPage). first ≤ f.page) x xs from in
+    let lt = All-head (λ (f : FaultyPage). f.page < end) x xs below in
+    let rest = few_between (suc x.page) end xs (omega (arith, lt)) (λ i j d less within. pairs (suc i) (suc j) d (omega (arith, less)) (omega (arith, within))) (λ k d within. omega (arith, pairs 0 (suc k) d (omega arith) (omega (arith, within)))) (All-tail (λ (f : FaultyPage). f.page < end) x xs below) in
+    omega (arith, rest, ge)
 
 -- ---- faulty pages
 
@@ -84,3 +97,29 @@ module _ (s : Recorded) where
     faulty = are.faulty;
     others = λ page lt none. are.others page (omega arith) (omega arith) none;
   }
+
+  -- as many pages as have a fault are no more than there are
+  pub few_from : (first count : ℕ) (found : List FaultyPage) → AreFaultyFrom s first count found → length found ≤ count
+  few_from first count found are = omega (arith, few_between first (first + count) found (omega arith) are.ascending are.from are.within)
+
+  -- ---- how many there are
+
+  pub many_clean : (first count page many : ℕ) → page ≡ first + count → AreManyFrom s first count many → IsClean s page → AreManyFrom s first (count + 1) many
+  many_clean first count page many here old clean = λ limits within. let so = old limits (omega (arith, within)) in (so.0, more_clean first count page so.0 here so.1 clean, so.2)
+
+  abbrev one_of : (page : ℕ) (fault : PageFault) → FaultyPage
+  one_of page fault = record { page = page; line = line_of s (fault.log, fault.place); fault = fault }
+
+  pub many_faulty : (first count page many : ℕ) (fault : PageFault) (next : ℕ) → page ≡ first + count → AreManyFrom s first count many → IsFirstFault s page fault → (count < most_pages → many ≤ count → next ≡ many + 1) → AreManyFrom s first (count + 1) next
+  many_faulty first count page many fault next here old first_fault is_next = λ limits within.
+      let so = old limits (omega (arith, within)) in
+      let fit : many ≤ count = omega (arith, few_from first count so.0 so.1, so.2) in
+      (so.0 ++ one_of page fault ∷ [], more_faulty first count page so.0 (one_of page fault) here so.1 refl (record { is_line = refl; is_first = first_fault }), length-append so.0 (one_of page fault ∷ []) ∙ omega (arith, so.2, is_next (omega (arith, within, limits.geometry.few_pages)) fit))
+
+  pub many_joined : (first count more many others all : ℕ) → AreManyFrom s first count many → AreManyFrom s (first + count) more others → (count + more ≤ most_pages → many ≤ count → others ≤ more → all ≡ many + others) → AreManyFrom s first (count + more) all
+  many_joined first count more many others all low high is_all = λ limits within.
+      let a = low limits (omega (arith, within)) in
+      let b = high limits (omega (arith, within)) in
+      let few_a : many ≤ count = omega (arith, few_from first count a.0 a.1, a.2) in
+      let few_b : others ≤ more = omega (arith, few_from (first + count) more b.0 b.1, b.2) in
+      (a.0 ++ b.0, joined first count more a.0 b.0 a.1 b.1, length-append a.0 b.0 ∙ omega (arith, a.2, b.2, is_all (omega (arith, within, limits.geometry.few_pages)) few_a few_b))

@@ -1,7 +1,7 @@
 -- The pages with a fault.
-use Rattle.std.specs.Prelude.{◌≡◌, ◌≢◌, ℕ, ◌+◌, ◌<◌, ◌≤◌, List}
+use Rattle.std.specs.Prelude.{◌≡◌, ◌≢◌, ℕ, ◌+◌, ◌<◌, ◌≤◌, List, length}
 use Rattle.std.specs.List.{All, AllPairs}
-use Rattle.migration_types.specs.Sessions.{Recorded, line_of}
+use Rattle.migration_types.specs.Sessions.{Recorded, IsSession, line_of}
 use Rattle.page_facts.specs.PageFaults.{IsClean, IsFirstFault}
 use Rattle.faulty_pages.specs.declared.FaultyPage.{FaultyPage}
 
@@ -28,3 +28,11 @@ pub record AreFaultyFrom (s : Recorded) (first count : ℕ) (found : List Faulty
 -- of all pages of the machine
 abbrev pub AreFaultyPages : Recorded → List FaultyPage → Type 0
 AreFaultyPages s found = AreFaultyBelow s s.geometry.pages found
+
+-- of so many pages from the first on, which the machine has, so many have a fault
+abbrev pub AreManyFrom : Recorded → ℕ → ℕ → ℕ → Type 0
+AreManyFrom s first count many = IsSession s → first + count ≤ s.geometry.pages → (found : List FaultyPage) × AreFaultyFrom s first count found × (length found ≡ many)
+
+-- so many pages of the machine have a fault
+abbrev pub AreManyFaulty : Recorded → ℕ → Type 0
+AreManyFaulty s many = (found : List FaultyPage) × AreFaultyPages s found × (length found ≡ many)

@@ -1,12 +1,12 @@
-//! Each page of a session that has a fault, with its first.
+//! Each page of a session that has a fault, with its first, and how many there are.
 #![tactic(auto)]
 
-ghost use Rattle.std.specs.Prelude.{⊤, ◌≡◌, [], IfOk};
+ghost use Rattle.std.specs.Prelude.{⊤, ◌≡◌, ℕ, [], IfOk};
 ghost use Rattle.std.specs.Thread.{IsSync};
-ghost use Rattle.migration_types.specs.Sessions.{Recorded};
+ghost use Rattle.migration_types.specs.Sessions.{IsSession, Recorded};
 ghost use Rattle.audit_model.specs.Faults.{HasNoPageFault};
 ghost use Rattle.page_facts.specs.PageFaults.{IsFirstFault};
-ghost use Rattle.faulty_pages.specs.FaultyPages.{AreFaultyFrom, AreFaultyPages, IsFaultyPage};
+ghost use Rattle.faulty_pages.specs.FaultyPages.{AreFaultyFrom, AreFaultyPages, AreManyFaulty, AreManyFrom, IsFaultyPage};
 
 use migration_types::{PageNo, Session, line_of};
 use page_facts::{Findings, InThreads, Judges, PageFault, Question, answer_apart, fault_of};
@@ -71,6 +71,41 @@ impl Question for Faults {
     }
 }
 
+/// How many pages have a fault?
+#[derive(Clone, Copy)]
+pub struct HowMany;
+
+impl Question for HowMany {
+    type Answer = usize;
+
+    ghost IsFor = { λ q s. ⊤ };
+
+    ghost IsAnswer = { λ q s first count many. AreManyFrom s first count many };
+
+    fn blank(&self, _alloc: Global, _room: usize) -> Result<usize, AllocError> {
+        Ok(0)
+    }
+
+    fn take(
+        &self,
+        many: &mut usize,
+        session: &Session,
+        page: PageNo,
+        findings: &Findings,
+    ) -> Result<(), AllocError> {
+        match fault_of(session, findings, page) {
+            Some(_) => *many = many.saturating_add(1),
+            None => {}
+        }
+        Ok(())
+    }
+
+    fn add(&self, many: &mut usize, next: usize) -> Result<(), AllocError> {
+        *many = many.saturating_add(next);
+        Ok(())
+    }
+}
+
 impl<R: Threads + Sync> Judges<Faults> for InThreads<'_, R> {
     ghost ready = { IsSync R.row };
 
@@ -87,6 +122,11 @@ impl<R: Threads + Sync> Judges<Faults> for InThreads<'_, R> {
 /// A law: a session with no fault of a page has no page with a fault. Runs nothing.
 pub fn clean_sessions_have_no_faulty_page()
     ensures { (s : Recorded) → HasNoPageFault s → AreFaultyPages s [] }
+{}
+
+/// A law: how many of all pages of a session have a fault is how many of its pages do. Runs nothing.
+pub fn many_of_pages_are_many()
+    ensures { (s : Recorded) (many : ℕ) → IsSession s → AreManyFrom s 0 s.geometry.pages many → AreManyFaulty s many }
 {}
 
 /// Each page of a session that has a fault, in the order of pages, with its first: the fault of least line of the page's

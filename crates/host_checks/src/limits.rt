@@ -3,14 +3,15 @@
 ghost use Rattle.std.specs.Prelude.{◌≡◌, ◌↔◌, ◌≤◌, IfOk, IfErr, IsTrue};
 ghost use Rattle.std.specs.List.{AllByRecursion};
 ghost use Rattle.migration_types.specs.Follow.{RowFits};
-ghost use Rattle.migration_types.specs.Sessions.{recorded};
+ghost use Rattle.migration_types.specs.Sessions.{recorded, HasSourceRec};
 ghost use Rattle.host_checks.specs.Outcomes.{IsUnread};
 ghost use Rattle.host_checks.specs.inner.Limits.{AreShort, AreOfMachine};
 
 use crate::outcome::RunFault;
 use guest_script::Script;
 use migration_types::{
-    Geometry, LogName, Logs, MOST_RECORDS, Record, Session, Version, fits, limits_follow,
+    Geometry, LogName, Logs, MOST_RECORDS, Record, Session, Size, SourceRec, Version, fits,
+    limits_follow,
 };
 use std::alloc::Global;
 
@@ -19,6 +20,13 @@ fn log_fits<R: Record>(version: Version, geometry: Geometry, log: LogName, recor
     ensures { IsTrue result ↔ AllByRecursion (λ rec. RowFits version geometry log (R.consists rec) (R.contents rec)) records.now }
 {
     records.iter().all(|rec| fits(version, geometry, log, rec))
+}
+
+/// Whether sessions of a size have each record of a log of the source.
+fn are_of_size(size: Size, records: &[SourceRec]) -> bool
+    ensures { IsTrue result ↔ AllByRecursion (λ rec. HasSourceRec size rec) records.now }
+{
+    records.iter().all(|rec| rec.is_in(size))
 }
 
 /// Whether each log has as many records as a log may have.
@@ -41,6 +49,7 @@ fn are_of_machine(version: Version, geometry: Geometry, logs: &Logs) -> bool
     limits_follow();
     log_fits(version, geometry, LogName::Guest, logs.guest.as_slice())
         && log_fits(version, geometry, LogName::Source, logs.source.as_slice())
+        && are_of_size(geometry.size(), logs.source.as_slice())
         && log_fits(version, geometry, LogName::Link, logs.link.as_slice())
         && log_fits(version, geometry, LogName::Lane, logs.lane.as_slice())
         && log_fits(version, geometry, LogName::Pager, logs.pager.as_slice())

@@ -7,7 +7,7 @@ use Rattle.migration_types.specs.declared.pages.InitPage.{InitPage}
 use Rattle.migration_types.specs.declared.records.GuestRec.{GuestRec}
 use Rattle.migration_types.specs.declared.records.GuestRec.TheVariants.{Read, Write, Release, Miss, Halt, Resume, See}
 use Rattle.migration_types.specs.declared.records.SourceRec.{SourceRec}
-use Rattle.migration_types.specs.declared.records.SourceRec.TheVariants.{Halted, State, Send, Again, Ask, Done}
+use Rattle.migration_types.specs.declared.records.SourceRec.TheVariants.{Halted, State, Send, Again, Ask, Done, Back}
 use Rattle.migration_types.specs.declared.records.LinkRec.{LinkRec}
 use Rattle.migration_types.specs.declared.records.LinkRec.TheVariants.{Down, Up}
 use Rattle.migration_types.specs.declared.records.LaneRec.{LaneRec}
@@ -67,6 +67,7 @@ source_other (Send page contents) = other_line (source_line (Send page contents)
 source_other (Again sending) = other_line (source_line (Again sending)) refl
 source_other (Ask up) = other_line (source_line (Ask up)) refl
 source_other Done = other_line (source_line Done) refl
+source_other Back = other_line (source_line Back) refl
 
 link_other : (r : LinkRec) → link_line r ≢ codes "end"
 link_other (Down sending) = other_line (link_line (Down sending)) refl

@@ -24,7 +24,7 @@ use Rattle.judged_texts.specs.Checked.{IsJudged, IsTextVerdict}
 use Rattle.command_texts.specs.Cutting.{HasNoEnd, IsCutAtEnd}
 use Rattle.command_texts.proofs.CutOnce.{cut_once}
 use Rattle.judge_commands.specs.Answers.{verdict_status}
-use Rattle.judge_commands.specs.Judged.{IsJudged as IsSessionJudged, Judged as SessionJudged, Refused, Reported, judged_status, report_status}
+use Rattle.session_answers.specs.Judged.{IsJudged as IsSessionJudged, Judged as SessionJudged, Refused, Reported, judged_status, report_status}
 use Rattle.judge_commands.proofs.Closed.{closed_session}
 
 -- the report on a session with no fault and with a merging
@@ -32,7 +32,7 @@ clean_status : (s : Recorded) → IsFaultless s → HasMerging s → (r : Report
 clean_status s f merges (report.Clean cert) is = refl
 clean_status s f merges (report.Shape fault) is = let right = f.shape fault.reason (fault.log, fault.place) in let wrong = is.is_first.is_wrong in absurd cc
 clean_status s f merges (report.Knot left found) is = absurd (is.1.has_no_merging merges)
-clean_status s f merges (report.Faulty line fault order) is = absurd (f.clean fault.reason (fault.log, fault.place) is.1.is_first.is_fault)
+clean_status s f merges (report.Faulty line fault order many) is = absurd (f.clean fault.reason (fault.log, fault.place) is.1.is_first.is_fault)
 
 -- and what is judged of its text
 pub judged_clean : (s : Recorded) (text : List ℕ) → IsFaultless s → HasMerging s → IsSpelling SpellsSession s text → (j : SessionJudged) → IsSessionJudged text j → judged_status j ≡ 0

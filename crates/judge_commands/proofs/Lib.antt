@@ -1,4 +1,3 @@
-pub mod Added
 pub mod Statuses
 pub mod Closed
 pub mod Judged

@@ -5,7 +5,7 @@ use Rattle.text_lines.specs.Text.{IsSpelling, IsRefusalLine}
 use Rattle.migration_types.specs.Sessions.{Recorded}
 use Rattle.session_log.specs.Grammar.{SpellsSession}
 use Rattle.command_texts.specs.declared.answer.Answer.{Answer}
-use Rattle.judge_commands.specs.Judged.{IsJudgedTold, Judged, Refused, Reported}
+use Rattle.session_answers.specs.Judged.{IsJudgedTold, Judged, Refused, Reported}
 use Rattle.judge_commands.specs.inner.Reported.{SaysRefusal, SaysReport}
 
 module _ (Tells : Judged → List ℕ → Type 0) (text : List ℕ) where

@@ -1,13 +1,20 @@
 -- The status of an answer is 0 or 1.
-use Rattle.std.proofs.Common.{ℕ, ◌<◌, List, arith}
+use Rattle.std.proofs.Common.{ℕ, ◌<◌, List, Option, arith}
 use Rattle.cert_check.specs.declared.verdict.Verdict.{Verdict}
 use Rattle.cert_check.specs.declared.verdict.Verdict.TheVariants as verdict
 use Rattle.audit_report.specs.declared.report.Report.{Report}
 use Rattle.audit_report.specs.declared.report.Report.TheVariants as report
 use Rattle.judged_texts.specs.declared.replaying.Outcome.{Outcome}
 use Rattle.judged_texts.specs.declared.replaying.Outcome.TheVariants as outcome
-use Rattle.judge_commands.specs.Answers.{IsVerdictAnswer, verdict_status}
-use Rattle.judge_commands.specs.Judged.{IsJudgedTold, Judged, Refused, Reported, judged_status, report_status}
+use Rattle.judge_commands.specs.Answers.{IsVerdictTold, verdict_lack, verdict_status, verdict_text}
+use Rattle.session_answers.specs.Judged.{IsJudgedTold, Judged, Refused, Reported, judged_status, report_status}
+use Rattle.completeness.specs.declared.missing.Extent.{Extent}
+use Rattle.command_words.specs.declared.asked.VerdictForm.{VerdictForm}
+use Rattle.session_answers.specs.declared.forms.Ask.{Ask}
+use Rattle.session_answers.specs.Forms.{Tells}
+use Rattle.session_answers.specs.Lacks.{lack_form}
+use Rattle.judge_commands.specs.Completed.{IsAnswered, IsChecked}
+use Rattle.judge_commands.proofs.Lacking.{demanded_few}
 use Rattle.judge_commands.specs.Replayed.{IsReplayAnswer, outcome_status}
 
 pub verdict_few : (v : Verdict) → verdict_status v < 2
@@ -23,7 +30,7 @@ report_few : (r : Report) → report_status r < 2
 report_few (report.Clean cert) = omega arith
 report_few (report.Shape fault) = omega arith
 report_few (report.Knot left found) = omega arith
-report_few (report.Faulty line fault order) = omega arith
+report_few (report.Faulty line fault order many) = omega arith
 
 judged_few : (j : Judged) → judged_status j < 2
 judged_few (Refused line) = omega arith
@@ -40,8 +47,17 @@ outcome_few outcome.Safe = omega arith
 pub judged_told_few : (Tells : Judged → List ℕ → Type 0) (session text : List ℕ) (status : ℕ) → IsJudgedTold Tells session text status → status < 2
 judged_told_few Tells session text status h = rw h.is_status (judged_few h.value)
 
-pub check_few : (texts : List ℕ × List ℕ) (text : List ℕ) (status : ℕ) → IsVerdictAnswer texts.0 texts.1 text status → status < 2
-check_few texts text status h = rw h.is_status (verdict_few h.value)
+pub verdict_told_few : (words : Verdict → List ℕ) (texts : List ℕ × List ℕ) (text : List ℕ) (status : ℕ) → IsVerdictTold words texts text status → status < 2
+verdict_told_few words texts text status h = rw h.is_status (verdict_few h.value)
+
+-- so is that of an answer to what is asked
+pub answered_few : (ask : Ask) (session text : List ℕ) (status : ℕ) → IsAnswered ask session text status → status < 2
+answered_few ask session text status h =
+    demanded_few ask.complete (lack_form ask.form) (IsJudgedTold (Tells ask.form) session) session text status (judged_told_few (Tells ask.form) session) h
+
+pub checked_few : (form : VerdictForm) (complete : Option Extent) (texts : List ℕ × List ℕ) (text : List ℕ) (status : ℕ) → IsChecked form complete texts text status → status < 2
+checked_few form complete texts text status h =
+    demanded_few complete (verdict_lack form) (IsVerdictTold (verdict_text form) texts) texts.0 text status (verdict_told_few (verdict_text form) texts) h
 
 pub replay_few : (texts : List ℕ × List ℕ) (text : List ℕ) (status : ℕ) → IsReplayAnswer texts.0 texts.1 text status → status < 2
 replay_few texts text status h = rw h.is_status (outcome_few h.value)

@@ -9,10 +9,16 @@ use Rattle.report_json.specs.JsonText.{verdict_object}
 use Rattle.judged_texts.specs.declared.wanted.Wanted.{Wanted}
 use Rattle.judge_commands.specs.Misfits.{AddsMisfit}
 use Rattle.command_texts.specs.Answers.{IsAnswer, numbered}
-use Rattle.judge_commands.specs.Judged.{IsJudgedTold}
-use Rattle.session_story.specs.declared.topics.Topic.{Topic}
-use Rattle.judge_commands.specs.Forms.{TellsAllFaults, TellsObject, TellsStory, TellsStoryObject, TellsWanted}
-use Rattle.judge_commands.specs.declared.reports.AllFaults.{AllFaults}
+use Rattle.command_texts.specs.declared.why.Telling.{Telling}
+use Rattle.command_texts.specs.declared.why.Telling.TheVariants.{Short, Full}
+use Rattle.command_words.specs.declared.asked.VerdictForm.{VerdictForm}
+use Rattle.command_words.specs.declared.asked.VerdictForm.TheVariants.{Line, Object}
+use Rattle.session_answers.specs.Judged.{IsJudgedTold}
+use Rattle.session_answers.specs.Forms.{TellsWanted}
+use Rattle.session_answers.specs.declared.forms.Form.{Form}
+use Rattle.session_answers.specs.declared.forms.Form.TheVariants as form
+use Rattle.session_answers.specs.declared.forms.LackForm.{LackForm}
+use Rattle.session_answers.specs.declared.forms.LackForm.TheVariants as lack
 
 -- the line of a verdict
 abbrev pub verdict_line : Verdict → List ℕ
@@ -37,9 +43,14 @@ IsVerdictTold words texts = IsAnswer (IsTextVerdict texts.0 texts.1) words verdi
 abbrev pub IsVerdictAnswer : List ℕ → List ℕ → List ℕ → ℕ → Type 0
 IsVerdictAnswer session cert = IsVerdictTold verdict_line (session, cert)
 
--- `check --format json`: the object of the verdict
-abbrev pub IsVerdictObject : List ℕ × List ℕ → List ℕ → ℕ → Type 0
-IsVerdictObject = IsVerdictTold verdict_object
+-- the text of a verdict in this form, and the way to tell what a session lacks
+abbrev pub verdict_text : VerdictForm → Verdict → List ℕ
+verdict_text Line = verdict_line
+verdict_text Object = verdict_object
+
+abbrev pub verdict_lack : VerdictForm → LackForm
+verdict_lack Line = lack.Line
+verdict_lack Object = lack.Object
 
 -- beside the answer of `check`: what of the certificate does not fit the session, by the verdict on the two texts
 abbrev pub AddsMisfitOf : List ℕ × List ℕ → List ℕ → List ℕ → List ℕ → Type 0
@@ -49,18 +60,7 @@ AddsMisfitOf texts name before after = (verdict : Verdict) × IsTextVerdict text
 abbrev pub IsAuditAnswer : Wanted → List ℕ → List ℕ → ℕ → Type 0
 IsAuditAnswer wanted = IsJudgedTold (TellsWanted wanted)
 
--- `audit --format json`: the object of the report
-abbrev pub IsAuditObject : List ℕ → List ℕ → ℕ → Type 0
-IsAuditObject = IsJudgedTold TellsObject
-
--- `audit --all`: the report with each page that has a fault
-abbrev pub IsAllFaultsAnswer : AllFaults → List ℕ → List ℕ → ℕ → Type 0
-IsAllFaultsAnswer form = IsJudgedTold (TellsAllFaults form)
-
--- `explain --format json`: the object of the report with the records of what happened
-abbrev pub IsExplainObject : List ℕ → List ℕ → ℕ → Type 0
-IsExplainObject = IsJudgedTold TellsStoryObject
-
--- `explain`: the first line of the report with what is told on this topic in words
-abbrev pub IsExplainAnswer : Topic → List ℕ → List ℕ → ℕ → Type 0
-IsExplainAnswer topic = IsJudgedTold (TellsStory topic)
+-- how much is told beside the answer of a text that is refused: more where what happened is told in words
+abbrev pub how_much : Form → Telling
+how_much (form.Words topic) = Full
+how_much other = Short

@@ -1,6 +1,4 @@
 pub mod Answers
-pub mod Judged
-pub mod Forms
 pub mod Replayed
 pub mod Completed
 pub mod Noted

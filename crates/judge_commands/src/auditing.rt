@@ -1,19 +1,25 @@
-//! The report on a session, told in some form, with its status.
+//! What is asked of a session, answered with a status.
 
 ghost use Rattle.std.specs.Prelude.{◌≡◌, ℕ, List, IfOk};
 ghost use Rattle.std.specs.Thread.{IsSync};
 ghost use Rattle.text_lines.specs.Answer.{IsRead};
 ghost use Rattle.session_log.specs.Grammar.{SpellsSession};
-ghost use Rattle.judge_commands.specs.Judged.{IsJudgedTold, report_status};
+ghost use Rattle.session_answers.specs.Forms.{Tells};
+ghost use Rattle.session_answers.specs.Judged.{IsJudgedTold, report_status};
+ghost use Rattle.judge_commands.specs.Answers.{how_much};
+ghost use Rattle.judge_commands.specs.Completed.{IsAnswered};
 ghost use Rattle.judge_commands.specs.Noted.{TellsNoUse};
 ghost use Rattle.judge_commands.specs.inner.Reported.{SaysRefusal, SaysReport};
 
+use crate::completing::held;
+use crate::forms::telling_beside;
 use crate::noting::note_on;
-use crate::reports::TellsReport;
 use audit_report::{Report, audit};
 use command_texts::{Answer, Given, OnOne, REFUSED, Telling, given, status_where};
 use migration_types::Session;
-use session_log::SessionReader;
+use page_facts::InThreads;
+use session_answers::{Ask, Form, print_refusal, print_told};
+use session_log::{SessionReader, session_texts_are_unambiguous};
 use std::alloc::{AllocError, Global};
 use std::thread::Threads;
 
@@ -25,25 +31,25 @@ pub fn report_status(report: &Report) -> u8
 }
 
 /// The report on a session, told in this form.
-fn reported<R: Threads + Sync, T: TellsReport>(
+fn reported<R: Threads + Sync>(
     rt: &R,
-    form: &T,
+    form: Form,
     alloc: Global,
     session: &Session,
 ) -> Result<Answer, AllocError>
-    ensures { IfOk result (SaysReport (T.tells form.now) session.now) }
+    ensures { IfOk result (SaysReport (Tells form) session.now) }
 {
     let report = audit(rt, alloc, session)?;
-    let text = form.tell_report(rt, alloc, session, &report)?;
+    let text = print_told(&InThreads { rt }, alloc, session, &report, form)?;
     let status = report_status(&report);
     Ok(Answer { text, status })
 }
 
 /// The line at which a session's text is refused, told in this form.
-fn refused<T: TellsReport>(form: &T, alloc: Global, line: u32) -> Result<Answer, AllocError>
-    ensures { IfOk result (SaysRefusal (T.tells form.now) line) }
+fn refused(form: Form, alloc: Global, line: u32) -> Result<Answer, AllocError>
+    ensures { IfOk result (SaysRefusal (Tells form) line) }
 {
-    let text = form.tell_refusal(alloc, line)?;
+    let text = print_refusal(alloc, line, form)?;
     Ok(Answer {
         text,
         status: REFUSED,
@@ -51,13 +57,13 @@ fn refused<T: TellsReport>(form: &T, alloc: Global, line: u32) -> Result<Answer,
 }
 
 /// What is judged of a session's text, told in this form, by what was read of the text.
-fn audit_read<R: Threads + Sync, T: TellsReport>(
+fn audit_read<R: Threads + Sync>(
     rt: &R,
-    form: &T,
+    form: Form,
     alloc: Global,
     session: &Result<Session, u32>,
 ) -> Result<Answer, AllocError>
-    ensures { (text : List ℕ) → IsRead SpellsSession text session.now → IfOk result (λ answer. IsJudgedTold (T.tells form.now) text answer.text.items answer.status) }
+    ensures { (text : List ℕ) → IsRead SpellsSession text session.now → IfOk result (λ answer. IsJudgedTold (Tells form) text answer.text.items answer.status) }
 {
     match session {
         Ok(session) => reported(rt, form, alloc, session),
@@ -65,30 +71,44 @@ fn audit_read<R: Threads + Sync, T: TellsReport>(
     }
 }
 
-/// `audit`, `certify` and `explain`: the report on a session, told in this form.
-#[derive(Clone, Copy)]
-pub struct AuditCommand<'a, R, T> {
-    pub rt: &'a R,
-    pub form: T,
+/// The answer to what is asked of a session, by what was read of its text.
+fn answered<R: Threads + Sync>(
+    rt: &R,
+    ask: Ask,
+    alloc: Global,
+    session: &Result<Session, u32>,
+) -> Result<Answer, AllocError>
+    ensures { (text : List ℕ) → IsRead SpellsSession text session.now → IfOk result (λ answer. IsAnswered ask text answer.text.items answer.status) }
+{
+    session_texts_are_unambiguous();
+    let answer = audit_read(rt, ask.form, alloc, session)?;
+    held(ask.form.of_lack(), ask.complete, alloc, session, answer)
 }
 
-impl<R: Threads + Sync, T: TellsReport> OnOne for AuditCommand<'_, R, T> {
+/// `audit`, `certify` and `explain`: what is asked of a session.
+#[derive(Clone, Copy)]
+pub struct AuditCommand<'a, R> {
+    pub rt: &'a R,
+    pub ask: Ask,
+}
+
+impl<R: Threads + Sync> OnOne for AuditCommand<'_, R> {
     type Text = SessionReader;
 
     ghost ready = { IsSync R.row };
 
-    ghost is_answer = { λ command. IsJudgedTold (T.tells command.form) };
+    ghost is_answer = { λ command. IsAnswered command.ask };
 
-    ghost how_much = { λ command. T.how_much command.form };
+    ghost how_much = { λ command. how_much command.ask.form };
 
     ghost has_note = { λ _. TellsNoUse };
 
     fn telling(&self) -> Telling {
-        self.form.telling()
+        telling_beside(self.ask.form)
     }
 
     fn answer(&self, alloc: Global, session: &Result<Session, u32>) -> Given {
-        given(audit_read(self.rt, &self.form, alloc, session))
+        given(answered(self.rt, self.ask, alloc, session))
     }
 
     fn note(&self, session: &Result<Session, u32>) -> Option<&'static str> {

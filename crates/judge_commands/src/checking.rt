@@ -7,19 +7,23 @@ ghost use Rattle.session_log.specs.Grammar.{SpellsSession};
 ghost use Rattle.cert_text.specs.Grammar.{SpellsCert};
 ghost use Rattle.judged_texts.specs.Checked.{IsTextVerdict};
 ghost use Rattle.command_texts.specs.Answers.{Says};
-ghost use Rattle.judge_commands.specs.Answers.{AddsMisfitOf, IsVerdictTold, verdict_line, verdict_status};
+ghost use Rattle.judge_commands.specs.Answers.{AddsMisfitOf, verdict_line, verdict_status, verdict_text};
+ghost use Rattle.judge_commands.specs.Completed.{IsChecked};
 ghost use Rattle.judge_commands.specs.Noted.{TellsNoUse};
 
-use crate::forms::TellsVerdict;
+use crate::completing::held;
+use crate::forms::{lack_beside, push_told};
 use crate::misfit_words::push_misfit;
 use crate::noting::note_on;
 use audit_report::{push_refused_certificate, push_refused_session, push_shape};
 use cert_check::Verdict;
 use cert_text::CertReader;
 use command_texts::{Answer, Fault, OnTwo, given, status_where};
+use command_words::VerdictForm;
+use completeness::Extent;
 use judged_texts::check_read;
 use migration_types::{Cert, Session};
-use session_log::SessionReader;
+use session_log::{SessionReader, session_texts_are_unambiguous};
 use std::alloc::{AllocError, Global};
 use std::thread::Threads;
 use text_lines::{push_keyed, push_line};
@@ -47,19 +51,19 @@ pub fn push_verdict(out: &mut Vec<u8>, verdict: Verdict) -> Result<(), AllocErro
 }
 
 /// The verdict on a session and a certificate, by what was read of their texts: told in this form, and as it is.
-fn judge_read<R: Threads + Sync, T: TellsVerdict>(
+fn judge_read<R: Threads + Sync>(
     rt: &R,
-    form: &T,
+    form: VerdictForm,
     alloc: Global,
     session: &Result<Session, u32>,
     cert: &Result<Cert, u32>,
 ) -> Result<(Answer, Verdict), AllocError>
     ensures right { (first second : List ℕ) → IsRead SpellsSession first session.now → IsRead SpellsCert second cert.now → IfOk result (λ judged. IsTextVerdict first second judged.1) }
-    ensures told { IfOk result (λ judged. Says judged.0 (T.verdict_text judged.1) (verdict_status judged.1)) }
+    ensures told { IfOk result (λ judged. Says judged.0 (verdict_text form judged.1) (verdict_status judged.1)) }
 {
     let verdict = check_read(rt, alloc, session, cert)?;
     let mut text = Vec::new(alloc);
-    form.push_verdict(&mut text, verdict)?;
+    push_told(&mut text, form, verdict)?;
     let answer = Answer {
         text,
         status: verdict_status(verdict),
@@ -67,14 +71,35 @@ fn judge_read<R: Threads + Sync, T: TellsVerdict>(
     Ok((answer, verdict))
 }
 
-/// `check`: the verdict on a session and its certificate, told in this form.
-#[derive(Clone, Copy)]
-pub struct CheckCommand<'a, R, T> {
-    pub rt: &'a R,
-    pub form: T,
+/// The answer to what is asked of a session and its certificate, by what was read of their texts, and the verdict.
+fn checked<R: Threads + Sync>(
+    rt: &R,
+    form: VerdictForm,
+    complete: Option<Extent>,
+    alloc: Global,
+    session: &Result<Session, u32>,
+    cert: &Result<Cert, u32>,
+) -> Result<(Answer, Verdict), AllocError>
+    ensures right { (first second : List ℕ) → IsRead SpellsSession first session.now → IsRead SpellsCert second cert.now → IfOk result (λ judged. IsTextVerdict first second judged.1) }
+    ensures told { (first second : List ℕ) → IsRead SpellsSession first session.now → IsRead SpellsCert second cert.now → IfOk result (λ judged. IsChecked form complete (first, second) judged.0.text.items judged.0.status) }
+{
+    session_texts_are_unambiguous();
+    let (answer, verdict) = judge_read(rt, form, alloc, session, cert)?;
+    let whole = held(lack_beside(form), complete, alloc, session, answer)?;
+    Ok((whole, verdict))
 }
 
-impl<R: Threads + Sync, T: TellsVerdict> OnTwo for CheckCommand<'_, R, T> {
+/// `check`: the verdict on a session and its certificate.
+#[derive(Clone, Copy)]
+pub struct CheckCommand<'a, R> {
+    pub rt: &'a R,
+    /// How the verdict is told.
+    pub form: VerdictForm,
+    /// How much of a migration the session has to tell of, where that is asked.
+    pub complete: Option<Extent>,
+}
+
+impl<R: Threads + Sync> OnTwo for CheckCommand<'_, R> {
     type First = SessionReader;
 
     type Second = CertReader;
@@ -83,7 +108,7 @@ impl<R: Threads + Sync, T: TellsVerdict> OnTwo for CheckCommand<'_, R, T> {
 
     ghost ready = { IsSync R.row };
 
-    ghost is_answer = { λ _ texts. IsVerdictTold T.verdict_text texts };
+    ghost is_answer = { λ command. IsChecked command.form command.complete };
 
     ghost is_said = { λ _ texts verdict. IsTextVerdict texts.0 texts.1 verdict };
 
@@ -97,7 +122,7 @@ impl<R: Threads + Sync, T: TellsVerdict> OnTwo for CheckCommand<'_, R, T> {
         session: &Result<Session, u32>,
         cert: &Result<Cert, u32>,
     ) -> Result<(Answer, Verdict), Fault<'static>> {
-        given(judge_read(self.rt, &self.form, alloc, session, cert))
+        given(checked(self.rt, self.form, self.complete, alloc, session, cert))
     }
 
     fn push_more(

@@ -10,11 +10,7 @@ mod misfit_runs;
 mod misfit_words;
 mod noting;
 mod replaying;
-mod reports;
 
 pub use auditing::{AuditCommand, report_status};
 pub use checking::{CheckCommand, push_verdict, verdict_status};
-pub use completing::Complete;
-pub use forms::{InLine, InObject, InWords, TellsLack, TellsVerdict};
 pub use replaying::ReplayCommand;
-pub use reports::{AllFaults, StoryObject, TellsReport};

@@ -23,11 +23,11 @@ some_line s Link n = omega arith
 some_line s Lane n = omega arith
 some_line s Pager n = omega arith
 
-pub faulty_tells : (s : Recorded) (line : ℕ) (fault : PageFault) (order : List Run) → line < 2 ^ 32 → AreRuns Two Large order → IsReport s (Faulty line fault order) → TellsOrder (Faulty line fault order)
-faulty_tells s line fault order few fits is =
+pub faulty_tells : (s : Recorded) (line : ℕ) (fault : PageFault) (order : List Run) (many : ℕ) → line < 2 ^ 32 → AreRuns Two Large order → IsReport s (Faulty line fault order many) → TellsOrder (Faulty line fault order many)
+faulty_tells s line fault order many few fits is =
     let some = some_line s fault.log fault.place in
     let at = is.1.is_line in
-    (report_lines (Faulty line fault order), (form.Faulty line fault.reason, ((omega arith, omega arith), (runs_text_header ∷ runs_lines order, (fits, refl), refl))), refl)
+    (report_lines (Faulty line fault order many), (form.Faulty line fault.reason, ((omega arith, omega arith), (runs_text_header ∷ runs_lines order, (fits, refl), refl))), refl)
 
 pub clean_tells : (cert : Certified) → IsCert cert → TellsOrder (Clean cert)
 clean_tells cert fits = (report_lines (Clean cert), (form.Clean, (cert_lines cert, (cert, (fits, refl), refl), refl)), refl)

@@ -31,7 +31,7 @@ abbrev pub FindsFault : Audited → Type 0
 FindsFault (Refused line) = ⊥
 FindsFault (Reported (Shape fault)) = ⊥
 FindsFault (Reported (Knot left found)) = ⊥
-FindsFault (Reported (Faulty line fault order)) = Unit {0}
+FindsFault (Reported (Faulty line fault order many)) = Unit {0}
 FindsFault (Reported (Clean cert)) = ⊥
 
 -- some merging has a record whose demand fails

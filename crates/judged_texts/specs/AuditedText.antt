@@ -16,7 +16,7 @@ abbrev pub certificate_text : Report → List ℕ
 certificate_text (report.Clean cert) = ended (cert_lines cert)
 certificate_text (report.Shape fault) = ended (first_line (report.Shape fault) ∷ [])
 certificate_text (report.Knot left found) = ended (first_line (report.Knot left found) ∷ [])
-certificate_text (report.Faulty line fault order) = ended (first_line (report.Faulty line fault order) ∷ [])
+certificate_text (report.Faulty line fault order many) = ended (first_line (report.Faulty line fault order many) ∷ [])
 
 -- what is wanted of a report
 abbrev pub wanted_text : Wanted → Report → List ℕ

@@ -8,6 +8,6 @@ use Rattle.audit_report.specs.ReportText.{report_text}
 -- the text of a report on a session with a fault tells the order that shows it, and that of a report on a clean session the
 -- order of its certificate
 abbrev pub TellsOrder : Report → Type 0
-TellsOrder (Faulty line fault order) = IsSpelling SpellsOrder order (report_text (Faulty line fault order))
+TellsOrder (Faulty line fault order many) = IsSpelling SpellsOrder order (report_text (Faulty line fault order many))
 TellsOrder (Clean cert) = IsSpelling SpellsOrder cert.runs (report_text (Clean cert))
 TellsOrder _ = Unit {0}

@@ -7,7 +7,7 @@ use Rattle.std.proofs.lemmas.Slice.Eq.{bytes_eq-Decides}
 use Rattle.migration_types.specs.declared.records.GuestRec.{GuestRec}
 use Rattle.migration_types.specs.declared.records.GuestRec.TheVariants.{Read, Write, Release, Miss, Halt, Resume, See}
 use Rattle.migration_types.specs.declared.records.SourceRec.{SourceRec}
-use Rattle.migration_types.specs.declared.records.SourceRec.TheVariants.{Halted, State, Send, Again, Ask, Done}
+use Rattle.migration_types.specs.declared.records.SourceRec.TheVariants.{Halted, State, Send, Again, Ask, Done, Back}
 use Rattle.migration_types.specs.declared.records.PagerRec.{PagerRec}
 use Rattle.migration_types.specs.declared.records.PagerRec.TheVariants.{Got, Pull, Ready, Fault, Join, Want, Place, Zero, Skip, All}
 use Rattle.migration_types.specs.Memory.{page_of}
@@ -84,6 +84,7 @@ source_yes s State w e = tt
 source_yes s (Again i) w e = tt
 source_yes s (Ask i) w e = tt
 source_yes s Done w e = tt
+source_yes s Back w e = tt
 
 pub source_from : (s : Recorded) (r : SourceRec) (w : World) → source_demand s r w → source_met s.geometry.cells r w ≡ true
 source_from s (Send p content) w d = and_from _ _ (and_from _ _ (left_from w.home d.has_left) (ap (λ b. not b) d.is_owed)) ((bytes_eq-Decides content (page_of s.geometry.cells w.source p)).1 d.is_the_page)
@@ -92,6 +93,7 @@ source_from s State w d = refl
 source_from s (Again i) w d = refl
 source_from s (Ask i) w d = refl
 source_from s Done w d = refl
+source_from s Back w d = refl
 
 pub pager_yes : (s : Recorded) (r : PagerRec) (w : World) → pager_met s.geometry.cells r w ≡ true → pager_demand s r w
 pager_yes s (Place p got content) w e =

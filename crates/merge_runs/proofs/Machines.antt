@@ -3,7 +3,7 @@ use Rattle.std.proofs.Common.{◌≡◌, ℕ, ◌<◌, sym, ap, ◌∙◌, arith
 use Rattle.migration_types.specs.declared.records.GuestRec.{GuestRec}
 use Rattle.migration_types.specs.declared.records.GuestRec.TheVariants.{Read, Write, Release, Miss, Halt, Resume, See}
 use Rattle.migration_types.specs.declared.records.SourceRec.{SourceRec}
-use Rattle.migration_types.specs.declared.records.SourceRec.TheVariants.{Halted, State, Send, Again, Ask, Done}
+use Rattle.migration_types.specs.declared.records.SourceRec.TheVariants.{Halted, State, Send, Again, Ask, Done, Back}
 use Rattle.migration_types.specs.declared.records.PagerRec.{PagerRec}
 use Rattle.migration_types.specs.declared.records.PagerRec.TheVariants.{Got, Pull, Ready, Fault, Join, Want, Place, Zero, Skip, All}
 use Rattle.migration_types.specs.Extents.{Extent}
@@ -54,6 +54,7 @@ source_has e m State sized fits = tt
 source_has e m (Again i) sized fits = tt
 source_has e m (Ask i) sized fits = tt
 source_has e m Done sized fits = tt
+source_has e m Back sized fits = tt
 
 pub pager_has : (version : Version) (e : Extent) (m : Moving) (r : PagerRec) → IsSized e m → PagerRecFits version e r → PagerHas m r
 pager_has version e m (Place p got content) sized fits = (has_page e m p sized fits.0, fits.2.count ∙ sym (ap (λ (x : Extent). x.cells) sized.target.frames))

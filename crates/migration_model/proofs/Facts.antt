@@ -34,7 +34,7 @@ use Rattle.page_stream.specs.declared.Packet.{Packet}
 use Rattle.page_stream.specs.declared.Packet.TheVariants.{All as AllPacket, Page as PagePacket, State as StatePacket, Want as WantPacket}
 use Rattle.migration_model.proofs.Cleans.{IsClean, IsFrozen, PagerClean, SourceClean, links_cleans, over_links, over_pager, over_source, pager_cleans, source_cleans}
 use Rattle.migration_model.proofs.Grows.{Extends, IsThere, guest_more, lane_extends, lane_merges, lane_more, link_extends, link_merges, link_more, pager_extends, pager_merges, pager_more, source_extends, source_merges, source_more, taken_stays}
-use Rattle.migration_model.proofs.Limits.{IsLimited, IsWide, PagerWithin, SourceWithin, links_limits, pager_limits, source_limits}
+use Rattle.migration_model.proofs.Limits.{IsLimited, IsWide, PagerWithin, SourceWithin, links_limits, no_back, pager_limits, source_limits}
 use Rattle.migration_model.proofs.Lists.{AllAt, Index, all_push, each_weaker, index_other}
 use Rattle.migration_model.proofs.Orders.{order_guest, order_guest_two, order_lane, order_link, order_none, order_pager, order_pager_two, order_source, order_source_two}
 use Rattle.migration_model.proofs.Shapes.{IsNamed, IsStarted, goes_on, links_shapes, links_starts, pager_goes_on, pager_shapes, pager_starts, source_shapes, source_starts}
@@ -286,7 +286,7 @@ source_pushed {o} r sent ring was_asked is_done a k named first there on clean w
     let two : 1 < length s.source = slice_get_within s.source 1 State k.source.state in
     record {
       named = source_shapes r s k.named named first;
-      started = source_starts r s two on k.started;
+      started = source_starts r s two on (no_back s k.limits) k.started;
       merges = source_merges r s o there k.merges;
       clean = source_cleans r s a.source.memory a.source.ledger clean k.clean;
       frozen = record { memory_is = k.frozen.memory_is; ledger_is = k.frozen.ledger_is; halt_stands = k.frozen.halt_stands };

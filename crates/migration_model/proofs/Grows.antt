@@ -18,7 +18,7 @@ use Rattle.migration_types.specs.declared.records.LogName.TheVariants.{Guest, La
 use Rattle.migration_types.specs.declared.records.PagerRec.{PagerRec}
 use Rattle.migration_types.specs.declared.records.PagerRec.TheVariants.{All, Fault, Got, Join, Place, Pull, Ready, Skip, Want, Zero}
 use Rattle.migration_types.specs.declared.records.SourceRec.{SourceRec}
-use Rattle.migration_types.specs.declared.records.SourceRec.TheVariants.{Again, Ask, Done, Halted, Send, State}
+use Rattle.migration_types.specs.declared.records.SourceRec.TheVariants.{Again, Ask, Back, Done, Halted, Send, State}
 use Rattle.migration_model.proofs.Lists.{and_both, and_left, and_right, get_new, get_old, length_suc, passes_stays, some_stays}
 use Rattle.std.proofs.Common.{Bool, List, None, Option, Some, [], ap, arith, cond, length, refl, subst, suc, sym, true, zero, ℕ, ◌++◌, ◌<◌, ◌∙◌, ◌∷◌, ◌≡◌}
 use Rattle.std.specs.Option.{option_map}
@@ -251,6 +251,7 @@ module _ (s t : Recorded) (x : Extends s t) where
   repeats_stays test (Send p c) e = e
   repeats_stays test (Ask k) e = e
   repeats_stays test Done e = e
+  repeats_stays test Back e = e
 
   pub delivers_stays : (test : SourceRec → Bool) (got : ℕ) → delivers s test got ≡ true → delivers t test got ≡ true
   delivers_stays test got e = go (delivery s got) refl e
@@ -277,6 +278,7 @@ module _ (s t : Recorded) (x : Extends s t) where
   source_named_stays n State e = refl
   source_named_stays n (Send p c) e = refl
   source_named_stays n Done e = refl
+  source_named_stays n Back e = refl
 
   pub link_named_stays : (r : LinkRec) → link_named s r ≡ true → link_named t r ≡ true
   link_named_stays (Down k) e = passes_stays _ _ s.source t.source k (x.source k) (λ y e. e) e

@@ -6,7 +6,7 @@ use Rattle.migration_types.specs.Memory.{Memory, initial, page_of, with_cell, wi
 use Rattle.migration_types.specs.PageSets.{Pages}
 use Rattle.migration_types.specs.Pages.{AreInitPages, InitPageFits}
 use Rattle.migration_types.specs.Limits.{HasSize, limits, most_records}
-use Rattle.migration_types.specs.Sessions.{log_length, GuestRecFits, HasLane, IsNumber, IsSession, LaneRecFits, LinkRecFits, PagerRecFits, Recorded, SourceRecFits}
+use Rattle.migration_types.specs.Sessions.{log_length, GuestRecFits, HasBack, HasLane, IsNumber, IsSession, LaneRecFits, LinkRecFits, PagerRecFits, Recorded, SourceRecFits}
 use Rattle.migration_types.specs.declared.pages.InitPage.{InitPage}
 use Rattle.migration_types.specs.declared.records.GuestRec.{GuestRec}
 use Rattle.migration_types.specs.declared.records.GuestRec.TheVariants.{Halt, Miss, Read, Release, Resume, See, Write}
@@ -17,7 +17,7 @@ use Rattle.migration_types.specs.declared.records.LinkRec.TheVariants.{Down, Up}
 use Rattle.migration_types.specs.declared.records.PagerRec.{PagerRec}
 use Rattle.migration_types.specs.declared.records.PagerRec.TheVariants.{All, Fault, Got, Join, Place, Pull, Ready, Skip, Want, Zero}
 use Rattle.migration_types.specs.declared.records.SourceRec.{SourceRec}
-use Rattle.migration_types.specs.declared.records.SourceRec.TheVariants.{Again, Ask, Done, Halted, Send, State}
+use Rattle.migration_types.specs.declared.records.SourceRec.TheVariants.{Again, Ask, Back, Done, Halted, Send, State}
 use Rattle.migration_types.specs.declared.records.LogName.{LogName}
 use Rattle.migration_types.specs.declared.records.LogName.TheVariants as logs
 use Rattle.migration_types.specs.declared.size.Size.{Size}
@@ -26,7 +26,7 @@ use Rattle.migration_types.specs.declared.version.Version.{Version}
 use Rattle.migration_model.proofs.Cleans.{IsClean}
 use Rattle.migration_model.proofs.Grows.{guest_more, links_as, pager_more, source_more}
 use Rattle.migration_model.proofs.Lists.{AllAt, all_each, all_push, and_left}
-use Rattle.migration_model.proofs.Shapes.{IsNamed}
+use Rattle.migration_model.proofs.Shapes.{IsNamed, NoBack}
 use Rattle.std.proofs.Common.{Bool, List, None, Option, Some, [], arith, cond, false, length, refl, subst, suc, sym, true, zero, ℕ, ◌&&◌, ◌<◌, ◌∷◌, ◌≡◌, ◌≤◌}
 use Rattle.std.proofs.lemmas.Bool.{ltb-true}
 use Rattle.std.proofs.lemmas.Option.{slice_get_within}
@@ -42,6 +42,7 @@ GuestWithin e r = GuestRecFits e r
 
 abbrev pub SourceWithin : Extent → SourceRec → Type 0
 SourceWithin e (Send p content) = p < e.pages
+SourceWithin e Back = HasBack e.size
 SourceWithin e _ = Unit {0}
 
 abbrev pub PagerWithin : Version → Extent → PagerRec → Type 0
@@ -59,6 +60,10 @@ pub record IsLimited (s : Recorded) : Type 0 where
   pub source : AllAt (λ n r. SourceWithin s.geometry r) s.source
   pub lane : AllAt (λ n r. HasLane s.version) s.lane
   pub pager : AllAt (λ n r. PagerWithin s.version s.geometry r) s.pager
+
+-- no small machine's source starts the guest again
+pub no_back : (s : Recorded) → IsLimited s → NoBack s
+no_back s k n r is same = subst HasBack k.small (subst (SourceWithin s.geometry) same (k.source n r is))
 
 -- each cell has 64 bits
 abbrev pub IsWide : Memory → Type 0
@@ -202,6 +207,7 @@ module _ (s : Recorded) (room : HasRoom s) (named : IsNamed s) (k : IsLimited s)
     source_fit n (Again i) is = numbered i (there_number s.source n i (Again i) room.source is (and_left _ _ (named.source n (Again i) is)))
     source_fit n (Ask i) is = numbered i (passes_there is_up s.link i room.link (named.source n (Ask i) is))
     source_fit n Done is = tt
+    source_fit n Back is = k.source n Back is
 
     pager_fit : (n : ℕ) (r : PagerRec) → slice_get s.pager n ≡ Some r → PagerRecFits s.version s.geometry r
     pager_fit n (Got i) is = numbered i (passes_there is_down s.link i room.link (named.pager n (Got i) is))

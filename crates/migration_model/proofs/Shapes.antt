@@ -1,6 +1,6 @@
 -- The shape of a session that grows.
-use Rattle.audit_model.specs.Shape.{IsRightShape, earlier, guest_named, in_phase, in_phase_by, is_first_send, is_halt, is_resume, is_send_of, keeps, lane_named, link_named, pager_named, pager_start, source_named, source_start}
-use Rattle.audit_model.specs.declared.reasons.ShapeReason.TheVariants.{Named, Phases, SecondSend, Start}
+use Rattle.audit_model.specs.Shape.{IsRightShape, earlier, guest_named, in_phase, in_phase_by, is_alone, is_first_send, is_halt, is_resume, is_send_of, keeps, lane_named, link_named, pager_named, pager_start, source_named, source_start}
+use Rattle.audit_model.specs.declared.reasons.ShapeReason.TheVariants.{Both, Named, Phases, SecondSend, Start}
 use Rattle.migration_types.specs.Sessions.{Recorded}
 use Rattle.migration_types.specs.declared.records.GuestRec.{GuestRec}
 use Rattle.migration_types.specs.declared.records.LaneRec.{LaneRec}
@@ -9,7 +9,7 @@ use Rattle.migration_types.specs.declared.records.LogName.TheVariants.{Guest, La
 use Rattle.migration_types.specs.declared.records.PagerRec.{PagerRec}
 use Rattle.migration_types.specs.declared.records.PagerRec.TheVariants.{All, Fault, Got, Join, Place, Pull, Ready, Skip, Want, Zero}
 use Rattle.migration_types.specs.declared.records.SourceRec.{SourceRec}
-use Rattle.migration_types.specs.declared.records.SourceRec.TheVariants.{Again, Ask, Done, Halted, Send, State}
+use Rattle.migration_types.specs.declared.records.SourceRec.TheVariants.{Again, Ask, Back, Done, Halted, Send, State}
 use Rattle.migration_model.proofs.Grows.{Extends, guest_extends, guest_more, guest_named_stays, lane_named_stays, link_named_stays, links_as, pager_extends, pager_more, pager_named_stays, pager_start_stays, source_extends, source_more, source_named_stays}
 use Rattle.migration_model.proofs.Lists.{AllAt, all_push, before_push, length_suc}
 use Rattle.std.proofs.Common.{Bool, List, None, Option, Some, [], ap, arith, false, length, not, refl, suc, true, zero, ℕ, ◌<◌, ◌||◌, ◌∙◌, ◌∷◌, ◌≡◌, ◌≤◌}
@@ -38,27 +38,45 @@ keeps_all {A} test log all n = go (slice_get log n) refl
     go None is = refl
     go (Some x) is = all n x is
 
-pub right_shape : (s : Recorded) → IsNamed s → IsStarted s → IsRightShape s
-right_shape s k b Phases (Guest, n) = keeps_all (in_phase s) s.guest k.phases n
-right_shape s k b Phases (FromSource, n) = refl
-right_shape s k b Phases (Link, n) = refl
-right_shape s k b Phases (Lane, n) = refl
-right_shape s k b Phases (Pager, n) = refl
-right_shape s k b Named (Guest, n) = keeps_all (λ n. guest_named s) s.guest k.guest n
-right_shape s k b Named (FromSource, n) = keeps_all (source_named s) s.source k.source n
-right_shape s k b Named (Link, n) = keeps_all (λ n. link_named s) s.link k.link n
-right_shape s k b Named (Lane, n) = keeps_all (λ n. lane_named s) s.lane k.lane n
-right_shape s k b Named (Pager, n) = keeps_all (pager_named s) s.pager k.pager n
-right_shape s k b Start (Guest, n) = refl
-right_shape s k b Start (FromSource, n) = keeps_all (source_start s) s.source b.source n
-right_shape s k b Start (Link, n) = refl
-right_shape s k b Start (Lane, n) = refl
-right_shape s k b Start (Pager, n) = keeps_all (pager_start s) s.pager b.pager n
-right_shape s k b SecondSend (Guest, n) = refl
-right_shape s k b SecondSend (FromSource, n) = keeps_all (is_first_send s) s.source k.first_sends n
-right_shape s k b SecondSend (Link, n) = refl
-right_shape s k b SecondSend (Lane, n) = refl
-right_shape s k b SecondSend (Pager, n) = refl
+-- a host's source starts no guest again
+abbrev pub NoBack : Recorded → Type 0
+NoBack s = AllAt (λ n r. r ≡ Back → ⊥) s.source
+
+stays_alone : (s : Recorded) (r : SourceRec) → (r ≡ Back → ⊥) → is_alone s r ≡ true
+stays_alone s (Halted k) other = refl
+stays_alone s State other = refl
+stays_alone s (Send p c) other = refl
+stays_alone s (Again k) other = refl
+stays_alone s (Ask k) other = refl
+stays_alone s Done other = refl
+stays_alone s Back other = absurd (other refl)
+
+pub right_shape : (s : Recorded) → IsNamed s → IsStarted s → NoBack s → IsRightShape s
+right_shape s k b none Phases (Guest, n) = keeps_all (in_phase s) s.guest k.phases n
+right_shape s k b none Phases (FromSource, n) = refl
+right_shape s k b none Phases (Link, n) = refl
+right_shape s k b none Phases (Lane, n) = refl
+right_shape s k b none Phases (Pager, n) = refl
+right_shape s k b none Named (Guest, n) = keeps_all (λ n. guest_named s) s.guest k.guest n
+right_shape s k b none Named (FromSource, n) = keeps_all (source_named s) s.source k.source n
+right_shape s k b none Named (Link, n) = keeps_all (λ n. link_named s) s.link k.link n
+right_shape s k b none Named (Lane, n) = keeps_all (λ n. lane_named s) s.lane k.lane n
+right_shape s k b none Named (Pager, n) = keeps_all (pager_named s) s.pager k.pager n
+right_shape s k b none Start (Guest, n) = refl
+right_shape s k b none Start (FromSource, n) = keeps_all (source_start s) s.source b.source n
+right_shape s k b none Start (Link, n) = refl
+right_shape s k b none Start (Lane, n) = refl
+right_shape s k b none Start (Pager, n) = keeps_all (pager_start s) s.pager b.pager n
+right_shape s k b none SecondSend (Guest, n) = refl
+right_shape s k b none SecondSend (FromSource, n) = keeps_all (is_first_send s) s.source k.first_sends n
+right_shape s k b none Both (FromSource, n) = keeps_all (λ n. is_alone s) s.source (λ n r is. stays_alone s r (none n r is)) n
+right_shape s k b none Both (Guest, n) = refl
+right_shape s k b none Both (Link, n) = refl
+right_shape s k b none Both (Lane, n) = refl
+right_shape s k b none Both (Pager, n) = refl
+right_shape s k b none SecondSend (Link, n) = refl
+right_shape s k b none SecondSend (Lane, n) = refl
+right_shape s k b none SecondSend (Pager, n) = refl
 
 -- the phase of a record is as it was
 phase_push : (r : GuestRec) (s : Recorded) (n : ℕ) (x : GuestRec) → n ≤ length s.guest → in_phase (guest_more r s) n x ≡ in_phase_by s.version (earlier is_halt s.guest n) (earlier is_resume s.guest n) x
@@ -98,30 +116,34 @@ links_starts link lane s x b = record {
 abbrev pub goes_on : SourceRec → Bool
 goes_on (Halted k) = false
 goes_on State = false
+goes_on Back = false
 goes_on _ = true
 
 longer : (n : ℕ) → nat_lt 1 n ≡ true → nat_lt 1 (suc n) ≡ true
 longer n e = let lt : 1 < n = ltb-true 1 n e in lt-ltb 1 (suc n) (omega arith)
 
-source_start_stays : (r : SourceRec) (s : Recorded) (n : ℕ) (y : SourceRec) → source_start s n y ≡ true → source_start (source_more r s) n y ≡ true
-source_start_stays r s zero (Halted k) e = ap (λ n. nat_lt 1 n) (length_suc s.source r) ∙ longer (length s.source) e
-source_start_stays r s zero State e = absurd (cc)
-source_start_stays r s zero (Send p c) e = absurd (cc)
-source_start_stays r s zero (Again k) e = absurd (cc)
-source_start_stays r s zero (Ask k) e = absurd (cc)
-source_start_stays r s zero Done e = absurd (cc)
-source_start_stays r s (suc zero) State e = refl
-source_start_stays r s (suc zero) (Halted k) e = absurd (cc)
-source_start_stays r s (suc zero) (Send p c) e = absurd (cc)
-source_start_stays r s (suc zero) (Again k) e = absurd (cc)
-source_start_stays r s (suc zero) (Ask k) e = absurd (cc)
-source_start_stays r s (suc zero) Done e = absurd (cc)
-source_start_stays r s (suc (suc n)) (Halted k) e = absurd (cc)
-source_start_stays r s (suc (suc n)) State e = absurd (cc)
-source_start_stays r s (suc (suc n)) (Send p c) e = refl
-source_start_stays r s (suc (suc n)) (Again k) e = refl
-source_start_stays r s (suc (suc n)) (Ask k) e = refl
-source_start_stays r s (suc (suc n)) Done e = refl
+source_start_stays : (r : SourceRec) (s : Recorded) (n : ℕ) (y : SourceRec) → (y ≡ Back → ⊥) → source_start s n y ≡ true → source_start (source_more r s) n y ≡ true
+source_start_stays r s zero (Halted k) other e = ap (λ n. nat_lt 1 n) (length_suc s.source r) ∙ longer (length s.source) e
+source_start_stays r s zero State other e = absurd (cc)
+source_start_stays r s zero (Send p c) other e = absurd (cc)
+source_start_stays r s zero (Again k) other e = absurd (cc)
+source_start_stays r s zero (Ask k) other e = absurd (cc)
+source_start_stays r s zero Done other e = absurd (cc)
+source_start_stays r s zero Back other e = absurd (cc)
+source_start_stays r s (suc zero) State other e = refl
+source_start_stays r s (suc zero) (Halted k) other e = absurd (cc)
+source_start_stays r s (suc zero) (Send p c) other e = absurd (cc)
+source_start_stays r s (suc zero) (Again k) other e = absurd (cc)
+source_start_stays r s (suc zero) (Ask k) other e = absurd (cc)
+source_start_stays r s (suc zero) Done other e = absurd (cc)
+source_start_stays r s (suc zero) Back other e = absurd (cc)
+source_start_stays r s (suc (suc n)) (Halted k) other e = absurd (cc)
+source_start_stays r s (suc (suc n)) State other e = absurd (cc)
+source_start_stays r s (suc (suc n)) (Send p c) other e = refl
+source_start_stays r s (suc (suc n)) (Again k) other e = refl
+source_start_stays r s (suc (suc n)) (Ask k) other e = refl
+source_start_stays r s (suc (suc n)) Done other e = refl
+source_start_stays r s (suc (suc n)) Back other e = absurd (other refl)
 
 start_goes_on : (s : Recorded) (n : ℕ) (r : SourceRec) → 2 ≤ n → goes_on r ≡ true → source_start s n r ≡ true
 start_goes_on s zero r le e = absurd (omega arith)
@@ -132,11 +154,12 @@ start_goes_on s (suc (suc n)) (Send p c) le e = refl
 start_goes_on s (suc (suc n)) (Again k) le e = refl
 start_goes_on s (suc (suc n)) (Ask k) le e = refl
 start_goes_on s (suc (suc n)) Done le e = refl
+start_goes_on s (suc (suc n)) Back le e = absurd (cc)
 
-pub source_starts : (r : SourceRec) (s : Recorded) → 2 ≤ length s.source → goes_on r ≡ true → IsStarted s → IsStarted (source_more r s)
-source_starts r s le on b = record {
+pub source_starts : (r : SourceRec) (s : Recorded) → 2 ≤ length s.source → goes_on r ≡ true → NoBack s → IsStarted s → IsStarted (source_more r s)
+source_starts r s le on none b = record {
   source = all_push (λ n y. source_start s n y ≡ true) (λ n y. source_start (source_more r s) n y ≡ true) s.source r b.source
-      (λ n y is e. source_start_stays r s n y e)
+      (λ n y is e. source_start_stays r s n y (none n y is) e)
       (start_goes_on (source_more r s) (length s.source) r le on);
   pager = λ n y is. pager_start_stays s (source_more r s) (source_extends r s) n y (b.pager n y is);
 }
@@ -174,6 +197,7 @@ first_push r s n State le = refl
 first_push r s n (Again k) le = refl
 first_push r s n (Ask k) le = refl
 first_push r s n Done le = refl
+first_push r s n Back le = refl
 
 pub source_shapes : (r : SourceRec) (s : Recorded) → IsNamed s → source_named s (length s.source) r ≡ true → is_first_send s (length s.source) r ≡ true → IsNamed (source_more r s)
 source_shapes r s k named first =

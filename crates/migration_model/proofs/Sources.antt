@@ -13,7 +13,7 @@ use Rattle.migration_types.specs.declared.records.LinkRec.TheVariants.{Up}
 use Rattle.migration_types.specs.declared.records.LogName.TheVariants.{Link, Source as FromSource}
 use Rattle.migration_types.specs.declared.records.PagerRec.TheVariants.{All}
 use Rattle.migration_types.specs.declared.records.SourceRec.{SourceRec}
-use Rattle.migration_types.specs.declared.records.SourceRec.TheVariants.{Again, Ask, Done, Halted, Send, State}
+use Rattle.migration_types.specs.declared.records.SourceRec.TheVariants.{Again, Ask, Back, Done, Halted, Send, State}
 use Rattle.page_stream.specs.declared.Packet.{Packet}
 use Rattle.page_stream.specs.declared.Packet.TheVariants.{All as AllPacket, Page as PagePacket, State as StatePacket, Want as WantPacket}
 use Rattle.migration_model.proofs.Cleans.{SourceClean}
@@ -118,6 +118,7 @@ the_send p cells memory ledger State is h = absurd (cc)
 the_send p cells memory ledger (Again n) is h = absurd (cc)
 the_send p cells memory ledger (Ask n) is h = absurd (cc)
 the_send p cells memory ledger Done is h = absurd (cc)
+the_send p cells memory ledger Back is h = absurd (cc)
 
 sent_before : {o : List Name} (p n : ℕ) (a : BooksAfter) → AwayKept o a → a.source.sent p ≡ Some n → slice_get a.source.log n ≡ Some (Send p (content_of a p))
 sent_before p n a k e =

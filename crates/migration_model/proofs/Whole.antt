@@ -18,7 +18,7 @@ use Rattle.migration_model.proofs.Cleans.{guest_not, no_page_fault}
 use Rattle.migration_model.proofs.Facts.{Arrives, AwayKept, IsComplete, close_none, is_there}
 use Rattle.migration_model.proofs.Guests.{away_step_keeps}
 use Rattle.migration_model.proofs.Homes.{HomeKept, halted_keeps, home_clean, home_stays, home_step_keeps, start_keeps}
-use Rattle.migration_model.proofs.Limits.{HasRoom, is_session}
+use Rattle.migration_model.proofs.Limits.{HasRoom, is_session, no_back}
 use Rattle.migration_model.proofs.Links.{flushed_keeps, turned_keeps}
 use Rattle.migration_model.proofs.Lists.{and_left, and_right, append_nil, nothing}
 use Rattle.migration_model.proofs.Pagers.{delivered_keeps, faulted_keeps, pager_ticked_keeps, popped_keeps, pulled_keeps}
@@ -59,7 +59,7 @@ away_faultless : (o : List Name) (a : BooksAfter) → AwayKept o a → HasRoom (
 away_faultless o a k room =
     let s = session_after a in
     let session = is_session s room k.named k.limits a.source.memory a.source.ledger k.source.wide k.clean in
-    let shape = right_shape s k.named k.started in
+    let shape = right_shape s k.named k.started (no_back s k.limits) in
     let clean = no_page_fault s a.source.memory a.source.ledger k.frozen (none_over o a k) k.clean in
     record {
       faultless = record { is_session = session; shape = shape; clean = clean };
@@ -84,7 +84,7 @@ home_faultless : (o : List Name) (h : BooksBefore) → HomeKept o h → HasRoom 
 home_faultless o h k room =
     let s = session_before h in
     let session = is_session s room k.named k.limits h.guest.memory h.guest.ledger k.wide (home_clean h h.guest.memory h.guest.ledger k.reads) in
-    let shape = right_shape s k.named (record { source = λ n r is. nothing n r is; pager = λ n r is. nothing n r is }) in
+    let shape = right_shape s k.named (record { source = λ n r is. nothing n r is; pager = λ n r is. nothing n r is }) (no_back s k.limits) in
     let clean = home_no_fault o h k in
     record {
       faultless = record { is_session = session; shape = shape; clean = clean };

@@ -56,6 +56,7 @@ source_row (source.Send page contents) = consists (codes "send") (Page page ∷ 
 source_row (source.Again sending) = consists (codes "again") (Number log.Source sending ∷ [])
 source_row (source.Ask up) = consists (codes "ask") (Number log.Link up ∷ [])
 source_row source.Done = consists (codes "done") []
+source_row source.Back = consists (codes "back") []
 
 abbrev pub link_row : LinkRec → Consists
 link_row (link.Down sending) = consists (codes "down") (Number log.Source sending ∷ [])

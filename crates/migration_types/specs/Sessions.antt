@@ -10,7 +10,7 @@ use Rattle.migration_types.specs.declared.records.LogName.TheVariants.{Guest, So
 use Rattle.migration_types.specs.declared.records.GuestRec.{GuestRec}
 use Rattle.migration_types.specs.declared.records.GuestRec.TheVariants.{Read, Write, Release, Miss, Halt, Resume, See}
 use Rattle.migration_types.specs.declared.records.SourceRec.{SourceRec}
-use Rattle.migration_types.specs.declared.records.SourceRec.TheVariants.{Halted, State, Send, Again, Ask, Done}
+use Rattle.migration_types.specs.declared.records.SourceRec.TheVariants.{Halted, State, Send, Again, Ask, Done, Back}
 use Rattle.migration_types.specs.declared.records.LinkRec.{LinkRec}
 use Rattle.migration_types.specs.declared.records.LinkRec.TheVariants.{Down, Up}
 use Rattle.migration_types.specs.declared.records.LaneRec.{LaneRec}
@@ -19,6 +19,7 @@ use Rattle.migration_types.specs.declared.records.PagerRec.{PagerRec}
 use Rattle.migration_types.specs.declared.records.PagerRec.TheVariants.{Got, Pull, Ready, Fault, Join, Want, Place, Zero, Skip, All}
 use Rattle.migration_types.specs.declared.session.Logs.{Logs}
 use Rattle.migration_types.specs.declared.size.Size.{Size}
+use Rattle.migration_types.specs.declared.size.Size.TheVariants.{Small, Large}
 use Rattle.migration_types.specs.Limits.{HasSize, limits, longest_log, vcpus}
 use Rattle.migration_types.specs.Extents.{Extent, IsExtent}
 use Rattle.migration_types.specs.Pages.{AreInitPages}
@@ -53,6 +54,16 @@ abbrev pub HasLog : Version → LogName → Type 0
 HasLog version Lane = HasLane version
 HasLog version _ = Unit {0}
 
+-- the third version's texts alone, which are of the large size, tell that the source started its guest again
+abbrev pub HasBack : Size → Type 0
+HasBack Small = ⊥
+HasBack Large = Unit {0}
+
+-- the records of the source that sessions of a size have
+abbrev pub HasSourceRec : Size → SourceRec → Type 0
+HasSourceRec size Back = HasBack size
+HasSourceRec size _ = Unit {0}
+
 -- a record's numbers are those of a machine of this extent, and the numbers of records in it are below this one
 abbrev pub GuestRecIn : ℕ → Extent → GuestRec → Type 0
 GuestRecIn past e (Read vcpu page cell value) = (vcpu < vcpus) × (page < e.pages) × (cell < e.cells) × (value < 2 ^ 64)
@@ -70,6 +81,7 @@ SourceRecIn past e (Send page contents) = (page < e.pages) × IsContent e.cells 
 SourceRecIn past e (Again sending) = sending < past
 SourceRecIn past e (Ask up) = up < past
 SourceRecIn past e Done = Unit {0}
+SourceRecIn past e Back = HasBack e.size
 
 abbrev pub LinkRecIn : ℕ → LinkRec → Type 0
 LinkRecIn past (Down sending) = sending < past

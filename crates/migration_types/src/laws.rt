@@ -4,7 +4,7 @@ ghost use Rattle.std.specs.Prelude.{◌≡◌, ◌↔◌, None};
 ghost use Rattle.migration_types.specs.Extents.{Extent};
 ghost use Rattle.migration_types.specs.Receipts.{Name, guest_receipt, source_receipt, link_receipt, lane_receipt, pager_receipt};
 ghost use Rattle.migration_types.specs.Names.{receipt};
-ghost use Rattle.migration_types.specs.Sessions.{Recorded, GuestRecFits, SourceRecFits, LinkRecFits, LaneRecFits, PagerRecFits};
+ghost use Rattle.migration_types.specs.Sessions.{Recorded, GuestRecFits, SourceRecFits, LinkRecFits, LaneRecFits, PagerRecFits, HasSourceRec};
 ghost use Rattle.migration_types.specs.declared.version.Version.{Version as Of};
 ghost use Rattle.migration_types.specs.declared.records.LogName.TheVariants as log;
 ghost use Rattle.migration_types.specs.declared.records.GuestRec.{GuestRec};
@@ -25,10 +25,11 @@ pub fn receipts_follow()
     ensures named { (s : Recorded) (name : Name) → receipt s name ≡ receipt_by name.0 (row_of s name) }
 {}
 
-/// A record is within the limits exactly where each of its fields is, and its contents are.
+/// A record is within the limits exactly where each of its fields is, and its contents are, and where sessions of the
+/// size have it, as they have all but some of the source's.
 pub fn limits_follow()
     ensures guest { (v : Of) (e : Extent) (r : GuestRec) → GuestRecFits e r ↔ RowFits v e log.Guest (guest_row r) None }
-    ensures source { (v : Of) (e : Extent) (r : SourceRec) → SourceRecFits e r ↔ RowFits v e log.Source (source_row r) (source_contents r) }
+    ensures source { (v : Of) (e : Extent) (r : SourceRec) → SourceRecFits e r ↔ (RowFits v e log.Source (source_row r) (source_contents r) × HasSourceRec e.size r) }
     ensures link { (v : Of) (e : Extent) (r : LinkRec) → LinkRecFits e r ↔ RowFits v e log.Link (link_row r) None }
     ensures lane { (v : Of) (e : Extent) (r : LaneRec) → LaneRecFits v e r ↔ RowFits v e log.Lane (lane_row r) None }
     ensures pager { (v : Of) (e : Extent) (r : PagerRec) → PagerRecFits v e r ↔ RowFits v e log.Pager (pager_row r) (pager_contents r) }

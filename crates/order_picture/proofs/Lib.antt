@@ -1,4 +1,4 @@
 pub mod Built
 pub mod Names
-pub mod Headings
 pub mod Behinds
+pub mod Certain

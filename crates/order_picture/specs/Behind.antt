@@ -1,6 +1,6 @@
 -- The records that have a row behind the order: of those that it does not take the next of each log, the faulty one, the one
 -- that its fault concerns, and those that wait for one another.
-use Rattle.std.specs.Prelude.{ℕ, ◌-◌, ◌==◌, ◌||◌, Bool, List, Option, Some, None, codes, filter, flat_map, is_some, position, slice_get, if◌then◌else◌}
+use Rattle.std.specs.Prelude.{ℕ, ◌-◌, ◌==◌, ◌||◌, Bool, List, Option, Some, None, filter, flat_map, is_some, position, slice_get, if◌then◌else◌}
 use Rattle.migration_types.specs.declared.records.LogName.{LogName}
 use Rattle.migration_types.specs.Receipts.{Name, logs}
 use Rattle.migration_types.specs.Sessions.{Recorded}
@@ -13,30 +13,30 @@ use Rattle.session_story.specs.declared.topics.Told.{Told}
 use Rattle.session_story.specs.declared.topics.Told.TheVariants as told
 use Rattle.session_story.specs.declared.waits.Knot.{Knot}
 use Rattle.session_story.specs.declared.waits.Waiting.{Waiting}
-use Rattle.session_story.specs.KnotWords.{wait_words}
 use Rattle.session_story.specs.Waits.{next_in}
-use Rattle.order_picture.specs.declared.behind.Wait.{Wait}
-use Rattle.order_picture.specs.declared.focus.Mark.TheVariants.{Faulty, Concerned}
+use Rattle.order_picture.specs.declared.behind.Obstacle.{Obstacle}
+use Rattle.order_picture.specs.declared.behind.Obstacle.TheVariants.{Waits, NotSent, Unhindered}
+use Rattle.order_picture.specs.declared.behind.Tie.{Tie}
 use Rattle.order_picture.specs.declared.picture.Picture.{Picture}
-use Rattle.order_picture.specs.declared.shapes.Look.{Look}
-use Rattle.order_picture.specs.declared.shapes.Look.TheVariants.{Marked, Tied, Stuck}
+use Rattle.order_picture.specs.declared.boxes.BoxKind.{BoxKind}
+use Rattle.order_picture.specs.declared.boxes.BoxKind.TheVariants.{Faulty, Concerned, Tied, Stuck}
 use Rattle.order_picture.specs.Marks.{is_one}
 
 -- the place of a record among those that wait for one another
 abbrev pub place_in : Knot → Name → Option ℕ
 place_in k name = position (λ w. is_one (Some (w.log, w.place)) name) k.waits.items
 
-abbrev pub tie : Option Waiting → Option Waiting → Option Wait
+abbrev pub tie : Option Waiting → Option Waiting → Option Tie
 tie None next = None
 tie (Some waiting) None = None
 tie (Some waiting) (Some next) = Some (record { waiting = waiting; next = next })
 
-abbrev pub tie_at : Knot → Option ℕ → Option Wait
+abbrev pub tie_at : Knot → Option ℕ → Option Tie
 tie_at k None = None
 tie_at k (Some n) = tie (slice_get k.waits.items n) (next_in k n)
 
 -- a record that waits for another that does, and that one, where it is one of those that wait for one another
-abbrev pub tie_of : Told → Name → Option Wait
+abbrev pub tie_of : Told → Name → Option Tie
 tie_of (told.Report (explained.Knot knot)) name = tie_at knot (place_in knot name)
 tie_of t name = None
 
@@ -52,25 +52,22 @@ is_behind p name = name.1 == cursors_of p.taken name.0 || stands_out p name
 abbrev pub log_behind : Recorded → Picture → LogName → List Name
 log_behind s p log = filter (is_behind p) (run_names log (cursors_of p.taken log) (log_length s log - cursors_of p.taken log))
 
-unfoldable pub names_behind : Recorded → Picture → List Name
+-- the records that have a row behind the order
+abbrev pub names_behind : Recorded → Picture → List Name
 names_behind s p = flat_map (log_behind s p) logs
 
--- how a record behind the order is drawn
-unfoldable pub look_behind : Picture → Name → Look
-look_behind p name =
-    if is_one p.focus.fault name then Marked Faulty
+-- what the box of a record behind the order says of it
+abbrev pub kind_behind : Picture → Name → BoxKind
+kind_behind p name =
+    if is_one p.focus.fault name then Faulty
     else if is_some (tie_of p.told name) then Tied
-    else if is_one p.focus.concerned name then Marked Concerned
+    else if is_one p.focus.concerned name then Concerned
     else Stuck
 
--- of a record that waits for none of those: what it receives was not taken, or nothing keeps it
-unfoldable pub why_alone : Recorded → Picture → Name → List ℕ
-why_alone s p name = if is_received (cursors_of p.taken) (receipt s name) then codes "; not taken" else codes "; cannot be taken: what it receives was not"
+abbrev pub obstacle_by : Recorded → Picture → Name → Option Tie → Obstacle
+obstacle_by s p name (Some t) = Waits
+obstacle_by s p name None = if is_received (cursors_of p.taken) (receipt s name) then Unhindered else NotSent
 
-abbrev pub why_by : Recorded → Picture → Name → Option Wait → List ℕ
-why_by s p name (Some t) = wait_words s t.waiting t.next
-why_by s p name None = why_alone s p name
-
--- why the order does not take a record: it waits for another that waits, or else by itself
-unfoldable pub why : Recorded → Picture → Name → List ℕ
-why s p name = why_by s p name (tie_of p.told name)
+-- why the order does not take a record: it waits for another that waits, or what it receives was not taken, or nothing keeps it
+abbrev pub obstacle_of : Recorded → Picture → Name → Obstacle
+obstacle_of s p name = obstacle_by s p name (tie_of p.told name)

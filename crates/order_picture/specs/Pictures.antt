@@ -1,5 +1,5 @@
 -- The picture of a session's records in the order of a report, or along given runs, and what it is about.
-use Rattle.std.specs.Prelude.{◌≡◌, ℕ, ◌≤◌, List, Option, Some, None, length, map, option_and_then}
+use Rattle.std.specs.Prelude.{◌≡◌, ℕ, ◌≤◌, List, Option, Some, None, length, map, option_and_then, position}
 use Rattle.std.specs.List.{list_any}
 use Rattle.migration_types.specs.declared.cert.Run.{Run}
 use Rattle.migration_types.specs.Receipts.{Name}
@@ -22,13 +22,13 @@ use Rattle.session_story.specs.Topics.{IsTold, fault_in, page_in}
 use Rattle.order_picture.specs.declared.focus.Focus.{Focus}
 use Rattle.order_picture.specs.declared.picture.Picture.{Picture}
 use Rattle.order_picture.specs.Marks.{is_one, mark_of}
-use Rattle.order_picture.specs.Drawn.{IsDrawn}
-use Rattle.order_picture.specs.Rows.{Covers, shows_fault, sender_of}
+use Rattle.order_picture.specs.OrderParts.{IsOrderPart}
+use Rattle.order_picture.specs.Rows.{Covers, HasCertain, shows_fault, sender_of}
 
 -- the faulty record of a report
 abbrev pub fault_of : Report → Option Name
 fault_of (report.Shape fault) = Some (fault.log, fault.place)
-fault_of (report.Faulty line fault order) = Some (fault.log, fault.place)
+fault_of (report.Faulty line fault order many) = Some (fault.log, fault.place)
 fault_of (report.Knot left found) = None
 fault_of (report.Clean cert) = None
 
@@ -58,16 +58,18 @@ pub record IsFocus (s : Recorded) (r : Report) (t : Told) (focus : Focus) : Type
   pub concerned : focus.concerned ≡ concerned_of s t
 
 -- A picture of the records that the runs take, as far as they can be taken, with what is told of the session on a topic:
--- each record has its place in one row, there are few rows, the faulty record has one of its own, the record that is
--- marked as what its fault concerns is the one that is told of, and each row knows the row whose record it receives.
+-- each record has its place in one row, there are few rows, the faulty record has one of its own, and so have those next to it
+-- and the record that its fault concerns, the record that is marked as that one is the one that is told of, and each row knows
+-- the row whose record it receives.
 pub record IsPictureOf (s : Recorded) (r : Report) (topic : Topic) (runs : List Run) (p : Picture) : Type 0 where
   pub order : List Name
-  pub drawn : IsDrawn s runs order p.bad
+  pub part : IsOrderPart s runs order p.bad
   pub told : IsTold s r topic p.told
   pub focus : IsFocus s r p.told p.focus
   pub covers : Covers (mark_of s p.focus) p.rows.items order
   pub few : length p.rows.items ≤ 203
   pub shown : shows_fault p.rows.items ≡ list_any (is_one p.focus.fault) order
+  pub certain : HasCertain (position (is_one p.focus.fault) order) (position (is_one p.focus.concerned) order) p.rows.items order
   pub senders : p.senders.items ≡ map (sender_of s p.rows.items) p.rows.items
   pub taken : cursors_of p.taken ≡ cursors_from at_start order
 
@@ -75,7 +77,7 @@ pub record IsPictureOf (s : Recorded) (r : Report) (topic : Topic) (runs : List 
 abbrev pub IsShownAlong : Recorded → Report → List Run → Type 0
 IsShownAlong s (report.Shape fault) runs = IsFoundOrder s (spelled runs)
 IsShownAlong s (report.Knot left found) runs = runs ≡ found.runs
-IsShownAlong s (report.Faulty line fault order) runs = runs ≡ order
+IsShownAlong s (report.Faulty line fault order many) runs = runs ≡ order
 IsShownAlong s (report.Clean cert) runs = runs ≡ cert.runs
 
 -- the picture of a report on a topic

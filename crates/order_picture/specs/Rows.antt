@@ -1,5 +1,5 @@
 -- The rows of a picture.
-use Rattle.std.specs.Prelude.{◌≡◌, ℕ, Bool, true, false, List, [], ◌∷◌, ◌++◌, Option, Some, None, option_and_then, position}
+use Rattle.std.specs.Prelude.{◌≡◌, ℕ, ◌+◌, ◌==◌, ◌||◌, Bool, true, false, List, [], ◌∷◌, ◌++◌, Option, Some, None, option_and_then, position, slice_get}
 use Rattle.std.specs.List.{list_any}
 use Rattle.migration_types.specs.Receipts.{Name}
 use Rattle.migration_types.specs.Sessions.{Recorded}
@@ -48,3 +48,26 @@ row_receipt s (Fold counts) = None
 -- the place of the row whose record the row's record receives
 abbrev pub sender_of : Recorded → List Row → Row → Option ℕ
 sender_of s rows row = option_and_then (λ name. position (is_row_of name) rows) (row_receipt s row)
+
+-- whether a record has a row of its own
+abbrev pub has_row : List Row → Name → Bool
+has_row rows name = list_any (is_row_of name) rows
+
+-- whether a place is right before or right after another, if there is that one
+abbrev pub is_next_to : Option ℕ → ℕ → Bool
+is_next_to None n = false
+is_next_to (Some at) n = at == n + 1 || n == at + 1
+
+-- whether a place is another one, if there is that one
+abbrev pub is_at : Option ℕ → ℕ → Bool
+is_at None n = false
+is_at (Some at) n = at == n
+
+-- whether a place of an order is next to the first place, or is the second
+abbrev pub is_certain : Option ℕ → Option ℕ → ℕ → Bool
+is_certain fault concerned n = is_next_to fault n || is_at concerned n
+
+-- The records next to the faulty one have rows of their own, and so has the record that its fault concerns, wherever the order
+-- has them.
+abbrev pub HasCertain : (faulty concerned : Option ℕ) → List Row → List Name → Type 0
+HasCertain faulty concerned rows order = (n : ℕ) (name : Name) → is_certain faulty concerned n ≡ true → slice_get order n ≡ Some name → has_row rows name ≡ true

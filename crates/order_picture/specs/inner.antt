@@ -1,3 +1,2 @@
 -- What serves proofs alone.
 pub mod Built
-pub mod Words

@@ -1,23 +1,35 @@
 //! The records that have a row behind the order: of those that it does not take the next of each log, the faulty one, the
 //! one that its fault concerns, and those that wait for one another.
 
-ghost use Rattle.std.specs.Prelude.{◌≡◌, [], ◌∷◌, ◌++◌, filter, string_bytes, IfOk, OnOk};
-ghost use Rattle.order_picture.specs.Behind.{is_behind, log_behind, look_behind, names_behind, place_in, stands_out, tie_at, tie_of, why, why_alone};
+ghost use Rattle.std.specs.Prelude.{◌≡◌, [], ◌∷◌, ◌++◌, filter, IfOk, OnOk};
+ghost use Rattle.order_picture.specs.Behind.{is_behind, kind_behind, log_behind, names_behind, obstacle_of, place_in, stands_out, tie_at, tie_of};
 
-use crate::focus::Mark;
+use crate::boxes::BoxKind;
 use crate::picture::Picture;
 use crate::records::{Name, is_one};
-use crate::shapes::Look;
 use migration_types::{LogName, Session, logs};
-use session_story::{Explanation, Knot, Told, Waiting, push_wait};
+use session_story::{Explanation, Knot, Told, Waiting};
 use std::alloc::{AllocError, Global};
 
 /// A record that waits for another that does.
 #[derive(Clone, Copy)]
-pub(crate) struct Wait {
+pub(crate) struct Tie {
     pub waiting: Waiting,
     /// What it waits for, or what comes before that in its log.
     pub next: Waiting,
+}
+
+/// Why the order does not take a record.
+#[derive(Clone, Copy)]
+pub enum Obstacle {
+    /// The order takes it.
+    Nothing,
+    /// It waits for another that waits.
+    Waits,
+    /// What it receives was not taken.
+    NotSent,
+    /// The order ends before it, and nothing else keeps it.
+    Unhindered,
 }
 
 /// The place of a record among those that wait for one another.
@@ -30,14 +42,14 @@ fn place_in(knot: &Knot, name: Name) -> Option<usize>
 }
 
 /// The record at this place of those that wait for one another, and the one that it waits for.
-fn tie_at(knot: &Knot, place: Option<usize>) -> Option<Wait>
+fn tie_at(knot: &Knot, place: Option<usize>) -> Option<Tie>
     ensures { result ≡ tie_at knot.now place }
 {
     let Some(place) = place else {
         return None;
     };
     match (knot.waits.get(place), knot.next(place)) {
-        (Some(waiting), Some(next)) => Some(Wait {
+        (Some(waiting), Some(next)) => Some(Tie {
             waiting: *waiting,
             next,
         }),
@@ -46,7 +58,7 @@ fn tie_at(knot: &Knot, place: Option<usize>) -> Option<Wait>
 }
 
 /// A record and the one that it waits for, where both are of those that wait for one another.
-pub(crate) fn tie_of(told: &Told, name: Name) -> Option<Wait>
+pub(crate) fn tie_of(told: &Told, name: Name) -> Option<Tie>
     ensures { result ≡ tie_of told.now name }
 {
     match told {
@@ -99,7 +111,6 @@ fn push_log_behind(
 }
 
 /// The records that have a row behind the order.
-#[tactic(auto, unfolding(crate::specs::Behind::names_behind))]
 pub(crate) fn names_behind(
     alloc: Global,
     session: &Session,
@@ -114,60 +125,33 @@ pub(crate) fn names_behind(
     Ok(names)
 }
 
-/// How a record behind the order is drawn.
-#[tactic(auto, unfolding(crate::specs::Behind::look_behind))]
-pub(crate) fn look_behind(picture: &Picture, name: Name) -> Look
-    ensures { result ≡ look_behind picture.now name }
+/// What the box of a record behind the order says of it.
+pub(crate) fn kind_behind(picture: &Picture, name: Name) -> BoxKind
+    ensures { result ≡ kind_behind picture.now name }
 {
     if is_one(picture.focus.fault, name) {
-        Look::Marked(Mark::Faulty)
+        BoxKind::Faulty
     } else if tie_of(&picture.told, name).is_some() {
-        Look::Tied
+        BoxKind::Tied
     } else if is_one(picture.focus.concerned, name) {
-        Look::Marked(Mark::Concerned)
+        BoxKind::Concerned
     } else {
-        Look::Stuck
-    }
-}
-
-/// Why the order does not take a record that waits for none of those that wait for one another.
-#[tactic(auto, unfolding(crate::specs::Behind::why_alone))]
-fn why_alone(session: &Session, picture: &Picture, name: Name) -> &'static str
-    ensures { result.now ≡ why_alone session.now picture.now name }
-{
-    if picture.taken.received(session.named(name)) {
-        "; not taken"
-    } else {
-        "; cannot be taken: what it receives was not"
-    }
-}
-
-/// Adds why the order does not take a record.
-#[tactic(auto, unfolding(crate::specs::Behind::why))]
-fn push_why(
-    out: &mut String,
-    session: &Session,
-    picture: &Picture,
-    name: Name,
-) -> Result<(), AllocError>
-    ensures { OnOk result (string_bytes out.new ≡ string_bytes out.old ++ why session.now picture.now name) }
-{
-    match tie_of(&picture.told, name) {
-        Some(tie) => push_wait(out, session, &tie.waiting, &tie.next),
-        None => out.push_str(why_alone(session, picture, name)),
+        BoxKind::Stuck
     }
 }
 
 /// Why the order does not take a record.
-pub(crate) fn why_text(
-    alloc: Global,
-    session: &Session,
-    picture: &Picture,
-    name: Name,
-) -> Result<String, AllocError>
-    ensures { IfOk result (λ text. string_bytes text ≡ why session.now picture.now name) }
+pub(crate) fn obstacle_of(session: &Session, picture: &Picture, name: Name) -> Obstacle
+    ensures { result ≡ obstacle_of session.now picture.now name }
 {
-    let mut text = String::new(alloc);
-    push_why(&mut text, session, picture, name)?;
-    Ok(text)
+    match tie_of(&picture.told, name) {
+        Some(_) => Obstacle::Waits,
+        None => {
+            if picture.taken.received(session.named(name)) {
+                Obstacle::Unhindered
+            } else {
+                Obstacle::NotSent
+            }
+        }
+    }
 }

@@ -106,7 +106,7 @@ fn concerned(
     Ok(flags)
 }
 
-/// The same by the places of the order.
+/// Which places of the order have a record with its flag.
 fn in_order(
     alloc: Global,
     session: &Session,

@@ -5,7 +5,7 @@ ghost use Rattle.migration_types.specs.Sessions.{IsSession};
 ghost use Rattle.audit_model.specs.Mergings.{at_start, run_names, spelled};
 ghost use Rattle.audit_model.specs.Walks.{Walks, cursors_from};
 ghost use Rattle.merge_runs.specs.Taken.{cursors_of};
-ghost use Rattle.order_picture.specs.Drawn.{IsDrawn};
+ghost use Rattle.order_picture.specs.OrderParts.{IsOrderPart};
 
 use crate::records::Name;
 use audit_model::mergings_are_walks;
@@ -15,7 +15,7 @@ use std::alloc::{AllocError, Global};
 
 /// The records of an order, and how many of each log they are.
 #[derive(Drop)]
-pub(crate) struct Drawn {
+pub(crate) struct OrderPart {
     pub names: Vec<Name>,
     pub taken: Taken,
     /// The place of the first run that cannot be taken, or the number of the runs where records are left.
@@ -50,12 +50,12 @@ fn push_runs(names: &mut Vec<Name>, session: &Session, runs: &[Run]) -> Result<T
 
 /// The records that the runs take, where they spell a merging, and else those that the runs before the first bad one
 /// take. Takes memory for the names. An error: there is no memory for them.
-pub(crate) fn draw_along(
+pub(crate) fn part_along(
     alloc: Global,
     session: &Session,
     runs: &[Run],
-) -> Result<Drawn, AllocError>
-    ensures drawn { IfOk result (λ d. IsDrawn session.now runs.now d.names.items d.bad) }
+) -> Result<OrderPart, AllocError>
+    ensures part { IfOk result (λ d. IsOrderPart session.now runs.now d.names.items d.bad) }
     ensures taken { IfOk result (λ d. cursors_of d.taken ≡ cursors_from at_start d.names.items) }
 {
     session.keeps_limits();
@@ -67,5 +67,5 @@ pub(crate) fn draw_along(
     };
     let mut names = Vec::new(alloc);
     let taken = push_runs(&mut names, session, walked)?;
-    Ok(Drawn { names, taken, bad })
+    Ok(OrderPart { names, taken, bad })
 }

@@ -7,7 +7,7 @@ ghost use Rattle.order_picture.specs.Pictures.{IsPicture, IsPictureOf};
 
 use crate::focus::{Focus, Mark, focus_of};
 use crate::keeping::{Keeping, kept_in};
-use crate::order::{Drawn, draw_along};
+use crate::order::{OrderPart, part_along};
 use crate::records::{Name, is_one};
 use crate::rows::rows_of;
 use audit_report::Report;
@@ -139,7 +139,7 @@ pub fn plan_along(
 {
     let told = tell(alloc, session, report, topic)?;
     let focus = focus_of(session, report, &told);
-    let Drawn { names, taken, bad } = draw_along(alloc, session, runs)?;
+    let OrderPart { names, taken, bad } = part_along(alloc, session, runs)?;
     let middle = middle_of(session, &focus, &names, bad.is_none());
     let keeping = Keeping {
         session,
@@ -184,12 +184,4 @@ pub fn plan_on(
             plan_along(alloc, session, report, topic, made.runs.as_slice())
         }
     }
-}
-
-/// The picture of a report, about what it names: what [`plan_on`] has of it.
-pub fn plan(alloc: Global, session: &Session, report: &Report) -> Result<Picture, AllocError>
-    requires { IsReport session.now report.now }
-    ensures { IfOk result (IsPicture session.now report.now Topic.Report) }
-{
-    plan_on(alloc, session, report, Topic::Report)
 }

@@ -1,24 +1,25 @@
 //! The rows of a picture, as they are built.
 
-ghost use Rattle.std.specs.Prelude.{◌≡◌, ◌+◌, ◌*◌, ◌≤◌, ◌<◌, ◌^◌, [], ◌∷◌, ◌++◌, List, IfOk, OnOk, length, true};
+ghost use Rattle.std.specs.Prelude.{◌≡◌, ◌+◌, ◌*◌, ◌≤◌, ◌<◌, ◌^◌, [], ◌∷◌, ◌++◌, List, IfOk, OnOk, length, nat_lt, position, true, if◌then◌else◌};
 ghost use Rattle.std.specs.List.{list_any};
 ghost use Rattle.migration_types.specs.Receipts.{Name as Named};
 ghost use Rattle.order_picture.specs.declared.focus.Mark.{Mark as Marked};
 ghost use Rattle.order_picture.specs.Marks.{is_one, mark_of};
 ghost use Rattle.audit_model.specs.Mergings.{at_start};
 ghost use Rattle.merge_runs.specs.Taken.{cursors_of};
-ghost use Rattle.order_picture.specs.Rows.{Covers, is_faulty, shows_fault};
-ghost use Rattle.order_picture.specs.inner.Built.{IsBuilt, closed_rows};
+ghost use Rattle.order_picture.specs.Rows.{Covers, HasCertain, has_row, is_at, is_certain, is_faulty, is_next_to, shows_fault};
+ghost use Rattle.order_picture.specs.inner.Built.{Extends, HasCertainBelow, IsBuilt, certain_left, closed_rows};
 
 use crate::focus::{Focus, Mark, mark_of};
 use crate::picture::Row;
-use crate::records::Name;
+use crate::records::{Name, is_one};
 use merge_runs::Taken;
 use migration_types::{LogName, Session};
 use std::alloc::{AllocError, Global};
 
-/// So many rows there may be beside that of the faulty record, the fold before it, and the fold at the end.
-const MOST_OTHERS: usize = 200;
+/// So many rows there may be beside those of the faulty record, of its neighbours and of the record that its fault concerns,
+/// the folds before each of these, and the fold at the end.
+const MOST_OTHERS: usize = 194;
 
 /// The rows so far.
 #[derive(Drop)]
@@ -45,7 +46,7 @@ impl Building {
     /// No row.
     fn new(alloc: Global) -> Self
         ensures start { (mark : Named → Marked) → IsBuilt mark result [] }
-        ensures few { length result.rows.items + result.room + 2 * result.fault_left ≡ 202 }
+        ensures few { length result.rows.items + result.room + 2 * result.fault_left ≡ 196 }
     {
         Building {
             rows: Vec::new(alloc),
@@ -73,7 +74,10 @@ impl Building {
     }
 
     /// Gives a record a row.
+    #[tactic(auto, using(crate::proofs::Certain::closed_extends))]
     fn keep(&mut self, name: Name, mark: Mark) -> Result<(), AllocError>
+        ensures more { OnOk result (Extends self.old.rows.items self.new.rows.items) }
+        ensures own { OnOk result (has_row self.new.rows.items name ≡ true) }
         ensures rows { OnOk result (self.new.rows.items ≡ closed_rows self.old ++ Row.Record name.0 name.1 mark ∷ []) }
         ensures since { OnOk result (cursors_of self.new.since ≡ at_start) }
         ensures folded { OnOk result (self.new.folded ≡ 0) }
@@ -91,9 +95,11 @@ impl Building {
 
     /// Gives a record a row that counts as one of the others.
     fn keep_other(&mut self, name: Name, mark: Mark) -> Result<(), AllocError>
-        requires { 2 ≤ self.old.room }
+        requires { (if nat_lt 0 self.old.folded then 2 else 1) ≤ self.old.room }
         ensures built { (look : Named → Marked) (names : List Named) → mark ≡ look name → IsBuilt look self.old names → OnOk result (IsBuilt look self.new (names ++ name ∷ [])) }
         ensures few { OnOk result (length self.new.rows.items + self.new.room + 2 * self.new.fault_left ≤ length self.old.rows.items + self.old.room + 2 * self.old.fault_left) }
+        ensures more { OnOk result (Extends self.old.rows.items self.new.rows.items) }
+        ensures own { OnOk result (has_row self.new.rows.items name ≡ true) }
     {
         let before = self.rows.len();
         self.keep(name, mark)?;
@@ -107,6 +113,8 @@ impl Building {
         requires faulty { is_faulty mark ≡ true }
         ensures built { (look : Named → Marked) (names : List Named) → mark ≡ look name → IsBuilt look self.old names → OnOk result (IsBuilt look self.new (names ++ name ∷ [])) }
         ensures few { OnOk result (length self.new.rows.items + self.new.room + 2 * self.new.fault_left ≤ length self.old.rows.items + self.old.room + 2 * self.old.fault_left) }
+        ensures more { OnOk result (Extends self.old.rows.items self.new.rows.items) }
+        ensures own { OnOk result (has_row self.new.rows.items name ≡ true) }
     {
         self.keep(name, mark)?;
         self.fault_left = 0;
@@ -119,6 +127,7 @@ impl Building {
         requires since { cursors_of self.old.since name.0 ≤ self.old.folded }
         ensures built { (look : Named → Marked) (names : List Named) → (is_faulty (look name) ≡ true → self.old.fault_left ≡ 0) → IsBuilt look self.old names → IsBuilt look self.new (names ++ name ∷ []) }
         ensures few { length self.new.rows.items + self.new.room + 2 * self.new.fault_left ≡ length self.old.rows.items + self.old.room + 2 * self.old.fault_left }
+        ensures more { self.new.rows.items ≡ self.old.rows.items }
     {
         self.since = self.since.moved(name.0, 1);
         self.folded += 1;
@@ -132,22 +141,24 @@ impl Building {
         requires other { is_faulty mark ≡ true → self.old.fault_left ≡ 0 }
         ensures built { (look : Named → Marked) (names : List Named) → mark ≡ look name → IsBuilt look self.old names → OnOk result (IsBuilt look self.new (names ++ name ∷ [])) }
         ensures few { OnOk result (length self.new.rows.items + self.new.room + 2 * self.new.fault_left ≤ length self.old.rows.items + self.old.room + 2 * self.old.fault_left) }
+        ensures more { OnOk result (Extends self.old.rows.items self.new.rows.items) }
     {
-        let room = self.room;
-        if !wanted || room < 2 {
+        let cost = if self.folded > 0 { 2 } else { 1 };
+        if !wanted || self.room < cost {
             self.fold(name);
             return Ok(());
         }
         self.keep_other(name, mark)
     }
 
-    /// Takes the next record, which has a row where it is wanted and there is room for it, and where it is the faulty
-    /// one.
-    fn take(&mut self, name: Name, mark: Mark, wanted: bool) -> Result<(), AllocError>
+    /// Takes the next record, one whose row is not certain: it has one where it is wanted and there is room for it, and where
+    /// it is the faulty one.
+    fn take_uncertain(&mut self, name: Name, mark: Mark, wanted: bool) -> Result<(), AllocError>
         requires few { self.old.folded + 1 < 2 ^ 64 }
         requires since { cursors_of self.old.since name.0 ≤ self.old.folded }
         ensures built { (look : Named → Marked) (names : List Named) → mark ≡ look name → IsBuilt look self.old names → OnOk result (IsBuilt look self.new (names ++ name ∷ [])) }
         ensures few { OnOk result (length self.new.rows.items + self.new.room + 2 * self.new.fault_left ≤ length self.old.rows.items + self.old.room + 2 * self.old.fault_left) }
+        ensures more { OnOk result (Extends self.old.rows.items self.new.rows.items) }
     {
         if self.fault_left == 0 {
             return self.take_other(name, mark, wanted);
@@ -157,6 +168,80 @@ impl Building {
         }
         self.take_other(name, mark, wanted)
     }
+
+    /// Gives a record a row that is certain.
+    fn keep_certain(&mut self, name: Name, mark: Mark) -> Result<(), AllocError>
+        ensures built { (look : Named → Marked) (names : List Named) → mark ≡ look name → IsBuilt look self.old names → OnOk result (IsBuilt look self.new (names ++ name ∷ [])) }
+        ensures few { OnOk result (length self.new.rows.items + self.new.room + 2 * self.new.fault_left ≤ length self.old.rows.items + self.old.room + 2 * self.old.fault_left + 2) }
+        ensures more { OnOk result (Extends self.old.rows.items self.new.rows.items) }
+        ensures own { OnOk result (has_row self.new.rows.items name ≡ true) }
+    {
+        self.keep(name, mark)?;
+        Ok(())
+    }
+
+    /// Takes the next record, whose row may be certain.
+    fn take(
+        &mut self,
+        name: Name,
+        mark: Mark,
+        wanted: bool,
+        certain: bool,
+    ) -> Result<(), AllocError>
+        requires few { self.old.folded + 1 < 2 ^ 64 }
+        requires since { cursors_of self.old.since name.0 ≤ self.old.folded }
+        ensures built { (look : Named → Marked) (names : List Named) → mark ≡ look name → IsBuilt look self.old names → OnOk result (IsBuilt look self.new (names ++ name ∷ [])) }
+        ensures few { OnOk result (length self.new.rows.items + self.new.room + 2 * self.new.fault_left ≤ length self.old.rows.items + self.old.room + 2 * self.old.fault_left + (if certain then 2 else 0)) }
+        ensures more { OnOk result (Extends self.old.rows.items self.new.rows.items) }
+        ensures own { certain ≡ true → OnOk result (has_row self.new.rows.items name ≡ true) }
+    {
+        if certain {
+            self.keep_certain(name, mark)
+        } else {
+            self.take_uncertain(name, mark, wanted)
+        }
+    }
+}
+
+/// Whether a place is right before or right after another, if there is that one.
+fn is_next_to(at: Option<usize>, n: usize) -> bool
+    ensures { result ≡ is_next_to at n }
+{
+    match at {
+        Some(at) => at.checked_sub(1) == Some(n) || n.checked_sub(1) == Some(at),
+        None => false,
+    }
+}
+
+/// Whether a place is another one, if there is that one.
+fn is_at(at: Option<usize>, n: usize) -> bool
+    ensures { result ≡ is_at at n }
+{
+    match at {
+        Some(at) => at == n,
+        None => false,
+    }
+}
+
+/// The places in an order of the faulty record and of the record that its fault concerns, if it has them.
+#[derive(Clone, Copy)]
+struct Certain {
+    fault: Option<usize>,
+    concerned: Option<usize>,
+}
+
+/// Whether the record at a place of an order has a row in any case.
+fn is_certain(certain: Certain, n: usize) -> bool
+    ensures { result ≡ is_certain certain.fault certain.concerned n }
+{
+    is_next_to(certain.fault, n) || is_at(certain.concerned, n)
+}
+
+/// The place of a record in an order, if there is that record and the order has it.
+fn place_of(order: &[Name], one: Option<Name>) -> Option<usize>
+    ensures { result ≡ position (is_one one) order.now }
+{
+    order.iter().position(|name| is_one(one, *name))
 }
 
 /// Takes the records of an order, of which those at these places are wanted.
@@ -165,16 +250,18 @@ fn take_all(
     focus: &Focus,
     order: &[Name],
     wanted: &[bool],
+    certain: Certain,
     building: &mut Building,
 ) -> Result<(), AllocError>
     requires start { IsBuilt (mark_of session.now focus.now) building.old [] }
     ensures built { OnOk result (IsBuilt (mark_of session.now focus.now) building.new order.now) }
-    ensures few { OnOk result (length building.new.rows.items + building.new.room + 2 * building.new.fault_left ≤ length building.old.rows.items + building.old.room + 2 * building.old.fault_left) }
+    ensures few { OnOk result (length building.new.rows.items + building.new.room + 2 * building.new.fault_left ≤ length building.old.rows.items + building.old.room + 2 * building.old.fault_left + 6) }
+    ensures certain { OnOk result (HasCertain certain.fault certain.concerned building.new.rows.items order.now) }
 {
     for n in 0..order.len() {
         let mark = mark_of(session, focus, order[n]);
         let is_wanted = wanted.get(n).copied().unwrap_or(false);
-        building.take(order[n], mark, is_wanted)?;
+        building.take(order[n], mark, is_wanted, is_certain(certain, n))?;
     }
     Ok(())
 }
@@ -190,9 +277,14 @@ pub(crate) fn rows_of(
     ensures covers { IfOk result (λ rows. Covers (mark_of session.now focus.now) rows.items order.now) }
     ensures few { IfOk result (λ rows. length rows.items ≤ 203) }
     ensures shown { IfOk result (λ rows. shows_fault rows.items ≡ list_any (is_one focus.now.fault) order.now) }
+    ensures certain { IfOk result (λ rows. HasCertain (position (is_one focus.now.fault) order.now) (position (is_one focus.now.concerned) order.now) rows.items order.now) }
 {
+    let certain = Certain {
+        fault: place_of(order, focus.fault),
+        concerned: place_of(order, focus.concerned),
+    };
     let mut building = Building::new(alloc);
-    take_all(session, focus, order, wanted, &mut building)?;
+    take_all(session, focus, order, wanted, certain, &mut building)?;
     building.close()?;
     Ok(building.rows)
 }

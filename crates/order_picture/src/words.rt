@@ -1,147 +1,29 @@
-//! Records and their counts in words.
+//! The words of a picture: how many records there are, what the heading says, and what the signs mean.
 
-ghost use Rattle.std.specs.Prelude.{◌≡◌, ◌++◌, string_bytes, IfOk, OnOk};
-ghost use Rattle.std.specs.Fmt.{decimal};
-ghost use Rattle.migration_types.specs.Receipts.{log_word};
-ghost use Rattle.merge_runs.specs.Taken.{cursors_of};
-ghost use Rattle.session_story.specs.RecordWords.{record_words};
-ghost use Rattle.order_picture.specs.Counts.{added, counted, counts_words, log_count, many, more_counts, next_count, records_words, sum_of};
-
+use crate::behind::{Obstacle, tie_of};
+use crate::elements::push;
+use crate::heading::Subject;
+use crate::headings::OrderShown;
 use crate::records::Name;
-use merge_runs::Taken;
-use migration_types::{LogName, Session, logs};
-use session_story::push_record;
+use crate::signs::Sign;
+use merge_runs::{Taken, all_of};
+use migration_types::{Session, logs};
+use session_story::{push_record, push_wait};
 use std::alloc::{AllocError, Global};
 use text_lines::push_number;
 
-/// Adds a text.
-pub(crate) fn push(out: &mut Vec<u8>, text: &[u8]) -> Result<(), AllocError>
-    ensures { OnOk result (out.new.items ≡ out.old.items ++ text.now) }
-{
-    out.extend_from_slice(text)
-}
+/// The name of the lines in the margin.
+pub(crate) const LINES: &[u8] = b"line";
 
-/// Adds a text and a number.
-pub(crate) fn push_with(out: &mut Vec<u8>, text: &[u8], number: u64) -> Result<(), AllocError>
-    ensures { OnOk result (out.new.items ≡ out.old.items ++ (text.now ++ decimal number)) }
-{
-    push(out, text)?;
-    push_number(out, number)
-}
+/// What stands between the wrong value of a record and the right one.
+pub(crate) const RIGHT_VALUE: &[u8] = b", right: ";
 
-/// Adds the word of a log.
-pub(crate) fn push_log(out: &mut Vec<u8>, log: LogName) -> Result<(), AllocError>
-    ensures { OnOk result (out.new.items ≡ out.old.items ++ log_word log) }
-{
-    push(out, log.word().as_bytes())
-}
-
-/// Where a record stands and what it says, as in "line 12 (guest 5): virtual processor 0 reads 7 in cell 0 of page 1".
-fn record_text(alloc: Global, session: &Session, name: Name) -> Result<String, AllocError>
-    ensures { IfOk result (λ text. string_bytes text ≡ record_words session.now name) }
-{
-    let mut text = String::new(alloc);
-    push_record(&mut text, session, name.0, name.1)?;
-    Ok(text)
-}
-
-/// Adds where a record stands and what it says.
-pub(crate) fn push_record_title(
-    out: &mut Vec<u8>,
-    session: &Session,
-    name: Name,
-) -> Result<(), AllocError>
-    ensures { OnOk result (out.new.items ≡ out.old.items ++ record_words session.now name) }
-{
-    let text = record_text(*out.allocator(), session, name)?;
-    push(out, text.as_bytes())
-}
-
-/// The logs that have records by these counts.
-#[tactic(auto, unfolding(crate::specs::Counts::counted))]
-fn counted(alloc: Global, count_of: &Taken) -> Result<Vec<LogName>, AllocError>
-    ensures { IfOk result (λ found. found.items ≡ counted (cursors_of count_of.now)) }
-{
-    let mut found = Vec::new(alloc);
-    for log in logs() {
-        if count_of.of(log) > 0 {
-            found.push(log)?;
-        }
-    }
-    Ok(found)
-}
-
-/// Adds how many records a log has by these counts.
-#[tactic(auto, unfolding(crate::specs::Counts::log_count))]
-fn push_count(out: &mut Vec<u8>, count_of: &Taken, log: LogName) -> Result<(), AllocError>
-    ensures { OnOk result (out.new.items ≡ out.old.items ++ log_count (cursors_of count_of.now) log) }
-{
-    push_log(out, log)?;
-    push_with(out, b" ", count_of.of(log) as u64)
-}
-
-/// Adds the same after a comma.
-#[tactic(auto, unfolding(crate::specs::Counts::next_count))]
-fn push_next_count(out: &mut Vec<u8>, count_of: &Taken, log: LogName) -> Result<(), AllocError>
-    ensures { OnOk result (out.new.items ≡ out.old.items ++ next_count (cursors_of count_of.now) log) }
-{
-    push(out, b", ")?;
-    push_count(out, count_of, log)
-}
-
-/// Adds how many records more logs have.
-#[tactic(auto, unfolding(crate::specs::Counts::more_counts))]
-fn push_more_counts(out: &mut Vec<u8>, count_of: &Taken, more: &[LogName]) -> Result<(), AllocError>
-    ensures { OnOk result (out.new.items ≡ out.old.items ++ more_counts (cursors_of count_of.now) more.now) }
-{
-    for log in more {
-        push_next_count(out, count_of, *log)?;
-    }
-    Ok(())
-}
-
-/// Adds how many records each log has, by these counts.
-#[tactic(auto, unfolding(crate::specs::Counts::counts_words))]
-fn push_counts(out: &mut Vec<u8>, count_of: &Taken) -> Result<(), AllocError>
-    ensures { OnOk result (out.new.items ≡ out.old.items ++ counts_words (cursors_of count_of.now)) }
-{
-    let found = counted(*out.allocator(), count_of)?;
-    match found.split_first() {
-        Some((first, more)) => {
-            push(out, b": ")?;
-            push_count(out, count_of, *first)?;
-            push_more_counts(out, count_of, more)
-        }
-        None => Ok(()),
-    }
-}
-
-/// So many records, and those that a log has by these counts.
-#[tactic(auto, unfolding(crate::specs::Counts::added))]
-fn added(counts: &Taken, sum: u64, log: LogName) -> u64
-    ensures { result ≡ added (cursors_of counts.now) sum log }
-{
-    sum.saturating_add(counts.of(log) as u64)
-}
-
-/// How many records there are by these counts.
-#[tactic(auto, unfolding(crate::specs::Counts::sum_of))]
-fn sum_of(counts: &Taken) -> u64
-    ensures { result ≡ sum_of (cursors_of counts.now) }
-{
-    let mut sum: u64 = 0;
-    for log in logs() {
-        sum = added(counts, sum, log);
-    }
-    sum
-}
+/// What the line of a runs-text is that has its first run.
+const FIRST_RUN_LINE: u64 = 3;
 
 /// Adds so many of something.
-#[tactic(auto, unfolding(crate::specs::Counts::many))]
-pub(crate) fn push_many(out: &mut Vec<u8>, count: u64, one: &[u8]) -> Result<(), AllocError>
-    ensures { OnOk result (out.new.items ≡ out.old.items ++ many count one.now) }
-{
-    push_with(out, b"", count)?;
+fn push_many(out: &mut Vec<u8>, count: u64, one: &[u8]) -> Result<(), AllocError> {
+    push_number(out, count)?;
     push(out, one)?;
     if count != 1 {
         push(out, b"s")?;
@@ -149,20 +31,119 @@ pub(crate) fn push_many(out: &mut Vec<u8>, count: u64, one: &[u8]) -> Result<(),
     Ok(())
 }
 
-/// Adds how many records there are by these counts, and how many each log has.
-#[tactic(auto, unfolding(crate::specs::Counts::records_words))]
-pub(crate) fn push_records(out: &mut Vec<u8>, counts: &Taken) -> Result<(), AllocError>
-    ensures { OnOk result (out.new.items ≡ out.old.items ++ records_words (cursors_of counts.now)) }
-{
-    push_many(out, sum_of(counts), b" record")?;
-    push_counts(out, counts)
+/// How many records there are by these counts.
+fn sum_of(counts: &Taken) -> u64 {
+    let mut sum: u64 = 0;
+    for log in logs() {
+        sum = sum.saturating_add(counts.of(log) as u64);
+    }
+    sum
 }
 
-/// How many records there are by these counts, and how many each log has.
-pub(crate) fn records_text(alloc: Global, counts: &Taken) -> Result<Vec<u8>, AllocError>
-    ensures { IfOk result (λ text. text.items ≡ records_words (cursors_of counts.now)) }
-{
-    let mut text = Vec::new(alloc);
-    push_records(&mut text, counts)?;
-    Ok(text)
+/// Adds how many records there are by these counts, and how many each log has that has some, as in "15 records: guest 12,
+/// link 3".
+pub(crate) fn push_records(out: &mut Vec<u8>, counts: &Taken) -> Result<(), AllocError> {
+    push_many(out, sum_of(counts), b" record")?;
+    let mut before: &[u8] = b": ";
+    for log in logs() {
+        let count = counts.of(log) as u64;
+        if count > 0 {
+            push(out, before)?;
+            push(out, log.word().as_bytes())?;
+            push(out, b" ")?;
+            push_number(out, count)?;
+            before = b", ";
+        }
+    }
+    Ok(())
+}
+
+/// Adds what the machine and the logs are, as in "4 pages of 2 cells, 15 records: guest 12, link 3".
+pub(crate) fn push_facts(out: &mut Vec<u8>, session: &Session) -> Result<(), AllocError> {
+    let geometry = session.geometry();
+    push_many(out, u64::from(geometry.pages()), b" page")?;
+    push(out, b" of ")?;
+    push_many(out, u64::from(geometry.cells()), b" cell")?;
+    push(out, b", ")?;
+    push_records(out, &all_of(session))
+}
+
+/// Adds that given runs are shown as far as the line of their text that cannot be taken.
+fn push_given_part(out: &mut Vec<u8>, place: usize) -> Result<(), AllocError> {
+    push(
+        out,
+        b"Along the given runs, which are no merging: up to line ",
+    )?;
+    push_number(out, (place as u64).saturating_add(FIRST_RUN_LINE))?;
+    push(out, b" of their text, which cannot be taken")
+}
+
+/// Adds which order is shown.
+pub(crate) fn push_order(out: &mut Vec<u8>, order: OrderShown) -> Result<(), AllocError> {
+    match order {
+        OrderShown::EveryOrder => push(out, b"It goes wrong in every order, as in this one"),
+        OrderShown::OneOrder => push(out, b"In an order in which it goes wrong"),
+        OrderShown::FirstFault => push(
+            out,
+            b"In the order that shows the first fault of the session",
+        ),
+        OrderShown::Found => push(out, b"In the found order"),
+        OrderShown::FoundPart => push(out, b"In the found order, as far as it goes"),
+        OrderShown::Given => push(out, b"Along the given runs"),
+        OrderShown::GivenPart(place) => push_given_part(out, place),
+    }
+}
+
+/// What a sign means.
+pub(crate) fn meaning_of(sign: Sign) -> &'static [u8] {
+    match sign {
+        Sign::Faulty => b"the faulty record",
+        Sign::Tied => b"waits for another of these",
+        Sign::Tie => b"has to come first",
+        Sign::TieBehind => b"one behind it has to come first",
+        Sign::Concerned => b"the record that its fault concerns",
+        Sign::OfPage => b"about the same page",
+        Sign::Plain => b"another record",
+        Sign::Stuck => b"the next of its log, not taken",
+        Sign::Arrow => b"is received",
+        Sign::Stub => b"is received; it has no row",
+    }
+}
+
+/// Adds to a title which record another waits for that waits, if it does.
+fn push_waiting(text: &mut String, subject: Subject<'_>, name: Name) -> Result<(), AllocError> {
+    match tie_of(subject.told, name) {
+        Some(tie) => push_wait(text, subject.session, &tie.waiting, &tie.next),
+        None => Ok(()),
+    }
+}
+
+/// Adds to the title of a record's box why the order does not take the record.
+fn push_obstacle(
+    text: &mut String,
+    subject: Subject<'_>,
+    name: Name,
+    obstacle: Obstacle,
+) -> Result<(), AllocError> {
+    match obstacle {
+        Obstacle::Nothing => Ok(()),
+        Obstacle::Waits => push_waiting(text, subject, name),
+        Obstacle::NotSent => text.push_str("; cannot be taken: what it receives was not"),
+        Obstacle::Unhindered => text.push_str("; not taken"),
+    }
+}
+
+/// Adds where a record stands, what it says, and why the order does not take it, as in "line 12 (guest 5): virtual
+/// processor 0 reads 7 in cell 0 of page 1".
+pub(crate) fn push_title(
+    out: &mut Vec<u8>,
+    alloc: Global,
+    subject: Subject<'_>,
+    name: Name,
+    obstacle: Obstacle,
+) -> Result<(), AllocError> {
+    let mut text = String::new(alloc);
+    push_record(&mut text, subject.session, name.0, name.1)?;
+    push_obstacle(&mut text, subject, name, obstacle)?;
+    push(out, text.as_bytes())
 }

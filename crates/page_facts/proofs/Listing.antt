@@ -3,7 +3,7 @@ use Rattle.std.proofs.Common.{◌≡◌, ℕ, ◌<◌, ◌⊎◌, inl, inr, Bool
 use Rattle.std.specs.Prelude.{slice_get, ◌==◌, is_some}
 use Rattle.std.proofs.lemmas.Bool.{cases_order, and_parts}
 use Rattle.migration_types.specs.declared.records.SourceRec.{SourceRec}
-use Rattle.migration_types.specs.declared.records.SourceRec.TheVariants.{Halted, State, Send, Again, Ask, Done}
+use Rattle.migration_types.specs.declared.records.SourceRec.TheVariants.{Halted, State, Send, Again, Ask, Done, Back}
 use Rattle.migration_types.specs.declared.records.PagerRec.{PagerRec}
 use Rattle.migration_types.specs.declared.records.PagerRec.TheVariants.{Got, Pull, Ready, Fault, Join, Want, Place, Zero, Skip, All}
 use Rattle.migration_types.specs.Sessions.{Recorded}
@@ -54,6 +54,7 @@ send_only s page n State t = absurd (cc)
 send_only s page n (Again i) t = absurd (cc)
 send_only s page n (Ask i) t = absurd (cc)
 send_only s page n Done t = absurd (cc)
+send_only s page n Back t = absurd (cc)
 
 pub altered_only : (s : Recorded) (page n : ℕ) (r : PagerRec) → is_altered s page n r ≡ true → of_page pager_page page r ≡ true
 altered_only s page n (Place p got content) t = (and_parts (p == page) _ t).0

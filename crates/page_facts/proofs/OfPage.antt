@@ -8,7 +8,7 @@ use Rattle.migration_types.specs.declared.records.LogName.TheVariants.{Guest, So
 use Rattle.migration_types.specs.declared.records.GuestRec.{GuestRec}
 use Rattle.migration_types.specs.declared.records.GuestRec.TheVariants.{Read, Write, Release, Miss, Halt, Resume, See}
 use Rattle.migration_types.specs.declared.records.SourceRec.{SourceRec}
-use Rattle.migration_types.specs.declared.records.SourceRec.TheVariants.{Halted, State, Send, Again, Ask, Done}
+use Rattle.migration_types.specs.declared.records.SourceRec.TheVariants.{Halted, State, Send, Again, Ask, Done, Back}
 use Rattle.migration_types.specs.declared.records.PagerRec.{PagerRec}
 use Rattle.migration_types.specs.declared.records.PagerRec.TheVariants.{Got, Pull, Ready, Fault, Join, Want, Place, Zero, Skip, All}
 use Rattle.migration_types.specs.Memory.{page_of}
@@ -188,6 +188,7 @@ module _ (s : Recorded) (page : ℕ) where
         go (Again i) e = absurd (cc)
         go (Ask i) e = absurd (cc)
         go Done e = absurd (cc)
+        go Back e = absurd (cc)
 
     source_in : MatchOption (source_fault f) (IsCleanIn s page Source) (IsFirstIn s page Source)
     source_in = first_in s page Source s.source source_page (λ n. refl) source_why source_least (source_fault f)

@@ -4,7 +4,7 @@ use Rattle.std.specs.List.{AllByRecursion}
 use Rattle.migration_types.specs.declared.records.GuestRec.{GuestRec}
 use Rattle.migration_types.specs.declared.records.GuestRec.TheVariants.{Read, Write, Release, Miss, Halt, Resume, See}
 use Rattle.migration_types.specs.declared.records.SourceRec.{SourceRec}
-use Rattle.migration_types.specs.declared.records.SourceRec.TheVariants.{Halted, State, Send, Again, Ask, Done}
+use Rattle.migration_types.specs.declared.records.SourceRec.TheVariants.{Halted, State, Send, Again, Ask, Done, Back}
 use Rattle.migration_types.specs.declared.records.PagerRec.{PagerRec}
 use Rattle.migration_types.specs.declared.records.PagerRec.TheVariants.{Got, Pull, Ready, Fault, Join, Want, Place, Zero, Skip, All}
 use Rattle.migration_types.specs.Extents.{Extent}
@@ -39,6 +39,7 @@ source_within e log all = within source_page (SourceRecFits e) e.pages log go al
     go (Again i) p fits is = absurd (cc)
     go (Ask i) p fits is = absurd (cc)
     go Done p fits is = absurd (cc)
+    go Back p fits is = absurd (cc)
 
 pub pager_within : (version : Version) (e : Extent) (log : List PagerRec) → AllByRecursion (PagerRecFits version e) log → AreWithin pager_page e.pages log
 pager_within version e log all = within pager_page (PagerRecFits version e) e.pages log go all

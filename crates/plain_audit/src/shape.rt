@@ -6,8 +6,8 @@ ghost use Rattle.migration_types.specs.declared.records.LogName.TheVariants.{Gue
 ghost use Rattle.audit_model.specs.Shape.{passes, is_halt, is_resume, is_state, is_send_of, is_sending, is_placement, delivery, is_or_repeats, delivers, earlier, in_phase, guest_named, source_named, link_named, lane_named, pager_named, source_start, pager_start, is_first_send, is_right};
 
 use audit_model::{
-    ShapeReason, guest_named, in_phase, is_halt, is_resume, is_send_of, lane_named, link_named,
-    pager_named, pager_start, source_named, source_start,
+    ShapeReason, guest_named, in_phase, is_alone, is_halt, is_resume, is_send_of, lane_named,
+    link_named, pager_named, pager_start, source_named, source_start,
 };
 use migration_types::{GuestRec, LinkRec, LogName, PageNo, PagerRec, Session, SourceRec};
 
@@ -81,7 +81,7 @@ fn is_right_guest(session: &Session, reason: ShapeReason, place: usize) -> bool
     match reason {
         ShapeReason::Phases => stands_in_phase(session, place, record),
         ShapeReason::Named => guest_named(session, record),
-        ShapeReason::Start | ShapeReason::SecondSend => true,
+        ShapeReason::Start | ShapeReason::SecondSend | ShapeReason::Both => true,
     }
 }
 
@@ -97,6 +97,7 @@ fn is_right_source(session: &Session, reason: ShapeReason, place: usize) -> bool
         ShapeReason::Named => source_named(session, place, record),
         ShapeReason::Start => source_start(session, place, record),
         ShapeReason::SecondSend => is_first_send(session, place, record),
+        ShapeReason::Both => is_alone(session, record),
     }
 }
 
@@ -109,7 +110,8 @@ fn is_right_link(session: &Session, reason: ShapeReason, place: usize) -> bool
     };
     match reason {
         ShapeReason::Named => link_named(session, record),
-        ShapeReason::Phases | ShapeReason::Start | ShapeReason::SecondSend => true,
+        ShapeReason::Phases | ShapeReason::Start | ShapeReason::SecondSend | ShapeReason::Both =>
+            true,
     }
 }
 
@@ -122,7 +124,8 @@ fn is_right_lane(session: &Session, reason: ShapeReason, place: usize) -> bool
     };
     match reason {
         ShapeReason::Named => lane_named(session, record),
-        ShapeReason::Phases | ShapeReason::Start | ShapeReason::SecondSend => true,
+        ShapeReason::Phases | ShapeReason::Start | ShapeReason::SecondSend | ShapeReason::Both =>
+            true,
     }
 }
 
@@ -136,7 +139,7 @@ fn is_right_pager(session: &Session, reason: ShapeReason, place: usize) -> bool
     match reason {
         ShapeReason::Named => pager_named(session, place, record),
         ShapeReason::Start => pager_start(session, place, record),
-        ShapeReason::Phases | ShapeReason::SecondSend => true,
+        ShapeReason::Phases | ShapeReason::SecondSend | ShapeReason::Both => true,
     }
 }
 

@@ -20,14 +20,14 @@ has_clean (Refused line) text_len h = absurd h
 has_clean (Reported (report.Clean cert)) text_len h = refl
 has_clean (Reported (report.Shape fault)) text_len h = absurd h
 has_clean (Reported (report.Knot left found)) text_len h = absurd h
-has_clean (Reported (report.Faulty line fault order)) text_len h = absurd h
+has_clean (Reported (report.Faulty line fault order many)) text_len h = absurd h
 
 is_clean : (a : Audited) (text_len : ℕ) → (audited_numbers a text_len).kind ≡ CLEAN → FindsClean a
 is_clean (Refused line) text_len e = absurd (omega (arith, e))
 is_clean (Reported (report.Clean cert)) text_len e = tt
 is_clean (Reported (report.Shape fault)) text_len e = absurd (omega (arith, e))
 is_clean (Reported (report.Knot left found)) text_len e = absurd (omega (arith, e))
-is_clean (Reported (report.Faulty line fault order)) text_len e = absurd (omega (arith, e))
+is_clean (Reported (report.Faulty line fault order many)) text_len e = absurd (omega (arith, e))
 
 -- a session is safe exactly where the number is that of a clean one
 pub exactly_by_number : (text : List ℕ) (a : Audited) (text_len : ℕ) (answer : PostcopyAnswer) → answer ≡ audited_numbers a text_len
@@ -41,7 +41,7 @@ is_faulty (Refused line) text_len e = absurd (omega (arith, e))
 is_faulty (Reported (report.Clean cert)) text_len e = absurd (omega (arith, e))
 is_faulty (Reported (report.Shape fault)) text_len e = absurd (omega (arith, e))
 is_faulty (Reported (report.Knot left found)) text_len e = absurd (omega (arith, e))
-is_faulty (Reported (report.Faulty line fault order)) text_len e = tt
+is_faulty (Reported (report.Faulty line fault order many)) text_len e = tt
 
 -- a page has a fault where the number is that of one
 pub faulty_by_number : (a : Audited) (text_len : ℕ) (answer : PostcopyAnswer) → answer ≡ audited_numbers a text_len → answer.kind ≡ FAULTY → FindsFault a

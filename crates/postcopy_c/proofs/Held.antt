@@ -19,7 +19,7 @@ never_incomplete (Refused line) text_len e = omega (arith, e)
 never_incomplete (Reported (report.Clean cert)) text_len e = omega (arith, e)
 never_incomplete (Reported (report.Shape fault)) text_len e = omega (arith, e)
 never_incomplete (Reported (report.Knot left found)) text_len e = omega (arith, e)
-never_incomplete (Reported (report.Faulty line fault order)) text_len e = omega (arith, e)
+never_incomplete (Reported (report.Faulty line fault order many)) text_len e = omega (arith, e)
 
 -- what is shown has never that kind
 pub not_incomplete : (shown_as : ShownAs) (session before after : List ℕ) (answer : PostcopyAnswer) → IsShownAnswer shown_as session before after answer → answer.kind ≢ 17

@@ -20,6 +20,7 @@ shape_number shape.Phases = 1
 shape_number shape.Named = 2
 shape_number shape.Start = 3
 shape_number shape.SecondSend = 4
+shape_number shape.Both = 5
 
 abbrev pub page_number : PageReason → ℕ
 page_number page.Read = 11
@@ -56,7 +57,7 @@ audited_numbers (Refused line) text_len = numbers 3 line 0 text_len
 audited_numbers (Reported (report.Clean cert)) text_len = numbers 2 0 0 text_len
 audited_numbers (Reported (report.Shape fault)) text_len = numbers 5 fault.line (shape_number fault.reason) text_len
 audited_numbers (Reported (report.Knot left found)) text_len = numbers 9 left.line 0 text_len
-audited_numbers (Reported (report.Faulty line fault order)) text_len = numbers 10 line (page_number fault.reason) text_len
+audited_numbers (Reported (report.Faulty line fault order many)) text_len = numbers 10 line (page_number fault.reason) text_len
 
 -- what becomes of a replay, or want of memory
 abbrev pub replay_numbers : Result Outcome AllocError → PostcopyAnswer

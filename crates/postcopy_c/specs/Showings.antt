@@ -3,58 +3,49 @@ use Rattle.std.specs.Prelude.{◌≡◌, ◌≢◌, ℕ, ◌<◌, ◌⊎◌, Lis
 use Rattle.text_lines.specs.Text.{IsSpelling, IsRefusalLine, ended}
 use Rattle.migration_types.specs.Sessions.{Recorded}
 use Rattle.session_log.specs.Grammar.{SpellsSession}
-use Rattle.faulty_pages.specs.declared.FaultyPage.{FaultyPage}
-use Rattle.faulty_pages.specs.FaultyPages.{AreFaultyPages}
 use Rattle.audit_report.specs.declared.report.Report.{Report}
 use Rattle.audit_report.specs.Reports.{IsReport}
 use Rattle.audit_report.specs.RefusalText.{refusal_text}
 use Rattle.audit_report.specs.ReportText.{first_line}
-use Rattle.audit_report.specs.FaultyPagesText.{all_faults_text}
 use Rattle.audit_report.specs.declared.report.Report.TheVariants as report
-use Rattle.completeness.specs.declared.missing.Missing.{Missing}
 use Rattle.completeness.specs.declared.missing.Extent.{Extent}
-use Rattle.completeness.specs.Complete.{IsComplete, Lacks}
-use Rattle.audit_report.specs.MissingText.{missing_text}
+use Rattle.completeness.specs.Complete.{IsComplete}
 use Rattle.judged_texts.specs.declared.auditing.Audited.{Audited}
 use Rattle.judged_texts.specs.declared.auditing.Audited.TheVariants.{Refused, Reported}
-use Rattle.session_story.specs.Told.{IsToldText, refused_text}
+use Rattle.session_answers.specs.Forms.{Tells}
+use Rattle.session_answers.specs.Judged as told
+use Rattle.session_answers.specs.Lacks.{IsLack}
+use Rattle.session_answers.specs.declared.forms.LackForm.TheVariants.{Line}
 use Rattle.order_picture.specs.Svg.{IsPictureText}
 use Rattle.postcopy_c.specs.declared.answer.PostcopyAnswer.{PostcopyAnswer}
 use Rattle.postcopy_c.specs.declared.showing.ShownAs.{ShownAs}
-use Rattle.postcopy_c.specs.declared.showing.ShownAs.TheVariants.{Words, Picture, AllFaults, Lack}
+use Rattle.postcopy_c.specs.declared.showing.ShownAs.TheVariants.{Told, Picture, Lack}
 use Rattle.postcopy_c.specs.declared.showing.Showing.{Showing}
 use Rattle.postcopy_c.specs.Numbers.{audited_numbers, numbers}
 use Rattle.postcopy_c.specs.Answers.{IsPut, WantsMemory}
 
--- what the text is that shows that a text is refused at this line: the line that says so, with what it means behind it where a
--- session is shown in words
+-- what the text is that shows that a text is refused at this line: where the report would be told, the way to tell it there, and
+-- else the line that says so
 abbrev pub IsShownRefusal : ShownAs → ℕ → List ℕ → Type 0
-IsShownRefusal (Words topic) line text = text ≡ refused_text line
+IsShownRefusal (Told form) line text = Tells form (told.Refused line) text
 IsShownRefusal (Picture topic) line text = text ≡ refusal_text line
-IsShownRefusal AllFaults line text = text ≡ refusal_text line
 IsShownRefusal (Lack extent) line text = text ≡ refusal_text line
-
--- the text of the report that tells the pages of the session that have a fault
-abbrev pub IsAllFaultsText : Recorded → Report → List ℕ → Type 0
-IsAllFaultsText s report text = (pages : List FaultyPage) × AreFaultyPages s pages × (text ≡ all_faults_text report pages)
 
 -- the line that says what the session lacks first, of what this extent asks for, or nothing where it is complete
 abbrev pub IsLackText : Extent → Recorded → List ℕ → Type 0
-IsLackText extent s text = (IsComplete extent s × (text ≡ [])) ⊎ ((m : Missing) × Lacks extent s m × (text ≡ missing_text s m))
+IsLackText extent s text = (IsComplete extent s × (text ≡ [])) ⊎ IsLack extent Line s text
 
 -- this of a clean session, and of another the first line of its report
 abbrev pub IsLackByReport : Extent → Recorded → Report → List ℕ → Type 0
 IsLackByReport extent s (report.Clean cert) text = IsLackText extent s text
 IsLackByReport extent s (report.Shape fault) text = text ≡ ended (first_line (report.Shape fault) ∷ [])
 IsLackByReport extent s (report.Knot left found) text = text ≡ ended (first_line (report.Knot left found) ∷ [])
-IsLackByReport extent s (report.Faulty line fault order) text = text ≡ ended (first_line (report.Faulty line fault order) ∷ [])
+IsLackByReport extent s (report.Faulty line fault order many) text = text ≡ ended (first_line (report.Faulty line fault order many) ∷ [])
 
--- what the text is that shows a session by its report: what is told on the topic in words, a picture, all faults, or what it
--- lacks
+-- what the text is that shows a session by its report: the report, told in a form, a picture, or what the session lacks
 abbrev pub IsShownReport : ShownAs → Recorded → Report → List ℕ → Type 0
-IsShownReport (Words topic) s report text = IsToldText s report topic text
+IsShownReport (Told form) s report text = Tells form (told.Reported s report) text
 IsShownReport (Picture topic) s report text = IsPictureText s report topic text
-IsShownReport AllFaults s report text = IsAllFaultsText s report text
 IsShownReport (Lack extent) s report text = IsLackByReport extent s report text
 
 -- the report on a session is shown

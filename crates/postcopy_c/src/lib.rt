@@ -27,6 +27,7 @@ use crate::showing::{ShownAs, tell_shown};
 use crate::telling::tell_audit;
 use completeness::Extent;
 use judged_texts::{Wanted, check_texts_alone, replay_texts};
+use session_answers::Form;
 use session_story::Topic;
 use std::alloc::Global;
 
@@ -91,13 +92,13 @@ pub extern "C" fn postcopy_audit_all(
     session: &[u8],
     room: &mut [u8],
 ) -> PostcopyAnswer
-    ensures told { IsShownAnswer ShownAs.AllFaults session.now room.old room.new result }
+    ensures told { IsShownAnswer (ShownAs.Told Form.AllFaults) session.now room.old room.new result }
     ensures one_session { result.kind ≢ SESSION_TEXT → result.kind ≢ NO_MEMORY → SpellsOneSession session.now }
     ensures safe { result.kind ≡ CLEAN → OfSpelled session.now IsSafe }
     ensures exactly { result.kind ≢ NO_MEMORY → OfSpelled session.now (IsSafeExactlyIf (result.kind ≡ CLEAN)) }
     ensures faulty { result.kind ≡ FAULTY → OfSpelled session.now IsUnsafe }
 {
-    tell_shown(alloc, session, ShownAs::AllFaults, room)
+    tell_shown(alloc, session, ShownAs::Told(Form::AllFaults), room)
 }
 
 /// The line that says what a clean session lacks first, and no byte where it tells of a whole migration; of another session the
@@ -135,13 +136,18 @@ pub extern "C" fn postcopy_missing_pages(
 /// `postcopy_certify` is.
 #[unsafe(no_mangle)]
 pub extern "C" fn postcopy_explain(alloc: Global, session: &[u8], room: &mut [u8]) -> PostcopyAnswer
-    ensures told { IsShownAnswer (ShownAs.Words Topic.Report) session.now room.old room.new result }
+    ensures told { IsShownAnswer (ShownAs.Told (Form.Words Topic.Report)) session.now room.old room.new result }
     ensures one_session { result.kind ≢ SESSION_TEXT → result.kind ≢ NO_MEMORY → SpellsOneSession session.now }
     ensures safe { result.kind ≡ CLEAN → OfSpelled session.now IsSafe }
     ensures exactly { result.kind ≢ NO_MEMORY → OfSpelled session.now (IsSafeExactlyIf (result.kind ≡ CLEAN)) }
     ensures faulty { result.kind ≡ FAULTY → OfSpelled session.now IsUnsafe }
 {
-    tell_shown(alloc, session, ShownAs::Words(Topic::Report), room)
+    tell_shown(
+        alloc,
+        session,
+        ShownAs::Told(Form::Words(Topic::Report)),
+        room,
+    )
 }
 
 /// What became of the page of this number, in words after the first line of the report, handed over in the same way. Of a
@@ -153,13 +159,18 @@ pub extern "C" fn postcopy_explain_page(
     page: u32,
     room: &mut [u8],
 ) -> PostcopyAnswer
-    ensures told { IsShownAnswer (ShownAs.Words (Topic.Page page)) session.now room.old room.new result }
+    ensures told { IsShownAnswer (ShownAs.Told (Form.Words (Topic.Page page))) session.now room.old room.new result }
     ensures one_session { result.kind ≢ SESSION_TEXT → result.kind ≢ NO_MEMORY → SpellsOneSession session.now }
     ensures safe { result.kind ≡ CLEAN → OfSpelled session.now IsSafe }
     ensures exactly { result.kind ≢ NO_MEMORY → OfSpelled session.now (IsSafeExactlyIf (result.kind ≡ CLEAN)) }
     ensures faulty { result.kind ≡ FAULTY → OfSpelled session.now IsUnsafe }
 {
-    tell_shown(alloc, session, ShownAs::Words(Topic::Page(page)), room)
+    tell_shown(
+        alloc,
+        session,
+        ShownAs::Told(Form::Words(Topic::Page(page))),
+        room,
+    )
 }
 
 /// What the record at this line of the session's text is, and what became of its page, in words after the first line of the
@@ -171,13 +182,18 @@ pub extern "C" fn postcopy_explain_line(
     line: u32,
     room: &mut [u8],
 ) -> PostcopyAnswer
-    ensures told { IsShownAnswer (ShownAs.Words (Topic.Line line)) session.now room.old room.new result }
+    ensures told { IsShownAnswer (ShownAs.Told (Form.Words (Topic.Line line))) session.now room.old room.new result }
     ensures one_session { result.kind ≢ SESSION_TEXT → result.kind ≢ NO_MEMORY → SpellsOneSession session.now }
     ensures safe { result.kind ≡ CLEAN → OfSpelled session.now IsSafe }
     ensures exactly { result.kind ≢ NO_MEMORY → OfSpelled session.now (IsSafeExactlyIf (result.kind ≡ CLEAN)) }
     ensures faulty { result.kind ≡ FAULTY → OfSpelled session.now IsUnsafe }
 {
-    tell_shown(alloc, session, ShownAs::Words(Topic::Line(line)), room)
+    tell_shown(
+        alloc,
+        session,
+        ShownAs::Told(Form::Words(Topic::Line(line))),
+        room,
+    )
 }
 
 /// The picture of a session in the order of its report, as SVG, and of a text that is refused its line; handed over in the

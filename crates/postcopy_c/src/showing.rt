@@ -2,38 +2,34 @@
 
 ghost use Rattle.std.specs.Prelude.{◌≡◌, ◌≢◌, length, IfOk};
 ghost use Rattle.audit_model.specs.World.{IsSafe};
-ghost use Rattle.audit_report.specs.Reports.{IsReport};
+ghost use Rattle.audit_report.specs.Reports.{IsReport, ReportFits};
 ghost use Rattle.judged_texts.specs.Checked.{SpellsOneSession, OfSpelled};
 ghost use Rattle.judged_texts.specs.Audited.{HasReport, FindsClean, FindsFault, IsSafeExactlyIf, IsUnsafe};
 ghost use Rattle.postcopy_c.specs.Numbers.{audited_numbers};
 ghost use Rattle.postcopy_c.specs.Answers.{IsPut};
-ghost use Rattle.postcopy_c.specs.Showings.{IsAllFaultsText, IsLackText, IsLackByReport, IsShownRefusal, IsShownReport, IsShowingOf, IsShowing, IsShownAnswer};
+ghost use Rattle.postcopy_c.specs.Showings.{IsLackText, IsLackByReport, IsShownRefusal, IsShownReport, IsShowingOf, IsShowing, IsShownAnswer};
 
 use crate::answer::{PostcopyAnswer, audited_answer, out_of_memory};
 use crate::kinds::{CLEAN, FAULTY, NO_MEMORY, SESSION_TEXT};
 use crate::telling::put;
-use audit_report::{
-    Report, audit_by, print_all_faults, print_first_line, print_refused_session, push_missing,
-};
-use completeness::{Extent, first_missing};
-use faulty_pages::faulty_pages;
+use audit_report::{Report, audit_by, print_first_line, print_refused_session};
+use completeness::Extent;
 use judged_texts::Audited;
 use migration_types::Session;
 use order_picture::print_picture_on;
 use page_facts::Alone;
+use session_answers::{Form, LackForm, print_lack_of, print_refusal, print_told};
 use session_log::{read_session, session_texts_are_unambiguous};
-use session_story::{Topic, print_refused, print_topic};
+use session_story::Topic;
 use std::alloc::{AllocError, Global};
 
 /// As what a session is shown.
 #[derive(Clone, Copy)]
 pub enum ShownAs {
-    /// What happened on a topic, in words after the first line of the report.
-    Words(Topic),
+    /// The report, told in this form.
+    Told(Form),
     /// The picture about a topic, in the order of the report.
     Picture(Topic),
-    /// The first line of the report, and each page that has a fault.
-    AllFaults,
     /// What a clean session lacks first, of what this extent asks for, or nothing where it is complete; and the first line of
     /// another report.
     Lack(Extent),
@@ -48,24 +44,14 @@ pub struct Showing {
     pub text: Vec<u8>,
 }
 
-/// The text of a report that tells each page with a fault.
-fn all_faults_of(alloc: Global, session: &Session, report: &Report) -> Result<Vec<u8>, AllocError>
-    ensures { IfOk result (λ text. IsAllFaultsText session.now report.now text.items) }
-{
-    let pages = faulty_pages(&Alone, alloc, session)?;
-    print_all_faults(alloc, report, &pages)
-}
-
 /// The line that says what a session lacks first, of what this extent asks for, or nothing where it is complete.
 fn lack_of(alloc: Global, session: &Session, extent: Extent) -> Result<Vec<u8>, AllocError>
     ensures { IfOk result (λ text. IsLackText extent session.now text.items) }
 {
-    let mut text = Vec::new(alloc);
-    let Some(missing) = first_missing(alloc, session, extent)? else {
-        return Ok(text);
-    };
-    push_missing(&mut text, session, missing)?;
-    Ok(text)
+    match print_lack_of(alloc, session, extent, LackForm::Line)? {
+        Some(text) => Ok(text),
+        None => Ok(Vec::new(alloc)),
+    }
 }
 
 /// What a session lacks, where its report is clean, and else the first line of the report.
@@ -92,13 +78,13 @@ fn text_of(
     report: &Report,
     shown_as: ShownAs,
 ) -> Result<Vec<u8>, AllocError>
-    requires { IsReport session.now report.now }
+    requires report { IsReport session.now report.now }
+    requires fits { ReportFits report.now }
     ensures { IfOk result (λ text. IsShownReport shown_as session.now report.now text.items) }
 {
     match shown_as {
-        ShownAs::Words(topic) => print_topic(alloc, session, report, topic),
+        ShownAs::Told(form) => print_told(&Alone, alloc, session, report, form),
         ShownAs::Picture(topic) => print_picture_on(alloc, session, report, topic),
-        ShownAs::AllFaults => all_faults_of(alloc, session, report),
         ShownAs::Lack(extent) => lack_by_report(alloc, session, extent, report),
     }
 }
@@ -108,10 +94,8 @@ fn refusal_of(alloc: Global, line: u32, shown_as: ShownAs) -> Result<Vec<u8>, Al
     ensures { IfOk result (λ text. IsShownRefusal shown_as line text.items) }
 {
     match shown_as {
-        ShownAs::Words(_) => print_refused(alloc, line),
-        ShownAs::Picture(_) | ShownAs::AllFaults | ShownAs::Lack(_) => {
-            print_refused_session(alloc, line)
-        }
+        ShownAs::Told(form) => print_refusal(alloc, line, form),
+        ShownAs::Picture(_) | ShownAs::Lack(_) => print_refused_session(alloc, line),
     }
 }
 

@@ -8,7 +8,7 @@ use Rattle.migration_types.specs.declared.records.LogName.TheVariants.{Guest, So
 use Rattle.migration_types.specs.declared.records.GuestRec.{GuestRec}
 use Rattle.migration_types.specs.declared.records.GuestRec.TheVariants.{Read, Write, Release, Miss, Halt, Resume, See}
 use Rattle.migration_types.specs.declared.records.SourceRec.{SourceRec}
-use Rattle.migration_types.specs.declared.records.SourceRec.TheVariants.{Halted, State, Send, Again, Ask, Done}
+use Rattle.migration_types.specs.declared.records.SourceRec.TheVariants.{Halted, State, Send, Again, Ask, Done, Back}
 use Rattle.migration_types.specs.declared.records.LinkRec.{LinkRec}
 use Rattle.migration_types.specs.declared.records.LinkRec.TheVariants.{Down, Up}
 use Rattle.migration_types.specs.declared.records.LaneRec.{LaneRec}
@@ -20,7 +20,7 @@ use Rattle.migration_types.specs.Contents.{IsContent}
 use Rattle.migration_types.specs.Limits.{limits, limits_at_most}
 use Rattle.migration_types.specs.Receipts.{Name}
 use Rattle.migration_types.specs.Rows.{Consists, row_of, guest_row, source_row, link_row, lane_row, pager_row, source_contents, pager_contents}
-use Rattle.migration_types.specs.Sessions.{Recorded, IsSession, HasLog, GuestRecIn, SourceRecIn, LinkRecIn, LaneRecIn, PagerRecIn, GuestRecFits, SourceRecFits, LinkRecFits, LaneRecFits, PagerRecFits}
+use Rattle.migration_types.specs.Sessions.{Recorded, IsSession, HasLog, HasSourceRec, GuestRecIn, SourceRecIn, LinkRecIn, LaneRecIn, PagerRecIn, GuestRecFits, SourceRecFits, LinkRecFits, LaneRecFits, PagerRecFits}
 use Rattle.audit_model.specs.Names.{if_there}
 use Rattle.audit_model.specs.Fitting.{FieldIsOf, contents_of, Fits}
 use Rattle.audit_model.proofs.Lists.{each_at}
@@ -49,6 +49,7 @@ module _ (past : ℕ) (few : past ≤ 2 ^ 63) where
   source_is e (Again n) h = omega (arith, h, few)
   source_is e (Ask n) h = omega (arith, h, few)
   source_is e Done h = h
+  source_is e Back h = h
 
   pager_is : (version : Version) (e : Extent) (r : PagerRec) → PagerRecIn past version e r → IsPagerRecOf version e r
   pager_is version e (Got n) h = omega (arith, h, few)
@@ -122,6 +123,7 @@ module _ (v : Version) (e : Extent) where
   source_row_is (Again i) h = bare (source_row (Again i)) (tt, tt)
   source_row_is (Ask i) h = bare (source_row (Ask i)) (tt, tt)
   source_row_is Done h = bare (source_row Done) tt
+  source_row_is Back h = bare (source_row Back) tt
 
   link_row_is : (r : LinkRec) → IsLinkRecOf r → RowIsOf v e (link_row r) None
   link_row_is (Down i) h = bare (link_row (Down i)) (tt, tt)
@@ -157,6 +159,16 @@ contents_at {X} P Q contents_by holds log n content all is = go (slice_get log n
     go None at e = absurd (cc)
     go (Some x) at e = holds x (each_at P log n x all at) content e
 
+-- a recording's size has the source's records
+source_has : (e : Extent) (r : SourceRec) → IsSourceRecOf e r → HasSourceRec e.size r
+source_has e (Halted i) h = tt
+source_has e State h = tt
+source_has e (Send p xs) h = tt
+source_has e (Again i) h = tt
+source_has e (Ask i) h = tt
+source_has e Done h = tt
+source_has e Back h = h
+
 module _ (s : Recorded) (h : IsRecording s) where
   abbrev AreOf : Consists → Type 0
   AreOf row = AllByRecursion (FieldIsOf s.version s.geometry) row.fields
@@ -171,6 +183,9 @@ module _ (s : Recorded) (h : IsRecording s) where
   logs (Link, n) row is = tt
   logs (Lane, n) row is = row_at (IsLaneRecOf s.version) (λ _. HasLog s.version Lane) lane_row lane_has s.lane n row h.lane is
   logs (Pager, n) row is = tt
+
+  source : (n : ℕ) (r : SourceRec) → slice_get s.source n ≡ Some r → HasSourceRec s.geometry.size r
+  source n r is = source_has s.geometry r (each_at (IsSourceRecOf s.geometry) s.source n r h.source is)
 
   fields : (name : Name) (row : Consists) → row_of s name ≡ Some row → AreOf row
   fields (Guest, n) row is = row_at (IsGuestRecOf s.geometry) AreOf guest_row (λ r of. (guest_row_is s.version s.geometry r of).fields) s.guest n row h.guest is
@@ -187,4 +202,4 @@ module _ (s : Recorded) (h : IsRecording s) where
   contents (Lane, n) content is = absurd (cc)
 
   pub recording_fits : Fits s
-  recording_fits = record { init = h.init; logs = logs; fields = fields; contents = contents }
+  recording_fits = record { init = h.init; logs = logs; source = source; fields = fields; contents = contents }

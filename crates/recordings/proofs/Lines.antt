@@ -13,7 +13,7 @@ use Rattle.migration_types.specs.declared.pages.InitPage.{InitPage}
 use Rattle.migration_types.specs.declared.records.GuestRec.{GuestRec}
 use Rattle.migration_types.specs.declared.records.GuestRec.TheVariants.{Read, Write, Release, Miss, Halt, Resume, See}
 use Rattle.migration_types.specs.declared.records.SourceRec.{SourceRec}
-use Rattle.migration_types.specs.declared.records.SourceRec.TheVariants.{Halted, State, Send, Again, Ask, Done}
+use Rattle.migration_types.specs.declared.records.SourceRec.TheVariants.{Halted, State, Send, Again, Ask, Done, Back}
 use Rattle.migration_types.specs.declared.records.LinkRec.{LinkRec}
 use Rattle.migration_types.specs.declared.records.LinkRec.TheVariants.{Down, Up}
 use Rattle.migration_types.specs.declared.records.LaneRec.{LaneRec}
@@ -108,6 +108,7 @@ module _ (e : Extent) (h : IsMachine e) where
   source_text (Again n) a = keyed (codes "again ") (decimal n) 20 refl (omega arith) (counted n a)
   source_text (Ask n) a = keyed (codes "ask ") (decimal n) 20 refl (omega arith) (counted n a)
   source_text Done a = word (codes "done") refl (omega arith)
+  source_text Back a = word (codes "back") refl (omega arith)
 
   pub pager_text : (version : Version) (r : PagerRec) → IsPagerRecOf version e r → IsText longest_line (pager_line r)
   pager_text version (Got n) a = keyed (codes "got ") (decimal n) 20 refl (omega arith) (counted n a)

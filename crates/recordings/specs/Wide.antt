@@ -16,7 +16,7 @@ use Rattle.recordings.specs.declared.wide.WideInit.{WideInit}
 use Rattle.recordings.specs.declared.wide.WideGuest.{WideGuest}
 use Rattle.recordings.specs.declared.wide.WideGuest.TheVariants.{Read, Write, Release, Miss, Halt, Resume, See}
 use Rattle.recordings.specs.declared.wide.WideSource.{WideSource}
-use Rattle.recordings.specs.declared.wide.WideSource.TheVariants.{Halted, State, Send, Again, Ask, Done}
+use Rattle.recordings.specs.declared.wide.WideSource.TheVariants.{Halted, State, Send, Again, Ask, Done, Back}
 use Rattle.recordings.specs.declared.wide.WideLink.{WideLink}
 use Rattle.recordings.specs.declared.wide.WideLink.TheVariants.{Down, Up}
 use Rattle.recordings.specs.declared.wide.WideLane.{WideLane}
@@ -47,6 +47,7 @@ source_of (Send page contents) = source.Send page contents
 source_of (Again sending) = source.Again sending
 source_of (Ask up) = source.Ask up
 source_of Done = source.Done
+source_of Back = source.Back
 
 abbrev pub link_of : WideLink → LinkRec
 link_of (Down sending) = link.Down sending

@@ -1,8 +1,8 @@
 //! Lines of the source's records.
 
-ghost use Rattle.std.specs.Prelude.{◌≡◌, ◌≢◌, ◌<◌, ◌∷◌, [], ◌++◌, List, ℕ, IfOk, IfErr, IfSome, IfNone, OnOk};
+ghost use Rattle.std.specs.Prelude.{◌≡◌, ◌≢◌, ◌<◌, ◌∷◌, [], ◌++◌, ◌↔◌, List, ℕ, codes, IfOk, IfErr, IfSome, IfNone, IsTrue, OnOk};
 ghost use Rattle.migration_types.specs.Contents.{IsContent};
-ghost use Rattle.migration_types.specs.Extents.{Extent};
+ghost use Rattle.migration_types.specs.Sessions.{HasBack};
 ghost use Rattle.migration_types.specs.declared.records.SourceRec.{SourceRec};
 ghost use Rattle.session_log.specs.Records.{page_text, source_line};
 ghost use Rattle.recordings.specs.Recordings.{IsMachine, IsSourceRecOf};
@@ -13,7 +13,7 @@ use crate::fields::keyed_whole;
 use crate::machine::{BEYOND, Machine};
 use crate::wide::WideSource;
 use crate::writing::push_page;
-use migration_types::Contents;
+use migration_types::{Contents, Size};
 use session_log::read_page_contents;
 use std::alloc::{AllocError, Global};
 use text_lines::{FaultKind, after_key, is_line, number_then, push_keyed, push_line};
@@ -30,6 +30,8 @@ const ASK_KEY: &[u8] = b"ask ";
 
 const DONE: &[u8] = b"done";
 
+const BACK: &[u8] = b"back";
+
 /// The page and the contents that a text is.
 fn sent_whole(alloc: Global, machine: &Machine, text: &[u8]) -> Result<(u64, Contents), FaultKind>
     requires { IsMachine (extent_of machine.now) }
@@ -44,9 +46,9 @@ fn sent_whole(alloc: Global, machine: &Machine, text: &[u8]) -> Result<(u64, Con
 }
 
 /// The record that is no sending that a line spells.
-fn read_step(line: &[u8]) -> Option<WideSource>
-    ensures found { IfSome result (λ r. ((e : Extent) → IsSourceRecOf e (source_of r)) × (line.now ≡ source_line (source_of r))) }
-    ensures none { IfNone result ((e : Extent) (r : SourceRec) → IsStep r → IsSourceRecOf e r → line.now ≢ source_line r) }
+fn read_step(machine: &Machine, line: &[u8]) -> Option<WideSource>
+    ensures found { IfSome result (λ r. IsSourceRecOf (extent_of machine.now) (source_of r) × (line.now ≡ source_line (source_of r))) }
+    ensures none { IfNone result ((r : SourceRec) → IsStep r → IsSourceRecOf (extent_of machine.now) r → line.now ≢ source_line r) }
 {
     if let Some(up) = keyed_whole(line, ASK_KEY, BEYOND) {
         return Some(WideSource::Ask { up });
@@ -60,10 +62,20 @@ fn read_step(line: &[u8]) -> Option<WideSource>
     if is_line(line, STATE) {
         return Some(WideSource::State);
     }
-    if !is_line(line, DONE) {
+    if is_line(line, DONE) {
+        return Some(WideSource::Done);
+    }
+    if !is_back(machine.size, line) {
         return None;
     }
-    Some(WideSource::Done)
+    Some(WideSource::Back)
+}
+
+/// Whether a line is a `back`, which the large size alone has.
+fn is_back(size: Size, line: &[u8]) -> bool
+    ensures { IsTrue result ↔ (HasBack size × (line.now ≡ codes "back")) }
+{
+    size == Size::Large && is_line(line, BACK)
 }
 
 impl WideSource {
@@ -81,7 +93,7 @@ impl WideSource {
             let (page, contents) = sent_whole(alloc, machine, text)?;
             return Ok(WideSource::Send { page, contents });
         }
-        match read_step(line) {
+        match read_step(machine, line) {
             Some(rec) => Ok(rec),
             None => Err(FaultKind::Form),
         }
@@ -103,6 +115,7 @@ impl WideSource {
             WideSource::Again { sending } => push_keyed(out, AGAIN_KEY, *sending),
             WideSource::Ask { up } => push_keyed(out, ASK_KEY, *up),
             WideSource::Done => push_line(out, DONE),
+            WideSource::Back => push_line(out, BACK),
         }
     }
 }

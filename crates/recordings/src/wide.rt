@@ -50,6 +50,7 @@ pub enum WideSource {
     Again { sending: u64 },
     Ask { up: u64 },
     Done,
+    Back,
 }
 
 /// A record of the link.

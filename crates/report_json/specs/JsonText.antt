@@ -90,7 +90,7 @@ unfoldable pub report_begun : Recorded → Report → List ℕ
 report_begun s (report.Clean cert) = begun (codes "clean") ++ runs cert.runs
 report_begun s (report.Shape fault) = begun (codes "shape") ++ shape_told fault
 report_begun s (report.Knot left found) = begun (codes "knot") ++ record_at left.line left.log left.place ++ runs found.runs
-report_begun s (report.Faulty line fault order) = begun (codes "faulty") ++ fault_told s line fault order
+report_begun s (report.Faulty line fault order many) = begun (codes "faulty") ++ fault_told s line fault order
 
 -- the object of a report
 abbrev pub report_object : Recorded → Report → List ℕ
@@ -105,7 +105,7 @@ abbrev pub pages_told : Report → List FaultyPage → List ℕ
 pages_told (report.Clean cert) pages = listed (codes "pages") faulty_page pages
 pages_told (report.Shape fault) pages = []
 pages_told (report.Knot left found) pages = []
-pages_told (report.Faulty line fault order) pages = listed (codes "pages") faulty_page pages
+pages_told (report.Faulty line fault order many) pages = listed (codes "pages") faulty_page pages
 
 -- the object of a report that tells these pages with a fault
 abbrev pub all_faults_object : Recorded → Report → List FaultyPage → List ℕ
@@ -124,6 +124,7 @@ verdict_object verdict.Yes = object (codes "yes") []
 -- what is told of what is missing from a session
 unfoldable pub missing_told : Recorded → Missing → List ℕ
 missing_told s missing.Halt = word (codes "missing") (codes "halt")
+missing_told s missing.Returned = word (codes "missing") (codes "returned")
 missing_told s missing.Resume = word (codes "missing") (codes "resume")
 missing_told s (missing.Page page) = word (codes "missing") (codes "page") ++ number (codes "page") page
 missing_told s missing.All = word (codes "missing") (codes "all")

@@ -13,6 +13,7 @@ use Rattle.session_story.specs.declared.faults.ShapeStory.{ShapeStory}
 use Rattle.session_story.specs.declared.pages.Handover.{Handover}
 use Rattle.session_story.specs.declared.pages.PageStory.{PageStory}
 use Rattle.session_story.specs.declared.waits.Waiting.{Waiting}
+use Rattle.session_story.specs.Concerned.{resumed_by}
 use Rattle.audit_report.specs.declared.report.Report.{Report}
 use Rattle.report_json.specs.declared.records.Role.{Role}
 use Rattle.report_json.specs.declared.records.Role.TheVariants as role
@@ -30,6 +31,7 @@ role_word role.Placed = codes "placed"
 role_word role.PlacedAgain = codes "placed-again"
 role_word role.Look = codes "look"
 role_word role.Touch = codes "touch"
+role_word role.Resume = codes "resume"
 role_word role.Waits = codes "waits"
 
 -- as in {"role":"faulty","log":"guest","record":4,"line":13}
@@ -57,9 +59,9 @@ later_records s page =
 abbrev pub fault_records : Recorded → FaultStory → List ToldRecord
 fault_records s f = told s role.Faulty f.fault.log (Some f.fault.place) ++ sent_records s f.page f.handover ++ later_records s f.page
 
--- the record that has not the right shape, and the first sending of its page
+-- the record that has not the right shape, and the first sending of its page, or the resume of its guest
 abbrev pub shape_records : Recorded → ShapeStory → List ToldRecord
-shape_records s t = told s role.Faulty t.fault.log (Some t.fault.place) ++ told s role.Sent Source t.sent
+shape_records s t = told s role.Faulty t.fault.log (Some t.fault.place) ++ told s role.Sent Source t.sent ++ told s role.Resume Guest (resumed_by t)
 
 -- the records that wait for one another, each for the next
 abbrev pub waiting_records : Recorded → List Waiting → List ToldRecord

@@ -85,7 +85,12 @@ fn begin_report(out: &mut Vec<u8>, session: &Session, report: &Report) -> Result
             push_record(out, left.line, left.log, left.place)?;
             push_runs(out, found.runs.as_slice())
         }
-        Report::Faulty { line, fault, order } => {
+        Report::Faulty {
+            line,
+            fault,
+            order,
+            ..
+        } => {
             begin(out, b"faulty")?;
             push_fault(out, session, *line, fault, order.as_slice())
         }
@@ -184,6 +189,7 @@ fn push_lack(out: &mut Vec<u8>, session: &Session, missing: Missing) -> Result<(
 {
     match missing {
         Missing::Halt => push_word_under(out, b"missing", b"halt"),
+        Missing::Returned => push_word_under(out, b"missing", b"returned"),
         Missing::Resume => push_word_under(out, b"missing", b"resume"),
         Missing::Page(page) => push_missing_page(out, page),
         Missing::All => push_word_under(out, b"missing", b"all"),

@@ -6,7 +6,9 @@ ghost use Rattle.report_json.specs.RecordsText.{fault_records, later_records, re
 use crate::fields::{push_number_under, push_word_under};
 use crate::lists::Item;
 use migration_types::{LogName, Session};
-use session_story::{Explanation, FaultStory, Handover, PageStory, ShapeStory, Waiting, line_at};
+use session_story::{
+    Explanation, FaultStory, Handover, PageStory, ShapeStory, Waiting, line_at, resumed_by,
+};
 use std::alloc::{AllocError, Global};
 
 /// What a record is in the story of a session.
@@ -32,6 +34,8 @@ pub(crate) enum Role {
     Look,
     /// The first use at the target.
     Touch,
+    /// The resume of a guest that the source started again.
+    Resume,
     /// It waits for the next of a knot.
     Waits,
 }
@@ -52,6 +56,7 @@ impl Role {
             Role::PlacedAgain => b"placed-again",
             Role::Look => b"look",
             Role::Touch => b"touch",
+            Role::Resume => b"resume",
             Role::Waits => b"waits",
         }
     }
@@ -195,7 +200,7 @@ fn take_fault(
     take_later(records, session, &story.page)
 }
 
-/// Takes in the record that has not the right shape, and the first sending of its page.
+/// Takes in the record that has not the right shape, and the first sending of its page, or the resume of its guest.
 fn take_shape(
     records: &mut Vec<ToldRecord>,
     session: &Session,
@@ -205,7 +210,14 @@ fn take_shape(
 {
     let fault = &story.fault;
     take(records, session, Role::Faulty, fault.log, Some(fault.place))?;
-    take(records, session, Role::Sent, LogName::Source, story.sent)
+    take(records, session, Role::Sent, LogName::Source, story.sent)?;
+    take(
+        records,
+        session,
+        Role::Resume,
+        LogName::Guest,
+        resumed_by(story),
+    )
 }
 
 /// Takes in the records that wait for one another.

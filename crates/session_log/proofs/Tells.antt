@@ -11,7 +11,7 @@ use Rattle.text_lines.proofs.Fronts.{numbers_same, no_digit-space}
 use Rattle.migration_types.specs.declared.records.GuestRec.{GuestRec}
 use Rattle.migration_types.specs.declared.records.GuestRec.TheVariants.{Read, Write, Release, Miss, Halt, Resume, See}
 use Rattle.migration_types.specs.declared.records.SourceRec.{SourceRec}
-use Rattle.migration_types.specs.declared.records.SourceRec.TheVariants.{Halted, State, Send, Again, Ask, Done}
+use Rattle.migration_types.specs.declared.records.SourceRec.TheVariants.{Halted, State, Send, Again, Ask, Done, Back}
 use Rattle.migration_types.specs.declared.records.LinkRec.{LinkRec}
 use Rattle.migration_types.specs.declared.records.LinkRec.TheVariants.{Down, Up}
 use Rattle.migration_types.specs.declared.records.LaneRec.{LaneRec}
@@ -126,6 +126,7 @@ source_tells past le e h (Send p xs) (Send q ys) a b same =
 source_tells past le e h (Again n) (Again m) a b same = ap Again (below_tells past le (codes "again ") n m a b same)
 source_tells past le e h (Ask n) (Ask m) a b same = ap Ask (below_tells past le (codes "ask ") n m a b same)
 source_tells past le e h Done Done a b same = refl
+source_tells past le e h Back Back a b same = refl
 source_tells past le e h r s a b same = let first : letters (source_line r) ≡ letters (source_line s) = ap letters same in absurd (omega (arith, first))
 
 pub link_tells : (past : ℕ) → past ≤ 2 ^ 64 → (r s : LinkRec) → LinkRecIn past r → LinkRecIn past s → link_line r ≡ link_line s → r ≡ s

@@ -7,10 +7,11 @@
 --     miss VCPU PAGE                   again NUMBER             join NUMBER
 --     halt                             ask NUMBER               want PAGE
 --     resume NUMBER                    done                     place PAGE NUMBER CONTENTS
---     see NUMBER                                                zero PAGE
---                                      the link's log           skip NUMBER
---                                      down NUMBER              all
---                                      up NUMBER                pull NUMBER, in the second version alone
+--     see NUMBER                       back, in the third       zero PAGE
+--                                        version alone          skip NUMBER
+--                                      the link's log           all
+--                                      down NUMBER              pull NUMBER, in the second version alone
+--                                      up NUMBER
 --                                      the lane's log
 --                                      down NUMBER
 use Rattle.std.specs.Prelude.{ℕ, List, ◌∷◌, ◌++◌, codes}
@@ -19,7 +20,7 @@ use Rattle.text_lines.specs.Contents.{contents_text}
 use Rattle.migration_types.specs.declared.records.GuestRec.{GuestRec}
 use Rattle.migration_types.specs.declared.records.GuestRec.TheVariants.{Read, Write, Release, Miss, Halt, Resume, See}
 use Rattle.migration_types.specs.declared.records.SourceRec.{SourceRec}
-use Rattle.migration_types.specs.declared.records.SourceRec.TheVariants.{Halted, State, Send, Again, Ask, Done}
+use Rattle.migration_types.specs.declared.records.SourceRec.TheVariants.{Halted, State, Send, Again, Ask, Done, Back}
 use Rattle.migration_types.specs.declared.records.LinkRec.{LinkRec}
 use Rattle.migration_types.specs.declared.records.LinkRec.TheVariants.{Down, Up}
 use Rattle.migration_types.specs.declared.records.LaneRec.{LaneRec}
@@ -63,6 +64,7 @@ source_line (Send page contents) = codes "send " ++ page_text page contents
 source_line (Again sending) = codes "again " ++ decimal sending
 source_line (Ask up) = codes "ask " ++ decimal up
 source_line Done = codes "done"
+source_line Back = codes "back"
 
 abbrev pub link_key : List ℕ
 link_key = codes "link "

@@ -11,7 +11,7 @@ use crate::machine::{wanted_cells, wanted_pages};
 use crate::pager::pager_forms;
 use crate::pages::{wanted_init_count, wanted_init_page};
 use crate::parts::{Parts, Stage};
-use crate::source::SOURCE_FORMS;
+use crate::source::source_forms;
 use migration_types::{Size, Version};
 use text_lines::Wanted;
 
@@ -35,7 +35,7 @@ impl Parts {
         match stage {
             Stage::Init => wanted_init_page(&self.init, self.sizes.pages),
             Stage::Guest => Wanted::one("a record of the guest", GUEST_FORMS),
-            Stage::Source => Wanted::one("a record of the source", SOURCE_FORMS),
+            Stage::Source => Wanted::one("a record of the source", source_forms(self.sizes.size)),
             Stage::Link => Wanted::one("a record of the link", LINK_FORMS),
             Stage::Lane => Wanted::one("a record of the lane", LANE_FORMS),
             Stage::Pager => Wanted::one("a record of the pager", pager_forms(self.version)),

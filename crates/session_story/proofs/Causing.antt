@@ -4,7 +4,7 @@ use Rattle.std.specs.Prelude.{slice_get}
 use Rattle.std.specs.List.{AllByRecursion}
 use Rattle.std.proofs.lemmas.Bool.{eqb-true}
 use Rattle.migration_types.specs.declared.records.SourceRec.{SourceRec}
-use Rattle.migration_types.specs.declared.records.SourceRec.TheVariants.{Halted, State, Send, Again, Ask, Done}
+use Rattle.migration_types.specs.declared.records.SourceRec.TheVariants.{Halted, State, Send, Again, Ask, Done, Back}
 use Rattle.migration_types.specs.declared.records.PagerRec.{PagerRec}
 use Rattle.migration_types.specs.declared.records.PagerRec.TheVariants.{Got, Pull, Ready, Fault, Join, Want, Place, Zero, Skip, All}
 use Rattle.migration_types.specs.declared.version.Version.{Version}
@@ -36,6 +36,7 @@ sent_fit e (Send page content) fits = fits.1
 sent_fit e (Again sending) fits = tt
 sent_fit e (Ask up) fits = tt
 sent_fit e Done fits = tt
+sent_fit e Back fits = tt
 
 pub source_fit : (e : Extent) (log : List SourceRec) → AllByRecursion (SourceRecFits e) log → AllByRecursion (λ r. ContentFits e (source_contents r)) log
 source_fit e [] fits = tt
@@ -76,6 +77,7 @@ module _ (s : Recorded) (page : ℕ) where
   is_sent (Again sending) content is has = absurd (cc)
   is_sent (Ask up) content is has = absurd (cc)
   is_sent Done content is has = absurd (cc)
+  is_sent Back content is has = absurd (cc)
 
   pub sent_wrong : (sent : Option ℕ) (w : Wrong) → sent ≡ first_before (λ m. is_send_of page) s.source (length s.source) → IsWrongAt s page (λ n. if_there source_contents (slice_get s.source n)) sent w → IsWrongSend s page w
   sent_wrong sent w is at =

@@ -10,7 +10,7 @@ use Rattle.migration_types.specs.declared.records.LogName.TheVariants.{Guest, So
 use Rattle.migration_types.specs.declared.records.GuestRec.{GuestRec}
 use Rattle.migration_types.specs.declared.records.GuestRec.TheVariants.{Read, Write, Release, Miss, Halt, Resume, See}
 use Rattle.migration_types.specs.declared.records.SourceRec.{SourceRec}
-use Rattle.migration_types.specs.declared.records.SourceRec.TheVariants.{Halted, State, Send, Again, Ask, Done}
+use Rattle.migration_types.specs.declared.records.SourceRec.TheVariants.{Halted, State, Send, Again, Ask, Done, Back}
 use Rattle.migration_types.specs.declared.records.LinkRec.{LinkRec}
 use Rattle.migration_types.specs.declared.records.LinkRec.TheVariants.{Down, Up}
 use Rattle.migration_types.specs.declared.records.LaneRec.{LaneRec}
@@ -69,6 +69,7 @@ source_there s n sent (Some (Send p x)) k e = absurd (cc)
 source_there s n sent (Some (Again i)) k e = absurd (cc)
 source_there s n sent (Some (Ask i)) k e = let same : (Link, i) ≡ sent = cc in subst (λ (x : Name). x.1 < log_length s x.0) same (passes_there is_up s.link i k)
 source_there s n sent (Some Done) k e = absurd (cc)
+source_there s n sent (Some Back) k e = absurd (cc)
 
 link_there : (s : Recorded) (n : ℕ) (sent : Name) (o : Option LinkRec) → keeps (link_named s) o ≡ true → if_there link_receipt o ≡ Some sent → sent.1 < log_length s sent.0
 link_there s n sent None k e = absurd (cc)

@@ -274,11 +274,11 @@ module _ (s : Recorded) (shape : IsRightShape s) (page : ℕ) (found : Findings)
 -- ---- by the report
 
 -- a session of the right shape that has an order and a fault of a page has a report of it
-pub no_order : (s : Recorded) (r : Report) → IsReport s r → ((line : ℕ) (fault : PageFault) (order : List Run) → r ≡ Faulty line fault order → ⊥) → (reason : PageReason) (name : Name) → IsPageFault s reason name → IsRightShape s → (order : List Name) → IsMerging s order → ⊥
+pub no_order : (s : Recorded) (r : Report) → IsReport s r → ((line : ℕ) (fault : PageFault) (order : List Run) (many : ℕ) → r ≡ Faulty line fault order many → ⊥) → (reason : PageReason) (name : Name) → IsPageFault s reason name → IsRightShape s → (order : List Name) → IsMerging s order → ⊥
 no_order s (Clean cert) is other reason name f shape order merging = is.1.has_no_fault reason name f
 no_order s (Shape fault) is other reason name f shape order merging = clash _ (shape fault.reason (fault.log, fault.place)) is.is_first.is_wrong
 no_order s (Knot left found) is other reason name f shape order merging = is.1.has_no_merging (order, merging)
-no_order s (Faulty line fault runs) is other reason name f shape order merging = other line fault runs refl
+no_order s (Faulty line fault runs many) is other reason name f shape order merging = other line fault runs many refl
 
 pub in_none : (s : Recorded) → ((order : List Name) → IsMerging s order → ⊥) → (reason : PageReason) (n page : ℕ) → IsInEveryOrder s reason n page
 in_none s none Early n page = λ order merging. absurd (none order merging)
@@ -290,5 +290,5 @@ in_none s none Twice n page = tt
 in_none s none Altered n page = tt
 in_none s none Unfit n page = tt
 
-pub reported_shape : (s : Recorded) (r : Report) (line : ℕ) (fault : PageFault) (order : List Run) → r ≡ Faulty line fault order → IsReport s r → IsRightShape s
-reported_shape s r line fault order e is = (subst (λ (x : Report). IsReport s x) e is).0
+pub reported_shape : (s : Recorded) (r : Report) (line : ℕ) (fault : PageFault) (order : List Run) (many : ℕ) → r ≡ Faulty line fault order many → IsReport s r → IsRightShape s
+reported_shape s r line fault order many e is = (subst (λ (x : Report). IsReport s x) e is).0

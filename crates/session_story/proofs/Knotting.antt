@@ -1,25 +1,27 @@
--- The lines of records that wait for one another, one after the other.
-use Rattle.std.proofs.Common.{◌≡◌, ◌∙◌, ℕ, ◌+◌, ◌<◌, List, ◌++◌, length, drop, get_or, sym, ap}
+-- What each of the records that wait for one another waits for, told one after the other.
+use Rattle.std.proofs.Common.{◌≡◌, ◌∙◌, ℕ, ◌+◌, ◌<◌, List, [], ◌∷◌, ◌++◌, length, drop, get_or, sym, ap}
 use Rattle.std.proofs.lemmas.List.{append_assoc, drop_more}
-use Rattle.migration_types.specs.Sessions.{Recorded}
+use Rattle.session_story.specs.declared.sentences.Sentence.{Sentence}
+use Rattle.session_story.specs.declared.sentences.Sentence.TheVariants as say
 use Rattle.session_story.specs.declared.waits.Knot.{Knot}
 use Rattle.session_story.specs.declared.waits.Waiting.{Waiting}
-use Rattle.session_story.specs.KnotWords.{waiting_words, waits_words}
+use Rattle.session_story.specs.Sentences.{waits_told}
+use Rattle.session_story.specs.Waits.{next_in}
 
-module _ (s : Recorded) (knot : Knot) where
-  -- the lines of the records from this index on
-  abbrev pub lines_from : ℕ → List ℕ
-  lines_from i = waits_words s knot i (drop i knot.waits.items)
+module _ (knot : Knot) where
+  -- the sentences of the records from this index on
+  abbrev pub told_from : ℕ → List Sentence
+  told_from i = waits_told knot i (drop i knot.waits.items)
 
-  next_line : (i : ℕ) (w : Waiting) → i < length knot.waits.items → w ≡ get_or knot.waits.items i w → lines_from i ≡ waiting_words s knot i w ++ lines_from (i + 1)
-  next_line i w lt is =
-      ap (λ (ws : List Waiting). waits_words s knot i ws) (drop_more knot.waits.items i w lt)
-      ∙ ap (λ (v : Waiting). waiting_words s knot i v ++ lines_from (i + 1)) (sym is)
+  next_told : (i : ℕ) (w : Waiting) → i < length knot.waits.items → w ≡ get_or knot.waits.items i w → told_from i ≡ (say.Waits w (next_in knot i) ∷ []) ++ told_from (i + 1)
+  next_told i w lt is =
+      ap (λ (ws : List Waiting). waits_told knot i ws) (drop_more knot.waits.items i w lt)
+      ∙ ap (λ (v : Waiting). say.Waits v (next_in knot i) ∷ told_from (i + 1)) (sym is)
 
-  -- the line of a record was added
-  pub line_added : (whole out more : List ℕ) (i : ℕ) (w : Waiting) → i < length knot.waits.items → w ≡ get_or knot.waits.items i w → out ++ lines_from i ≡ whole → more ≡ out ++ waiting_words s knot i w → more ++ lines_from (i + 1) ≡ whole
-  line_added whole out more i w lt is so_far added =
-      ap (λ (t : List ℕ). t ++ lines_from (i + 1)) added
-      ∙ append_assoc out (waiting_words s knot i w) (lines_from (i + 1))
-      ∙ ap (λ (t : List ℕ). out ++ t) (sym (next_line i w lt is))
+  -- the sentence of a record was added
+  pub wait_added : (whole out more : List Sentence) (i : ℕ) (w : Waiting) → i < length knot.waits.items → w ≡ get_or knot.waits.items i w → out ++ told_from i ≡ whole → more ≡ out ++ (say.Waits w (next_in knot i) ∷ []) → more ++ told_from (i + 1) ≡ whole
+  wait_added whole out more i w lt is so_far added =
+      ap (λ (t : List Sentence). t ++ told_from (i + 1)) added
+      ∙ append_assoc out (say.Waits w (next_in knot i) ∷ []) (told_from (i + 1))
+      ∙ ap (λ (t : List Sentence). out ++ t) (sym (next_told i w lt is))
       ∙ so_far

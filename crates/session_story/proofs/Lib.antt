@@ -7,6 +7,5 @@ pub mod Firsts
 pub mod EveryOrder
 pub mod Reaching
 pub mod Circling
-pub mod Placing
-pub mod Joining
 pub mod Knotting
+pub mod Wording

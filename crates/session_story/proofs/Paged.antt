@@ -5,7 +5,7 @@ use Rattle.migration_types.specs.declared.records.LogName.TheVariants.{Guest, So
 use Rattle.migration_types.specs.declared.records.GuestRec.{GuestRec}
 use Rattle.migration_types.specs.declared.records.GuestRec.TheVariants.{Read, Write, Release, Miss, Halt, Resume, See}
 use Rattle.migration_types.specs.declared.records.SourceRec.{SourceRec}
-use Rattle.migration_types.specs.declared.records.SourceRec.TheVariants.{Halted, State, Send, Again, Ask, Done}
+use Rattle.migration_types.specs.declared.records.SourceRec.TheVariants.{Halted, State, Send, Again, Ask, Done, Back}
 use Rattle.migration_types.specs.declared.records.PagerRec.{PagerRec}
 use Rattle.migration_types.specs.declared.records.PagerRec.TheVariants.{Got, Pull, Ready, Fault, Join, Want, Place, Zero, Skip, All}
 use Rattle.migration_types.specs.Receipts.{Name}
@@ -90,13 +90,21 @@ source_paged s Altered n (Ask i) e f = absurd f
 source_paged s Unfit n (Ask i) e f = absurd f
 source_paged s Over n (Ask i) e f = absurd f
 source_paged s WrongRead n Done e f = absurd f
+source_paged s WrongRead n Back e f = absurd f
 source_paged s Early n Done e f = absurd f
+source_paged s Early n Back e f = absurd f
 source_paged s Given n Done e f = absurd f
+source_paged s Given n Back e f = absurd f
 source_paged s Stale n Done e f = absurd f
+source_paged s Stale n Back e f = absurd f
 source_paged s Twice n Done e f = absurd f
+source_paged s Twice n Back e f = absurd f
 source_paged s Altered n Done e f = absurd f
+source_paged s Altered n Back e f = absurd f
 source_paged s Unfit n Done e f = absurd f
+source_paged s Unfit n Back e f = absurd f
 source_paged s Over n Done e f = absurd f
+source_paged s Over n Back e f = absurd f
 
 pager_paged : (s : Recorded) (reason : PageReason) (n : ℕ) (r : PagerRec) → pager_page r ≡ None → PagerFault s reason n r → ⊥
 pager_paged s reason n (Place p g x) e f = absurd (cc)

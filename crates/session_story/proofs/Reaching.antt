@@ -6,7 +6,7 @@ use Rattle.migration_types.specs.declared.records.LogName.TheVariants.{Guest, So
 use Rattle.migration_types.specs.declared.records.GuestRec.{GuestRec}
 use Rattle.migration_types.specs.declared.records.GuestRec.TheVariants.{Read, Write, Release, Miss, Halt, Resume, See}
 use Rattle.migration_types.specs.declared.records.SourceRec.{SourceRec}
-use Rattle.migration_types.specs.declared.records.SourceRec.TheVariants.{Halted, State, Send, Again, Ask, Done}
+use Rattle.migration_types.specs.declared.records.SourceRec.TheVariants.{Halted, State, Send, Again, Ask, Done, Back}
 use Rattle.migration_types.specs.declared.records.LinkRec.{LinkRec}
 use Rattle.migration_types.specs.declared.records.LinkRec.TheVariants.{Down, Up}
 use Rattle.migration_types.specs.declared.records.LaneRec.{LaneRec}
@@ -51,6 +51,7 @@ module _ (s : Recorded) (fits : IsSession s) where
   source_below p (Again i) fit is = absurd (cc)
   source_below p (Ask i) fit is = absurd (cc)
   source_below p Done fit is = absurd (cc)
+  source_below p Back fit is = absurd (cc)
 
   link_below : (p : ℕ) (r : LinkRec) → LinkRecFits s.geometry r → link_about r ≡ Page p → p < s.geometry.pages
   link_below p (Down i) fit is = absurd (cc)

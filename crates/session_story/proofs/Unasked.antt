@@ -2,7 +2,7 @@
 use Rattle.std.proofs.Common.{◌≡◌, ℕ, suc, ◌+◌, Bool, true, false, cond, not, ◌||◌, ◌&&◌, List, Some, refl, sym, ap, ◌∙◌, subst, arith}
 use Rattle.std.specs.Prelude.{slice_get, ◌==◌}
 use Rattle.migration_types.specs.declared.records.SourceRec.{SourceRec}
-use Rattle.migration_types.specs.declared.records.SourceRec.TheVariants.{Halted, State, Send, Again, Ask, Done}
+use Rattle.migration_types.specs.declared.records.SourceRec.TheVariants.{Halted, State, Send, Again, Ask, Done, Back}
 use Rattle.migration_types.specs.Sessions.{Recorded}
 use Rattle.audit_model.specs.Flat.{changed}
 use Rattle.audit_model.specs.Shape.{passes}
@@ -35,6 +35,7 @@ marked_asked s State page at is = absurd (cc)
 marked_asked s (Send p content) page at is = absurd (cc)
 marked_asked s (Again n) page at is = absurd (cc)
 marked_asked s Done page at is = absurd (cc)
+marked_asked s Back page at is = absurd (cc)
 
 -- the page that is sent is not
 pub unmarked_sent : (s : Recorded) (page : ℕ) (content : List ℕ) (at : ℕ → Bool) → with_value page false at ≡ asked_by s (Send page content) at
@@ -64,3 +65,4 @@ unasked_is s n State at is = refl
 unasked_is s n (Again m) at is = refl
 unasked_is s n (Ask up) at is = refl
 unasked_is s n Done at is = refl
+unasked_is s n Back at is = refl

@@ -82,7 +82,7 @@ abbrev pub tells_for : Option FaultStory → ℕ → Bool
 tells_for None n = false
 tells_for (Some story) n = tells_in story n
 
--- the same of what became of a page
+-- whether the guest's record of this number is told of in what became of a page
 abbrev pub tells_on : Option PageTold → ℕ → Bool
 tells_on None n = false
 tells_on (Some t) n = is_number t.story.changed n || is_number t.story.found.touch n

@@ -84,12 +84,21 @@ heeded h n (Some (guest.Miss vcpu page)) = h.resume
 heeded h n (Some (guest.See placement)) = h.resume
 heeded h n other = h.halt
 
+-- the resume of a guest that the source starts again
+abbrev pub resumed_for : ShapeReason → Handover → Option ℕ
+resumed_for shape.Both h = h.resume
+resumed_for reason h = None
+
+abbrev pub resumed_by : ShapeStory → Option ℕ
+resumed_by story = resumed_for story.fault.reason story.handover
+
 -- of a record with this fault of its shape
 abbrev pub shape_concerned_for : Recorded → ShapeReason → ShapeStory → Option Name
 shape_concerned_for s shape.Phases story = named_in Guest (heeded story.handover story.fault.place (slice_get s.guest story.fault.place))
 shape_concerned_for s shape.Named story = named_by s (story.fault.log, story.fault.place)
 shape_concerned_for s shape.Start story = None
 shape_concerned_for s shape.SecondSend story = named_in Source story.sent
+shape_concerned_for s shape.Both story = named_in Guest story.handover.resume
 
 abbrev pub shape_concerned_by : Recorded → ShapeStory → Option Name
 shape_concerned_by s story = shape_concerned_for s story.fault.reason story

@@ -171,6 +171,6 @@ pub record IsShapeStory (s : Recorded) (fault : ShapeFault) (t : ShapeStory) : T
 abbrev pub IsExplanation : Recorded → Report → Explanation → Type 0
 IsExplanation s (report.Shape fault) (told.Shape story) = IsShapeStory s fault story
 IsExplanation s (report.Knot left found) (told.Knot knot) = IsCircle s knot
-IsExplanation s (report.Faulty line fault order) (told.Faulty story more) = IsReportedStory s line fault story × AreMoreFaulty s more
+IsExplanation s (report.Faulty line fault order many) (told.Faulty story more) = IsReportedStory s line fault story × AreMoreFaulty s more
 IsExplanation s (report.Clean cert) (told.Clean counts) = IsCounts s cert.entries counts
 IsExplanation s _ _ = ⊥

@@ -10,13 +10,8 @@ pub mod Subjects
 pub mod Topics
 pub mod Concerned
 pub mod Amended
-pub mod RecordWords
-pub mod KnotWords
-pub mod ShapeWords
-pub mod FaultWords
-pub mod StoryWords
-pub mod CountWords
-pub mod TopicWords
-pub mod MissingWords
+pub mod Sentences
+pub mod Lacks
+pub mod Writing
 pub mod Told
 pub mod inner

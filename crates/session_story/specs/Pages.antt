@@ -1,7 +1,7 @@
 -- The story of a page: the records that say how it came from the source to the target.
 use Rattle.std.specs.Prelude.{◌≡◌, ℕ, Bool, false, ◌==◌, nat_lt, List, length, Option, Some, None, slice_get, if◌then◌else◌}
 use Rattle.migration_types.specs.declared.records.GuestRec.{GuestRec}
-use Rattle.migration_types.specs.declared.records.GuestRec.TheVariants.{Write, Release}
+use Rattle.migration_types.specs.declared.records.GuestRec.TheVariants.{Read, Write, Release}
 use Rattle.migration_types.specs.declared.records.LogName.TheVariants.{Source}
 use Rattle.migration_types.specs.declared.records.SourceRec.{SourceRec}
 use Rattle.migration_types.specs.declared.records.SourceRec.TheVariants.{Send}
@@ -24,6 +24,12 @@ abbrev pub changes : ℕ → GuestRec → Bool
 changes page (Write vcpu p cell value) = p == page
 changes page (Release vcpu p) = p == page
 changes page _ = false
+
+-- whether guest record n reads or writes some page behind the record of this number
+abbrev pub is_access_after : ℕ → ℕ → GuestRec → Bool
+is_access_after resume n (Read vcpu p cell value) = nat_lt resume n
+is_access_after resume n (Write vcpu p cell value) = nat_lt resume n
+is_access_after resume n _ = false
 
 -- whether the source's record n is the page's `send`, or a repeat of it
 abbrev pub sends : Recorded → ℕ → ℕ → Bool

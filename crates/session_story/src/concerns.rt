@@ -1,7 +1,7 @@
 //! The other record that is told of a fault: the one that it concerns.
 
 ghost use Rattle.std.specs.Prelude.{◌≡◌, slice_get};
-ghost use Rattle.session_story.specs.Concerned.{concerned_in, concerned_of, heeded, is_number, named_among, named_by, named_in, shape_concerned_by};
+ghost use Rattle.session_story.specs.Concerned.{concerned_in, concerned_of, heeded, is_number, named_among, named_by, named_in, resumed_by, shape_concerned_by};
 
 use crate::explaining::Explanation;
 use crate::faults::{FaultStory, ShapeStory};
@@ -12,7 +12,7 @@ use audit_model::ShapeReason;
 use migration_types::{Field, GuestRec, LogName, Session};
 
 /// A record, by its log and its number there.
-pub(crate) type Name = (LogName, u32);
+pub type Name = (LogName, u32);
 
 /// The record of this number in a log, if there is a number.
 pub(crate) fn named_in(log: LogName, place: Option<u32>) -> Option<Name>
@@ -70,6 +70,17 @@ fn heeded(handover: &Handover, n: u32, rec: Option<GuestRec>) -> Option<u32>
     }
 }
 
+/// The resume of a guest that the source starts again, by its number in the guest's log; none of another fault of a record's
+/// shape.
+pub fn resumed_by(story: &ShapeStory) -> Option<u32>
+    ensures { result ≡ resumed_by story.now }
+{
+    match story.fault.reason {
+        ShapeReason::Both => story.handover.resume,
+        _ => None,
+    }
+}
+
 /// The other record that a fault of a record's shape concerns.
 fn shape_concerned_by(session: &Session, story: &ShapeStory) -> Option<Name>
     ensures { result ≡ shape_concerned_by session.now story.now }
@@ -83,6 +94,7 @@ fn shape_concerned_by(session: &Session, story: &ShapeStory) -> Option<Name>
         ShapeReason::Named => named_by(session, (fault.log, fault.place)),
         ShapeReason::Start => None,
         ShapeReason::SecondSend => named_in(LogName::Source, story.sent),
+        ShapeReason::Both => named_in(LogName::Guest, story.handover.resume),
     }
 }
 

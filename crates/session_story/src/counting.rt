@@ -39,7 +39,11 @@ pub struct Counts {
 
 /// How many pages came in which way, by the entries of a certificate, and how many records there are of some kinds.
 /// Takes a few passes over the logs, and memory for a mark of each page, which is the only error.
-pub fn counts_of(alloc: Global, session: &Session, entries: &[Entry]) -> Result<Counts, AllocError>
+pub(crate) fn counts_of(
+    alloc: Global,
+    session: &Session,
+    entries: &[Entry],
+) -> Result<Counts, AllocError>
     requires { length entries.now ≤ most_pages }
     ensures { IfOk result (IsCounts session.now entries.now) }
 {

@@ -2,6 +2,7 @@
 
 ghost use Rattle.std.specs.Prelude.{◌≡◌, IfOk};
 ghost use Rattle.audit_model.specs.FirstFault.{IsFirstPageFault};
+ghost use Rattle.faulty_pages.specs.FaultyPages.{AreManyFaulty};
 ghost use Rattle.audit_report.specs.Reports.{IsReport};
 ghost use Rattle.session_story.specs.Counted.{IsCounts};
 ghost use Rattle.session_story.specs.Explained.{AreMoreFaulty, IsExplanation};
@@ -10,9 +11,8 @@ use crate::counting::{Counts, counts_of};
 use crate::faults::{FaultStory, ShapeStory, fault_at, shape_at};
 use crate::waits::{Knot, circle_of};
 use audit_report::Report;
-use faulty_pages::faulty_pages;
 use migration_types::{Cert, Session};
-use page_facts::{Alone, PageFault};
+use page_facts::PageFault;
 use std::alloc::{AllocError, Global};
 
 /// What happened in a session: what its report names, with the records that it came from.
@@ -40,14 +40,14 @@ fn clean_counts(alloc: Global, session: &Session, cert: &Cert) -> Result<Counts,
     counts_of(alloc, session, cert.entries())
 }
 
-/// How many pages have a fault beside the one of the session's first.
-fn more_faulty(alloc: Global, session: &Session, fault: &PageFault) -> Result<usize, AllocError>
-    requires { IsFirstPageFault session.now fault.now.reason (fault.now.log, fault.now.place) }
-    ensures { IfOk result (AreMoreFaulty session.now) }
+/// How many pages have a fault beside the one of the session's first, where so many have one.
+fn more_faulty(session: &Session, fault: &PageFault, pages: usize) -> usize
+    requires first { IsFirstPageFault session.now fault.now.reason (fault.now.log, fault.now.place) }
+    requires many { AreManyFaulty session.now pages }
+    ensures { AreMoreFaulty session.now result }
 {
     session.keeps_limits();
-    let faulty = faulty_pages(&Alone, alloc, session)?;
-    Ok(faulty.len() - 1)
+    pages - 1
 }
 
 /// What happened in a session, by the report on it. Takes a few passes over each log, and as much memory as an audit
@@ -61,9 +61,9 @@ pub fn explain(alloc: Global, session: &Session, report: &Report) -> Result<Expl
         Report::Knot { left, found } => {
             Ok(Explanation::Knot(circle_of(alloc, session, left, found)?))
         }
-        Report::Faulty { fault, .. } => {
+        Report::Faulty { fault, pages, .. } => {
             let story = fault_at(alloc, session, report, fault)?;
-            let more = more_faulty(alloc, session, fault)?;
+            let more = more_faulty(session, fault, *pages);
             Ok(Explanation::Faulty { story, more })
         }
         Report::Clean(cert) => Ok(Explanation::Clean(clean_counts(alloc, session, cert)?)),

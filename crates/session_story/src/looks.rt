@@ -41,7 +41,7 @@ fn looked(rec: &GuestRec, n: u32, best: Option<Look>) -> Option<Look>
 
 /// The look before this record of the guest that reaches furthest, the first of several; none where there is no look.
 /// Takes no memory.
-pub fn greatest_look(session: &Session, to: usize) -> Option<Look>
+pub(crate) fn greatest_look(session: &Session, to: usize) -> Option<Look>
     requires { to ≤ length session.now.guest }
     ensures { MatchOption result (HasNoLook session.now to) (IsGreatestLook session.now to) }
 {

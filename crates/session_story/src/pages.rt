@@ -41,7 +41,7 @@ pub struct PageStory {
 }
 
 /// The guest's halt and its resume. Takes no memory.
-pub fn handover_of(session: &Session) -> Handover
+pub(crate) fn handover_of(session: &Session) -> Handover
     ensures { IsHandover session.now result }
 {
     session.keeps_limits();
@@ -52,7 +52,7 @@ pub fn handover_of(session: &Session) -> Handover
 }
 
 /// The guest's last write or release of a page before the halt. Takes no memory.
-pub fn last_change(session: &Session, page: PageNo) -> Option<u32>
+pub(crate) fn last_change(session: &Session, page: PageNo) -> Option<u32>
     ensures { result ≡ last_before (λ m. changes page) session.now.guest (at_halt session.now) }
 {
     session.keeps_limits();
@@ -66,7 +66,7 @@ pub fn last_change(session: &Session, page: PageNo) -> Option<u32>
 }
 
 /// The source's `send` of a page, the first of several. Takes no memory.
-pub fn send_of(session: &Session, page: PageNo) -> Option<u32>
+pub(crate) fn send_of(session: &Session, page: PageNo) -> Option<u32>
     ensures { result ≡ first_before (λ m. is_send_of page) session.now.source (length session.now.source) }
 {
     session.keeps_limits();
@@ -74,7 +74,11 @@ pub fn send_of(session: &Session, page: PageNo) -> Option<u32>
 }
 
 /// The story of a page. Takes a few passes over each log, and as much memory as judging does, which is the only error.
-pub fn story_of(alloc: Global, session: &Session, page: PageNo) -> Result<PageStory, AllocError>
+pub(crate) fn story_of(
+    alloc: Global,
+    session: &Session,
+    page: PageNo,
+) -> Result<PageStory, AllocError>
     requires { page < session.now.geometry.pages }
     ensures { IfOk result (IsPageStory session.now page) }
 {

@@ -2,7 +2,7 @@
 
 ghost use Rattle.std.specs.Prelude.{◌≡◌};
 ghost use Rattle.session_story.specs.Values.{sets};
-ghost use Rattle.session_story.specs.Pages.{changes, carries, lane_carries};
+ghost use Rattle.session_story.specs.Pages.{changes, carries, lane_carries, is_access_after};
 ghost use Rattle.session_story.specs.inner.Questions.{asks_guest, asks_source, asks_link, asks_lane, asks_pager, asks_entry};
 
 use crate::scans::Question;
@@ -19,6 +19,8 @@ pub(crate) enum GuestQuestion {
     Changes(PageNo),
     /// Whether it writes the cell, or releases its page.
     Sets(PageNo, u16),
+    /// Whether it reads or writes some page behind the record of this number.
+    AccessAfter(u32),
 }
 
 /// What is asked of a record of the source.
@@ -29,6 +31,7 @@ pub(crate) enum SourceQuestion {
     /// Whether it sends some page for the first time.
     Send,
     Again,
+    Back,
 }
 
 /// What is asked of a record of the link.
@@ -90,6 +93,16 @@ fn sets(rec: &GuestRec, page: PageNo, cell: u16) -> bool
     }
 }
 
+/// Whether the record of this number reads or writes some page behind another.
+fn is_access_after(rec: &GuestRec, n: usize, resume: u32) -> bool
+    ensures { result ≡ is_access_after resume n rec.now }
+{
+    match rec {
+        GuestRec::Read { .. } | GuestRec::Write { .. } => (resume as usize) < n,
+        _ => false,
+    }
+}
+
 /// Whether a record of the link delivers the page's `send`, or a repeat of it.
 fn carries(session: &Session, rec: &LinkRec, page: PageNo) -> bool
     ensures { result ≡ carries session.now page rec.now }
@@ -114,13 +127,14 @@ impl Question for GuestQuestion {
 
     ghost holds = { asks_guest };
 
-    fn holds(&self, _session: &Session, _n: usize, rec: &GuestRec) -> bool {
+    fn holds(&self, _session: &Session, n: usize, rec: &GuestRec) -> bool {
         match *self {
             GuestQuestion::Halt => is_halt(rec),
             GuestQuestion::Resume => is_resume(rec),
             GuestQuestion::Miss => is_miss(rec),
             GuestQuestion::Changes(page) => changes(rec, page),
             GuestQuestion::Sets(page, cell) => sets(rec, page, cell),
+            GuestQuestion::AccessAfter(resume) => is_access_after(rec, n, resume),
         }
     }
 }
@@ -135,6 +149,7 @@ impl Question for SourceQuestion {
             SourceQuestion::SendOf(page) => is_send_of(rec, page),
             SourceQuestion::Send => matches!(rec, SourceRec::Send { .. }),
             SourceQuestion::Again => matches!(rec, SourceRec::Again { .. }),
+            SourceQuestion::Back => matches!(rec, SourceRec::Back),
         }
     }
 }

@@ -1,16 +1,40 @@
 //! The text that tells what happened in a session.
 
-ghost use Rattle.std.specs.Prelude.{◌≡◌, ◌++◌, IfOk, OnOk};
+ghost use Rattle.std.specs.Prelude.{IfOk, OnOk, string_bytes};
 ghost use Rattle.audit_report.specs.Reports.{IsReport};
 ghost use Rattle.completeness.specs.Complete.{IsFirstMissing};
-ghost use Rattle.session_story.specs.Told.{IsExplainedText, IsToldText, lacking_text, no_text, refused_text};
+ghost use Rattle.session_story.specs.Told.{AreWordsOn, IsExplainedText, IsLackingText, IsRefusedText, IsToldText};
+ghost use Rattle.session_story.specs.Sentences.{told_first};
+ghost use Rattle.session_story.specs.Writing.{Adds, AreWritten, IsLine};
 
-use crate::topics::{Topic, tell};
-use crate::words::{words_of, words_of_missing};
+use crate::english::{BY_OWN_LINES, NO_TEXT};
+use crate::sentences::lacks::missing_told;
+use crate::sentences::topics::{told_first, told_in_full};
+use crate::topics::{Told, Topic, tell};
+use crate::writing::{Writer, push_sentences};
 use audit_report::{Report, print_first_line, print_refused_session, push_missing};
 use completeness::Missing;
 use migration_types::Session;
 use std::alloc::{AllocError, Global};
+
+/// What is told of a session on a topic, in a writer's words. Takes a few passes over each log, and as much memory as an
+/// audit does and one machine more, which is the only error.
+pub fn words_on<W: Writer>(
+    alloc: Global,
+    writer: &W,
+    session: &Session,
+    report: &Report,
+    topic: Topic,
+) -> Result<String, AllocError>
+    requires { IsReport session.now report.now }
+    ensures { IfOk result (λ words. AreWordsOn (W.is_written writer.now session.now) session.now report.now topic (string_bytes words)) }
+{
+    let told = tell(alloc, session, report, topic)?;
+    let sentences = told_in_full(alloc, session, report, &told)?;
+    let mut words = String::new(alloc);
+    push_sentences(writer, &mut words, session, &sentences)?;
+    Ok(words)
+}
 
 /// What is told of a session on a topic, in words, after the first line of the report on it. Each line ends with LF. Takes
 /// a few passes over each log, and as much memory as an audit does and one machine more, which is the only error.
@@ -23,8 +47,7 @@ pub fn print_topic(
     requires { IsReport session.now report.now }
     ensures { IfOk result (λ text. IsToldText session.now report.now topic text.items) }
 {
-    let told = tell(alloc, session, report, topic)?;
-    let words = words_of(alloc, session, report, &told)?;
+    let words = words_on(alloc, &BY_OWN_LINES, session, report, topic)?;
     let mut text = print_first_line(alloc, report)?;
     text.extend_from_slice(words.as_bytes())?;
     Ok(text)
@@ -50,30 +73,32 @@ pub fn print_missing(
     missing: Missing,
 ) -> Result<Vec<u8>, AllocError>
     requires { IsFirstMissing session.now missing }
-    ensures { IfOk result (λ text. text.items ≡ lacking_text session.now missing) }
+    ensures { IfOk result (λ text. IsLackingText session.now missing text.items) }
 {
-    let words = words_of_missing(alloc, session, &missing)?;
+    let sentences = missing_told(alloc, session, &missing)?;
+    let mut words = String::new(alloc);
+    push_sentences(&BY_OWN_LINES, &mut words, session, &sentences)?;
     let mut text = Vec::new(alloc);
     push_missing(&mut text, session, missing)?;
     text.extend_from_slice(words.as_bytes())?;
     Ok(text)
 }
 
-/// Adds what it means that a text is refused.
-#[tactic(auto, unfolding(crate::specs::Told::no_text))]
-fn push_no_text(text: &mut Vec<u8>) -> Result<(), AllocError>
-    ensures { OnOk result (text.new.items ≡ text.old.items ++ no_text) }
-{
-    text.extend_from_slice(
-        b"This is no text of a session: no such text begins as this one does up to that line, or this one ends there too early.\n",
-    )
-}
-
 /// That a text is refused at this line, as an audit tells it, and what that means. An error: there is no memory for it.
 pub fn print_refused(alloc: Global, line: u32) -> Result<Vec<u8>, AllocError>
-    ensures { IfOk result (λ text. text.items ≡ refused_text line) }
+    ensures { IfOk result (λ text. IsRefusedText line text.items) }
 {
     let mut text = print_refused_session(alloc, line)?;
-    push_no_text(&mut text)?;
+    text.extend_from_slice(NO_TEXT.as_bytes())?;
+    text.extend_from_slice(b"\n")?;
     Ok(text)
+}
+
+/// Adds what is told first, each sentence on a line of its own: what is wrong, or that nothing is. An error: there is no
+/// memory for it.
+pub fn push_summary(out: &mut String, session: &Session, told: &Told) -> Result<(), AllocError>
+    ensures { OnOk result (Adds (AreWritten (λ _. IsLine) (told_first session.now told.now)) (string_bytes out.old) (string_bytes out.new)) }
+{
+    let sentences = told_first(*out.allocator(), session, told)?;
+    push_sentences(&BY_OWN_LINES, out, session, &sentences)
 }

@@ -138,7 +138,7 @@ fn page_told(
 
 /// What became of the page of this number; none where the machine has no such page. Takes a few passes over each log,
 /// and as much memory as judging does and one machine more, which is the only error.
-pub fn told_of_page(
+pub(crate) fn told_of_page(
     alloc: Global,
     session: &Session,
     report: &Report,
@@ -192,7 +192,7 @@ fn shape_told(session: &Session, report: &Report, line: u32) -> Option<ShapeStor
 
 /// The record at this line of a session's text, and what became of its page; none where the line tells no record. Takes
 /// as much as [`told_of_page`].
-pub fn told_of_line(
+pub(crate) fn told_of_line(
     alloc: Global,
     session: &Session,
     report: &Report,

@@ -62,7 +62,11 @@ fn held_in(session: &Session, machine: &Machine, page: PageNo, cell: u16, to: us
 
 /// What one machine that never moved gives in place of a read: the guest's record of this number; none where it is no
 /// read. Takes one pass over the guest's log, and memory for a machine, which is the only error.
-pub fn instead_of(alloc: Global, session: &Session, n: usize) -> Result<Option<Held>, AllocError>
+pub(crate) fn instead_of(
+    alloc: Global,
+    session: &Session,
+    n: usize,
+) -> Result<Option<Held>, AllocError>
     requires { n < length session.now.guest }
     ensures { IfOk result (λ held. (vcpu page cell value : ℕ) → slice_get session.now.guest n ≡ Some (Read vcpu page cell value) → MatchOption held ⊥ (IsInstead session.now n page cell)) }
 {
@@ -100,7 +104,7 @@ fn first_other(
 
 /// The first cell in which these contents are not the page's at the halt, with what the page has there; none where they
 /// are the page's. Takes one pass over the guest's log, and memory for a machine, which is the only error.
-pub fn other_of(
+pub(crate) fn other_of(
     alloc: Global,
     session: &Session,
     page: PageNo,

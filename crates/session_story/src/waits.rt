@@ -101,7 +101,7 @@ fn circle_from(
 
 /// The records of a knot that wait for one another, from the one at the knot's line on. Looks at one record of each log,
 /// and takes memory for what these wait for, which is the only error.
-pub fn circle_of(
+pub(crate) fn circle_of(
     alloc: Global,
     session: &Session,
     left: &Left,

@@ -7,18 +7,10 @@ use Rattle.command_texts.specs.Answers.{numbered}
 use Rattle.window_commands.specs.declared.relining.LinesIn.{LinesIn}
 use Rattle.window_commands.specs.declared.relining.LinesIn.TheVariants.{Words, Object}
 
--- what stands between words, and the word that a line's number stands behind
-abbrev pub between : LinesIn → ℕ
-between Words = 32
-between Object = 58
-
-abbrev pub key : LinesIn → List ℕ
-key Words = codes "line"
-key Object = codes "\"line\""
-
--- the lines in a text are told by a table
+-- the lines in a text are told by a table: in words, between spaces, those after `Line` and those after `line`
 abbrev pub AreToldBy : LinesIn → List ℕ → List ℕ → List ℕ → Type 0
-AreToldBy lines table text out = IsRelined (between lines) (key lines) table text out
+AreToldBy Words table text out = (begun : List ℕ) × IsRelined 32 (codes "Line") table text begun × IsRelined 32 (codes "line") table begun out
+AreToldBy Object table text out = IsRelined 58 (codes "\"line\"") table text out
 
 -- an answer, with its lines told by a table
 abbrev pub IsToldBy : (List ℕ → ℕ → Type 0) → LinesIn → List ℕ → List ℕ → ℕ → Type 0

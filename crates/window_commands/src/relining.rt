@@ -2,7 +2,7 @@
 //! lines.
 
 ghost use Rattle.std.specs.Prelude.{◌≡◌, ◌<◌, ℕ, List, Option, IfOk, IfErr};
-ghost use Rattle.window_commands.specs.Relining.{AreToldBy, IsToldBy, between, key};
+ghost use Rattle.window_commands.specs.Relining.{AreToldBy, IsToldBy};
 
 use crate::{TableParts, push_relined};
 use command_texts::{Answer, Fault, Gathered, Given, OnOne, OnTwo, Taker, given_alone, refused};
@@ -18,26 +18,25 @@ pub enum LinesIn {
     Object,
 }
 
-impl LinesIn {
-    // What stands between words.
-    fn between(self) -> u8
-        ensures { result ≡ between self }
-    {
-        match self {
-            LinesIn::Words => b' ',
-            LinesIn::Object => b':',
+// A text with its lines told by a table: those in words stand after `line`, which begins a sentence as `Line`.
+fn retold_text(
+    alloc: Global,
+    lines: LinesIn,
+    table: &[u64],
+    text: &[u8],
+) -> Result<Vec<u8>, AllocError>
+    ensures { IfOk result (λ told. AreToldBy lines table.now text.now told.items) }
+{
+    let mut told = Vec::new(alloc);
+    match lines {
+        LinesIn::Words => {
+            let mut begun = Vec::new(alloc);
+            push_relined(&mut begun, b' ', b"Line", table, text)?;
+            push_relined(&mut told, b' ', b"line", table, &begun)?;
         }
+        LinesIn::Object => push_relined(&mut told, b':', b"\"line\"", table, text)?,
     }
-
-    // The word that a line's number stands after.
-    fn key(self) -> &'static [u8]
-        ensures { result.now ≡ key self }
-    {
-        match self {
-            LinesIn::Words => b"line",
-            LinesIn::Object => b"\"line\"",
-        }
-    }
+    Ok(told)
 }
 
 // An answer with its lines told by a table.
@@ -49,10 +48,8 @@ fn retold(
 ) -> Result<Answer, AllocError>
     ensures { IfOk result (λ told. AreToldBy lines table.now answer.now.text.items told.text.items × (told.status ≡ answer.now.status)) }
 {
-    let mut text = Vec::new(alloc);
-    push_relined(&mut text, lines.between(), lines.key(), table, &answer.text)?;
     Ok(Answer {
-        text,
+        text: retold_text(alloc, lines, table, &answer.text)?,
         status: answer.status,
     })
 }

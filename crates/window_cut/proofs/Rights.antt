@@ -8,7 +8,7 @@ use Rattle.migration_types.specs.declared.records.LogName.TheVariants.{Guest}
 use Rattle.migration_types.specs.declared.records.GuestRec.{GuestRec}
 use Rattle.migration_types.specs.declared.records.GuestRec.TheVariants.{Read, Write, Release, Miss, Halt, Resume, See}
 use Rattle.migration_types.specs.declared.records.SourceRec.{SourceRec}
-use Rattle.migration_types.specs.declared.records.SourceRec.TheVariants.{Halted, State, Send, Again, Ask, Done}
+use Rattle.migration_types.specs.declared.records.SourceRec.TheVariants.{Halted, State, Send, Again, Ask, Done, Back}
 use Rattle.migration_types.specs.declared.records.LinkRec.{LinkRec}
 use Rattle.migration_types.specs.declared.records.LinkRec.TheVariants.{Down, Up}
 use Rattle.migration_types.specs.declared.records.LaneRec.{LaneRec}
@@ -67,6 +67,7 @@ module _ (number : Numbers) (s : Recorded) (known found : Marks) (f : Found numb
   repeat (Again sending) = has_passes (keeps_sending number) s.source known.source.sendings sending sendings
   repeat (Ask up) = refl
   repeat Done = refl
+  repeat Back = refl
 
   repeats : found.source.repeats ≡ map (is_or_repeats s (keeps_sending number)) s.source
   repeats = f.source.repeats ∙ map_same (repeats_by number known) (is_or_repeats s (keeps_sending number)) s.source repeat
@@ -106,6 +107,7 @@ module _ (number : Numbers) (s : Recorded) (known found : Marks) (f : Found numb
   source_rec (Again sending) = has_passes (keeps_sending number) s.source known.source.sendings sending sendings
   source_rec (Ask up) = has_passes (keeps_link s number) s.link known.link up (same.link ∙ link_found)
   source_rec Done = refl
+  source_rec Back = refl
 
   pager_rec : (r : PagerRec) → pager_by number known r ≡ keeps_pager s number r
   pager_rec (Got down) = has_passes (keeps_link s number) s.link known.link down (same.link ∙ link_found)

@@ -4,7 +4,7 @@ use Rattle.std.specs.Prelude.{max, nat_lt, Result, Ok, Err, IfErr}
 use Rattle.migration_types.specs.declared.records.GuestRec.{GuestRec}
 use Rattle.migration_types.specs.declared.records.GuestRec.TheVariants.{Read, Write, Release, Miss, Halt, Resume, See}
 use Rattle.migration_types.specs.declared.records.SourceRec.{SourceRec}
-use Rattle.migration_types.specs.declared.records.SourceRec.TheVariants.{Halted, State, Send, Again, Ask, Done}
+use Rattle.migration_types.specs.declared.records.SourceRec.TheVariants.{Halted, State, Send, Again, Ask, Done, Back}
 use Rattle.migration_types.specs.declared.records.LinkRec.{LinkRec}
 use Rattle.migration_types.specs.declared.records.LinkRec.TheVariants.{Down, Up}
 use Rattle.migration_types.specs.declared.records.LaneRec.{LaneRec}
@@ -55,6 +55,7 @@ module _ (number : Numbers) (a b : Marks) (same : FirstSame a b) where
   repeat_rec (Again sending) = marks_alike a.source.sendings b.source.sendings sending same.sendings
   repeat_rec (Ask up) = refl
   repeat_rec Done = refl
+  repeat_rec Back = refl
 
   link_rec : (own other : List Bool) → own ≡ other → (r : LinkRec) → link_by a own r ≡ link_by b other r
   link_rec own other e (Down sending) = marks_alike own other sending e
@@ -111,6 +112,7 @@ module _ (number : Numbers) (a b : Marks) (same : SecondSame a b) where
   source_rec (Again sending) = marks_alike a.source.sendings b.source.sendings sending same.first.sendings
   source_rec (Ask up) = marks_alike a.link b.link up same.link
   source_rec Done = refl
+  source_rec Back = refl
 
   pager_rec : (r : PagerRec) → pager_by number a r ≡ pager_by number b r
   pager_rec (Got down) = marks_alike a.link b.link down same.link

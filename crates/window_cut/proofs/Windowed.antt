@@ -5,7 +5,7 @@ use Rattle.migration_types.specs.declared.records.LogName.TheVariants.{Guest, So
 use Rattle.migration_types.specs.declared.records.GuestRec.{GuestRec}
 use Rattle.migration_types.specs.declared.records.GuestRec.TheVariants.{Read, Write, Release, Miss, Halt, Resume, See}
 use Rattle.migration_types.specs.declared.records.SourceRec.{SourceRec}
-use Rattle.migration_types.specs.declared.records.SourceRec.TheVariants.{Halted, State, Send, Again, Ask, Done}
+use Rattle.migration_types.specs.declared.records.SourceRec.TheVariants.{Halted, State, Send, Again, Ask, Done, Back}
 use Rattle.migration_types.specs.declared.records.LinkRec.{LinkRec}
 use Rattle.migration_types.specs.declared.records.LinkRec.TheVariants.{Down, Up}
 use Rattle.migration_types.specs.declared.records.LaneRec.{LaneRec}
@@ -75,6 +75,7 @@ module _ (number : Numbers) (s : Recorded) (known found : Marks) (f : Found numb
   source_rec (Again sending) = ap Again (to_source sending)
   source_rec (Ask up) = ap Ask (to_link up)
   source_rec Done = refl
+  source_rec Back = refl
 
   link_rec : (x : LinkRec) → new_link_by known x ≡ new_link s number x
   link_rec (Down sending) = ap Down (to_source sending)

@@ -98,6 +98,7 @@ impl Guide {
                 up: self.known.link.rank(up),
             },
             WideSource::Done => WideSource::Done,
+            WideSource::Back => WideSource::Back,
         }
     }
 

@@ -78,7 +78,7 @@ impl Guide {
             WideSource::Send { page, .. } => self.window.has(*page),
             WideSource::Again { sending } => self.known.source.sendings.has(*sending),
             WideSource::Ask { up } => self.known.link.has(*up),
-            WideSource::Done => true,
+            WideSource::Done | WideSource::Back => true,
         }
     }
 

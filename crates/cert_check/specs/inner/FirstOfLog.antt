@@ -3,7 +3,7 @@ use Rattle.std.specs.Prelude.{not, ◌≡◌, ℕ, ◌<◌, Bool, true, Option, 
 use Rattle.migration_types.specs.declared.records.LogName.{LogName}
 use Rattle.migration_types.specs.Sessions.{Recorded}
 use Rattle.audit_model.specs.declared.reasons.ShapeReason.{ShapeReason}
-use Rattle.audit_model.specs.declared.reasons.ShapeReason.TheVariants.{Phases, Named, Start, SecondSend}
+use Rattle.audit_model.specs.declared.reasons.ShapeReason.TheVariants.{Phases, Named, Start, SecondSend, Both}
 use Rattle.migration_types.specs.declared.records.SourceRec.{SourceRec}
 use Rattle.migration_types.specs.declared.records.SourceRec.TheVariants.{Send}
 use Rattle.migration_types.specs.Receipts.{Name}
@@ -11,12 +11,12 @@ use Rattle.audit_model.specs.Shape.{is_right, is_send_of, earlier}
 use Rattle.page_store.specs.Tables.{Values, pages_of, values, with_value}
 
 -- the first of the reasons for which a record is not right
-abbrev pub first_reason : Bool → Bool → Bool → Bool → Option ShapeReason
-first_reason phases named start second =
-    if phases then (if named then (if start then (if second then None else Some SecondSend) else Some Start) else Some Named) else Some Phases
+abbrev pub first_reason : Bool → Bool → Bool → Bool → Bool → Option ShapeReason
+first_reason phases named start second alone =
+    if phases then (if named then (if start then (if second then (if alone then None else Some Both) else Some SecondSend) else Some Start) else Some Named) else Some Phases
 
 abbrev pub reason_at : Recorded → Name → Option ShapeReason
-reason_at s name = first_reason (is_right s Phases name) (is_right s Named name) (is_right s Start name) (is_right s SecondSend name)
+reason_at s name = first_reason (is_right s Phases name) (is_right s Named name) (is_right s Start name) (is_right s SecondSend name) (is_right s Both name)
 
 -- no record of the log before this place has a fault
 abbrev pub IsRightBelow : Recorded → LogName → ℕ → Type 0

@@ -4,7 +4,7 @@ use Rattle.migration_types.specs.Sessions.{Recorded}
 use Rattle.audit_report.specs.Reports.{IsReport}
 use Rattle.audit_report.specs.declared.report.Report.{Report}
 use Rattle.command_texts.specs.declared.answer.Answer.{Answer}
-use Rattle.judge_commands.specs.Judged.{Judged, Refused, Reported, report_status}
+use Rattle.session_answers.specs.Judged.{Judged, Refused, Reported, report_status}
 
 pub record SaysReport (Tells : Judged → List ℕ → Type 0) (s : Recorded) (answer : Answer) : Type 0 where
   pub report : Report

@@ -1,5 +1,5 @@
 -- Rows while they are built.
-use Rattle.std.specs.Prelude.{◌≡◌, nat_lt, true, List, [], ◌∷◌, ◌++◌, length, if◌then◌else◌}
+use Rattle.std.specs.Prelude.{◌≡◌, ℕ, ◌+◌, ◌<◌, nat_lt, true, List, [], ◌∷◌, ◌++◌, Option, Some, None, length, slice_get, if◌then◌else◌}
 use Rattle.std.specs.List.{list_any}
 use Rattle.migration_types.specs.Receipts.{Name}
 use Rattle.audit_model.specs.Mergings.{at_start}
@@ -9,7 +9,7 @@ use Rattle.order_picture.specs.declared.focus.Mark.{Mark}
 use Rattle.order_picture.specs.declared.picture.Row.{Row}
 use Rattle.order_picture.specs.declared.picture.Row.TheVariants.{Fold}
 use Rattle.order_picture.specs.declared.rows.Building.{Building}
-use Rattle.order_picture.specs.Rows.{Covers, is_faulty, shows_fault}
+use Rattle.order_picture.specs.Rows.{Covers, has_row, is_certain, is_faulty, shows_fault}
 
 -- the rows, with what came since the last one as a row of its own, if something came
 abbrev pub closed_rows : Building → List Row
@@ -25,3 +25,23 @@ pub record IsBuilt (mark : Name → Mark) (b : Building) (names : List Name) : T
   pub count : b.folded ≡ length folded
   pub shown : shows_fault b.rows.items ≡ list_any (λ name. is_faulty (mark name)) names
   pub spent : b.fault_left ≡ 0 → shows_fault b.rows.items ≡ true
+
+-- rows, and more behind them
+abbrev pub Extends : List Row → List Row → Type 0
+Extends before after = (more : List Row) × (after ≡ before ++ more)
+
+-- of the first so many places of an order those that are certain have rows
+abbrev pub HasCertainBelow : (fault concerned : Option ℕ) → List Row → List Name → ℕ → Type 0
+HasCertainBelow fault concerned rows order k = (n : ℕ) → n < k → (name : Name) → is_certain fault concerned n ≡ true → slice_get order n ≡ Some name → has_row rows name ≡ true
+
+abbrev pub next_left : Option ℕ → ℕ → ℕ
+next_left None n = 0
+next_left (Some at) n = (if nat_lt n at then 1 else 0) + (if nat_lt n (at + 2) then 1 else 0)
+
+abbrev pub at_left : Option ℕ → ℕ → ℕ
+at_left None n = 0
+at_left (Some at) n = if nat_lt n (at + 1) then 1 else 0
+
+-- at most so many places are certain from this one on
+abbrev pub certain_left : Option ℕ → Option ℕ → ℕ → ℕ
+certain_left fault concerned n = next_left fault n + at_left concerned n

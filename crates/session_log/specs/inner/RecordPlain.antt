@@ -10,7 +10,7 @@ use Rattle.text_lines.proofs.Plain.{plain_append, plain_decimal, plain_codes}
 use Rattle.migration_types.specs.declared.records.GuestRec.{GuestRec}
 use Rattle.migration_types.specs.declared.records.GuestRec.TheVariants.{Read, Write, Release, Miss, Halt, Resume, See}
 use Rattle.migration_types.specs.declared.records.SourceRec.{SourceRec}
-use Rattle.migration_types.specs.declared.records.SourceRec.TheVariants.{Halted, State, Send, Again, Ask, Done}
+use Rattle.migration_types.specs.declared.records.SourceRec.TheVariants.{Halted, State, Send, Again, Ask, Done, Back}
 use Rattle.migration_types.specs.declared.records.LinkRec.{LinkRec}
 use Rattle.migration_types.specs.declared.records.LinkRec.TheVariants.{Down, Up}
 use Rattle.migration_types.specs.declared.records.LaneRec.{LaneRec}
@@ -73,6 +73,7 @@ plain_source_rec past le e lp lc (Send p xs) h = plain_append (codes "send ") (p
 plain_source_rec past le e lp lc (Again n) h = plain_numbered past le (codes "again ") n (plain_codes (codes "again ") refl) h
 plain_source_rec past le e lp lc (Ask n) h = plain_numbered past le (codes "ask ") n (plain_codes (codes "ask ") refl) h
 plain_source_rec past le e lp lc Done h = plain_codes (codes "done") refl
+plain_source_rec past le e lp lc Back h = plain_codes (codes "back") refl
 
 pub plain_link_rec : (past : ℕ) → past ≤ 2 ^ 64 → (r : LinkRec) → LinkRecIn past r → IsLine (link_line r)
 plain_link_rec past le (Down n) h = plain_numbered past le (codes "down ") n (plain_codes (codes "down ") refl) h

@@ -10,8 +10,8 @@ use Rattle.migration_types.specs.declared.records.PagerRec.{PagerRec}
 use Rattle.migration_types.specs.Sessions.{Recorded}
 use Rattle.audit_model.specs.Certificates.{is_fresh}
 use Rattle.audit_model.specs.Shape.{is_halt, is_resume, is_miss, is_send_of, delivers}
-use Rattle.completeness.specs.Complete.{is_all}
-use Rattle.session_story.specs.Pages.{changes, carries, lane_carries}
+use Rattle.completeness.specs.Complete.{is_all, is_back}
+use Rattle.session_story.specs.Pages.{changes, carries, lane_carries, is_access_after}
 use Rattle.session_story.specs.Values.{sets}
 use Rattle.session_story.specs.Counted.{is_unmoved, is_sent, is_zeroed, is_send, is_again, is_join, is_skip}
 use Rattle.session_story.specs.declared.looks.Look.{Look}
@@ -34,11 +34,13 @@ asks_guest guest.Resume s n = is_resume
 asks_guest guest.Miss s n = is_miss
 asks_guest (guest.Changes page) s n = changes page
 asks_guest (guest.Sets page cell) s n = sets page cell
+asks_guest (guest.AccessAfter resume) s n = is_access_after resume n
 
 abbrev pub asks_source : SourceQuestion → Recorded → ℕ → SourceRec → Bool
 asks_source (source.SendOf page) s n = is_send_of page
 asks_source source.Send s n = is_send
 asks_source source.Again s n = is_again
+asks_source source.Back s n = is_back
 
 abbrev pub asks_link : LinkQuestion → Recorded → ℕ → LinkRec → Bool
 asks_link (link.Carries page) s n = carries s page

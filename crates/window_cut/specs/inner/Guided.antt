@@ -3,7 +3,7 @@ use Rattle.std.specs.Prelude.{ℕ, suc, ◌-◌, Bool, true, false, max, nat_lt,
 use Rattle.migration_types.specs.declared.records.GuestRec.{GuestRec}
 use Rattle.migration_types.specs.declared.records.GuestRec.TheVariants.{Read, Write, Release, Miss, Halt, Resume, See}
 use Rattle.migration_types.specs.declared.records.SourceRec.{SourceRec}
-use Rattle.migration_types.specs.declared.records.SourceRec.TheVariants.{Halted, State, Send, Again, Ask, Done}
+use Rattle.migration_types.specs.declared.records.SourceRec.TheVariants.{Halted, State, Send, Again, Ask, Done, Back}
 use Rattle.migration_types.specs.declared.records.LinkRec.{LinkRec}
 use Rattle.migration_types.specs.declared.records.LinkRec.TheVariants.{Down, Up}
 use Rattle.migration_types.specs.declared.records.LaneRec.{LaneRec}
@@ -27,6 +27,7 @@ source_by number known (Send p content) = is_seen (number p)
 source_by number known (Again sending) = has_mark known.source.sendings sending
 source_by number known (Ask up) = has_mark known.link up
 source_by number known Done = true
+source_by number known Back = true
 
 -- whether a delivery is kept, by what repeats a sending
 abbrev pub link_by : Marks → List Bool → LinkRec → Bool
@@ -100,6 +101,7 @@ new_source_by number known (Send p content) = Send (new_page (number p)) content
 new_source_by number known (Again sending) = Again (rank known.source.kept sending)
 new_source_by number known (Ask up) = Ask (rank known.link up)
 new_source_by number known Done = Done
+new_source_by number known Back = Back
 
 abbrev pub new_link_by : Marks → LinkRec → LinkRec
 new_link_by known (Down sending) = Down (rank known.source.kept sending)

@@ -5,4 +5,4 @@ use Rattle.command_words.proofs.Rows.{told_together}
 use Rattle.command_words.proofs.matching.job_in.Goals as goal
 
 pub returns-in-Some : goal.returns-in-Some
-returns-in-Some c = c.job_of.ensures ∙ ap (option_and_then asked_in) (sym (told_together _ _ _ c.in-Some.name.now (rows_of (found_of c.in-Some.inner.now)) c.in-Some.ensures.name c.in-Some.ensures.rows))
+returns-in-Some c = c.job_unclashed.ensures ∙ ap (option_and_then asked_in) (sym (told_together _ _ _ c.in-Some.name.now (rows_of (found_of c.in-Some.inner.now)) c.in-Some.ensures.name c.in-Some.ensures.rows))

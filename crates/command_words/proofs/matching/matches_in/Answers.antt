@@ -8,7 +8,7 @@ pub returns-in-Ok-clause-ok : goal.returns-in-Ok-clause-ok
 returns-in-Ok-clause-ok c =
     let words = word_texts c.args.words.now in
     let found = (c.in-Ok.ensures.matches (ap is_simple c.in_ok-line.ensures)).1 in
-    found ∙ ap (λ (a : App). subcommand_of a words) c.in_ok-line.ensures ∙ sym (found_anywhere c.carrier_names.result c.form_names.result words c.carrier_names.ensures c.form_names.ensures)
+    found ∙ ap (λ (a : App). subcommand_of a words) c.in_ok-line.ensures ∙ sym (found_anywhere c.carrier_names.result c.format_names.result words c.carrier_names.ensures c.format_names.ensures)
 
 pub returns-in-Err-clause-err : goal.returns-in-Err-clause-err
-returns-in-Err-clause-err c = λ t. c.in-Err.ensures.passes (ap (λ (a : App). takes a (word_texts c.args.words.now)) c.in_ok-line.ensures ∙ (sym (takes_anywhere c.carrier_names.result c.form_names.result (word_texts c.args.words.now) c.carrier_names.ensures c.form_names.ensures) ∙ t))
+returns-in-Err-clause-err c = λ t. c.in-Err.ensures.passes (ap (λ (a : App). takes a (word_texts c.args.words.now)) c.in_ok-line.ensures ∙ (sym (takes_anywhere c.carrier_names.result c.format_names.result (word_texts c.args.words.now) c.carrier_names.ensures c.format_names.ensures) ∙ t))

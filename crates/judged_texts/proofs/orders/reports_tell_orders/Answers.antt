@@ -10,4 +10,4 @@ returns-in-Clean c = λ s is. subst TellsOrder (sym c.in-Clean.is) (clean_tells 
 pub returns-in-Faulty : goal.returns-in-Faulty
 returns-in-Faulty c = λ s is.
     let f = c.in-Faulty in
-    subst TellsOrder (sym f.is) (faulty_tells s f.line f.fault f.order c.is_few.ensures (subst ReportFits f.is c.requires) (subst (IsReport s) f.is is))
+    subst TellsOrder (sym f.is) (faulty_tells s f.line f.fault f.order f.pages c.is_few.ensures (subst ReportFits f.is c.requires) (subst (IsReport s) f.is is))

@@ -1,7 +1,48 @@
-use Rattle.std.proofs.Common.{take}
+use Rattle.std.proofs.Common.{◌≡◌, ◌+◌, ◌*◌, ◌<◌, ◌≤◌, ◌∙◌, ℕ, Bool, true, cond, Some, List, length, take, sym, subst, arith}
+use Rattle.std.specs.Prelude.{slice_get}
+use Rattle.std.proofs.lemmas.List.{take_more}
+use Rattle.std.proofs.lemmas.Option.{get_or_from_slice_get, slice_get_within}
+use borrow.Author.Count.{below_more}
+use Rattle.migration_types.specs.declared.records.LogName.TheVariants.{Guest}
+use Rattle.migration_types.specs.Receipts.{Name}
 use Rattle.order_picture.specs.Marks.{mark_of}
+use Rattle.order_picture.specs.Rows.{has_row, is_certain}
+use Rattle.order_picture.specs.inner.Built.{IsBuilt}
 use Rattle.order_picture.proofs.Built.{since_few}
+use Rattle.order_picture.proofs.Certain.{spends, still_has}
 use Rattle.order_picture.proofs.rows.take_all.Goals as goal
+
+-- what stands in a list's place past its end
+abbrev no_name : Name
+no_name = (Guest, 0)
 
 pub take-requires-clause-since : goal.take-requires-clause-since
 take-requires-clause-since c = since_few (mark_of c.args.session.now c.args.focus.now) c.loop-n.building (take c.loop-n.n c.args.order.now) _ c.loop-n.invariant.built
+
+pub loop-n-preserved : goal.loop-n-preserved
+loop-n-preserved c =
+    let order = c.args.order.now in
+    let n = c.loop-n.n in
+    let fault = c.args.certain.fault in
+    let concerned = c.args.certain.concerned in
+    let mark = mark_of c.args.session.now c.args.focus.now in
+    let before = c.loop-n.building in
+    let after = c.take.new.self in
+    let lt : n < length order = omega arith in
+    let left = spends fault concerned n in
+    let few = subst (λ (b : Bool). length after.rows.items + after.room + 2 * after.fault_left ≤ length before.rows.items + before.room + 2 * before.fault_left + cond b 2 0) c.is_certain.ensures c.in_ok-take.ensures.few in
+    record {
+      built = subst (λ (names : List Name). IsBuilt mark after names) (sym (take_more order n no_name lt)) (c.in_ok-take.ensures.built mark (take n order) c.mark_of-mark.ensures c.loop-n.invariant.built);
+      few = omega (arith, few, left, c.loop-n.invariant.few);
+      certain =
+          below_more
+          (λ (k : ℕ). (name : Name) → is_certain fault concerned k ≡ true → slice_get order k ≡ Some name → has_row after.rows.items name ≡ true)
+          n
+          (λ k below name certain at. still_has before.rows.items after.rows.items name c.in_ok-take.ensures.more (c.loop-n.invariant.certain k below name certain at))
+          (λ name certain at. subst (λ (other : Name). has_row after.rows.items other ≡ true) (get_or_from_slice_get order n name no_name at) (c.in_ok-take.ensures.own (c.is_certain.ensures ∙ certain)));
+    }
+
+pub returns-clause-certain : goal.returns-clause-certain
+returns-clause-certain c n name certain at =
+    let within = slice_get_within c.args.order.now n name at in
+    c.loop-n.invariant.certain n (omega (arith, within, c.loop-n-test.false)) name certain at

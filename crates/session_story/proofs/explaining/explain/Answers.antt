@@ -5,9 +5,9 @@ use Rattle.session_story.specs.declared.explaining.Explanation.TheVariants as to
 use Rattle.session_story.specs.Explained.{IsExplanation}
 use Rattle.session_story.proofs.explaining.explain.Goals as goal
 
-pub returns-in_ok-more-in-Faulty : goal.returns-in_ok-more-in-Faulty
-returns-in_ok-more-in-Faulty c =
+pub returns-in_ok-story-in-Faulty : goal.returns-in_ok-story-in-Faulty
+returns-in_ok-story-in-Faulty c =
     let s = c.args.session.now in
     let at = c.in_ok-story-in-Faulty in
-    let more = c.in_ok-more-in-Faulty in
-    subst (λ (r : Report). IsReport s r → IsExplanation s r (told.Faulty at.story more.more)) (sym c.in-Faulty.is) (λ is. (at.ensures c.in-Faulty.line is.1.is_line, more.ensures)) c.requires
+    let more = c.more_faulty-more in
+    subst (λ (r : Report). IsReport s r → IsExplanation s r (told.Faulty at.story more.result)) (sym c.in-Faulty.is) (λ is. (at.ensures c.in-Faulty.line is.1.is_line, more.ensures)) c.requires

@@ -20,7 +20,7 @@ depends_on-requires-clause-there c =
     let s = c.args.session.now in
     let f = c.args.fault.now in
     let t = c.args.page.now in
-    let shape = reported_shape s c.args.report.now c.in-Faulty.line c.in-Faulty.fault c.in-Faulty.order c.in-Faulty.is c.requires.report in
+    let shape = reported_shape s c.args.report.now c.in-Faulty.line c.in-Faulty.fault c.in-Faulty.order c.in-Faulty.pages c.in-Faulty.is c.requires.report in
     let sides : IsBySides s f.reason f.log f.place t.page c.in-Some.used c.in-Some.placement = decided_as s shape t.page t.found c.requires.story.found f.reason f.log f.place c.requires.fault c.requires.of c.late_for.result _ c.late_for.ensures c.in-Some.is in
     sides.placement_there
 
@@ -29,7 +29,7 @@ depends_on-requires-clause-other c =
     let s = c.args.session.now in
     let f = c.args.fault.now in
     let t = c.args.page.now in
-    let shape = reported_shape s c.args.report.now c.in-Faulty.line c.in-Faulty.fault c.in-Faulty.order c.in-Faulty.is c.requires.report in
+    let shape = reported_shape s c.args.report.now c.in-Faulty.line c.in-Faulty.fault c.in-Faulty.order c.in-Faulty.pages c.in-Faulty.is c.requires.report in
     let sides : IsBySides s f.reason f.log f.place t.page c.in-Some.used c.in-Some.placement = decided_as s shape t.page t.found c.requires.story.found f.reason f.log f.place c.requires.fault c.requires.of c.late_for.result _ c.late_for.ensures c.in-Some.is in
     sides.used_there
 

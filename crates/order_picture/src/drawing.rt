@@ -1,0 +1,298 @@
+//! The shapes of a picture as text: columns, boxes, folds and arrows, each at its place.
+
+use crate::arrows::{ArrowKind, Seat};
+use crate::behind::Obstacle;
+use crate::boxes::{BoxKind, Label};
+use crate::elements::{
+    begin_at, begin_text, end_arrow, end_text, push, push_attribute, push_colours, push_ends,
+    push_length, push_paint, push_path,
+};
+use crate::heading::Subject;
+use crate::labels::push_label;
+use crate::layout::{Columns, is_left_of, middle_of, top_of};
+use crate::records::Name;
+use crate::style::{
+    APART, BOX, BOX_TOP, COLUMN, COLUMNS_LEFT, COLUMNS_TOP, CORNER, CROSS, DIAMOND, FOLD,
+    FOLD_BESIDE, FOLD_CORNER, FOLD_FRAME, FOLD_TOP, INK, LABEL, LETTER, MARGIN, NAMES, NUMBER_GAP,
+    Paint, ROW_TEXT, SIGN, SOFT, STUB, STUB_LINE, arrow_paint, box_paint, head_of,
+};
+use crate::words::{LINES, push_records, push_title};
+use merge_runs::Taken;
+use migration_types::LogName;
+use std::alloc::{AllocError, Global};
+use text_lines::push_number;
+
+/// An arrow from one record to another.
+#[derive(Clone, Copy)]
+pub(crate) struct Arrow {
+    pub from: Seat,
+    pub to: Seat,
+    pub kind: ArrowKind,
+}
+
+/// The box of a record.
+#[derive(Clone, Copy)]
+pub(crate) struct RecordBox {
+    pub row: usize,
+    pub name: Name,
+    pub kind: BoxKind,
+    pub line: u32,
+    pub label: Label,
+    pub obstacle: Obstacle,
+}
+
+/// Begins a text in the margin.
+fn begin_margin(out: &mut Vec<u8>, y: u64) -> Result<(), AllocError> {
+    begin_text(out, SOFT)?;
+    push_attribute(out, b"text-anchor", b"end")?;
+    push_length(out, b"x", MARGIN)?;
+    push_length(out, b"y", y)?;
+    push(out, b">")
+}
+
+/// Adds the word above the lines in the margin.
+pub(crate) fn push_margin_name(out: &mut Vec<u8>) -> Result<(), AllocError> {
+    begin_margin(out, NAMES)?;
+    push(out, LINES)?;
+    end_text(out)?;
+    push(out, b"\n")
+}
+
+/// Adds a column's name, and the line down it as far as so many rows.
+pub(crate) fn push_column(
+    out: &mut Vec<u8>,
+    columns: Columns,
+    rows: usize,
+    log: LogName,
+) -> Result<(), AllocError> {
+    let x = columns.middle(log);
+    begin_text(out, INK)?;
+    push(out, b" font-weight='bold' text-anchor='middle'")?;
+    push_length(out, b"y", NAMES)?;
+    push_length(out, b"x", x)?;
+    push(out, b">")?;
+    push(out, log.word().as_bytes())?;
+    end_text(out)?;
+    push(out, b"\n<line")?;
+    push_ends(out, x, COLUMNS_TOP, x, top_of(rows))?;
+    push_paint(out, COLUMN)?;
+    push(out, b"/>\n")
+}
+
+/// Adds a line that is painted so and has the head of an arrow.
+fn push_line(
+    out: &mut Vec<u8>,
+    from: (u64, u64),
+    to: (u64, u64),
+    paint: Paint,
+    kind: ArrowKind,
+) -> Result<(), AllocError> {
+    push(out, b"<line")?;
+    push_ends(out, from.0, from.1, to.0, to.1)?;
+    push_paint(out, paint)?;
+    end_arrow(out, head_of(kind))?;
+    push(out, b"\n")
+}
+
+/// The height of an arrow at a row.
+fn height_at(arrow: &Arrow, row: usize) -> u64 {
+    match arrow.kind {
+        ArrowKind::Received | ArrowKind::OfPage => middle_of(row),
+        ArrowKind::Tied | ArrowKind::TiedBehind => {
+            if arrow.from.row < arrow.to.row {
+                middle_of(row).saturating_add(APART)
+            } else {
+                middle_of(row).saturating_sub(APART)
+            }
+        }
+    }
+}
+
+/// Adds an arrow from one record to another.
+pub(crate) fn push_arrow(
+    out: &mut Vec<u8>,
+    columns: Columns,
+    arrow: &Arrow,
+) -> Result<(), AllocError> {
+    let from = (
+        columns.side(arrow.from, arrow.to.log),
+        height_at(arrow, arrow.from.row),
+    );
+    let to = (
+        columns.side(arrow.to, arrow.from.log),
+        height_at(arrow, arrow.to.row),
+    );
+    push_line(out, from, to, arrow_paint(arrow.kind), arrow.kind)
+}
+
+/// Adds the end of an arrow from a record that has no row.
+pub(crate) fn push_stub(
+    out: &mut Vec<u8>,
+    columns: Columns,
+    to: Seat,
+    sender: LogName,
+) -> Result<(), AllocError> {
+    let x = columns.side(to, sender);
+    let y = middle_of(to.row);
+    let from = if is_left_of(sender, to.log) {
+        x.saturating_sub(STUB)
+    } else {
+        x.saturating_add(STUB)
+    };
+    push_line(out, (from, y), (x, y), STUB_LINE, ArrowKind::Received)
+}
+
+/// The class of a record's row.
+fn row_class(kind: BoxKind) -> &'static [u8] {
+    match kind {
+        BoxKind::Faulty | BoxKind::Tied => b"row record faulty",
+        BoxKind::Concerned => b"row record concerned",
+        BoxKind::OfPage => b"row record of-page",
+        BoxKind::Plain => b"row record",
+        BoxKind::Stuck => b"row stuck",
+    }
+}
+
+/// Begins a record's row, with its title.
+fn begin_row(
+    out: &mut Vec<u8>,
+    alloc: Global,
+    subject: Subject<'_>,
+    one: &RecordBox,
+) -> Result<(), AllocError> {
+    push(out, b"<g class='")?;
+    push(out, row_class(one.kind))?;
+    if !matches!(one.obstacle, Obstacle::Nothing) {
+        push(out, b" behind")?;
+    }
+    push(out, b"'><title>")?;
+    push_title(out, alloc, subject, one.name, one.obstacle)?;
+    push(out, b"</title>")
+}
+
+/// Adds a record's line in the margin, if it has one.
+fn push_record_line(out: &mut Vec<u8>, one: &RecordBox) -> Result<(), AllocError> {
+    if one.line == 0 {
+        return Ok(());
+    }
+    begin_margin(out, top_of(one.row).saturating_add(ROW_TEXT))?;
+    push_number(out, one.line)?;
+    end_text(out)
+}
+
+/// Adds a sign to a box, at its right.
+fn push_sign(
+    out: &mut Vec<u8>,
+    columns: Columns,
+    seat: Seat,
+    path: &[u8],
+    paint: Paint,
+) -> Result<(), AllocError> {
+    let x = columns.right(seat.log).saturating_sub(SIGN);
+    begin_at(out, x, middle_of(seat.row))?;
+    push_path(out, path, paint)?;
+    push(out, b"</g>")
+}
+
+/// Adds a box, with its sign: a cross where the record is faulty or waits for another that waits, and a diamond where the
+/// fault concerns it.
+fn push_box(
+    out: &mut Vec<u8>,
+    columns: Columns,
+    seat: Seat,
+    kind: BoxKind,
+) -> Result<(), AllocError> {
+    push(out, b"<rect")?;
+    push_length(out, b"x", columns.left(seat.log))?;
+    push_length(out, b"y", top_of(seat.row).saturating_add(BOX_TOP))?;
+    push_length(out, b"width", columns.half(seat.log).saturating_mul(2))?;
+    push_length(out, b"height", BOX)?;
+    push_length(out, b"rx", CORNER)?;
+    push_paint(out, box_paint(kind))?;
+    push(out, b"/>")?;
+    match kind {
+        BoxKind::Faulty | BoxKind::Tied => {
+            push_sign(out, columns, seat, b"M-4 -4L4 4M-4 4L4 -4", CROSS)
+        }
+        BoxKind::Concerned => { push_sign(out, columns, seat, b"M0 -5L5 0L0 5L-5 0z", DIAMOND) }
+        _ => Ok(()),
+    }
+}
+
+/// Adds the number and the label in a record's box.
+fn push_box_text(
+    out: &mut Vec<u8>,
+    subject: Subject<'_>,
+    columns: Columns,
+    one: &RecordBox,
+) -> Result<(), AllocError> {
+    begin_text(out, INK)?;
+    push_length(out, b"x", columns.left(one.name.0).saturating_add(LABEL))?;
+    push_length(out, b"y", top_of(one.row).saturating_add(ROW_TEXT))?;
+    push(out, b"><tspan")?;
+    push_paint(out, SOFT)?;
+    push(out, b">")?;
+    push_number(out, one.name.1)?;
+    push(out, b"</tspan><tspan")?;
+    push_length(out, b"dx", NUMBER_GAP)?;
+    push(out, b">")?;
+    push_label(out, subject, one)?;
+    push(out, b"</tspan>")?;
+    end_text(out)
+}
+
+/// Adds the row of a record.
+pub(crate) fn push_record(
+    out: &mut Vec<u8>,
+    alloc: Global,
+    subject: Subject<'_>,
+    columns: Columns,
+    one: &RecordBox,
+) -> Result<(), AllocError> {
+    let seat = Seat {
+        row: one.row,
+        log: one.name.0,
+    };
+    begin_row(out, alloc, subject, one)?;
+    push_record_line(out, one)?;
+    push_box(out, columns, seat, one.kind)?;
+    push_box_text(out, subject, columns, one)?;
+    push(out, b"</g>\n")
+}
+
+/// Adds the frame of what is folded, for so many letters.
+fn push_frame(out: &mut Vec<u8>, middle: u64, row: usize, letters: u64) -> Result<(), AllocError> {
+    let width = letters.saturating_mul(LETTER).saturating_add(FOLD_BESIDE);
+    push(out, b"<rect")?;
+    push_attribute(out, b"class", FOLD_FRAME.class)?;
+    push_length(out, b"height", FOLD)?;
+    push_length(out, b"rx", FOLD_CORNER)?;
+    push_colours(out, FOLD_FRAME)?;
+    push_length(out, b"x", middle.saturating_sub(width / 2))?;
+    push_length(out, b"width", width)?;
+    push_length(out, b"y", top_of(row).saturating_add(FOLD_TOP))?;
+    push(out, b"/>")
+}
+
+/// Adds the row of what is folded.
+pub(crate) fn push_fold(
+    out: &mut Vec<u8>,
+    alloc: Global,
+    columns: Columns,
+    row: usize,
+    counts: &Taken,
+) -> Result<(), AllocError> {
+    let mut words = Vec::new(alloc);
+    push_records(&mut words, counts)?;
+    let middle = COLUMNS_LEFT.saturating_add(columns.width()) / 2;
+    push(out, b"<g class='row fold-row'>")?;
+    push_frame(out, middle, row, words.len() as u64)?;
+    begin_text(out, SOFT)?;
+    push_attribute(out, b"text-anchor", b"middle")?;
+    push_length(out, b"x", middle)?;
+    push_length(out, b"y", top_of(row).saturating_add(ROW_TEXT))?;
+    push(out, b">")?;
+    push(out, &words)?;
+    end_text(out)?;
+    push(out, b"</g>\n")
+}

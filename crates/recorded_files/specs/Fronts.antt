@@ -1,0 +1,66 @@
+-- Fronts of logs: the first records of each, none of which names a record that is not among them.
+use Rattle.std.specs.Prelude.{◌≡◌, ℕ, ◌<◌, ◌≤◌, List, Some, Option, take}
+use Rattle.std.specs.List.{AllByRecursion}
+use Rattle.std.specs.Option.{IfSome}
+use Rattle.migration_types.specs.declared.records.LogName.{LogName}
+use Rattle.migration_types.specs.declared.records.LogName.TheVariants.{Guest, Source, Link, Lane, Pager}
+use Rattle.migration_types.specs.declared.rows.Field.{Field}
+use Rattle.migration_types.specs.Receipts.{Name}
+use Rattle.migration_types.specs.Rows.{Consists, field_name, row_of}
+use Rattle.migration_types.specs.Sessions.{Recorded, log_length}
+use Rattle.audit_model.specs.Mergings.{Cursors}
+use Rattle.text_lines.specs.Text.{IsSpelling}
+use Rattle.recordings.specs.Recordings.{SpellsRecording}
+use Rattle.recorded_files.specs.declared.fronts.Front.{Front}
+
+-- how many records of each log there are
+abbrev pub cursors_of : Front → Cursors
+cursors_of f Guest = f.guest
+cursors_of f Source = f.source
+cursors_of f Link = f.link
+cursors_of f Lane = f.lane
+cursors_of f Pager = f.pager
+
+-- what a field names, if it names a record, is there
+abbrev pub NamesThere : Cursors → Field → Type 0
+NamesThere c field = IfSome (field_name field) (λ named. named.1 < c named.0)
+
+-- the first records of each log, each of which names only such as are there
+pub record IsFront (s : Recorded) (c : Cursors) : Type 0 where
+  pub within : (log : LogName) → c log ≤ log_length s log
+  pub there : (name : Name) (row : Consists) → row_of s name ≡ Some row → name.1 < c name.0 → AllByRecursion (NamesThere c) row.fields
+
+-- it is a front, and no front has more records of any log
+pub record IsGreatestFront (s : Recorded) (c : Cursors) : Type 0 where
+  pub front : IsFront s c
+  pub greatest : (d : Cursors) → IsFront s d → (log : LogName) → d log ≤ c log
+
+-- the records of a session up to a front
+abbrev pub cut_to : Cursors → Recorded → Recorded
+cut_to c s = record {
+  version = s.version;
+  geometry = s.geometry;
+  init = s.init;
+  guest = take (c Guest) s.guest;
+  source = take (c Source) s.source;
+  link = take (c Link) s.link;
+  lane = take (c Lane) s.lane;
+  pager = take (c Pager) s.pager;
+}
+
+-- each record names only such as are there
+abbrev pub IsWhole : Recorded → Type 0
+IsWhole s = IsFront s (log_length s)
+
+-- each session has one greatest front
+pub record HasGreatestFront (s : Recorded) : Type 0 where
+  pub cursors : Cursors
+  pub greatest : IsGreatestFront s cursors
+
+-- a text, which is what was there where that is known, spells a recording, and this is the greatest front of its logs
+pub record HasFront (known : Option (List ℕ)) (front : Front) : Type 0 where
+  pub text : List ℕ
+  pub is_known : IfSome known (λ xs. text ≡ xs)
+  pub s : Recorded
+  pub spelled : IsSpelling SpellsRecording s text
+  pub greatest : IsGreatestFront s (cursors_of front)

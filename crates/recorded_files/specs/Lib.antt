@@ -1,0 +1,4 @@
+pub mod Files
+pub mod Fronts
+pub mod Gathered
+pub mod inner

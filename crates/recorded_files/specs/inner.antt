@@ -1,0 +1,3 @@
+-- What serves proofs alone.
+pub mod Heads
+pub mod Reaches

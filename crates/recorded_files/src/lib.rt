@@ -1,0 +1,19 @@
+//! What a recorder's files say, and what is left of logs that are not whole.
+#![tactic(auto)]
+
+mod finding;
+mod fronts;
+mod gathering;
+mod laws;
+mod lines;
+mod names;
+mod naming;
+mod reach;
+mod steps;
+mod visiting;
+
+pub use finding::greatest_front;
+pub use fronts::Front;
+pub use gathering::{Turn, next_turn, turns_gather};
+pub use laws::fronts_have_a_greatest;
+pub use lines::{HEADER, Last, Opening, Party, read_numbered};

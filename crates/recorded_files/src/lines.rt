@@ -1,0 +1,115 @@
+//! The lines of a recorder's file.
+
+ghost use Rattle.std.specs.Prelude.{◌≡◌, ◌≢◌, ◌≤◌, ℕ, List, ◌∷◌, ◌++◌, IfSome, IfNone};
+ghost use Rattle.std.specs.Fmt.{decimal};
+ghost use Rattle.recorded_files.specs.Files.{last_number, opening_line, record_line, last_line, IsLast};
+
+use migration_types::LogName;
+use text_lines::{after_key, number_then, read_keyed};
+
+/// The first line of each file.
+pub const HEADER: &[u8] = b"postcopy-records 1";
+
+/// The greatest number that a record has: the next is what a recorder answers where a record was not written.
+const LAST_NUMBER: u32 = 4_294_967_294;
+
+/// Who writes a log: the party of one of a session's logs, or the one that tells what the machine is.
+#[derive(Clone, Copy, Debug, PartialEq, Eq)]
+pub enum Party {
+    Machine,
+    Of(LogName),
+}
+
+/// Of whose log a process tells from which record on, and the number of the file in which it began.
+#[derive(Clone, Copy, Debug, PartialEq, Eq)]
+pub struct Opening {
+    pub party: Party,
+    pub first: u32,
+    pub file: u32,
+}
+
+/// How a process left a log.
+#[derive(Clone, Copy, Debug, PartialEq, Eq)]
+pub enum Last {
+    /// It closed it behind so many records.
+    End(u32),
+    /// Another process goes on behind so many.
+    Next(u32),
+    /// A record was not written, by this error of the system.
+    Lost(u32),
+}
+
+/// The two numbers that stand behind a key, with a space between them.
+fn two_behind(line: &[u8], key: &[u8]) -> Option<(u32, u32)>
+    ensures found { IfSome result (λ two. (two.0 ≤ last_number) × (two.1 ≤ last_number) × (line.now ≡ key.now ++ (decimal two.0 ++ 32 ∷ decimal two.1))) }
+    ensures none { IfNone result ((m n : ℕ) → m ≤ last_number → n ≤ last_number → line.now ≢ key.now ++ (decimal m ++ 32 ∷ decimal n)) }
+{
+    let Some(text) = after_key(line, key) else {
+        return None;
+    };
+    match number_then(text, u64::from(LAST_NUMBER)) {
+        Some(found) => match read_keyed(found.1, b"", LAST_NUMBER) {
+            Ok(file) => Some((found.0 as u32, file)),
+            Err(_) => None,
+        },
+        None => None,
+    }
+}
+
+impl Party {
+    /// What the third line of its files begins with.
+    fn key(self) -> &'static [u8]
+        ensures { (first file : ℕ) → opening_line self first file ≡ result.now ++ (decimal first ++ 32 ∷ decimal file) }
+    {
+        match self {
+            Party::Machine => b"log machine ",
+            Party::Of(LogName::Guest) => b"log guest ",
+            Party::Of(LogName::Source) => b"log source ",
+            Party::Of(LogName::Link) => b"log link ",
+            Party::Of(LogName::Lane) => b"log lane ",
+            Party::Of(LogName::Pager) => b"log pager ",
+        }
+    }
+}
+
+impl Opening {
+    /// The opening of a party's log that a file's third line spells: of the party that the file's name tells.
+    pub fn read(party: Party, line: &[u8]) -> Option<Opening>
+        ensures found { IfSome result (λ o. (o.party ≡ party) × (o.first ≤ last_number) × (o.file ≤ last_number) × (line.now ≡ opening_line party o.first o.file)) }
+        ensures none { IfNone result ((first file : ℕ) → first ≤ last_number → file ≤ last_number → line.now ≢ opening_line party first file) }
+    {
+        match two_behind(line, party.key()) {
+            Some((first, file)) => Some(Opening { party, first, file }),
+            None => None,
+        }
+    }
+}
+
+/// The number of a record and its text, which a line behind a file's head spells.
+pub fn read_numbered(line: &[u8]) -> Option<(u64, &[u8])>
+    ensures found { IfSome result (λ found. (found.0 ≤ last_number) × (line.now ≡ record_line found.0 found.1.now)) }
+    ensures none { IfNone result ((n : ℕ) (text : List ℕ) → n ≤ last_number → line.now ≢ record_line n text) }
+{
+    number_then(line, u64::from(LAST_NUMBER))
+}
+
+impl Last {
+    ghost use Rattle.recorded_files.specs.declared.lines.Last.{Last};
+
+    /// How a log was left, by the last line of a file.
+    pub fn read(line: &[u8]) -> Option<Last>
+        ensures found { IfSome result (λ last. IsLast last × (line.now ≡ last_line last)) }
+        ensures none { IfNone result ((last : Last) → IsLast last → line.now ≢ last_line last) }
+    {
+        if let Ok(count) = read_keyed(line, b"end ", LAST_NUMBER) {
+            return Some(Last::End(count));
+        }
+        if let Ok(count) = read_keyed(line, b"next ", LAST_NUMBER) {
+            return Some(Last::Next(count));
+        }
+        match read_keyed(line, b"lost ", LAST_NUMBER) {
+            Ok(errno) => Some(Last::Lost(errno)),
+            Err(_) => None,
+        }
+    }
+}

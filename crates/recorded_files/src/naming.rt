@@ -1,0 +1,82 @@
+//! What the records of all logs name, and how far that lets the logs go.
+
+ghost use Rattle.std.specs.Prelude.{◌≡◌, ◌≤◌, List, [], ◌∷◌, ◌++◌, Option, IsTrue, ◌↔◌, min, OnOk};
+ghost use Rattle.migration_types.specs.declared.records.LogName.{LogName};
+ghost use Rattle.migration_types.specs.Receipts.{Name};
+ghost use Rattle.migration_types.specs.Sessions.{Recorded, log_length};
+ghost use Rattle.recorded_files.specs.Fronts.{cursors_of, IsGreatestFront};
+ghost use Rattle.recorded_files.specs.inner.Reaches.{names_in, reach, IsBlank, IsNaming};
+
+use crate::fronts::Front;
+use crate::reach::Reach;
+use std::alloc::Global;
+
+/// What the records of each log name. Memory is taken for those that name a later record of a log than each before them.
+#[derive(Drop)]
+pub(crate) struct Naming {
+    pub(crate) guest: Reach,
+    pub(crate) source: Reach,
+    pub(crate) link: Reach,
+    pub(crate) lane: Reach,
+    pub(crate) pager: Reach,
+}
+
+impl Naming {
+    /// Of no records.
+    pub(crate) fn new(alloc: Global) -> Self
+        ensures { IsBlank result }
+    {
+        Naming {
+            guest: Reach::new(alloc),
+            source: Reach::new(alloc),
+            link: Reach::new(alloc),
+            lane: Reach::new(alloc),
+            pager: Reach::new(alloc),
+        }
+    }
+
+    /// How many records of each log there are.
+    fn counts(&self) -> Front
+        ensures { (s : Recorded) → IsNaming self.now s → (log : LogName) → cursors_of result log ≡ log_length s log }
+    {
+        Front {
+            guest: self.guest.count,
+            source: self.source.count,
+            link: self.link.count,
+            lane: self.lane.count,
+            pager: self.pager.count,
+        }
+    }
+
+    /// Each log up to its first record that names one which is not there.
+    fn narrow(&self, there: Front) -> Front
+        ensures within { (log : LogName) → cursors_of result log ≤ cursors_of there log }
+        ensures reach { (s : Recorded) → IsNaming self.now s → (log : LogName) → cursors_of result log ≡ min (cursors_of there log) (reach (cursors_of there) (names_in s log)) }
+    {
+        let guest = self.guest.end(there);
+        let source = self.source.end(there);
+        let link = self.link.end(there);
+        let lane = self.lane.end(there);
+        let pager = self.pager.end(there);
+        Front {
+            guest: guest.min(there.guest),
+            source: source.min(there.source),
+            link: link.min(there.link),
+            lane: lane.min(there.lane),
+            pager: pager.min(there.pager),
+        }
+    }
+
+    /// The greatest front of the logs that it is of. Takes no memory.
+    pub(crate) fn greatest_front(&self) -> Front
+        ensures { (s : Recorded) → IsNaming self.now s → IsGreatestFront s (cursors_of result) }
+    {
+        let mut front = self.counts();
+        let mut next = self.narrow(front);
+        while next != front {
+            front = next;
+            next = self.narrow(front);
+        }
+        front
+    }
+}

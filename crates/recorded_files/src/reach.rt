@@ -1,0 +1,75 @@
+//! How far a log goes, by what its records name.
+
+ghost use Rattle.std.specs.Prelude.{◌≡◌, ℕ, ◌<◌, ◌^◌, [], ◌∷◌, ◌++◌, List, length, Option, OnOk, IfOk};
+ghost use Rattle.migration_types.specs.Receipts.{Name};
+ghost use Rattle.recorded_files.specs.Fronts.{cursors_of};
+ghost use Rattle.recorded_files.specs.inner.Reaches.{need, reach, IsReach};
+
+use crate::fronts::Front;
+use crate::steps::Steps;
+use migration_types::LogName;
+use std::alloc::{AllocError, Global};
+
+/// What the records of a log need of each.
+#[derive(Drop)]
+pub(crate) struct Reach {
+    pub(crate) count: u64,
+    pub(crate) guest: Steps,
+    pub(crate) source: Steps,
+    pub(crate) link: Steps,
+    pub(crate) lane: Steps,
+    pub(crate) pager: Steps,
+}
+
+/// How many records of a log one needs, by what it names.
+fn need(log: LogName, named: Option<(LogName, u64)>) -> Result<u64, AllocError>
+    ensures { IfOk result (λ count. count ≡ need log named) }
+{
+    match named {
+        Some((other, number)) if other == log => number.checked_add(1).ok_or(AllocError),
+        _ => Ok(0),
+    }
+}
+
+impl Reach {
+    /// Of no records.
+    pub(crate) fn new(alloc: Global) -> Self
+        ensures { IsReach result [] }
+    {
+        Reach {
+            count: 0,
+            guest: Steps::new(alloc),
+            source: Steps::new(alloc),
+            link: Steps::new(alloc),
+            lane: Steps::new(alloc),
+            pager: Steps::new(alloc),
+        }
+    }
+
+    /// Takes the next record, by what it names.
+    pub(crate) fn note(&mut self, named: Option<(LogName, u64)>) -> Result<(), AllocError>
+        ensures { (names : List (Option Name)) → IsReach self.old names → OnOk result (IsReach self.new (names ++ named ∷ [])) }
+    {
+        let place = self.count;
+        let next = place.checked_add(1).ok_or(AllocError)?;
+        self.guest.note(place, need(LogName::Guest, named)?)?;
+        self.source.note(place, need(LogName::Source, named)?)?;
+        self.link.note(place, need(LogName::Link, named)?)?;
+        self.lane.note(place, need(LogName::Lane, named)?)?;
+        self.pager.note(place, need(LogName::Pager, named)?)?;
+        self.count = next;
+        Ok(())
+    }
+
+    /// How many records stand in front of the first that names one which is not there.
+    pub(crate) fn end(&self, there: Front) -> u64
+        ensures { (names : List (Option Name)) → IsReach self.now names → result ≡ reach (cursors_of there) names }
+    {
+        let guest = self.guest.end(there.guest, self.count);
+        let source = self.source.end(there.source, self.count);
+        let link = self.link.end(there.link, self.count);
+        let lane = self.lane.end(there.lane, self.count);
+        let pager = self.pager.end(there.pager, self.count);
+        guest.min(source).min(link).min(lane).min(pager)
+    }
+}

@@ -1,0 +1,141 @@
+//! The report on a session, told in a form.
+
+ghost use Rattle.std.specs.Prelude.{◌≡◌, IfOk};
+ghost use Rattle.faulty_pages.specs.FaultyPages.{AreFaultyPages};
+ghost use Rattle.audit_report.specs.Reports.{IsCleanWith, IsReport, ReportFits};
+ghost use Rattle.audit_report.specs.FaultyPagesText.{JudgesPages};
+ghost use Rattle.session_answers.specs.Judged.{Refused, Reported};
+ghost use Rattle.session_answers.specs.Forms.{Tells, TellsAllFaults, TellsAllFaultsObject, TellsObject, TellsStoryObject};
+
+use crate::forms::Form;
+use audit_report::{Report, print_all_faults, print_refused_session};
+use faulty_pages::{Faults, FaultyPage, clean_sessions_have_no_faulty_page, faulty_pages};
+use judged_texts::print_wanted;
+use migration_types::{Cert, Session};
+use page_facts::Judges;
+use report_json::{push_all_faults, push_explained, push_refused, push_report};
+use session_story::{explain, print_refused, print_topic};
+use std::alloc::{AllocError, Global};
+
+/// No page: the session with this report is clean.
+fn no_pages(alloc: Global, _session: &Session, _cert: &Cert) -> Vec<FaultyPage>
+    requires { IsCleanWith _session.now _cert.now }
+    ensures { AreFaultyPages _session.now result.items }
+{
+    clean_sessions_have_no_faulty_page();
+    Vec::new(alloc)
+}
+
+/// The pages with a fault, where the report judges the pages, and else none.
+fn pages_of<J: Judges<Faults>>(
+    judges: &J,
+    alloc: Global,
+    session: &Session,
+    report: &Report,
+) -> Result<Vec<FaultyPage>, AllocError>
+    requires ready { J.ready }
+    requires report { IsReport session.now report.now }
+    ensures { IfOk result (λ pages. JudgesPages report.now → AreFaultyPages session.now pages.items) }
+{
+    match report {
+        Report::Clean(cert) => Ok(no_pages(alloc, session, cert)),
+        Report::Faulty { .. } => faulty_pages(judges, alloc, session),
+        Report::Shape(_) | Report::Knot { .. } => Ok(Vec::new(alloc)),
+    }
+}
+
+/// The report with each page that has a fault, in lines.
+fn all_faults<J: Judges<Faults>>(
+    judges: &J,
+    alloc: Global,
+    session: &Session,
+    report: &Report,
+) -> Result<Vec<u8>, AllocError>
+    requires ready { J.ready }
+    requires report { IsReport session.now report.now }
+    ensures { IfOk result (λ text. TellsAllFaults (Reported session.now report.now) text.items) }
+{
+    let pages = pages_of(judges, alloc, session, report)?;
+    print_all_faults(alloc, report, &pages)
+}
+
+/// The object of the report.
+fn object_of(alloc: Global, session: &Session, report: &Report) -> Result<Vec<u8>, AllocError>
+    ensures { IfOk result (λ text. TellsObject (Reported session.now report.now) text.items) }
+{
+    let mut object = Vec::new(alloc);
+    push_report(&mut object, session, report)?;
+    Ok(object)
+}
+
+/// The object of the report with each page that has a fault.
+fn all_faults_object<J: Judges<Faults>>(
+    judges: &J,
+    alloc: Global,
+    session: &Session,
+    report: &Report,
+) -> Result<Vec<u8>, AllocError>
+    requires ready { J.ready }
+    requires report { IsReport session.now report.now }
+    ensures { IfOk result (λ text. TellsAllFaultsObject (Reported session.now report.now) text.items) }
+{
+    let pages = pages_of(judges, alloc, session, report)?;
+    let mut object = Vec::new(alloc);
+    push_all_faults(&mut object, session, report, &pages)?;
+    Ok(object)
+}
+
+/// The object of the report with the records of what happened.
+fn story_object(alloc: Global, session: &Session, report: &Report) -> Result<Vec<u8>, AllocError>
+    requires { IsReport session.now report.now }
+    ensures { IfOk result (λ text. TellsStoryObject (Reported session.now report.now) text.items) }
+{
+    let explanation = explain(alloc, session, report)?;
+    let mut object = Vec::new(alloc);
+    push_explained(alloc, &mut object, session, report, &explanation)?;
+    Ok(object)
+}
+
+/// The text that tells the report on a session in this form. Who judges the pages is asked where each page with a fault is told,
+/// and the report has one. An error: there is no memory for it.
+pub fn print_told<J: Judges<Faults>>(
+    judges: &J,
+    alloc: Global,
+    session: &Session,
+    report: &Report,
+    form: Form,
+) -> Result<Vec<u8>, AllocError>
+    requires ready { J.ready }
+    requires report { IsReport session.now report.now }
+    requires fits { ReportFits report.now }
+    ensures { IfOk result (λ text. Tells form (Reported session.now report.now) text.items) }
+{
+    match form {
+        Form::Lines(wanted) => print_wanted(alloc, report, wanted),
+        Form::AllFaults => all_faults(judges, alloc, session, report),
+        Form::Words(topic) => print_topic(alloc, session, report, topic),
+        Form::Object => object_of(alloc, session, report),
+        Form::AllFaultsObject => all_faults_object(judges, alloc, session, report),
+        Form::StoryObject => story_object(alloc, session, report),
+    }
+}
+
+/// The object of a session's text that is refused at this line.
+fn refusal_object(alloc: Global, line: u32) -> Result<Vec<u8>, AllocError>
+    ensures { IfOk result (λ text. TellsObject (Refused line) text.items) }
+{
+    let mut object = Vec::new(alloc);
+    push_refused(&mut object, line)?;
+    Ok(object)
+}
+
+/// The text that tells in this form that a session's text is refused at this line. An error: there is no memory for it.
+pub fn print_refusal(alloc: Global, line: u32, form: Form) -> Result<Vec<u8>, AllocError>
+    ensures { IfOk result (λ text. Tells form (Refused line) text.items) }
+{
+    match form {
+        Form::Lines(_) | Form::AllFaults => print_refused_session(alloc, line),
+        Form::Words(_) => print_refused(alloc, line),
+        Form::Object | Form::AllFaultsObject | Form::StoryObject => refusal_object(alloc, line),
+    }
+}

@@ -1,0 +1,14 @@
+use Rattle.std.proofs.Common.{◌∙◌, List, ℕ, [], ◌∷◌, ◌++◌, ap, refl}
+use Rattle.std.proofs.lemmas.List.{append_assoc}
+use Rattle.audit_report.specs.RefusalText.{refusal_text}
+use Rattle.session_story.proofs.telling.print_refused.Goals as goal
+
+pub returns : goal.returns
+returns c =
+    let words = c.as_bytes.result.now in
+    let told = c.in_ok-extend_from_slice.ensures.items ∙ ap (λ (t : List ℕ). t ++ words) c.in_ok-text.ensures in
+    record {
+      words = words ++ 10 ∷ [];
+      is_line = (words, refl);
+      text_is = c.in_ok-extend_from_slice-2.ensures.items ∙ ap (λ (t : List ℕ). t ++ 10 ∷ []) told ∙ append_assoc (refusal_text c.args.line) words (10 ∷ []);
+    }

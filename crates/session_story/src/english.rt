@@ -1,0 +1,266 @@
+//! Sentences in English words.
+//!
+//! The words are constants of the code, and no clause says which they are: what a reader of a clause has to know is which
+//! sentences are told, and that memory is the only error.
+
+ghost use Rattle.std.specs.Prelude.{◌≡◌, OnOk, string_bytes};
+ghost use Rattle.migration_types.specs.Receipts.{log_word};
+ghost use Rattle.session_story.specs.Writing.{Adds, IsBehind};
+
+mod clean;
+mod contents;
+mod faults;
+mod knots;
+mod lacks;
+mod pages;
+mod records;
+mod shapes;
+
+use crate::concerns::Name;
+use crate::sentences::Sentence;
+use crate::waits::Waiting;
+use crate::writing::{Lines, OwnLines, Writer};
+use migration_types::{LogName, Session};
+use std::alloc::AllocError;
+
+/// What it means that a text is refused.
+pub(crate) const NO_TEXT: &str =
+    "This is no text of a session: no such text begins as this one does up to that line, or this one ends there too early.";
+
+/// What puts sentences into English words.
+#[derive(Clone, Copy)]
+pub struct English<L> {
+    /// How lines are told.
+    pub lines: L,
+}
+
+/// The words that a session's records are told in, and how their lines are told.
+#[derive(Clone, Copy)]
+struct Teller<'a, L> {
+    session: &'a Session,
+    lines: &'a L,
+}
+
+impl<L: Lines> English<L> {
+    /// What tells of a session's records.
+    fn teller<'a>(&'a self, session: &'a Session) -> Teller<'a, L> {
+        Teller {
+            session,
+            lines: &self.lines,
+        }
+    }
+
+    /// Adds where a record stands, as in "line 13 (guest 6)"; of one that is not there its log and its number alone. An
+    /// error: there is no memory for it.
+    pub fn push_place(
+        &self,
+        out: &mut String,
+        session: &Session,
+        log: LogName,
+        place: u32,
+    ) -> Result<(), AllocError>
+        ensures { OnOk result (IsBehind (string_bytes out.old) (string_bytes out.new)) }
+    {
+        let mut words = String::new(*out.allocator());
+        self.teller(session).push_place(&mut words, (log, place))?;
+        out.push_str(&words)
+    }
+
+    /// Adds where a record stands and what it says, as in "line 8 (guest 1): the guest is halted at the source". Contents
+    /// are left out. The words have no letter that XML escapes. An error: there is no memory for them.
+    pub fn push_record(
+        &self,
+        out: &mut String,
+        session: &Session,
+        log: LogName,
+        place: u32,
+    ) -> Result<(), AllocError>
+        ensures { OnOk result (IsBehind (string_bytes out.old) (string_bytes out.new)) }
+    {
+        let mut words = String::new(*out.allocator());
+        self.teller(session).push_record(&mut words, (log, place))?;
+        out.push_str(&words)
+    }
+
+    /// Adds which record one that waits has to come after, and, where that is not the next that waits but comes after it,
+    /// the next. An error: there is no memory for it.
+    pub fn push_wait(
+        &self,
+        out: &mut String,
+        session: &Session,
+        waiting: &Waiting,
+        next: &Waiting,
+    ) -> Result<(), AllocError>
+        ensures { OnOk result (IsBehind (string_bytes out.old) (string_bytes out.new)) }
+    {
+        let mut words = String::new(*out.allocator());
+        self.teller(session).push_wait(&mut words, waiting, next)?;
+        out.push_str(&words)
+    }
+}
+
+impl<L: Lines> Writer for English<L> {
+    ghost use Rattle.session_story.specs.Writing.{IsLine};
+
+    ghost is_written = { λ _ _ _. IsLine };
+
+    fn push_sentence(
+        &self,
+        out: &mut String,
+        session: &Session,
+        sentence: &Sentence,
+    ) -> Result<(), AllocError> {
+        let mut words = String::new(*out.allocator());
+        self.teller(session).push_words(&mut words, sentence)?;
+        words.push_str("\n")?;
+        out.push_str(&words)
+    }
+}
+
+impl<L: Lines> Teller<'_, L> {
+    /// Adds the words of a sentence.
+    fn push_words(&self, out: &mut String, sentence: &Sentence) -> Result<(), AllocError> {
+        match *sentence {
+            Sentence::Wrong(name) => self.push_wrong(out, name),
+            Sentence::WrongFirst(name) => self.push_wrong_first(out, name),
+            Sentence::NeverPlaced => out.push_str(faults::NEVER_PLACED),
+            Sentence::OneMachine(held) => self.push_one_machine(out, held),
+            Sentence::NotThere => out.push_str(faults::NOT_THERE),
+            Sentence::Unreached(place) => self.push_unreached(out, place),
+            Sentence::FurthestLook(look) => self.push_furthest(out, look),
+            Sentence::LateForUse(look) => self.push_late(out, "use", look),
+            Sentence::LateForRelease(look) => self.push_late(out, "release", look),
+            Sentence::ReleasedFirst(place) => self.push_released_first(out, place),
+            Sentence::MayComeAfter(place) => self.push_may_come_after(out, place),
+            Sentence::RightOrder => out.push_str(faults::RIGHT_ORDER),
+            Sentence::Contents {
+                name,
+                value,
+                at_halt,
+            } => self.push_contents(out, name, value, at_halt),
+            Sentence::SentWith {
+                got,
+                value,
+                sending,
+            } => self.push_sent_with(out, got, value, sending),
+            Sentence::ReleasedAtHalt => out.push_str(faults::RELEASED_AT_HALT),
+            Sentence::NotReleasedAtHalt => out.push_str(faults::NOT_RELEASED_AT_HALT),
+            Sentence::ChangedLast(place) => self.push_changed_last(out, place),
+            Sentence::PlacedBefore(place) => self.push_placed_before(out, place),
+            Sentence::EveryOrder(reason) => out.push_str(faults::in_every_order(reason)),
+            Sentence::ShownOrder(reason) => out.push_str(faults::in_shown_order(reason)),
+            Sentence::MoreFaulty(more) => faults::push_more(out, more),
+            Sentence::Misshapen(name) => self.push_misshapen(out, name),
+            Sentence::OutOfPhase { place, handover } => self.push_phase(out, place, handover),
+            Sentence::Names { name, named } => self.push_names(out, name, named),
+            Sentence::Begins(name) => out.push_str(self.beginning(name)),
+            Sentence::SentBefore(place) => self.push_sent_before(out, place),
+            Sentence::ResumedToo(place) => self.push_resumed_too(out, place),
+            Sentence::FirstAccess(place) => self.push_first_access(out, place),
+            Sentence::NoOrder => out.push_str(knots::NO_ORDER),
+            Sentence::Waits { waiting, next } => self.push_waits(out, &waiting, next),
+            Sentence::StoryOf(page) => pages::push_heading(out, page),
+            Sentence::Change { halted, place } => self.push_change(out, halted, place),
+            Sentence::Halt(place) => self.push_halt(out, place),
+            Sentence::Sending(place) => self.push_sending(out, place),
+            Sentence::Delivery { log, place } => self.push_delivery(out, log, place),
+            Sentence::Taking(place) => self.push_taking(out, place),
+            Sentence::Placement(place) => self.push_placement(out, place),
+            Sentence::SecondPlacement(place) => self.push_second_placement(out, place),
+            Sentence::FirstLook(place) => self.push_first_look(out, place),
+            Sentence::FirstUse { releases, place } => self.push_first_use(out, releases, place),
+            Sentence::Clean => out.push_str(clean::CLEAN),
+            Sentence::SentPages(n) => clean::push_sent(out, n),
+            Sentence::ZeroedPages(n) => clean::push_zeroed(out, n),
+            Sentence::UnplacedPages(n) => clean::push_unplaced(out, n),
+            Sentence::FreshPages(n) => clean::push_fresh(out, n),
+            Sentence::OtherPages(n) => clean::push_other(out, n),
+            Sentence::Sendings { sends, pushes } => clean::push_sendings(out, sends, pushes),
+            Sentence::Repeats(n) => clean::push_repeats(out, n),
+            Sentence::LanePackets(n) => clean::push_by_lane(out, n),
+            Sentence::DroppedPackets(n) => clean::push_dropped(out, n),
+            Sentence::Misses { misses, waits } => clean::push_misses(out, misses, waits),
+            Sentence::NoPage { number, pages } => pages::push_no_page(out, number, pages),
+            Sentence::Verdict { page, is_faulty } => pages::push_verdict(out, page, is_faulty),
+            Sentence::NoRecord(line) => self.push_no_record(out, line),
+            Sentence::Stands(name) => self.push_stands(out, name),
+            Sentence::NotWhole => out.push_str(lacks::NOT_WHOLE),
+            Sentence::Owed(page) => lacks::push_owed(out, page),
+            Sentence::CameTo(name) => self.push_came_to(out, name),
+            Sentence::NeverHalted => out.push_str(lacks::NEVER_HALTED),
+            Sentence::NeverResumed => out.push_str(lacks::NEVER_RESUMED),
+            Sentence::HaltedAt(place) => self.push_halted_at(out, place),
+            Sentence::Returned => out.push_str(lacks::RETURNED),
+            Sentence::StartedAgainAt(place) => self.push_started_again_at(out, place),
+            Sentence::NeverSaid => out.push_str(lacks::NEVER_SAID),
+            Sentence::NeverLearned => out.push_str(lacks::NEVER_LEARNED),
+            Sentence::SaidAt(place) => self.push_said_at(out, place),
+            Sentence::Untaken(place) => self.push_untaken(out, place),
+        }
+    }
+
+    /// Adds words and a record, as a sentence.
+    fn push_with_record(
+        &self,
+        out: &mut String,
+        words: &str,
+        name: Name,
+    ) -> Result<(), AllocError> {
+        out.push_str(words)?;
+        self.push_record(out, name)?;
+        out.push_str(".")
+    }
+
+    /// Adds words and where a record stands, as a sentence.
+    fn push_with_place(&self, out: &mut String, words: &str, name: Name) -> Result<(), AllocError> {
+        out.push_str(words)?;
+        self.push_place(out, name)?;
+        out.push_str(".")
+    }
+}
+
+/// The word of a log, as its section of a session's text has it.
+pub fn log_word(log: LogName) -> &'static str
+    ensures { result.now ≡ log_word log }
+{
+    log.word()
+}
+
+/// What puts sentences into words by the lines of a session's own text.
+pub(crate) const BY_OWN_LINES: English<OwnLines> = English { lines: OwnLines };
+
+/// Adds where a record stands, as [`English::push_place`] does, by the lines of the session's own text.
+pub fn push_place(
+    out: &mut String,
+    session: &Session,
+    log: LogName,
+    place: u32,
+) -> Result<(), AllocError>
+    ensures { OnOk result (IsBehind (string_bytes out.old) (string_bytes out.new)) }
+{
+    BY_OWN_LINES.push_place(out, session, log, place)
+}
+
+/// Adds where a record stands and what it says, as [`English::push_record`] does, by the lines of the session's own text.
+pub fn push_record(
+    out: &mut String,
+    session: &Session,
+    log: LogName,
+    place: u32,
+) -> Result<(), AllocError>
+    ensures { OnOk result (IsBehind (string_bytes out.old) (string_bytes out.new)) }
+{
+    BY_OWN_LINES.push_record(out, session, log, place)
+}
+
+/// Adds what a record waits for, as [`English::push_wait`] does, by the lines of the session's own text.
+pub fn push_wait(
+    out: &mut String,
+    session: &Session,
+    waiting: &Waiting,
+    next: &Waiting,
+) -> Result<(), AllocError>
+    ensures { OnOk result (IsBehind (string_bytes out.old) (string_bytes out.new)) }
+{
+    BY_OWN_LINES.push_wait(out, session, waiting, next)
+}

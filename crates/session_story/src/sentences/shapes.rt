@@ -1,0 +1,91 @@
+//! The sentences on a record that has not the right shape.
+
+ghost use Rattle.std.specs.Prelude.{◌≡◌, ◌++◌, OnOk, length};
+ghost use Rattle.page_facts.specs.Tables.{first_before};
+ghost use Rattle.session_story.specs.Pages.{is_access_after};
+ghost use Rattle.session_story.specs.Sentences.{both_told, names_of, rule_of, second_of, shape_told};
+
+use super::{Sentence, push_if};
+use crate::concerns::{Name, named_by, resumed_by};
+use crate::faults::ShapeStory;
+use crate::questions::GuestQuestion;
+use crate::scans::first_of;
+use audit_model::ShapeReason;
+use migration_types::Session;
+use std::alloc::AllocError;
+
+/// What a record names, if it names one.
+fn names_of(session: &Session, name: Name) -> Option<Sentence>
+    ensures { result ≡ names_of session.now name }
+{
+    let named = named_by(session, name)?;
+    Some(Sentence::Names { name, named })
+}
+
+/// The `send` that stands before one of the same page.
+fn second_of(sent: Option<u32>) -> Option<Sentence>
+    ensures { result ≡ second_of sent }
+{
+    match sent {
+        Some(sent) => Some(Sentence::SentBefore(sent)),
+        None => None,
+    }
+}
+
+/// The rule that a record breaks.
+fn rule_of(session: &Session, story: &ShapeStory) -> Option<Sentence>
+    ensures { result ≡ rule_of session.now story.now story.now.fault.reason }
+{
+    let fault = &story.fault;
+    match fault.reason {
+        ShapeReason::Phases => Some(Sentence::OutOfPhase {
+            place: fault.place,
+            handover: story.handover,
+        }),
+        ShapeReason::Named => names_of(session, (fault.log, fault.place)),
+        ShapeReason::Start => Some(Sentence::Begins((fault.log, fault.place))),
+        ShapeReason::SecondSend => second_of(story.sent),
+        ShapeReason::Both => None,
+    }
+}
+
+/// The guest's first access behind the record of this number, if there is one.
+fn first_access(session: &Session, resume: u32) -> Option<u32>
+    ensures { result ≡ first_before (is_access_after resume) session.now.guest (length session.now.guest) }
+{
+    session.keeps_limits();
+    first_of(
+        session,
+        &GuestQuestion::AccessAfter(resume),
+        session.guest(),
+    )
+}
+
+/// Adds the resume of a guest that the source starts again, and its first access behind that.
+fn push_both(
+    out: &mut Vec<Sentence>,
+    session: &Session,
+    resume: Option<u32>,
+) -> Result<(), AllocError>
+    ensures { OnOk result (out.new.items ≡ out.old.items ++ both_told session.now resume) }
+{
+    let Some(resume) = resume else {
+        return Ok(());
+    };
+    let access = first_access(session, resume);
+    out.extend_from_slice(&[Sentence::ResumedToo(resume), Sentence::FirstAccess(access)])
+}
+
+/// Adds the record that has not the right shape, and the rule that it breaks.
+#[tactic(auto, unfolding(crate::specs::Sentences::shape_told))]
+pub(crate) fn push_shape(
+    out: &mut Vec<Sentence>,
+    session: &Session,
+    story: &ShapeStory,
+) -> Result<(), AllocError>
+    ensures { OnOk result (out.new.items ≡ out.old.items ++ shape_told session.now story.now) }
+{
+    out.extend_from_slice(&[Sentence::Misshapen((story.fault.log, story.fault.place))])?;
+    push_if(out, rule_of(session, story))?;
+    push_both(out, session, resumed_by(story))
+}

@@ -1,0 +1,330 @@
+//! The sentences on a report, a page, or the record at a line.
+
+ghost use Rattle.std.specs.Prelude.{◌≡◌, ◌++◌, IfOk, OnOk};
+ghost use Rattle.session_story.specs.Sentences.{explained_first, explained_told, fault_first, faulty_page_told, first_fault_told, is_shown, its_page_told, line_first, line_topic, more_of, page_first, page_told, page_topic, record_told, shown_of, told_first, told_in_full, verdict_of};
+
+use super::counts::push_counts;
+use super::faults::{order_of, push_fault, push_faulty};
+use super::knots::push_knot;
+use super::pages::push_story;
+use super::shapes::push_shape;
+use super::{Sentence, push_if};
+use crate::concerns::Name;
+use crate::explaining::Explanation;
+use crate::faults::{FaultStory, ShapeStory};
+use crate::topics::{LineTold, PageTold, Told};
+use audit_report::Report;
+use migration_types::Session;
+use std::alloc::{AllocError, Global};
+
+/// How many other pages have a fault, where some have.
+fn more_of(more: usize) -> Option<Sentence>
+    ensures { result ≡ more_of more }
+{
+    if more == 0 {
+        None
+    } else {
+        Some(Sentence::MoreFaulty(more))
+    }
+}
+
+/// Adds the fault of a page that the report names, with the page's story.
+#[tactic(auto, unfolding(crate::specs::Sentences::faulty_page_told))]
+fn push_faulty_page(
+    out: &mut Vec<Sentence>,
+    session: &Session,
+    story: &FaultStory,
+    more: usize,
+) -> Result<(), AllocError>
+    ensures { OnOk result (out.new.items ≡ out.old.items ++ faulty_page_told session.now story.now more) }
+{
+    push_fault(out, session, story)?;
+    out.extend_from_slice(&[order_of(story)])?;
+    push_story(out, session, &story.page, &story.handover)?;
+    push_if(out, more_of(more))
+}
+
+/// Adds what happened in a session.
+#[tactic(auto, unfolding(crate::specs::Sentences::explained_told))]
+fn push_explanation(
+    out: &mut Vec<Sentence>,
+    session: &Session,
+    explanation: &Explanation,
+) -> Result<(), AllocError>
+    ensures { OnOk result (out.new.items ≡ out.old.items ++ explained_told session.now explanation.now) }
+{
+    match explanation {
+        Explanation::Shape(story) => push_shape(out, session, story),
+        Explanation::Knot(knot) => push_knot(out, knot),
+        Explanation::Faulty { story, more } => push_faulty_page(out, session, story, *more),
+        Explanation::Clean(counts) => push_counts(out, session.version(), counts),
+    }
+}
+
+/// Whether it is known which orders show a fault of a page: the report has one that shows its own, and where there are
+/// orders at all, each shows a fault that every one shows.
+fn is_shown(report: &Report, story: &FaultStory) -> bool
+    ensures { result ≡ is_shown report.now story.now }
+{
+    match report {
+        Report::Faulty { fault, .. } => {
+            story.in_every_order
+                || (fault.log == story.fault.log && fault.place == story.fault.place)
+        }
+        _ => false,
+    }
+}
+
+/// How an order of the records shows a fault, where that is known.
+fn shown_of(report: &Report, story: &FaultStory) -> Option<Sentence>
+    ensures { result ≡ shown_of report.now story.now }
+{
+    if is_shown(report, story) {
+        Some(order_of(story))
+    } else {
+        None
+    }
+}
+
+/// Adds a page's first fault, if it has one.
+#[tactic(auto, unfolding(crate::specs::Sentences::first_fault_told))]
+fn push_first_fault(
+    out: &mut Vec<Sentence>,
+    session: &Session,
+    report: &Report,
+    fault: &Option<FaultStory>,
+) -> Result<(), AllocError>
+    ensures { OnOk result (out.new.items ≡ out.old.items ++ first_fault_told session.now report.now fault.now) }
+{
+    match fault {
+        Some(story) => {
+            push_fault(out, session, story)?;
+            push_if(out, shown_of(report, story))
+        }
+        None => Ok(()),
+    }
+}
+
+/// Whether a page has a fault.
+fn verdict_of(page: &PageTold) -> Sentence
+    ensures { result ≡ verdict_of page.now }
+{
+    Sentence::Verdict {
+        page: page.story.page,
+        is_faulty: page.fault.is_some(),
+    }
+}
+
+/// Adds what became of a page.
+#[tactic(auto, unfolding(crate::specs::Sentences::page_told))]
+fn push_page(
+    out: &mut Vec<Sentence>,
+    session: &Session,
+    report: &Report,
+    page: &PageTold,
+) -> Result<(), AllocError>
+    ensures { OnOk result (out.new.items ≡ out.old.items ++ page_told session.now report.now page.now) }
+{
+    out.extend_from_slice(&[verdict_of(page)])?;
+    push_first_fault(out, session, report, &page.fault)?;
+    push_story(out, session, &page.story, &page.handover)
+}
+
+/// Adds what became of the page of this number, or that there is none.
+#[tactic(auto, unfolding(crate::specs::Sentences::page_topic))]
+fn push_page_topic(
+    out: &mut Vec<Sentence>,
+    session: &Session,
+    report: &Report,
+    number: u32,
+    told: &Option<PageTold>,
+) -> Result<(), AllocError>
+    ensures { OnOk result (out.new.items ≡ out.old.items ++ page_topic session.now report.now number told.now) }
+{
+    match told {
+        Some(page) => push_page(out, session, report, page),
+        None => out.extend_from_slice(&[Sentence::NoPage {
+            number,
+            pages: session.geometry().pages(),
+        }]),
+    }
+}
+
+/// Adds which record stands at a line, and what is wrong with its shape, where that is told.
+#[tactic(auto, unfolding(crate::specs::Sentences::record_told))]
+fn push_record(
+    out: &mut Vec<Sentence>,
+    session: &Session,
+    name: Name,
+    shape: &Option<ShapeStory>,
+) -> Result<(), AllocError>
+    ensures { OnOk result (out.new.items ≡ out.old.items ++ record_told session.now name shape.now) }
+{
+    match shape {
+        Some(story) => push_shape(out, session, story),
+        None => out.extend_from_slice(&[Sentence::Stands(name)]),
+    }
+}
+
+/// Adds what became of the page of a record, where it is about one.
+#[tactic(auto, unfolding(crate::specs::Sentences::its_page_told))]
+fn push_its_page(
+    out: &mut Vec<Sentence>,
+    session: &Session,
+    report: &Report,
+    told: &Option<PageTold>,
+) -> Result<(), AllocError>
+    ensures { OnOk result (out.new.items ≡ out.old.items ++ its_page_told session.now report.now told.now) }
+{
+    match told {
+        Some(page) => push_page(out, session, report, page),
+        None => Ok(()),
+    }
+}
+
+/// Adds the record at the line of this number and what became of its page, or that there is none.
+#[tactic(auto, unfolding(crate::specs::Sentences::line_topic))]
+fn push_line_topic(
+    out: &mut Vec<Sentence>,
+    session: &Session,
+    report: &Report,
+    number: u32,
+    told: &Option<LineTold>,
+) -> Result<(), AllocError>
+    ensures { OnOk result (out.new.items ≡ out.old.items ++ line_topic session.now report.now number told.now) }
+{
+    match told {
+        Some(line) => {
+            push_record(out, session, (line.log, line.place), &line.shape)?;
+            push_its_page(out, session, report, &line.page)
+        }
+        None => out.extend_from_slice(&[Sentence::NoRecord(number)]),
+    }
+}
+
+/// Adds what is told of a session with this report.
+#[tactic(auto, unfolding(crate::specs::Sentences::told_in_full))]
+fn push_told(
+    out: &mut Vec<Sentence>,
+    session: &Session,
+    report: &Report,
+    told: &Told,
+) -> Result<(), AllocError>
+    ensures { OnOk result (out.new.items ≡ out.old.items ++ told_in_full session.now report.now told.now) }
+{
+    match told {
+        Told::Report(explanation) => push_explanation(out, session, explanation),
+        Told::Page(number, page) => push_page_topic(out, session, report, *number, page),
+        Told::Line(number, line) => push_line_topic(out, session, report, *number, line),
+    }
+}
+
+/// The sentences that tell what is told of a session with this report, one after the other. The only error is that there
+/// is no memory for them.
+pub fn told_in_full(
+    alloc: Global,
+    session: &Session,
+    report: &Report,
+    told: &Told,
+) -> Result<Vec<Sentence>, AllocError>
+    ensures { IfOk result (λ sentences. sentences.items ≡ told_in_full session.now report.now told.now) }
+{
+    let mut out = Vec::new(alloc);
+    push_told(&mut out, session, report, told)?;
+    Ok(out)
+}
+
+/// Adds what is told first of what happened in a session.
+#[tactic(auto, unfolding(crate::specs::Sentences::explained_first))]
+fn push_explained_first(
+    out: &mut Vec<Sentence>,
+    session: &Session,
+    explanation: &Explanation,
+) -> Result<(), AllocError>
+    ensures { OnOk result (out.new.items ≡ out.old.items ++ explained_first session.now explanation.now) }
+{
+    match explanation {
+        Explanation::Shape(story) => push_shape(out, session, story),
+        Explanation::Knot(_) => out.extend_from_slice(&[Sentence::NoOrder]),
+        Explanation::Faulty { story, .. } => push_faulty(out, session, story),
+        Explanation::Clean(_) => out.extend_from_slice(&[Sentence::Clean]),
+    }
+}
+
+/// Adds what is told first of a page's first fault, if it has one.
+#[tactic(auto, unfolding(crate::specs::Sentences::fault_first))]
+fn push_fault_first(
+    out: &mut Vec<Sentence>,
+    session: &Session,
+    fault: &Option<FaultStory>,
+) -> Result<(), AllocError>
+    ensures { OnOk result (out.new.items ≡ out.old.items ++ fault_first session.now fault.now) }
+{
+    match fault {
+        Some(story) => push_faulty(out, session, story),
+        None => Ok(()),
+    }
+}
+
+/// Adds what is told first of the page of this number.
+#[tactic(auto, unfolding(crate::specs::Sentences::page_first))]
+fn push_page_first(
+    out: &mut Vec<Sentence>,
+    session: &Session,
+    number: u32,
+    told: &Option<PageTold>,
+) -> Result<(), AllocError>
+    ensures { OnOk result (out.new.items ≡ out.old.items ++ page_first session.now number told.now) }
+{
+    match told {
+        Some(page) => {
+            out.extend_from_slice(&[verdict_of(page)])?;
+            push_fault_first(out, session, &page.fault)
+        }
+        None => out.extend_from_slice(&[Sentence::NoPage {
+            number,
+            pages: session.geometry().pages(),
+        }]),
+    }
+}
+
+/// Adds what is told first of the line of this number.
+#[tactic(auto, unfolding(crate::specs::Sentences::line_first))]
+fn push_line_first(
+    out: &mut Vec<Sentence>,
+    session: &Session,
+    number: u32,
+    told: &Option<LineTold>,
+) -> Result<(), AllocError>
+    ensures { OnOk result (out.new.items ≡ out.old.items ++ line_first session.now number told.now) }
+{
+    match told {
+        Some(line) => push_record(out, session, (line.log, line.place), &line.shape),
+        None => out.extend_from_slice(&[Sentence::NoRecord(number)]),
+    }
+}
+
+/// Adds what is told first of a session.
+#[tactic(auto, unfolding(crate::specs::Sentences::told_first))]
+fn push_first(out: &mut Vec<Sentence>, session: &Session, told: &Told) -> Result<(), AllocError>
+    ensures { OnOk result (out.new.items ≡ out.old.items ++ told_first session.now told.now) }
+{
+    match told {
+        Told::Report(explanation) => push_explained_first(out, session, explanation),
+        Told::Page(number, page) => push_page_first(out, session, *number, page),
+        Told::Line(number, line) => push_line_first(out, session, *number, line),
+    }
+}
+
+/// The sentences that are told first: what is wrong, or that nothing is. The only error is that there is no memory for them.
+pub fn told_first(
+    alloc: Global,
+    session: &Session,
+    told: &Told,
+) -> Result<Vec<Sentence>, AllocError>
+    ensures { IfOk result (λ sentences. sentences.items ≡ told_first session.now told.now) }
+{
+    let mut out = Vec::new(alloc);
+    push_first(&mut out, session, told)?;
+    Ok(out)
+}

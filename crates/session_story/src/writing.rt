@@ -1,0 +1,57 @@
+//! What puts sentences into words, and how the lines of a session are told in them.
+
+ghost use Rattle.std.specs.Prelude.{◌≡◌, ℕ, List, OnOk, string_bytes};
+ghost use Rattle.migration_types.specs.Sessions.{Recorded};
+ghost use Rattle.session_story.specs.Writing.{Adds, AreWritten};
+
+use crate::sentences::Sentence;
+use migration_types::Session;
+use std::alloc::AllocError;
+
+/// How the lines of a session's text are told.
+pub trait Lines {
+    /// The line that is told in place of this line of the session's text, which is counted from 1.
+    fn line(&self, line: u32) -> u64;
+}
+
+/// The lines that a session's own text has.
+#[derive(Clone, Copy)]
+pub struct OwnLines;
+
+impl Lines for OwnLines {
+    fn line(&self, line: u32) -> u64 {
+        line as u64
+    }
+}
+
+/// What puts sentences into words.
+pub trait Writer {
+    ghost use Rattle.session_story.specs.declared.sentences.Sentence.{Sentence};
+
+    /// Whether these are words of a sentence on a session.
+    ghost is_written: { Self → Recorded → Sentence → List ℕ → Type 0 };
+
+    /// Adds the words of a sentence on a session. An error: there is no memory for them.
+    fn push_sentence(
+        &self,
+        out: &mut String,
+        session: &Session,
+        sentence: &Sentence,
+    ) -> Result<(), AllocError>
+        ensures { OnOk result (Adds (is_written self.now session.now sentence.now) (string_bytes out.old) (string_bytes out.new)) };
+}
+
+/// Adds the words of exactly these sentences, one after the other. An error: there is no memory for them.
+pub(crate) fn push_sentences<W: Writer>(
+    writer: &W,
+    out: &mut String,
+    session: &Session,
+    sentences: &[Sentence],
+) -> Result<(), AllocError>
+    ensures { OnOk result (Adds (AreWritten (W.is_written writer.now session.now) sentences.now) (string_bytes out.old) (string_bytes out.new)) }
+{
+    for sentence in sentences {
+        writer.push_sentence(out, session, sentence)?;
+    }
+    Ok(())
+}
