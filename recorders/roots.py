@@ -13,6 +13,7 @@ import fcntl
 import os
 import platform
 import shutil
+import signal
 import subprocess
 import sys
 import time
@@ -24,6 +25,7 @@ MARK = ".postcopy-root"
 SECONDS_BETWEEN_LINES = 5
 PIVOT_ROOT = {"x86_64": 155, "aarch64": 41}  # the system call's number
 CLONE_NEWNS = 0x20000
+PR_SET_PDEATHSIG = 1
 MS_RDONLY, MS_REMOUNT, MS_BIND, MS_REC, MS_PRIVATE = 1, 32, 4096, 16384, 1 << 18
 MNT_DETACH = 2
 
@@ -47,10 +49,14 @@ class Root:
 
 # Where roots are
 
+def cache(name):
+    """A folder of the user's cache for what is made once."""
+    return f"{os.environ.get('XDG_CACHE_HOME') or os.path.expanduser('~/.cache')}/postcopy/{name}"
+
+
 def folder():
     """Where roots are kept: POSTCOPY_ROOTS, or a folder in the user's cache."""
-    cache = os.environ.get("XDG_CACHE_HOME") or os.path.expanduser("~/.cache")
-    return os.path.abspath(os.environ.get("POSTCOPY_ROOTS") or f"{cache}/postcopy/roots")
+    return os.path.abspath(os.environ.get("POSTCOPY_ROOTS") or cache("roots"))
 
 
 def path(root):
@@ -142,6 +148,11 @@ def libc(name, *arguments):
     if library[name](*arguments) < 0:
         error = ctypes.get_errno()
         raise OSError(error, f"{name}: {os.strerror(error)}")
+
+
+def die_with_parent():
+    """From here on this process is killed when the thread ends that started it."""
+    libc("prctl", PR_SET_PDEATHSIG, signal.SIGKILL)
 
 
 def mount(what, where, kind, flags):

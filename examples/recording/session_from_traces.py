@@ -4,9 +4,10 @@
     session_from_traces.py FOLDER [--cut] > session
 
 FOLDER has guest.trace, source.trace, link.trace and pager.trace. Where a second link carried pages down, the lane, it has
-lane.trace too, and the session is of the second version. A line of a trace is a time, the event's name, what happened, and
-with what, as KEY=VALUE. A key that is a log's name tells of an event in that log's trace, and `of` tells of an earlier one in
-the same trace. The times are of clocks that do not agree, and nothing here looks at them.
+lane.trace too, and the session is of the second version; where the source started its guest again, it is of the third. A line
+of a trace is a time, the event's name, what happened, and with what, as KEY=VALUE. A key that is a log's name tells of an event
+in that log's trace, and `of` tells of an earlier one in the same trace. The times are of clocks that do not agree, and nothing
+here looks at them.
 
 A page has one cell: the sum, which is a hash of 64 bits of the whole page, and 0 for a page of zeros.
 
@@ -38,6 +39,7 @@ RECORDS = {
         "repeat": "again {of}",
         "request": "ask {link}",
         "finish": "done",
+        "restart": "back",
     },
     "link": {"down": "down {source}", "up": "up {pager}"},
     "lane": {"down": "down {source}"},
@@ -182,9 +184,16 @@ class Recording:
         sums = {int(fields["frame"], 16) - self.frames.start: fields["sum"] for fields in found if int(fields["sum"], 16) != 0}
         return [f"init {len(sums)}", *(f"page {page} {sums[page]}" for page in sorted(sums))]
 
+    def version(self):
+        """The version of the session: a guest that was started again is of the third, and a lane of the second."""
+        if any(event.what == "restart" for event in self.kept["source"].values()):
+            return 3
+        return 2 if self.has_lane else 1
+
     def text(self):
-        lines = [f"postcopy-session {2 if self.has_lane else 1}", f"pages {len(self.frames)}", "cells 1", *self.initial_pages()]
-        for log in LOGS if self.has_lane else [log for log in LOGS if log != "lane"]:
+        version = self.version()
+        lines = [f"postcopy-session {version}", f"pages {len(self.frames)}", "cells 1", *self.initial_pages()]
+        for log in LOGS if version > 1 else [log for log in LOGS if log != "lane"]:
             lines += [f"{log} {len(self.kept[log])}", *map(self.record, self.kept[log].values())]
         return "\n".join([*lines, "end", ""])
 

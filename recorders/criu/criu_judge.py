@@ -13,13 +13,6 @@ def session_of(folder, is_whole):
     return session, left_out
 
 
-def verdict_line(folder):
-    """The verdict in a line; `incomplete ..` where the session is clean, and tells of no whole migration."""
-    whole = judge.ask(folder, "audit", "--complete", "--quiet", "session")[0].strip()
-    line = judge.verdict_line(folder)
-    return whole if whole.startswith("incomplete ") else line
-
-
 def judged(folder, is_whole=True):
     """Judges a recording, and leaves what was found in its folder."""
     try:
@@ -28,17 +21,9 @@ def judged(folder, is_whole=True):
     except (Hole, OSError) as fault:
         verdict = judge.Verdict(f"not judged: {fault}")
     else:
-        verdict = judge.Verdict(verdict_line(folder), session, left_out)
+        verdict = judge.Verdict(judge.complete_line(folder), session, left_out)
     judge.write(f"{folder}/verdict", verdict.line + "\n")
     return verdict
-
-
-def explain_and_draw(folder):
-    """The words; the picture is left in the folder."""
-    words, _ = judge.ask(folder, "explain", "--complete", "session")
-    judge.write(f"{folder}/explained", words)
-    judge.write(f"{folder}/picture.svg", judge.ask(folder, "draw", "session")[0])
-    return words
 
 
 def wrong_reads(folder):

@@ -7,17 +7,12 @@ import time
 
 import roots
 
-PR_SET_PDEATHSIG = 1
+SECONDS_TO_START = 60
 PROCESS = 1000  # the number of the process that is moved, at both sides
 
 
 class Failed(Exception):
     """What did not start, in words."""
-
-
-def die_with_parent():
-    """From here on this process is killed when the thread ends that started it."""
-    roots.libc("prctl", PR_SET_PDEATHSIG, signal.SIGKILL)
 
 
 class Side:
@@ -26,7 +21,7 @@ class Side:
     def __init__(self, name, root, folders, errors):
         self.name, self.errors = name, errors
         keeper = ["unshare", "--pid", "--fork", "--kill-child", "--mount-proc", "sleep", "infinity"]
-        self.keeper = self.started(roots.inside(root, keeper, folders), begin=die_with_parent)
+        self.keeper = self.started(roots.inside(root, keeper, folders), begin=roots.die_with_parent)
         self.first = self.child_of_keeper()
 
     def started(self, words, environment=(), descriptors=(), begin=None):
@@ -35,7 +30,7 @@ class Side:
 
     def child_of_keeper(self):
         """The first process of the namespace, once it is there with mounts of its own."""
-        until = time.monotonic() + 10
+        until = time.monotonic() + SECONDS_TO_START
         while time.monotonic() < until and self.keeper.poll() is None:
             try:
                 with open(f"/proc/{self.keeper.pid}/task/{self.keeper.pid}/children", encoding="ascii") as children:

@@ -52,14 +52,15 @@ def session_of(folder, is_whole, is_from_halt):
 
 def judge(folder, is_whole=True, is_from_halt=False):
     """Judges a recording, and leaves what was found in its folder."""
+    restart = restart_of(folder)
     try:
         session, left_out = session_of(folder, is_whole, is_from_halt)
         write(f"{folder}/session", session.text())
     except (Hole, OSError) as fault:
         verdict = Verdict(f"not judged: {fault}")
     else:
-        verdict = Verdict(verdict_line(folder), session, left_out)
-    verdict.restart = restart_of(folder)
+        verdict = Verdict(complete_line(folder) if restart else verdict_line(folder), session, left_out)
+    verdict.restart = restart
     if verdict.restart:
         write(f"{folder}/restart", verdict.restart.line() + "\n")
     write(f"{folder}/verdict", verdict.line + "\n")
@@ -85,9 +86,16 @@ def verdict_line(folder):
     return f"clean, {ask(folder, 'check', 'session', 'certificate')[0].strip()}"
 
 
-def explain_and_draw(folder):
+def complete_line(folder):
+    """The verdict in a line; `incomplete ..` where the session is clean, and does not tell of a whole migration."""
+    line = verdict_line(folder)
+    whole = ask(folder, "audit", "--complete", "--quiet", "session")[0].strip()
+    return whole if whole.startswith("incomplete ") else line
+
+
+def explain_and_draw(folder, *options):
     """The words, and where the picture is; None where the program does not have them."""
-    words, status = ask(folder, "explain", "session")
+    words, status = ask(folder, "explain", *options, "session")
     if status not in (0, 1) or not words.count("\n") > 1:
         return None
     write(f"{folder}/explained", words)

@@ -1,4 +1,5 @@
 """One of the two QEMUs, with a pipe that takes all that it tells."""
+import glob
 import os
 import select
 import subprocess
@@ -7,9 +8,19 @@ import time
 
 from dialect import PC_RAM
 from qmp import Gone, Hangs, Qmp, Refused
+from roots import die_with_parent
 
 DEAD = ("ended", "hangs")  # what `migration` says of a QEMU that does not say it itself
 EVENT_BYTES = 27  # of an access
+
+
+def seconds_waited(path):
+    """For how long the thread of a folder in /proc wanted to run and had no processor."""
+    try:
+        with open(f"{path}/schedstat", encoding="ascii") as file:
+            return int(file.read().split()[1]) / 1e9
+    except (OSError, IndexError):
+        return 0.0  # it ended, or the kernel does not count
 
 
 class PipeReader:
@@ -69,7 +80,7 @@ class Machine:
         with open(f"{folder}/{name}.command", "w") as out:
             print(*command, file=out)
         with open(self.errors, "w") as errors:
-            self.process = subprocess.Popen(command, cwd=folder, env=environment, stderr=errors, stdin=subprocess.DEVNULL)
+            self.process = subprocess.Popen(command, cwd=folder, env=environment, stderr=errors, stdin=subprocess.DEVNULL, preexec_fn=die_with_parent)
         self.qmp, self.lock, self.hangs = None, threading.Lock(), False
 
     def is_running(self):
@@ -80,12 +91,16 @@ class Machine:
             if self.hangs:
                 raise Hangs("it does not answer")
             if not self.qmp:
-                self.qmp = Qmp(self.socket, self.is_running)
+                self.qmp = Qmp(self.socket, self.is_running, waited=lambda: seconds_waited(f"/proc/{self.process.pid}"))
             try:
                 return self.qmp(command, **arguments)
             except Hangs:
                 self.hangs = True
                 raise
+
+    def waited(self):
+        """For how long the one of its threads that waited longest had no processor."""
+        return max(map(seconds_waited, glob.glob(f"/proc/{self.process.pid}/task/*")), default=0.0)
 
     def wait_for_accesses(self, count, seconds):
         """Waits until the guest has told so many accesses more. Answers whether it did."""

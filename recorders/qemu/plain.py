@@ -5,6 +5,7 @@ import time
 
 from build import Missing
 from qmp import Gone, Hangs, Qmp
+from roots import die_with_parent
 
 SECONDS = 10  # for each thing that is waited for
 
@@ -20,7 +21,7 @@ class Side:
             self.process = subprocess.Popen(
                 [emulator.path, "-machine", f"pc,accel={accelerator}", "-m", "32M", "-nodefaults", "-no-user-config", "-display", "none",
                  "-bios", rom, "-chardev", f"file,id=told,path={self.told}", "-device", "isa-debugcon,iobase=0xe9,chardev=told",
-                 "-qmp", f"unix:{monitor},server=on,wait=off", *extra], stderr=errors, stdin=subprocess.DEVNULL)
+                 "-qmp", f"unix:{monitor},server=on,wait=off", *extra], stderr=errors, stdin=subprocess.DEVNULL, preexec_fn=die_with_parent)
         try:
             self.qmp = Qmp(monitor, lambda: self.process.poll() is None, SECONDS)
         except Gone as fault:

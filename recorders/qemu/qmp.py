@@ -17,12 +17,16 @@ class Hangs(Gone):
 
 
 class Qmp:
-    def __init__(self, path, is_running, seconds=20):
+    """`waited` answers for how many seconds in all QEMU's main thread, which answers, wanted to run and had no processor: one that
+    had none in half of the time or more is given the same time again, TIMES in all."""
+
+    TIMES = 10
+
+    def __init__(self, path, is_running, seconds=20, waited=lambda: 0.0):
         self.socket = socket.socket(socket.AF_UNIX)
-        self.seconds = seconds
+        self.seconds, self.waited, self.begun = seconds, waited, b""
         self.socket.settimeout(seconds)
         self.connect(path, is_running, time.monotonic() + seconds)
-        self.file = self.socket.makefile("rw")
         self.line()
         self("qmp_capabilities")
 
@@ -37,20 +41,28 @@ class Qmp:
                 time.sleep(0.02)
 
     def line(self):
-        try:
-            line = self.file.readline()
-        except TimeoutError:
-            raise Hangs(f"it has not answered for {self.seconds} s") from None
-        except OSError as fault:
-            raise Gone(str(fault)) from None
-        if not line:
-            raise Gone("it ended")
+        while b"\n" not in self.begun:
+            if not (data := self.received()):
+                raise Gone("it ended")
+            self.begun += data
+        line, _, self.begun = self.begun.partition(b"\n")
         return json.loads(line)
+
+    def received(self):
+        for _ in range(self.TIMES):
+            before = self.waited()
+            try:
+                return self.socket.recv(1 << 16)
+            except TimeoutError:
+                if self.waited() - before < self.seconds / 2:
+                    break
+            except OSError as fault:
+                raise Gone(str(fault)) from None
+        raise Hangs(f"it has not answered for {self.seconds} s") from None
 
     def __call__(self, command, **arguments):
         try:
-            self.file.write(json.dumps({"execute": command, "arguments": arguments}))
-            self.file.flush()
+            self.socket.sendall(json.dumps({"execute": command, "arguments": arguments}).encode())
         except OSError as fault:
             raise Gone(str(fault)) from None
         while True:

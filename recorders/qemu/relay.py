@@ -1,8 +1,9 @@
 """Stands between two QEMUs that migrate, forwards both directions, and writes down what it hands over.
 
-Each item is handed over whole, once it is written down, under one lock. `before_package` is called when the package came and before
-it goes on: the guest stands still then, and cannot run at the target yet. A line of the log begins with what is told and with
-the connection's number; connections count from 0 as they come:
+Each item is handed over whole, once it is written down, under one lock. A connection is taken without that lock: a target may read
+nothing of the first before it has the second. `before_package` is called when the package came and before it goes on: the guest
+stands still then, and cannot run at the target yet. A line of the log begins with what is told and with the connection's number;
+connections count from 0 as they come:
 
     open C main|lane new|resumed
     down C page pre|post BLOCK OFFSET TAKEN GIVEN   contents as they came and as they went on: places in the file of
@@ -18,10 +19,12 @@ the connection's number; connections count from 0 as they come:
     cut C
     fault KIND PAGE..           what was put in
     multifd                     a connection of multifd is opened: it is handed on, and nothing of it is read
+    late                        so is one that was on its way at a cut, until the recovery
     strange WORDS               what the stream has next is not known; from there on it is handed on, and not told
 
 Once a connection is cut nothing more is told of it: what is still read from it went nowhere.
 """
+import select
 import socket
 import threading
 
@@ -75,28 +78,38 @@ class Connection:
 
 
 class Relay:
-    """Listens on a socket of its own in `room`, `path`, and goes to the socket `target`, which may change between connections."""
+    """Listens on a socket of its own in `room`, `path`, and goes to the socket `target`.
+
+    A connection that comes between a cut and `recover`, which names the socket that the next ones go to, was on its way before: it is
+    handed on unread, and closed by `recover`.
+
+    `lock` is held while an item is told and handed over, so it may wait for a peer. `books` guards the log and the connections: it is
+    held for a moment, also by who has `lock`, and who has it waits for nobody.
+    """
 
     def __init__(self, folder, room, window, target, fault=None, skip=0, cuts=(), has_multifd=False, before_package=lambda: None):
         self.log = open(f"{folder}/relay.log", "w")
         self.contents = open(f"{folder}/relay.pages", "wb")
         self.window, self.target, self.cuts = window, target, list(cuts)
         self.fault = fault_of(fault, skip, window, self.tell)
-        self.lock, self.stored, self.is_post = threading.Lock(), 0, False
+        self.lock, self.books = threading.Lock(), threading.RLock()
+        self.stored, self.is_post = 0, False
         self.connections, self.threads, self.lost, self.complaint = [], [], [], None
         self.has_multifd, self.unread = has_multifd, []
         self.before_package = before_package
-        self.was_cut = threading.Event()
+        self.was_cut, self.is_cut_off = threading.Event(), False
         self.sent_before = self.sent_after = 0
         self.path = room.name("relay")
         self.listener = socket.socket(socket.AF_UNIX)
         self.listener.bind(self.path)
         self.listener.listen()
+        self.listener.setblocking(False)
         self.accepting = threading.Thread(target=self.accept, daemon=True)
         self.accepting.start()
 
     def tell(self, *fields):
-        print(*fields, file=self.log, flush=True)
+        with self.books:
+            print(*fields, file=self.log, flush=True)
 
     def store(self, contents):
         if len(contents) == 1:
@@ -127,23 +140,38 @@ class Relay:
     def accept(self):
         while True:
             try:
-                source, _ = self.listener.accept()
-            except OSError:
-                return
+                select.select([self.listener], [], [])
+                with self.books:
+                    source, address = self.listener.accept()[0], self.target
+            except BlockingIOError:
+                continue  # `recover` has closed it
+            except (OSError, ValueError):
+                return  # the listener is closed
             target = socket.socket(socket.AF_UNIX)
             try:
-                target.connect(self.target)
+                target.connect(address)
             except OSError:
                 source.close()
                 target.close()
                 continue
             if self.has_multifd and self.begins_with(source, stream.MULTIFD_MAGIC):
-                self.hand_on(source, target)
+                self.hand_on(source, target, "multifd")
                 continue
-            with self.lock:
-                connection = self.opened(source, target)
+            with self.books:
+                connection = None if self.is_cut_off or self.target != address else self.opened(source, target)
+            if not connection:
+                self.hand_on(source, target, "late")
+                continue
             self.start(self.down, connection)
             self.start(self.up, connection)
+
+    def recover(self, target):
+        """The next connections go to this socket. Those that came since the cut are of the migration before, and are closed."""
+        with self.books:
+            while select.select([self.listener], [], [], 0)[0]:
+                self.listener.accept()[0].close()
+            self.shut_unread()
+            self.target, self.is_cut_off = target, False
 
     def start(self, work, *words):
         thread = threading.Thread(target=self.guarded, args=(work, *words), daemon=True)
@@ -161,10 +189,10 @@ class Relay:
         finally:
             source.settimeout(None)
 
-    def hand_on(self, source, target):
+    def hand_on(self, source, target, why):
         """Hands on a connection in both directions, unread."""
-        with self.lock:
-            self.tell("multifd")
+        with self.books:
+            self.tell(why)
             self.unread += [source, target]
         self.start(self.copy, source, target)
         self.start(self.copy, target, source)
@@ -176,7 +204,7 @@ class Relay:
         there.shutdown(socket.SHUT_WR)
 
     def opened(self, source, target):
-        """The first connection, and the first one after a cut, is the main one; the next one is the lane."""
+        """The first connection, and the first one after a cut, is the main one; the next one is the lane. To be called with `books`."""
         is_lane = any(not (one.is_cut or one.is_lane) for one in self.connections)
         connection = Connection(len(self.connections), is_lane, bool(self.connections) and not is_lane, source, target)
         self.connections.append(connection)
@@ -190,13 +218,15 @@ class Relay:
             pass  # the connection is at its end, or closed by us
 
     def cut(self):
-        """Cuts all connections that stand. To be called under the lock."""
-        for connection in self.connections:
-            if not connection.is_cut:
-                connection.is_cut = True
-                self.tell("cut", connection.number)
-                connection.shut()
-        self.shut_unread()
+        """Cuts all connections that stand. To be called with `lock`."""
+        with self.books:
+            self.is_cut_off = True
+            for connection in self.connections:
+                if not connection.is_cut:
+                    connection.is_cut = True
+                    self.tell("cut", connection.number)
+                    connection.shut()
+            self.shut_unread()
         self.was_cut.set()
 
     def shut_unread(self):

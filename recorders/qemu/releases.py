@@ -12,9 +12,9 @@ import shutil
 import subprocess
 import tarfile
 
-from build import PACKAGES, Missing
+from build import PACKAGES
+from roots import Missing, cache
 
-MIRROR = "http://deb.debian.org/debian"
 NAME = "qemu-system-x86_64"
 PACKAGE = "qemu-system-x86"
 LIBRARIES = "usr/lib/x86_64-linux-gnu"
@@ -25,8 +25,7 @@ SUITE = re.compile("[a-z][a-z0-9.-]*")
 
 def top():
     """Where the roots are."""
-    cache = os.environ.get("XDG_CACHE_HOME") or os.path.expanduser("~/.cache")
-    return f"{cache}/postcopy/qemu"
+    return cache("qemu")
 
 
 def qemu_of(root):

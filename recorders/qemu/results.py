@@ -3,19 +3,23 @@ import collections
 import json
 import os
 import re
-from dataclasses import dataclass
+from dataclasses import asdict, dataclass
 
+from kinds import plan_from_text
 
+BUSY = "not at its end on a busy machine"
 # What ends of a migration are called in the table; any other stands there in QEMU's words.
 ENDS = (
     ("source waits for itself", "Cannot resume if there is no paused migration"),
     ("target aborted", "target ENDED.*Assertion .* failed"),
+    ("target ended: `Operation not permitted`", "target ENDED.*loadvm failed during postcopy: -1: .*Operation not permitted"),
     ("target ended while it loaded", "target ENDED.*(load of migration failed|loadvm failed)"),
     ("target failed while it loaded", "no recovery: source [a-z-]+, target failed$"),
+    (BUSY, "(it took more than|the guest does not walk).*the machine was busy"),
     ("target hangs", "target HANGS"),
     ("source hangs", "source HANGS"),
     ("target failed by itself", "the target went to"),
-    ("pre-copy came to its end", "gave up: pre-copy: completed"),
+    ("pre-copy came to its end", "gave up: pre-copy: (completed|device)"),
     ("not at its end within its limit", "it took more than"),
 )
 
@@ -32,6 +36,10 @@ class Result:
     restart: str = ""        # what is told where the source started its guest again
     version: str = ""        # of QEMU, or of both
     is_cut_missed: bool = False  # whether it came to its end before a cut that was planned
+    load: float = 0.0        # of the machine, once it was made: how many processes wanted to run
+
+    def to_text(self):
+        return json.dumps({**asdict(self), "plan": json.loads(self.plan.to_text())})
 
     @property
     def ran(self):
@@ -51,11 +59,13 @@ class Result:
             return " and ".join([self.ran, *([self.end] if self.end.endswith("hangs") else [])])
         if self.verdict.startswith("faulty"):
             return f"`{self.verdict.split()[-1]}`"
+        if self.end == BUSY:
+            return BUSY
         if self.verdict.startswith("not judged"):
             return next((name for name, words in UNJUDGED if words in self.verdict), "not judged")
-        if self.is_cut_missed:
-            return "cut not reached"
-        return "clean" if self.is_clean else self.end if self.verdict == "clean, yes" else self.reason
+        if self.is_clean:
+            return "cut not reached" if self.is_cut_missed else "clean"
+        return self.end if self.verdict == "clean, yes" else self.reason
 
     @property
     def is_clean(self):
@@ -84,6 +94,11 @@ class Result:
         parts += [f"cut at {' '.join(map(str, plan.cuts))}"] if plan.cuts else []
         parts += [] if self.fault == "-" else [self.fault]
         return "; ".join([f"{', '.join(parts)}: {self.verdict}", *([self.restart] if self.restart else []), self.outcome])
+
+
+def result_from_text(text):
+    fields = json.loads(text)
+    return Result(**{**fields, "plan": plan_from_text(json.dumps(fields["plan"]))})
 
 
 def read(path):
@@ -126,6 +141,12 @@ def rows(head, counts):
     lines = [[*head, "how often"], *([*key, str(count)] for key, count in sorted(counts.items(), key=lambda one: (-one[1], one[0])))]
     widths = [max(len(line[place]) for line in lines) for place in range(len(lines[0]))]
     return ["  ".join(word.ljust(width) for word, width in zip(line, widths)).rstrip() for line in lines]
+
+
+def markdown(lines):
+    """A table of Markdown. The first line is its head."""
+    head, *rest = lines
+    return "\n".join(f"| {' | '.join(line)} |".replace("|  ", "| ") for line in [head, ["---"] * len(head), *rest])
 
 
 def table(results, seconds):

@@ -10,6 +10,7 @@ from machine import DEAD, Machine
 from qmp import Gone, Refused
 from relay import CutPlan, Relay, Window
 
+TOO_LONG = ("it took more than", "gave up: the guest does not walk")  # what remarks of a limit of time begin with
 SECONDS_TO_END = 2  # in which a target whose load failed ends, if it does
 
 
@@ -21,12 +22,18 @@ class Outcome:
     recoveries: int = 0
     requests: int = 0
     seconds: float = 0.0
+    waited: float = 0.0  # seconds for which a thread of a QEMU wanted to run and had no processor
     remarks: list = field(default_factory=list)
 
     @property
     def is_whole(self):
         """Whether both came to the end, so that the logs have to be whole."""
         return self.source == self.target == "completed"
+
+    @property
+    def is_held_up(self):
+        """Whether it took too long, on a machine that gave it no processor for half of the time or more."""
+        return any(remark.startswith(TOO_LONG) for remark in self.remarks) and self.waited >= self.seconds / 2
 
     def line(self):
         parts = [f"source {self.source}", f"target {self.target}"]
@@ -63,6 +70,8 @@ class Migration:
         if self.relay.complaint:
             self.remark(self.relay.complaint)
         self.outcome.seconds = round(time.monotonic() - began, 1)
+        if self.outcome.is_held_up:
+            self.remark(f"the machine was busy: QEMU had no processor for {self.outcome.waited:.0f} of {self.outcome.seconds:.0f} s")
         with open(f"{self.folder}/outcome.json", "w") as out:
             json.dump(asdict(self.outcome), out, indent=1)
         return self.outcome
@@ -90,6 +99,7 @@ class Migration:
         except Gone as fault:
             self.remark(f"gave up: {fault}")
         finally:
+            self.outcome.waited = round(max((machine.waited() for machine in self.machines), default=0.0), 1)
             for machine in reversed(self.machines):
                 machine.end(self.outcome.is_whole)
             self.relay.end()
@@ -202,7 +212,7 @@ class Migration:
         again = self.room.name(f"target-{self.outcome.recoveries + 1}")
         try:
             self.target("migrate-recover", uri=f"unix:{again}")
-            self.relay.target = again
+            self.relay.recover(again)
             self.source("migrate", uri=f"unix:{self.relay.path}", resume=True)
         except (Refused, Gone) as fault:
             self.remark(f"no recovery: {fault}")

@@ -3,6 +3,7 @@ import concurrent.futures
 import os
 import subprocess
 import sys
+import time
 
 import folders
 import results
@@ -15,15 +16,19 @@ def make(plan, folder, names):
     words = [sys.executable, "-B", f"{HERE}/one.py", folder, *names]
     try:
         done = subprocess.run(words, input=plan.to_text(), capture_output=True, text=True, timeout=plan.limit * 8)
+        result = results.result_of(plan, folder, done)
     except subprocess.TimeoutExpired:
-        return results.Result(plan, "not judged: it took too long", "")
-    result = results.result_of(plan, folder, done)
+        result = results.Result(plan, "not judged: it took too long", "")
+    result.load = os.getloadavg()[0]
     if result.is_settled:
         folders.remove(folder)
     return result
 
 
-def make_all(todo, jobs):
-    """Results of `todo`, of (plan, folder, names), in its order."""
+def make_all(todo, jobs, until=None):
+    """Results of `todo`, of (plan, folder, names), in its order. From the moment `until` on no more are begun."""
+    def make_in_time(one):
+        return None if until is not None and time.monotonic() > until else make(*one)
+
     with concurrent.futures.ThreadPoolExecutor(jobs) as pool:
-        yield from pool.map(lambda one: make(*one), todo)
+        yield from (result for result in pool.map(make_in_time, todo) if result is not None)

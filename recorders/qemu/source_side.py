@@ -44,10 +44,10 @@ class SourceSide:
         if moment == "halt":
             if not self.is_halted:
                 self.halt()
-        elif not self.is_halted:
+        elif not self.is_halted or self.is_started_again:
             return
         elif moment == "start again":
-            self.is_started_again = True
+            self.start_again()
         elif moment == "page":
             self.page_is_traced(self.wire.page_of(fields["block"], int(fields["offset"], 16)))
         elif moment == "ask":
@@ -77,6 +77,12 @@ class SourceSide:
         for page in self.wire.left:
             self.add("send", name=("left", page), page=page, contents=self.contents.cells("halt.mem", page))
         self.send_untraced()
+
+    def start_again(self):
+        """The last record of the source: nothing that it does for a migration comes behind it."""
+        self.send_rest()
+        self.add("back")
+        self.is_started_again = True
 
     # Pages go in the order of each connection; between them, and among the requests, in that of the trace.
 

@@ -45,7 +45,7 @@ class Wire:
 
     def read(self, words):
         what, *fields = words
-        if what in ("fault", "multifd"):
+        if what in ("fault", "multifd", "late"):
             return
         if what == "strange":
             self.strange = " ".join(fields)

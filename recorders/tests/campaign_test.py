@@ -1,12 +1,15 @@
 """Plans of a campaign, and the table of what became of them."""
+import itertools
 import random
 from dataclasses import replace
 
 import results
+import series
 from faults import NEED_CUT
 from kinds import Plan, plan_from_text, plan_of
 from plans import DRAWN, random_plan
-from results import Result, outcome_in_words
+from results import Result, outcome_in_words, result_from_text
+from run import Outcome
 
 
 def plans(seed, count=300, **options):
@@ -26,6 +29,8 @@ def of_plans(tests):
     tests.wants("none has one that is not asked for", {plan.fault for plan in plans(1)}, {""})
     tests.wants("nor keeps translations", {plan.flush for plan in plans(1)}, {True})
     tests.wants("a plan's text and back", [plan_from_text(plan.to_text()) for plan in drawn], drawn)
+    result = Result(drawn[0], "clean, yes", "completed", True, "both ran: it", "10.0.13", True, 7.5)
+    tests.wants("a result's text and back", result_from_text(result.to_text()), result)
     one = plan_of("recovery")
     one.cuts.append(7)
     tests.wants("a kind's own plan does not change", plan_of("recovery").cuts, [200])
@@ -61,12 +66,50 @@ def of_results(tests):
                         ("target ended while it loaded", "source postcopy-paused, target ENDED; target: qemu-system-x86_64: load of migration failed: "
                          "Input/output error"),
                         ("target aborted", "source completed, target ENDED; target: qemu-system-x86_64: util/yank.c:107: Assertion `it' failed."),
+                        ("pre-copy came to its end", "source none, target none; gave up: pre-copy: device; pre-copy came to its end"),
                         ("target hangs", "source postcopy-paused, target HANGS; target: it runs, and does not answer"),
                         ("not at its end within its limit", "source postcopy-active, target postcopy-active; it took more than 30 s"),
+                        ("not at its end on a busy machine", "source postcopy-active, target postcopy-active; it took more than 30 s; "
+                         "the machine was busy: QEMU had no processor for 20 of 39 s"),
+                        ("target hangs", "source postcopy-paused, target HANGS; target: it runs, and does not answer; "
+                         "the machine was busy: QEMU had no processor for 20 of 39 s"),
+                        ("not at its end on a busy machine", "source none, target none; gave up: the guest does not walk; "
+                         "the machine was busy: QEMU had no processor for 31 of 41 s"),
+                        ("target ended: `Operation not permitted`", "source failed, target ENDED; target: qemu-system-x86_64: loadvm failed during postcopy: -1: "
+                         "Failed to load section ID: stream error: -1: Channel error: Operation not permitted"),
                         ("something new, N times", "something new, 3 times")):
         tests.wants(f"the end's name: {name}", Result(plan, "clean, yes", words).end, name)
+    busy = "gave up: the guest does not walk; the machine was busy: QEMU had no processor for 31 of 41 s"
+    tests.wants("in a word: what the machine was too busy for, and a fault all the same", [
+        Result(plan, verdict, busy).in_a_word for verdict in ("not judged: there was no post-copy", "faulty line 7 read")], [results.BUSY, "`read`"])
+
+
+def of_a_busy_machine(tests):
+    """What took too long where QEMU had no processor for half of the time is told apart."""
+    late, ended = ["it took more than 30 s"], ["target: load of migration failed"]
+    for wanted, outcome in ((True, Outcome(seconds=40, waited=20, remarks=late)), (False, Outcome(seconds=40, waited=19, remarks=late)),
+                            (True, Outcome(seconds=40, waited=20, remarks=[*ended, "gave up: the guest does not walk"])),
+                            (False, Outcome(seconds=40, waited=39, remarks=ended))):
+        tests.wants(f"held up: {outcome}", outcome.is_held_up, wanted)
+
+
+class Clock:
+    """In the place of the module time: at each look a second has passed."""
+
+    def __init__(self):
+        self.monotonic = itertools.count().__next__
+
+
+def of_the_limit(tests):
+    """Behind the moment at which a series ends no migration is begun, and what was made is answered in its order."""
+    make, time, series.make, series.time = series.make, series.time, lambda number: number, Clock()
+    tests.wants("those that were begun in time", list(series.make_all([(number,) for number in range(200)], 1, 9)), list(range(10)))
+    tests.wants("without a limit", list(series.make_all([(1,), (2,), (3,)], 2)), [1, 2, 3])
+    series.make, series.time = make, time
 
 
 def run(tests):
     of_plans(tests)
     of_results(tests)
+    of_a_busy_machine(tests)
+    of_the_limit(tests)

@@ -1,24 +1,16 @@
-"""Counts what is found as it was wanted, and tells what is not."""
+"""How the tests of the recorders count: among the cases of the test that runs."""
+from cases import count, leave_out, same
 
 
 class Tests:
-    def __init__(self):
-        self.passed = self.failed = 0
-
-    def wants(self, what, found, wanted):
-        if found == wanted:
-            self.passed += 1
-        else:
-            self.failed += 1
-            print(f"failed: {what}\nwanted {wanted!r}\nfound {found!r}")
+    wants, leave_out = staticmethod(same), staticmethod(leave_out)
 
     def refuses(self, what, kind, act):
         """Wants that an act raises this kind of exception; answers its words."""
         try:
             act()
         except kind as fault:
-            self.passed += 1
+            count(True, what)
             return str(fault)
-        self.failed += 1
-        print(f"failed: {what}: {kind.__name__} was not raised")
+        count(False, f"{what}: {kind.__name__} was not raised")
         return ""

@@ -77,7 +77,7 @@ def of_words(tests, room):
         status, out, line = said("migrate", *words)
         tests.wants(f"migrate {' '.join(words)}", (status, out, wrong in line), (2, "", True))
     if os.geteuid() != 0:
-        print("left out: what the recorder of CRIU says to root")
+        tests.leave_out("what the recorder of CRIU says to root")
         return
     for command, words in (("migrate", ["live", f"{room}/x"]), ("campaign", ["1", "--folder", f"{room}/x"]), ("versions", [])):
         status, _, line = said(command, *words)

@@ -177,7 +177,7 @@ def of_pipe(tests, library):
 
 def run(tests):
     if not shutil.which("gcc"):
-        print("left out: what the recorder of CRIU has of C: gcc not found")
+        tests.leave_out("what the recorder of CRIU has of C: gcc not found")
         return
     walk, library, pipe_size = criu_build.build()
     of_pipe(tests, pipe_size)
@@ -185,8 +185,8 @@ def run(tests):
         if os.geteuid() == 0:
             of_walk(tests, walk, room)
         else:
-            print("left out: the process that CRIU moves: it locks its memory, as root may")
+            tests.leave_out("the process that CRIU moves: it locks its memory, as root may")
         if build.can_guard_memory():
             of_library(tests, library, room)
         else:
-            print("left out: the library in lazy-pages: userfaultfd cannot be used here")
+            tests.leave_out("the library in lazy-pages: userfaultfd cannot be used here")

@@ -23,7 +23,7 @@ def session_of(files, **others):
 def verdict_of(session):
     with tempfile.TemporaryDirectory() as room:
         judge.write(f"{room}/session", session.text())
-        return criu_judge.verdict_line(room)
+        return judge.complete_line(room)
 
 
 def reason_of(session):
@@ -65,7 +65,7 @@ def of_hang(tests):
             tests.wants(f"{name}: the process waits for a page", len(waited), 1)
             tests.wants(f"{name}: of all that is absent this is not the first", missing <= waited[0], True)
             tests.wants(f"{name}: as far as it goes nothing is wrong", judge.verdict_line(room), "clean, yes")
-            tests.wants(f"{name}: it is explained", f"Page {missing} was owed" in criu_judge.explain_and_draw(room), True)
+            tests.wants(f"{name}: it is explained", f"Page {missing} was owed" in judge.explain_and_draw(room, "--complete"), True)
             tests.wants(f"{name}: and drawn", os.path.getsize(f"{room}/picture.svg") > 1000, True)
             with open(f"{room}/verdict", encoding="ascii") as line:
                 tests.wants(f"{name}: the verdict is left", line.read(), f"{verdict.line}\n")

@@ -19,6 +19,7 @@ from witness import pages_that_differ
 TOP = os.path.dirname(os.path.dirname(os.path.dirname(os.path.abspath(__file__))))
 RECORDINGS = f"{TOP}/recorders/qemu/recordings"
 EXAMPLES = {"example-live": "qemu-live", "example-preempt": "qemu-preempt", "lost-write": "qemu-lost-write"}
+WINDOW = ("11.1-both-ran", "qemu-both-ran", 51, 56)  # from the halt, the first and the last page
 
 
 def kept():
@@ -120,6 +121,14 @@ class ZerosLate(SourceSide):
             self.late = ()
 
 
+class NotBack(SourceSide):
+    """That the source starts its guest again is told nowhere."""
+
+    def start_again(self):
+        super().start_again()
+        self.session.logs["source"].pop()
+
+
 class FirstAsAnyOther(TargetSide):
     """The first access at the target is told there, whatever the halt came into."""
 
@@ -167,7 +176,8 @@ WRONG_FILES = (
 WRONG_SIDES = (
     ("pages of zeros", "live", {"source_side": ZerosLate}, "knot"),
     ("the read that the halt came into", "10.0-live", {"target_side": FirstAsAnyOther}, "faulty early"),
-    ("the write that the halt came into", "11.1-both-ran", {"target_side": FirstAsAnyOther}, "faulty early"),
+    ("that the source starts its guest again", "11.1-both-ran", {"source_side": NotBack}, "clean, yes"),
+    ("the write that the halt came into", "11.1-both-ran", {"source_side": NotBack, "target_side": FirstAsAnyOther}, "faulty early"),
     ("a request that is made a second time", "recovery", {"target_side": SecondRequestJoins}, "shape named"),
 )
 HOLES = (
@@ -186,13 +196,18 @@ def of_recordings(tests):
 
 
 def of_examples(tests):
-    """The sessions in examples/ are those of kept recordings, and the picture is the program's."""
+    """The sessions in examples/ are those of kept recordings, and the pictures are the program's."""
     for name, example in EXAMPLES.items():
         with open(f"{TOP}/examples/{example}/session", encoding="ascii") as file:
             tests.wants(f"the session of examples/{example}", session_of(files_of(name)).text() == file.read(), True)
-    with open(f"{TOP}/examples/qemu-lost-write/picture.svg", encoding="ascii") as file:
-        picture = judge.ask(f"{TOP}/examples/qemu-lost-write", "draw", "session")[0]
-        tests.wants("the picture of examples/qemu-lost-write", picture == file.read(), True)
+    name, example, first, last = WINDOW
+    window = convert.Recording(files_of(name).__getitem__).session(is_from_halt=True).with_numbers().window(first, last)
+    with open(f"{TOP}/examples/{example}/session", encoding="ascii") as file:
+        tests.wants(f"the session of examples/{example}", window.text() == file.read(), True)
+    for example in ("qemu-lost-write", "qemu-both-ran"):
+        with open(f"{TOP}/examples/{example}/picture.svg", encoding="ascii") as file:
+            picture = judge.ask(f"{TOP}/examples/{example}", "draw", "session")[0]
+            tests.wants(f"the picture of examples/{example}", picture == file.read(), True)
 
 
 def of_word(records, word):
@@ -316,36 +331,52 @@ class NoWire:
 
 
 def of_a_source_that_goes_on(tests):
-    """What the source's guest does when it is started again is in no record, and the target goes on from the halt."""
+    """That the source's guest is started again is told, and what it does then is not. The target goes on from the halt."""
     told, found = Told(), []
     side = SourceSide(told, NoWire(), None, False, "10.0.13", found.append)
     begun, line = write_of(77)[:9], b"vm_state_notify running %d reason 7 (any)\n"
     side.read(Pipe(), bytes([0xC2, *write_of(5)[1:]]) + begun + line % 0 + line % 1 + write_of(77)[9:] + b"\xc4" + write_of(8, page=6) + b"\xc4")
-    tests.wants("what is told", told.records, [("read", 5), ("halt", None), ("halted", None)])
+    tests.wants("what is told", told.records, [("read", 5), ("halt", None), ("halted", None), ("back", None)])
     tests.wants("what the target goes on with", (side.in_flight, found), (InFlight(begun, 0, 0), [InFlight(begun, 0, 0)]))
     side = SourceSide(Told(), NoWire(), None, False, "10.0.13", lambda in_flight: Access(0, "write", 4, 0, 9))
     side.read(Pipe(), line % 0)
     tests.wants("an access that was done stands in front of the halt", side.session.records, [("write", 4), ("halt", None), ("halted", None)])
 
 
-def of_restarts(tests):
-    """Where the source started its guest again, how many accesses each side tells since."""
-    found = {name: convert.Recording(files_of(name).__getitem__).restart() for name, _, _ in kept()}
-    tests.wants("of the kept recordings", {name: one for name, one in found.items() if one},
-                {"11.1-both-ran": convert.Restart(True, 621, 9, 9)})
-    files = files_of("11.1-both-ran")
-    returned = convert.Recording({**files, "target.raw": files["target.raw"].replace(b"vm_state_notify running 1", b"vm_state_notify running 2")}.__getitem__)
-    tests.wants("where the target never ran", returned.restart().name, "returned")
+def judged(files):
+    """The verdict on a recording whose QEMUs did not come to their end, and what it left of that in its folder."""
     with tempfile.TemporaryDirectory() as room:
         for name, data in files.items():
             with open(f"{room}/{name}", "wb") as out:
                 out.write(data)
         verdict = judge.judge(room, is_whole=False)
-        tests.wants("beside the verdict", (verdict.line, verdict.is_clean, verdict.restart.line()), (
-            "clean, yes", False, "both ran: the source started its guest again; it told 621 accesses since, and the guest at the target 9; "
-            "the first 9 of both are the same"))
         with open(f"{room}/restart", encoding="ascii") as file:
-            tests.wants("it is left in the folder", file.read(), verdict.restart.line() + "\n")
+            return verdict, file.read()
+
+
+def of_restarts(tests):
+    """Where the source started its guest again: the verdict, and how many accesses each side tells since."""
+    found = {name: convert.Recording(files_of(name).__getitem__).restart() for name, _, _ in kept()}
+    tests.wants("of the kept recordings", {name: one for name, one in found.items() if one},
+                {"11.1-both-ran": convert.Restart(True, 621, 9, 9), "11.1-returned": convert.Restart(False, 76, 0, 0)})
+    again = "the source started its guest again; it told"
+    for name, line, ran in (("11.1-both-ran", "shape line 4162 both", f"both ran: {again} 621 accesses since, and the guest at the target 9; "
+                             "the first 9 of both are the same"),
+                            ("11.1-returned", "incomplete returned", f"returned: {again} 76 accesses since, and the guest never ran at the target")):
+        verdict, left = judged(files_of(name))
+        tests.wants(f"where the source of {name} goes on", (verdict.line, verdict.is_clean, verdict.restart.line(), left), (line, False, ran, f"{ran}\n"))
+
+
+def of_the_last_of_the_source(tests):
+    """Nothing of the source stands behind the record that it starts its guest again, and what was sent before stands in front of it."""
+    files = files_of("11.1-both-ran")
+    again, ask = b"vm_state_notify running 1 reason 9 (running)\n", b"migrate_handle_rp_req_pages in (null) at 0x438000 len 0x1000\n"
+    for what, source, asks in (
+            ("a request behind it", (again + ask).join(replaced(files["source.raw"], (ask, b"")).rsplit(again, 1)), 1),
+            ("pages that no trace tells of", replaced(files["source.raw"], (b"ram_save_page", b"ram_save_pages")), 2)):
+        told = session_of({**files, "source.raw": source}).logs["source"]
+        tests.wants(f"{what}: it is the last", [place - len(told) for place, record in enumerate(told) if record[0] == "back"], [-1])
+        tests.wants(f"{what}: what stands before it", (len(of_word(told, "ask")), len(of_word(told, "send"))), (asks, 64))
 
 
 def of_a_strange_stream(tests):
@@ -403,5 +434,6 @@ def run(tests):
     of_the_first_access(tests)
     of_a_source_that_goes_on(tests)
     of_restarts(tests)
+    of_the_last_of_the_source(tests)
     of_a_strange_stream(tests)
     of_ends(tests)

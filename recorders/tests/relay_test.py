@@ -2,6 +2,7 @@
 import io
 import socket
 import tempfile
+import threading
 import time
 
 import stream
@@ -32,13 +33,13 @@ AFTER = section(page(at(0), filled(100), "pc.ram"), *(page(at(n), filled(100 + n
 class Ends:
     """A source and a target on both sides of a relay."""
 
-    def __init__(self, folder, **options):
+    def __init__(self, folder, kind=Relay, **options):
         self.folder, self.room = folder, Room()
         self.listener = socket.socket(socket.AF_UNIX)
         self.listener.bind(self.room.name("target"))
         self.listener.listen()
         self.listener.settimeout(10)
-        self.relay = Relay(folder, self.room, Window(BASE, PAGES), self.room.name("target"), **options)
+        self.relay = kind(folder, self.room, Window(BASE, PAGES), self.room.name("target"), **options)
 
     def connect(self):
         source = socket.socket(socket.AF_UNIX)
@@ -52,6 +53,9 @@ class Ends:
         self.relay.end()
         self.listener.close()
         self.room.end()
+        return self.told()
+
+    def told(self):
         with open(f"{self.folder}/relay.log") as log:
             return log.read().splitlines()
 
@@ -145,17 +149,44 @@ def of_a_cut(tests):
             except OSError:
                 pass
         tests.wants("what came before the cut", pages_of(read_all(target)), RIGHT[:2])
+        late, late_target = ends.connect()
+        late.sendall(b"any bytes")
+        tests.wants("what comes behind the cut goes to the target", late_target.recv(100), b"any bytes")
+        ends.relay.recover(ends.relay.target)
+        tests.wants("until the migration goes on", (late.recv(100), late_target.recv(100)), (b"", b""))
         again, there = ends.connect()
         again.sendall(command(9) + section(page(at(2), filled(102), "pc.ram")))
         second_lane, _ = ends.connect()
         wait_for(lambda: ends.relay.sent_after >= 5)
         log = ends.end()
-    after = log[log.index("cut 0") + 2:]
+    after = log[log.index("late") + 1:]
     tests.wants("who was opened", told(log, "open"), ["open 0 main new", "open 1 lane new", "open 2 main resumed", "open 3 lane new"])
     tests.wants("both were cut", told(log, "cut"), ["cut 0", "cut 1"])
     tests.wants("nothing is told of a connection behind its cut", [line for line in after if line.split()[1] in "01"], [])
     tests.wants("what was lost", [int(line.split()[5]) for line in told(log, "lost")], [at(2), at(3)][:len(told(log, "lost"))])
     tests.wants("a page over the next one", told(log, "down 2 page post"), [line for line in after if " page " in line])
+
+
+class Late(Relay):
+    """Takes no connection by itself."""
+
+    def accept(self):
+        pass
+
+
+def of_what_is_on_its_way(tests):
+    """A recovery closes the connections that nobody has taken yet."""
+    with tempfile.TemporaryDirectory() as room:
+        ends, on_its_way = Ends(room, Late), [socket.socket(socket.AF_UNIX) for _ in range(3)]
+        for one in on_its_way:
+            one.settimeout(10)
+            one.connect(ends.relay.path)
+        ends.relay.recover("another")
+        tests.wants("they are closed", [one.recv(100) for one in on_its_way], [b""] * 3)
+        tests.wants("the next goes there", (ends.relay.target, ends.relay.is_cut_off), ("another", False))
+        for one in on_its_way:
+            one.close()
+        ends.end()
 
 
 def of_few_pages(tests):
@@ -185,6 +216,89 @@ def of_a_bitmap(tests):
             found += source.recv(4096)
         tests.wants("fault forget", found, bitmap("pc.ram", bytes(wanted)))
         ends.end()
+
+
+def of_a_target_that_waits(tests):
+    """A target that reads nothing before it has a second connection gets it, also where more is sent meanwhile than the sockets hold."""
+    of_lane = page(at(0), filled(2), "pc.ram") + EOS
+    of_a_second(tests, "the lane", of_lane, ["open 0 main new", "open 1 lane new"])
+    of_a_second(tests, "multifd's", stream.MULTIFD_MAGIC + b"any bytes", ["open 0 main new", "multifd"], has_multifd=True)
+
+
+def of_a_second(tests, name, of_second, opened, **options):
+    count = 2048
+    data = HEADER + section(page(at(0), filled(1), "pc.ram"), *(page(at(n % PAGES), filled(n % 256)) for n in range(1, count)))
+    with tempfile.TemporaryDirectory() as room:
+        ends = Ends(room, **options)
+        source, target = ends.connect()
+        source.settimeout(None)  # the relay's end ends it
+        sending = threading.Thread(target=sent, args=(source, data), daemon=True)
+        sending.start()
+        tests.wants(f"{name}: the relay stands still before all is handed over", stand_of(ends.relay) < count, True)
+        second = there = None
+        try:
+            second, there = ends.connect()
+            second.sendall(of_second)
+            wait_for(lambda: opened[1] in ends.told())
+            tests.wants(f"{name}: it is opened meanwhile", told(ends.told(), ("open", "multifd")), opened)
+            found = read_bytes(target, len(data)) + read_bytes(there, len(of_second))
+        except OSError as fault:
+            found = fault
+        tests.wants(f"{name}: it comes all the same, and all that was sent", found == data + of_second, True)
+        log = ends.end()
+        sending.join(10)
+        for one in (source, target, second, there):
+            if one:
+                one.close()
+    tests.wants(f"{name}: each page is told, in a line of its own", len([line for line in told(log, "down 0 page pre") if len(line.split()) == 8]), count)
+
+
+def sent(source, data):
+    try:
+        source.sendall(data)
+    except OSError:
+        pass
+
+
+def stand_of(relay, still=0.3):
+    """How many pages the relay has taken once it takes no more."""
+    taken, since = -1, time.monotonic()
+    while time.monotonic() - since < still or not taken:
+        if relay.sent_before != taken:
+            taken, since = relay.sent_before, time.monotonic()
+        time.sleep(0.01)
+    return taken
+
+
+def read_bytes(target, count):
+    data = b""
+    while len(data) < count and (part := target.recv(1 << 16)):
+        data += part
+    return data
+
+
+class Slowly:
+    """A file to which each word is written slowly."""
+
+    def __init__(self, file):
+        self.file, self.flush, self.close = file, file.flush, file.close
+
+    def write(self, text):
+        time.sleep(0.001)
+        return self.file.write(text)
+
+
+def of_lines_told_at_once(tests):
+    with tempfile.TemporaryDirectory() as room:
+        ends = Ends(room)
+        ends.relay.log = Slowly(ends.relay.log)
+        threads = [threading.Thread(target=ends.relay.tell, args=[number] * 20) for number in range(4)]
+        for thread in threads:
+            thread.start()
+        for thread in threads:
+            thread.join()
+        log = ends.end()
+    tests.wants("what is told at once stands in lines of its own", sorted(log), [" ".join(f"{number}" * 20) for number in range(4)])
 
 
 def of_what_is_strange(tests):
@@ -254,8 +368,11 @@ def wait_for(is_so, seconds=10):
 def run(tests):
     of_faults(tests)
     of_a_cut(tests)
+    of_what_is_on_its_way(tests)
     of_few_pages(tests)
     of_a_bitmap(tests)
+    of_a_target_that_waits(tests)
+    of_lines_told_at_once(tests)
     of_what_is_strange(tests)
     of_the_package(tests)
     of_multifd(tests)

@@ -1,7 +1,9 @@
 """Roots of other releases of Debian: where they are, that none has its name before it is whole, and what runs in one."""
 import os
 import subprocess
+import sys
 import tempfile
+import time
 from contextlib import contextmanager
 
 import roots
@@ -91,7 +93,7 @@ def can_have_mounts():
 def of_running(tests, room):
     """What runs in a root: one that has this machine's own /usr and /etc, as they are to a release of Debian."""
     if not can_have_mounts():
-        print("left out: no process can have mounts of its own here, so nothing is run in a root")
+        tests.leave_out("no process can have mounts of its own here, so nothing is run in a root")
         return
     tree, folder = f"{room}/tree", f"{room}/a folder"
     for name in ("usr", "etc", "mnt"):
@@ -115,8 +117,32 @@ def of_running(tests, room):
     tests.wants("nothing is left in it", (os.listdir(f"{tree}/mnt"), sorted(os.listdir(tree))), ([], ["bin", "etc", "lib", "lib64", "mnt", "usr"]))
 
 
+def of_the_parent(tests):
+    """What is started so ends with who started it, also where that one is killed."""
+    script = ("import subprocess, sys, time\nsys.path.insert(0, sys.argv[1])\nimport roots\n"
+              "print(subprocess.Popen(['sleep', '60'], preexec_fn=roots.die_with_parent).pid, flush=True)\ntime.sleep(60)")
+    with subprocess.Popen([sys.executable, "-B", "-c", script, os.path.dirname(roots.__file__)], stdout=subprocess.PIPE, text=True) as parent:
+        child = int(parent.stdout.readline())
+        tests.wants("it runs", has_ended(child), False)
+        parent.kill()
+    until = time.monotonic() + 60
+    while not has_ended(child) and time.monotonic() < until:
+        time.sleep(0.01)
+    tests.wants("it ended", has_ended(child), True)
+
+
+def has_ended(process):
+    """Whether a process has ended: it is gone, or nobody has asked yet how it ended (Z, or X while it goes)."""
+    try:
+        with open(f"/proc/{process}/stat", encoding="ascii") as file:
+            return file.read().rpartition(")")[2].split()[0] in ("Z", "X")
+    except OSError:
+        return True
+
+
 def run(tests):
     of_places(tests)
+    of_the_parent(tests)
     with tempfile.TemporaryDirectory(dir="/tmp") as room:
         of_making(tests, room)
         of_running(tests, room)

@@ -2,6 +2,7 @@
 import importlib.machinery
 import importlib.util
 import io
+import itertools
 import os
 import socket
 import stat
@@ -138,12 +139,40 @@ class Silent:
         raise qmp.Hangs("it has not answered for 20 s")
 
 
+def qmp_of_a_late_one(path, waited):
+    """What a monitor answers that is three times as late as it may be. `waited` has the seconds that it had no processor."""
+    is_over = threading.Event()
+
+    def answer():
+        connection, _ = listener.accept()
+        time.sleep(0.6)
+        connection.sendall(b'{"QMP": {}}\n{"return": {}}\n{"event": "STOP"}\n{"return": {}}\n')
+        is_over.wait()
+        connection.close()
+
+    with socket.socket(socket.AF_UNIX) as listener:
+        listener.bind(path)
+        listener.listen()
+        thread = threading.Thread(target=answer, daemon=True)
+        thread.start()
+        try:
+            return qmp.Qmp(path, lambda: True, 0.2, lambda: next(waited))("stop")
+        finally:
+            time.sleep(0.7)  # in which it answers one that is still there
+            is_over.set()
+            thread.join()
+
+
 def of_one_that_hangs(tests, room):
     path = f"{room}/monitor"
     with socket.socket(socket.AF_UNIX) as listener:
         listener.bind(path)
         listener.listen()
         tests.refuses("a monitor that does not answer", qmp.Hangs, lambda: qmp.Qmp(path, lambda: True, 0.2))
+    tests.wants("one that had no processor is given more time", qmp_of_a_late_one(f"{room}/late", itertools.count(0.0, 0.2)), {})
+    tests.refuses("one that had, and is as late", qmp.Hangs, lambda: qmp_of_a_late_one(f"{room}/idle", itertools.count(0.0, 0.01)))
+    tests.wants("a thread that ran", 0 <= machine.seconds_waited("/proc/self") < 1e6, True)
+    tests.wants("one that is not there", machine.seconds_waited(room), 0.0)
     hanging = machine.Machine.__new__(machine.Machine)
     hanging.name, hanging.qmp, hanging.lock, hanging.hangs = "target", Silent(), threading.Lock(), False
     hanging.is_running = lambda: True
@@ -200,6 +229,8 @@ def of_the_table(tests):
     plan = plan_of("live")
     missed = Result(plan, "clean, yes", "completed", is_cut_missed=True)
     tests.wants("one that a cut was planned for, and not reached", (missed.in_a_word, missed.is_clean), ("cut not reached", True))
+    ended = Result(plan, "clean, yes", "target ENDED; 1 cut not reached; target: load of migration failed", is_cut_missed=True)
+    tests.wants("one that ended behind its first cut, in front of the second", ended.in_a_word, "target ended while it loaded")
     results = [Result(plan, "clean, yes", "completed"), Result(plan, "clean, yes", "completed", restart="both ran: ..", version="10.0.13"),
                Result(plan, "clean, yes", "source failed, target HANGS", restart="returned: .."),
                Result(plan, "faulty line 7 early", "completed"), Result(plan, "not judged: the guest's bytes c2 are no event", "ended"),
@@ -214,8 +245,32 @@ def of_the_table(tests):
                 ["| | 7.2.22 | 10.0.13 |", "| --- | --- | --- |", "| none | not there | 2 clean, 1 both ran |"])
 
 
+def of_what_was_found(tests, room):
+    """The tables of campaigns: by version, from old to new, and of each kind; and where they stand in the page."""
+    found = command("found")
+    live, paused = plan_of("live"), plan_of("paused")
+    ended = "source postcopy-paused, target ENDED; target: load of migration failed"
+    made = [Result(live, "clean, yes", "completed", version="10.0.13", load=9.4), Result(live, "clean, yes", "completed", version="7.2.22", load=3.6),
+            Result(paused, "clean, yes", ended, version="7.2.22", load=21.2), Result(live, "shape line 7 both", "failed", restart="both ran: ..", version="10.0.13"),
+            Result(paused, "clean, yes", ended, version="7.2.22", load=5.0), Result(live, "not judged: the recorder ended with a word", "")]
+    for name, some in (("one", made[:2]), ("other", made[2:])):
+        os.makedirs(f"{room}/{name}")
+        with open(f"{room}/{name}/results", "w", encoding="utf-8") as out:
+            out.writelines(f"{result.to_text()}\n" for result in some)
+    tests.wants("what campaigns left", found.read(f"{room}/one") + found.read(f"{room}/other"), made)
+    tests.wants("the tables", found.tables(made).splitlines(), [
+        "6 migrations, 2 of them clean, at a load of 0 to 21; 1 were not recorded, and stand in no column:", "",
+        "| What became of it | 7.2.22 | 10.0.13 |", "| --- | --- | --- |", "| clean | 1 | 1 |", "| target ended while it loaded | 2 | |",
+        "| both ran | | 1 |", "| not judged | | |", "| in all | 3 | 2 |", "",
+        "| Clean, of the kind | 7.2.22 | 10.0.13 |", "| --- | --- | --- |", "| `live` | 1 of 1 | 1 of 2 |", "| `paused` | 0 of 2 | |"])
+    page = f"before\n{found.BEGIN}old\n{found.END}after\n"
+    tests.wants("the page", found.put(page, "new\n"), f"before\n{found.BEGIN}\nnew\n\n{found.END}after\n")
+    tests.wants("and once more", found.put(found.put(page, "new\n"), "new\n"), found.put(page, "new\n"))
+    tests.refuses("a page without their place", ValueError, lambda: found.put("before\n", "new\n"))
+
+
 def run(tests):
-    for of_them in (of_what_is_lacking, of_roots, of_one_that_hangs, of_the_forwarder):
+    for of_them in (of_what_is_lacking, of_roots, of_one_that_hangs, of_the_forwarder, of_what_was_found):
         with tempfile.TemporaryDirectory() as room:
             of_them(tests, room)
     of_the_table(tests)
