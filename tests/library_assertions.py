@@ -41,11 +41,11 @@ def of_calls(postcopy, same):
     found = set()
     for name in (EMPTY, WITHOUT_DONE, *sorted(glob.glob(f"{TOP}/examples/*/session") + glob.glob(f"{TOP}/tests/cases/*/session"))):
         whole, pages = postcopy.missing(name), postcopy.missing_pages(name)
-        is_later = whole.kind is postcopy.Kind.INCOMPLETE and str(whole).split(" ")[1] not in ("halt", "resume", "page")
+        is_later = whole.kind is postcopy.Kind.INCOMPLETE and str(whole).split(" ")[1] not in ("halt", "returned", "resume", "page")
         wanted = (postcopy.Kind.CLEAN, b"") if is_later else (whole.kind, whole.text)
         same(f"what {name!r} lacks of its pages", (pages.kind, pages.text), wanted)
         found.add(str(whole).split(" ")[1] if whole.kind is postcopy.Kind.INCOMPLETE else whole.verdict)
-    same("what they lack", {"halt", "resume", "page", "all", "done", "line", "clean", "faulty"} - found, set())
+    same("what they lack", {"halt", "returned", "resume", "page", "all", "done", "line", "clean", "faulty"} - found, set())
 
 
 def of_assertions(postcopy, same):
@@ -54,6 +54,7 @@ def of_assertions(postcopy, same):
     for what, text, line, words in (
             ("four empty logs", EMPTY, "incomplete halt", "The guest was never halted"),
             ("a guest that is never resumed", f"{TOP}/tests/cases/explain-incomplete-resume/session", "incomplete resume", "The guest never went on at the target"),
+            ("a guest that returned", f"{TOP}/tests/cases/complete-returned/session", "incomplete returned", "The guest returned to the source"),
             ("a page that never came", f"{TOP}/tests/cases/complete-placement-left-out/session", "incomplete page 2", "Page 2 was owed to the target")):
         for how in ({}, {"complete": "pages"}, {"complete": "whole"}):
             fails(same, f"{what}, {how}", said(lambda: assert_clean(text, **how)), f"{line}\n", told, words, *CLEAR[how.get("complete") != "whole":])
@@ -68,7 +69,7 @@ def of_assertions(postcopy, same):
     for how in ({}, {"complete": "pages"}, {"complete": "whole"}, {"complete": None}):
         same(f"a whole migration, {how}", assert_clean(WHOLE, **how), postcopy.audit(WHOLE))
         fails(same, f"a faulty one, {how}", said(lambda: assert_clean(f"{TOP}/examples/stale-page/session", **how)),
-              "faulty line 18 stale\n", "Wrong is line 18")
+              "faulty line 18 stale\n", "Line 18 (source 4) is wrong: ")
         fails(same, f"a text that is refused, {how}", said(lambda: assert_clean(f"{TOP}/examples/leading-zero/session", **how)),
               "session-text line 7\n", 'Line 7, column 9: found "03" in "r 0 0 0 03"; expected X', "a number has no leading zero")
     for word in ("page", "", "all", True, 1, ()):

@@ -3,13 +3,13 @@ name what they like, and texts that are refused, or nearly so."""
 import os
 import re
 
+import test_later_releases as later
+import test_random_schedules as schedules
 import text_judge
 from made_sessions import TOP, text_of
 from session_text import LOGS, SessionText, logs_of
-from sibling import sibling
 from steps_model import recorded
-
-SCHEDULES, LATER = sibling("random-schedules"), sibling("later-releases")
+from test_explained import made_texts
 
 # The greatest number of a recording.
 GREATEST = 2**63 - 1
@@ -22,7 +22,7 @@ def pages_of(text):
 def known_texts():
     """The sessions of the folders, once each, the refused ones too."""
     found = {}
-    for what, text in sibling("explained").made_texts():
+    for what, text in made_texts():
         if not what.endswith(", changed"):
             found.setdefault(text, os.path.relpath(what, TOP))
     return [(what, text) for text, what in found.items()]
@@ -31,8 +31,8 @@ def known_texts():
 def recorded_texts(rng, count):
     """So many sessions that were recorded of random schedules, of both versions, some over a lane; half of them with changes."""
     for seed in range(count):
-        text = LATER.changed(rng, recorded(*SCHEDULES.random_schedule(seed, 2 if seed % 4 == 2 else 1)).session())
-        text = LATER.over_the_lane(rng, text) if seed % 3 == 0 else text
+        text = later.changed(rng, recorded(*schedules.random_schedule(seed, 2 if seed % 4 == 2 else 1)).session())
+        text = later.over_the_lane(rng, text) if seed % 3 == 0 else text
         yield f"schedule {seed}", with_changes(rng, text) if seed % 2 else text
 
 
@@ -45,7 +45,7 @@ def with_changes(rng, text):
         if not records:
             continue
         at = rng.randrange(len(records))
-        how = rng.choice(("names", "names", "names", "twice", "later", "never", "cut"))
+        how = rng.choice(("names", "names", "names", "twice", "later", "never", "back", "cut"))
         if how == "names":
             records[at] = renamed(rng, log, records[at], len(records))
         elif how == "twice":
@@ -54,9 +54,18 @@ def with_changes(rng, text):
             records.append(records.pop(at))
         elif how == "never":
             del records[at]
+        elif how == "back":
+            session.tell_in(3)
+            put_back(rng, session)
         else:
             del records[at:]
     return session.text()
+
+
+def put_back(rng, session):
+    """The source of a session of the third version starts its guest again: at the end of its log, or now and then before."""
+    records = session.logs["source"]
+    records.insert(rng.choice((len(records), len(records), rng.randrange(len(records) + 1))), "back")
 
 
 def any_name(rng, length):
@@ -85,7 +94,7 @@ def random_text(rng):
     version, pages, cells = rng.choice((1, 2, 2, 3)), rng.randrange(1, 7), rng.choice((1, 1, 2))
     kinds = {}
     for log in logs_of(version):
-        those = [kind for kind in text_judge.RECORDS[log] if version > 1 or kind not in text_judge.LATER]
+        those = [kind for kind in text_judge.RECORDS[log] if version >= text_judge.SINCE.get(kind, 1)]
         kinds[log] = [rng.choice(those) for _ in range(rng.choice((0, 3, 8, 16, 30)))]
 
     def field(kind, which):

@@ -11,10 +11,10 @@ import sys
 from session_text import LOGS, SessionText
 from window_model import window
 
+from postcopy.recorded import Unfit, session_of
+from postcopy.records import LARGE, RECORDS, SMALL
+
 TOP = os.path.dirname(os.path.dirname(os.path.abspath(__file__)))
-sys.path.insert(0, f"{TOP}/python")
-from postcopy.recorded import Unfit, session_of  # noqa: E402
-from postcopy.records import LARGE, RECORDS, SMALL  # noqa: E402
 
 TRACES = "examples/recording"
 
@@ -137,9 +137,11 @@ class MadeSessions:
 
     @staticmethod
     def of_least_size(text):
-        """The session, of the second version in the place of the third where its machine keeps the second's limits."""
-        pages, cells = (int(line.split(" ")[1]) for line in SessionText(text).head[1:3])
-        is_small = pages <= SMALL.pages and pages * cells <= SMALL.in_all
+        """The session, of the second version in the place of the third where its machine keeps the second's limits, and its source
+        does not start the guest again."""
+        session = SessionText(text)
+        pages, cells = (int(line.split(" ")[1]) for line in session.head[1:3])
+        is_small = pages <= SMALL.pages and pages * cells <= SMALL.in_all and "back" not in session.logs["source"]
         return text.replace("postcopy-session 3\n", "postcopy-session 2\n") if is_small else text
 
     @classmethod

@@ -115,7 +115,7 @@ def wrong_costs(pages, sources):
     named = {cells[0].strip("`") for _, cells, _ in table}
     for it in sorted(sources.crates - named) if table else ():
         yield f"{name}: no row has the crate {it}"
-    for it in re.findall(r"^(rt ci|(?:tests|tools)/[\w-]+)", read("tests/run"), re.M):
+    for it in re.findall(r"^part (rt ci|(?:tests|tools)/[\w-]+)", read("tests/run"), re.M):
         if f"`{it}" not in pages[name]:
             yield f"{name} does not say what the gate does by {it}"
     for number, cells, head in table:
@@ -129,7 +129,7 @@ def wrong_scripts(pages):
     """What different pages say of how much the same test tries."""
     said = {}
     for name, page in pages.items():
-        for script, count in re.findall(r"`(tests/[\w-]+)`(?: \|)?[^`|.;]*?\bsome ([\w, -]*?(?:\d[\d,]*|thousand|hundred))\b", page):
+        for script, count in re.findall(r"`(tests/[\w.-]+)`(?: \|)?[^`|.;]*?\bsome ([\w, -]*?(?:\d[\d,]*|thousand|hundred))\b", page):
             said.setdefault(script, {}).setdefault(count, []).append(name)
     for script, counts in said.items():
         if len(counts) > 1:
@@ -283,7 +283,7 @@ def wrong_answers(pages, sources):
         if f"| {number} | `{kind}` |" not in pages[ANSWERS]:
             yield f"{ANSWERS}: no row has the kind {number}, {kind}"
     if len(found) < 20 or len(reasons) < 12 or not kinds:
-        yield "tests/pages finds no answers in the sources"
+        yield "test_pages.py finds no answers in the sources"
 
 
 def wrong_texts(pages):
@@ -298,12 +298,12 @@ def wrong_texts(pages):
 
 def wrong_silences(pages, sources):
     """What is left out in silence."""
-    for name in sorted(it for it in sources.files if re.fullmatch(r"tests/[\w-]+", it)):
+    for name in sorted(it for it in sources.files if re.fullmatch(r"tests/[\w-]+(?:\.py)?", it)):
         for number, line in lines(read(name)):
-            if re.search(r"(?:print|echo).*skipped", line):
-                yield f"{name}, line {number}: what is left out stands on the last line"
-    if "left out: " not in read("tests/library"):
-        yield "tests/library does not say what it left out"
+            if re.search(r"(?:\bprint\(|\becho ).*(?:skipped|left out)", line):
+                yield f"{name}, line {number}: what is left out is told by leave_out of cases.py, or by pytest.skip"
+    if "left out: " not in read("tests/conftest.py"):
+        yield "tests/conftest.py does not tell what was left out"
     status = read(MAN1).partition(".SH EXIT STATUS")[2].partition(".SH ")[0]
     if "help" not in status or "version" not in status:
         yield f"{MAN1}: help and version have status 0, too"
@@ -317,14 +317,13 @@ def wrong_licence():
 
 def wrong_installed(sources):
     """What installed files say of pages that are not installed with them."""
-    install = read("tools/install")
-    for name in sorted(it for it in sources.files if re.fullmatch(r"c/\w+\.h|python/postcopy/\w+\.py", it)) + [MAN1, MAN5]:
+    for name in sorted(it for it in sources.files if re.fullmatch(r"c/\w+\.h|python/postcopy/\w+\.py|share/man/man\d/.*", it)):
         text = re.sub(r"\\f[BIR]", "", read(name))
         for page in re.findall(r"docs/\w+\.md|README\.md", text):
             yield f"{name} names {page}, which is not installed"
-        for section in re.findall(r"postcopy\s?\((\d)\)", text):
-            if f"man{section}/postcopy.{section}" not in install:
-                yield f"{name} names postcopy({section}), which tools/install does not install"
+        for page, section in re.findall(r"(postcopy[\w-]*)\s?\((\d)\)", text.replace("\\-", "-")):
+            if f"share/man/man{section}/{page}.{section}" not in sources.files:
+                yield f"{name} names {page}({section}), which is no man page"
 
 
 def wrong(pages, sources):

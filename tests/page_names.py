@@ -139,10 +139,11 @@ def missing_crates(name, page, sources):
             yield f"{name}: no row has the crate {it}"
 
 
-def missing_scripts(name, page, sources):
-    """Scripts of the tree that the map lacks."""
+def missing_scripts(pages, sources):
+    """Scripts of the tree that the map lacks, and tests that the page of the gate lacks."""
     for it in sorted(sources.files):
-        if re.fullmatch(r"(?:tests|tools|bench)/[^/]+", it) and f"`{it}`" not in page:
+        name = "docs/GATE.md" if it.startswith("tests/test_") else "docs/MAP.md"
+        if re.fullmatch(r"(?:tests|tools|bench)/[^/]+", it) and f"`{it}`" not in pages[name]:
             yield f"{name}: no row has {it}"
 
 
@@ -171,4 +172,4 @@ def wrong(pages, sources):
         found += wrong_links(name, page, pages)
     for name in ("docs/MAP.md", "docs/GUARANTEES.md"):
         found += missing_crates(name, pages[name], sources)
-    return [*found, *missing_scripts("docs/MAP.md", pages["docs/MAP.md"], sources)]
+    return [*found, *missing_scripts(pages, sources)]

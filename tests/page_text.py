@@ -13,7 +13,7 @@ def read(name):
 
 def page_names():
     """Each page, by its path from the top."""
-    return ["README.md", "CONTRIBUTING.md", *sorted(os.path.relpath(it, TOP) for it in glob.glob(f"{TOP}/docs/*.md"))]
+    return ["README.md", "CONTRIBUTING.md", "CHANGELOG.md", "SECURITY.md", *sorted(os.path.relpath(it, TOP) for it in glob.glob(f"{TOP}/docs/*.md"))]
 
 
 def commands_of(page):

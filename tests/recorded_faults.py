@@ -146,7 +146,7 @@ class Faults:
             folder = f"{folder}.kept"
             self.wants("a full disk", folder, 1, f"machine: FOLDER/{self.only(folder, 'machine')}:36: a record was not written: No space left on device")
         else:
-            self.tests.left_out.append("a recording on a full disk, since no small one can be mounted here")
+            self.tests.left_out("a recording on a full disk, since no small one can be mounted here")
         self.tests.same("a limit of no bytes ends no process", subprocess.run([self.program, "full", self.folder()], preexec_fn=limited(0), stdout=subprocess.PIPE).returncode, 1)
 
     def only(self, folder, log):
@@ -228,7 +228,7 @@ class Faults:
                 call()
                 self.tests.same(what, "taken", "refused")
             except error:
-                self.tests.passed += 1
+                self.tests.same(what, "refused", "refused")
         self.tests.same("the names in C", subprocess.run([self.program, "named", self.folder()], stdout=subprocess.PIPE).stdout, b"")
 
     def of_words(self):

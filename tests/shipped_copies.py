@@ -8,6 +8,8 @@ import shutil
 import subprocess
 from collections import namedtuple
 
+from cases import count
+
 TOP = os.path.dirname(os.path.dirname(os.path.abspath(__file__)))
 SHIPPED = "shipped/x86_64-linux"
 PROGRAM = "crates/postcopy/out/postcopy"
@@ -42,35 +44,9 @@ esac
 
 Ran = namedtuple("Ran", "status out err")
 
-passed = failed = 0
-
-
-def count(is_well, what):
-    """Counts a test."""
-    global passed, failed
-    if is_well:
-        passed += 1
-    else:
-        failed += 1
-        print(f"failed: {what}")
-
-
-def same(what, found, wanted):
-    """Counts whether what was found is what was wanted."""
-    count(found == wanted, f"{what}: {found!r}, and not {wanted!r}")
-
-
 def says(what, ran, status, *words):
     """Counts whether a call ended with a status and nothing on standard output, and said these words."""
     count(ran.status == status and ran.out == b"" and all(it in ran.err.decode() for it in words), f"{what}: {ran}, and not {status} with {words}")
-
-
-def totals():
-    return passed, failed
-
-
-def left_out(what):
-    print(f"left out: {what}")
 
 
 # Copies of the checkout.
@@ -105,7 +81,7 @@ def digest_of_sources(tree):
 
 def digest_of_page(tree):
     names = read(f"{tree}/web/examples").decode().split()
-    files = ["c/postcopy.h", "tools/page", *(f"examples/{name}/{it}" for name in names for it in ("what", "session", "certificate"))]
+    files = ["VERSION", "c/postcopy.h", "tools/page", *(f"examples/{name}/{it}" for name in names for it in ("what", "session", "certificate"))]
     files += [os.path.relpath(it, tree) for it in glob.glob(f"{tree}/web/*") if not it.endswith("_test.c")]
     lines = [f"{sum_of(f'{tree}/{it}')}  {it}\n" for it in sorted(files, key=os.fsencode) if os.path.exists(f"{tree}/{it}")]
     return hashlib.sha256("".join([f"{digest_of_sources(tree)}\n", *lines]).encode()).hexdigest()
@@ -172,7 +148,7 @@ class Room:
         """Copies what the tests use of the repository, with a stand-in for the proof."""
         def unwanted(at, names):
             if at == TOP:
-                return [it for it in names if it in (".git", "bench", "docs", "mutants", "rust", "shipped")]
+                return [it for it in names if it in (".git", "bench", "docs", "mutants", "release", "rust", "shipped")]
             return [it for it in names if it in ("out", "must-fail") or at == f"{TOP}/crates" and it not in CRATES]
         shutil.copytree(TOP, self.tree, symlinks=True, ignore=unwanted)
         write(f"{self.tree}/tools/build", BUILD, 0o755)

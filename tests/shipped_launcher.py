@@ -7,8 +7,9 @@ import subprocess
 import sys
 import time
 
-from shipped_copies import (COMMANDS, BEGINS, LIBRARIES, NAMES, NOBODY, PROGRAM, SHIPPED, SOURCE, YES, Ran, append, check, count, crates_below, home, is_put,
-                            is_superuser, kept_in, left_out, manifest, put_back, read, read_only, rewrite, run, same, says, sum_of, write)
+from cases import count, leave_out, same
+from shipped_copies import (COMMANDS, BEGINS, LIBRARIES, NAMES, NOBODY, PROGRAM, SHIPPED, SOURCE, YES, Ran, append, check, crates_below, home, is_put,
+                            is_superuser, kept_in, manifest, put_back, read, read_only, rewrite, run, says, sum_of, write)
 
 def tests_of_answers(room):
     """What the program answers in a copy that was just made, by its launcher, with no toolchain."""
@@ -101,7 +102,7 @@ def tests_of_read_only(room):
         run("sh", "-c", 'umask 077; "$0" --version', f"{copy}/postcopy", path=room.plain)
         same("another user's program", check(copy, room, user=NOBODY, HOME=at), YES)
     else:
-        left_out("another user's program: this takes the superuser")
+        leave_out("another user's program: this takes the superuser")
 
 
 def tests_of_forty(room):
@@ -339,7 +340,7 @@ def tests_of_mounts(room):
     except OSError:
         can = False
     if not can:
-        left_out("a folder that no program may be run from, and an old processor: these take a mount")
+        leave_out("a folder that no program may be run from, and an old processor: these take a mount")
         return
     at = home(room, "mounted")
     example = f"{room.tree}/examples/handover"
@@ -358,7 +359,7 @@ def tests_of_mounts(room):
 def tests_of_git(room):
     """A clone by a git that converts line endings, and an archive of it with no git."""
     if not shutil.which("git"):
-        left_out("clones: there is no git")
+        leave_out("clones: there is no git")
         return
     at = home(room, "git")
     source = room.copy()

@@ -1,27 +1,11 @@
-"""What the tests of the page have in common: how they count, their files, and what they ask of the page and of the program."""
+"""What the tests of the page have in common: their files, and what they ask of the page and of the program."""
 import os
 import re
 import subprocess
 
+from cases import same
+
 TOP = os.path.dirname(os.path.dirname(os.path.abspath(__file__)))
-
-passed = failed = 0
-
-
-def count(is_well, what):
-    """Counts a test."""
-    global passed, failed
-    if is_well:
-        passed += 1
-    else:
-        failed += 1
-        print(f"failed: {what}")
-
-
-def same(what, found, wanted):
-    """Counts whether what was found is what was wanted."""
-    count(found == wanted, f"{what}: {str(found)[:400]!r}, and not {str(wanted)[:400]!r}")
-
 
 def read(name, how="rb"):
     with open(name, how) as file:
@@ -32,10 +16,6 @@ def write(name, data):
     with open(name, "wb") as file:
         file.write(data if isinstance(data, bytes) else data.encode())
     return name
-
-
-def totals():
-    return passed, failed
 
 
 def example(name, *texts):

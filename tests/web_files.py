@@ -2,7 +2,8 @@
 import os
 import re
 
-from web_checks import count, example, is_shown, read, rows_drawn, rows_shown, same, says, squeezed, words_of, write
+from cases import count, same
+from web_checks import example, is_shown, read, rows_drawn, rows_shown, says, squeezed, words_of, write
 
 IS_LISTED = "return document.getElementById('sessions').hidden ? null : [...document.querySelectorAll('#list tr')].map((it) => [it.className, [...it.cells].map((cell) => cell.textContent).join(': ')])"
 WATCH = "addEventListener('unhandledrejection', () => { document.body.dataset.rejected = 'yes' })"

@@ -5,10 +5,11 @@ import os
 import re
 import subprocess
 
+from cases import count, same
 from check_model import Session
 from picture_model import NAMES
-from session_text import LOGS, SessionText
-from web_checks import TOP, count, read, same, words_of
+from session_text import SessionText
+from web_checks import TOP, read, words_of
 
 # How many pages of a session are looked at: of those that have a fault, and of all.
 MOST_FAULTY, MOST_PAGES = 3, 2

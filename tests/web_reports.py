@@ -6,7 +6,8 @@ import os
 import re
 import subprocess
 
-from web_checks import TOP, count, example, read, same, says, words_of, write
+from cases import count, same
+from web_checks import TOP, example, read, says, words_of, write
 from web_viewing import line_in_view
 
 SCRIPT = f"{TOP}/share/bin/postcopy-report"

@@ -1,13 +1,15 @@
 """Tests of the verdicts that the page shows: on sessions of each kind, on certificates, and on what a clean session lacks."""
 import re
 
-from web_checks import TOP, example, is_shown, read, same, write
+from cases import same
+from web_checks import TOP, example, is_shown, read, write
 
 # What a session that is clean lacks, by the case that has it, and what the page says of it; none where all that it needs is told.
 LACKS = {
     "complete-four-empty-logs": "No record says that the guest was halted",
     "explain-incomplete-halt": "No record says that the guest was halted",
     "explain-incomplete-resume": "No record says that the guest went on at the target",
+    "complete-returned": "The guest returned to the source",
     "explain-incomplete-page-at-the-link": "No record says that page 0 came",
     "complete-placement-left-out": "No record says that page 2 came",
     "explain-incomplete-all": None,

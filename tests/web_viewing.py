@@ -1,8 +1,9 @@
 """Tests of the page as a place to look: what stands where, and the ways from anything to everything."""
 import re
 
+from cases import count, same
 from session_text import SessionText
-from web_checks import count, example, read, same, words_of, write
+from web_checks import example, read, words_of, write
 
 FLAGSHIP = "qemu-lost-write"
 SIZES = ((400, 800), (1000, 800), (1366, 768), (1600, 900))
@@ -266,7 +267,7 @@ def tests_of_tree(browser):
     browser.choose(*example(FLAGSHIP))
     nodes = [{key: it.get(key, {}).get("value") for key in ("role", "name", "description")} for it in browser.cdp("Accessibility.getFullAXTree")["nodes"] if not it["ignored"]]
     described = [it["description"] for it in nodes if it["name"] == "The records in an order"]
-    count(len(described) == 1 and "First the page went wrong: line 3004" in (described[0] or ""), f"what describes the picture: {described}")
+    count(len(described) == 1 and "The page first went wrong at line 3004" in (described[0] or ""), f"what describes the picture: {described}")
     same("the faulty row", [it["role"] for it in nodes if (it["name"] or "").startswith("line 2566 ") and it["name"].endswith(", faulty")], ["button"])
     same("the verdict", [it["role"] for it in nodes if it["name"] == "Not safe." and it["role"] == "heading"], ["heading"])
 

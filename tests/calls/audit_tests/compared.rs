@@ -158,7 +158,9 @@ fn agrees_on_report<R: Threads + Sync>(
             shape_fault(session) == None && line_of(session, left.log, left.place) == left.line
         }
         Report::Clean(cert) => is_clean(rt, alloc, session, cert),
-        Report::Faulty { line, fault, order } => {
+        Report::Faulty {
+            line, fault, order, ..
+        } => {
             is_faulty(alloc, session, (*line, fault.reason), order)
                 && line_of(session, fault.log, fault.place) == *line
         }

@@ -3,6 +3,7 @@
 
 use crate::texts::{Logs, session_of};
 use completeness::{Extent, Missing, first_missing};
+use session_log::read_session;
 use std::alloc::Global;
 
 /// The logs of a session, and what is missing from it first.
@@ -189,6 +190,7 @@ static CASES: [Case; 16] = [
 fn said(missing: Option<Missing>) -> (&'static str, u32) {
     match missing {
         Some(Missing::Halt) => ("halt", 0),
+        Some(Missing::Returned) => ("returned", 0),
         Some(Missing::Resume) => ("resume", 0),
         Some(Missing::Page(page)) => ("page", page.number()),
         Some(Missing::All) => ("all", 0),
@@ -230,5 +232,25 @@ fn is_met(alloc: Global, case: &Case) -> bool {
 fn tells_what_is_missing_first(rt: HostRuntime) {
     for case in &CASES {
         assert!(rt; is_met(rt.alloc(), case), "{}", case.is);
+    }
+}
+
+/// A guest that was halted, and that the source started again.
+const RETURNED: &str = "postcopy-session 3\npages 2\ncells 1\ninit 0\nguest 1\nhalt\nsource 3\nhalted 0\nstate\nback\nlink 0\nlane 0\npager 0\nend\n";
+
+/// The same, where the guest was resumed at the target: of such a session the shape says what is wrong.
+const AT_BOTH: &str = "postcopy-session 3\npages 2\ncells 1\ninit 0\nguest 2\nhalt\nresume 1\nsource 3\nhalted 0\nstate\nback\nlink 0\nlane 0\npager 0\nend\n";
+
+/// What is missing first from the session of a text, to an extent.
+fn missing_of(alloc: Global, text: &str, extent: Extent) -> Option<(&'static str, u32)> {
+    let session = read_session(alloc, text.as_bytes()).ok()?;
+    Some(said(first_missing(alloc, &session, extent).ok()?))
+}
+
+#[test]
+fn tells_a_guest_that_returned(rt: HostRuntime) {
+    for extent in [Extent::Pages, Extent::Whole] {
+        assert!(rt; missing_of(rt.alloc(), RETURNED, extent) == Some(("returned", 0)));
+        assert!(rt; missing_of(rt.alloc(), AT_BOTH, extent) == Some(("page", 0)));
     }
 }

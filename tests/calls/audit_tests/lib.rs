@@ -16,6 +16,8 @@ mod explained;
 mod facts;
 #[cfg(test)]
 mod found;
+#[cfg(test)]
+mod fronts;
 pub mod numbers;
 #[cfg(test)]
 mod orders;

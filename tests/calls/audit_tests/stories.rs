@@ -12,7 +12,7 @@ use std::thread::Threads;
 /// What is told of page 1 of a handover where its second use reads another value than was written.
 const MISREAD: &str = "faulty line 15 read
 Page 1 has a fault.
-Wrong is line 15 (guest 8): virtual processor 0 reads 8 in cell 0 of page 1.
+Line 15 (guest 8) is wrong: virtual processor 0 reads 8 in cell 0 of page 1.
 One machine that never moved has 9 there, since line 14 (guest 7): virtual processor 0 writes 9 into cell 0 of page 1.
 It is wrong in every order of the records.
 What the logs say of page 1:
@@ -56,7 +56,7 @@ What the logs say of page 0:
 ";
 
 const UNNAMED: &str = "shape line 30 named
-Not of the right shape is line 30 (pager 2): the pager learns of the miss guest 4.
+Line 30 (pager 2) does not have the right shape: the pager learns of the miss guest 4.
 It has to name a `miss` of the guest, and names line 11 (guest 4): the guest looks at the placement pager 5.
 Page 0 has no fault.
 What the logs say of page 0:
@@ -87,8 +87,8 @@ What the logs say of page 1:
 
 /// What is told of the report of a handover where a read of each page gives another value than was written.
 const TWO: &str = "faulty line 12 read
-Wrong is line 12 (guest 5): virtual processor 0 reads 6 in cell 0 of page 0.
-One machine that never moved has 5 there, as at the start.
+Line 12 (guest 5) is wrong: virtual processor 0 reads 6 in cell 0 of page 0.
+One machine that never moved has 5, 0000000000000005, there, as at the start.
 It is wrong in every order of the records.
 What the logs say of page 0:
   the guest neither writes nor releases it before the halt
@@ -99,7 +99,7 @@ What the logs say of page 0:
   line 33 (pager 5): the pager places page 0, which came with pager 4
   line 11 (guest 4): the guest looks at the placement pager 5, the first look that reaches its placement
   line 12 (guest 5): virtual processor 0 reads 6 in cell 0 of page 0, its first use at the target
-1 more page has a fault; audit --all lists them.
+1 more page has a fault; audit --all lists every one.
 ";
 
 /// A change of the handover's text, and what is told of the session then.

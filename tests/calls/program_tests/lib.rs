@@ -308,7 +308,7 @@ static SEVERAL: [Case; 5] = [
         Some(2),
     ),
     Case(
-        &["postcopy", "audit", "--all", "--quiet", "handover"],
+        &["postcopy", "audit", "--quiet", "handover"],
         b"",
         1,
         b"faulty line 13 early\n",

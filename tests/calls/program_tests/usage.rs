@@ -6,8 +6,8 @@ use std::net::{Net, TcpListener, TcpStream};
 use std::sync::Wait;
 use std::thread::Threads;
 
-// Words that are no command.
-static NO_COMMANDS: [&[&str]; 15] = [
+// Words that are no command, or have options that mean nothing together.
+static NO_COMMANDS: [&[&str]; 21] = [
     &["postcopy", "check", "session"],
     &["postcopy", "check", "session", "cert", "cert"],
     &["postcopy", "send", "session", "cert"],
@@ -28,6 +28,18 @@ static NO_COMMANDS: [&[&str]; 15] = [
         "recording",
         "0",
         "9223372036854775808",
+    ],
+    &["postcopy", "audit", "--all", "--quiet", "session"],
+    &["postcopy", "audit", "session", "--all", "session"],
+    &["postcopy", "explain", "--page", "0", "--line", "9", "session"],
+    &[
+        "postcopy", "explain", "--format", "json", "--page", "0", "session",
+    ],
+    &[
+        "postcopy", "explain", "--line", "9", "--format", "json", "session",
+    ],
+    &[
+        "postcopy", "explain", "--page", "0", "--lines", "lines", "--format", "json", "session",
     ],
 ];
 

@@ -92,6 +92,7 @@ fn told_by_source(record: &SourceRec) -> Told {
         SourceRec::Again { sending } => Told("again", [u64::from(*sending), 0, 0, 0]),
         SourceRec::Ask { up } => Told("ask", [u64::from(*up), 0, 0, 0]),
         SourceRec::Done => Told("done", [0, 0, 0, 0]),
+        SourceRec::Back => Told("back", [0, 0, 0, 0]),
     }
 }
 
@@ -283,10 +284,12 @@ static OTHERS: [(LogName, &str); 57] = [
 ];
 
 /// The same in the first version: no receipt from the lane is a record there.
-static FIRST_OTHERS: [(LogName, &str); 2] = [(Pager, "pull 0"), (Pager, "pull 1048575")];
+static FIRST_OTHERS: [(LogName, &str); 3] =
+    [(Pager, "pull 0"), (Pager, "pull 1048575"), (Source, "back")];
 
 /// The same in the second.
-static SECOND_OTHERS: [(LogName, &str); 11] = [
+static SECOND_OTHERS: [(LogName, &str); 12] = [
+    (Source, "back"),
     (Lane, "down 1048576"),
     (Lane, "down"),
     (Lane, "down 00"),
@@ -338,4 +341,19 @@ fn other_lines_have_not_their_form(rt: HostRuntime) {
         &rt,
         other_line(alloc, Version::Two, SECOND_OTHERS.as_slice()),
     );
+}
+
+/// A session of the third version of which the source starts its guest again.
+const BACK: &str = "postcopy-session 3\npages 3\ncells 2\ninit 0\nguest 0\nsource 1\nback\nlink 0\nlane 0\npager 0\nend\n";
+
+/// The same with a number behind the word.
+const BACK_TO: &str = "postcopy-session 3\npages 3\ncells 2\ninit 0\nguest 0\nsource 1\nback 0\nlink 0\nlane 0\npager 0\nend\n";
+
+#[test]
+fn the_third_version_has_a_back(rt: HostRuntime) {
+    let alloc = rt.alloc();
+    let told = told_in_text(alloc, Source, BACK.as_bytes());
+    assert!(rt; matches!(&told, Some(told) if is_told(told, "back", &[0, 0, 0, 0])));
+    let fault = fault_in(alloc, Format::Session, BACK_TO.as_bytes());
+    assert!(rt; fault == Some((7, FaultKind::Form)));
 }

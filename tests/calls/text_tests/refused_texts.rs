@@ -21,6 +21,8 @@ const GUEST: &str = "r V P C X|w V P C X|z V P|miss V P|halt|resume I|see I";
 
 const SOURCE: &str = "halted I|state|send P HEX|again I|ask I|done";
 
+const LATE_SOURCE: &str = "halted I|state|send P HEX|again I|ask I|done|back";
+
 const PAGER: &str = "got I|ready|fault I|join I|want P|place P I HEX|zero P|skip I|all";
 
 const LATE_PAGER: &str = "got I|pull I|ready|fault I|join I|want P|place P I HEX|zero P|skip I|all";
@@ -34,7 +36,7 @@ const LATE_ENTRY: &str =
 const EVENT: &str =
     "guest V|halt|push|serve|source-tick|link down FATE|link up FATE|link lane FATE|pop|pop-lane|fault|flush|deliver|pager-tick";
 
-pub static REFUSED: [Refused; 62] = [
+pub static REFUSED: [Refused; 63] = [
     (
         Session,
         "",
@@ -104,6 +106,13 @@ pub static REFUSED: [Refused; 62] = [
         "a record of the source",
         SOURCE,
         [1, 2, 7, 0, 0, 2, 1],
+    ),
+    (
+        Session,
+        "postcopy-session 3\npages 2\ncells 1\ninit 0\nguest 0\nsource 2\nback\nback 0",
+        "a record of the source",
+        LATE_SOURCE,
+        [1, 2, 6, 0, 0, 2, 1],
     ),
     (
         Session,

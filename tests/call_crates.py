@@ -1,0 +1,78 @@
+#!/usr/bin/env python3
+"""The crates of tests in tests/calls, and copies of them beside the other crates.
+
+    tests/call_crates.py     lays out their sources as 'rt fmt' does
+"""
+import os
+import re
+import shutil
+import subprocess
+import sys
+import tempfile
+
+TOP = os.path.realpath(f"{os.path.dirname(os.path.realpath(__file__))}/..")
+CALLS = f"{TOP}/tests/calls"
+
+def listed():
+    """The lines of tests/calls/crates.list, by the crate's name."""
+    with open(f"{CALLS}/crates.list", encoding="utf-8") as file:
+        lines = [line for line in file.read().splitlines() if line and not line.startswith("#")]
+    return {line.partition(":")[0]: line for line in lines}
+
+
+def sources(name):
+    return sorted(f"{CALLS}/{name}/{it}" for it in os.listdir(f"{CALLS}/{name}"))
+
+
+def is_program(name):
+    return os.path.isfile(f"{CALLS}/{name}/main.rs")
+
+
+def tests_in(name):
+    """How many tests the sources of a crate have."""
+    count = 0
+    for source in sources(name):
+        with open(source, encoding="utf-8") as file:
+            count += len(re.findall(r"(?m)^\s*#\[test\]", file.read()))
+    return count
+
+
+def copied(source, folder):
+    """Where a source stands in the copy."""
+    return f"{folder}/src/{os.path.basename(source).removesuffix('.rs')}.rt"
+
+
+def copy_to(room, lines):
+    """Copies the crates' sources, and those of the crates of tests beside them."""
+    for name in os.listdir(f"{TOP}/crates"):
+        for part in ("src", "specs", "proofs"):
+            if os.path.isdir(f"{TOP}/crates/{name}/{part}"):
+                shutil.copytree(f"{TOP}/crates/{name}/{part}", f"{room}/crates/{name}/{part}")
+    for name in lines:
+        os.makedirs(f"{room}/crates/{name}/src")
+        for source in sources(name):
+            shutil.copy(source, copied(source, f"{room}/crates/{name}"))
+    with open(f"{TOP}/crates.txt", encoding="utf-8") as file:
+        text = file.read()
+    with open(f"{room}/crates.txt", "w", encoding="utf-8") as file:
+        file.write(text + "".join(f"{line}\n" for line in lines.values()))
+
+
+def lay_out(lines):
+    with tempfile.TemporaryDirectory(prefix="lay-out-") as room:
+        copy_to(room, lines)
+        for name in lines:
+            folder = f"{room}/crates/{name}"
+            if subprocess.run(["rt", "fmt"], cwd=folder).returncode:
+                return 1
+            for source in sources(name):
+                shutil.copyfile(copied(source, folder), source)
+    return 0
+
+
+if __name__ == "__main__":
+    if len(sys.argv) > 1:
+        sys.exit(__doc__)
+    if not shutil.which("rt"):
+        sys.exit("tests/call_crates.py: there is no toolchain of Rattle here, whose command is rt")
+    sys.exit(lay_out(listed()))

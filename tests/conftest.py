@@ -1,0 +1,135 @@
+"""What the tests have in common: options, fixtures, and how cases are counted.
+
+A test tries one case, or many that it counts by the functions of cases.py: it fails where one of them does, and where there were fewer
+than its mark `cases` says. A part that is left out is told with the reason, at the end.
+"""
+import os
+import shutil
+import subprocess
+import sys
+import tempfile
+
+import cases
+import pytest
+
+TOP = os.path.dirname(os.path.dirname(os.path.abspath(__file__)))
+sys.dont_write_bytecode = True
+sys.path[:0] = [f"{TOP}/tests/models", f"{TOP}/python"]
+
+
+def pytest_addoption(parser):
+    group = parser.getgroup("postcopy")
+    group.addoption("--program", default=f"{TOP}/crates/postcopy/out/postcopy", help="the program to test")
+    group.addoption("--all", action="store_true", help="also the cases that the gate leaves out, since they take minutes")
+    group.addoption("--counts", action="store_true", help="tell how many cases each test tried")
+    group.addoption("--qemu", default="qemu-system-x86_64", help="the QEMU that the tests of its recorder migrate by; they were run with 7.2, 10.0 and 11.1")
+
+
+def pytest_collection_modifyitems(items):
+    """What needs the toolchain is left out where there is none."""
+    if not shutil.which("rt"):
+        for item in items:
+            if item.get_closest_marker("toolchain"):
+                item.add_marker(pytest.mark.skip(reason="there is no toolchain of Rattle here, whose command is rt"))
+
+
+@pytest.hookimpl(tryfirst=True)
+def pytest_runtest_setup():
+    cases.begin()
+
+
+@pytest.hookimpl(trylast=True)
+def pytest_runtest_call(item):
+    """After a test: whether its cases came out as wanted, and are as many as there have to be."""
+    made, least = cases.running, item.get_closest_marker("cases")
+    item.user_properties.append(("cases", max(made.made(), 1)))
+    item.user_properties += [("left out", it) for it in made.left_out]
+    if made.failed:
+        pytest.fail(f"{len(made.failed)} of {made.made()} cases failed", pytrace=False)
+    if least and made.made() < least.args[0] and not made.left_out:
+        pytest.fail(f"there were {made.made()} cases, and there have to be {least.args[0]}", pytrace=False)
+
+
+class Told:
+    """What is told after all tests: how many cases there were, what was left out, and the sums."""
+
+    def __init__(self):
+        self.cases, self.left_out, self.counts = {}, [], {"passed": 0, "failed": 0, "skipped": 0}
+
+    def pytest_runtest_logreport(self, report):
+        if report.when == "call" or report.outcome != "passed":
+            self.counts[report.outcome] += 1
+        if report.when == "call":
+            for name, value in report.user_properties:
+                if name == "cases":
+                    self.cases[report.nodeid] = value
+                else:
+                    self.left_out.append((report.nodeid, value))
+        if report.skipped:
+            self.left_out.append((report.nodeid, report.longrepr[2].removeprefix("Skipped: ")))
+
+    def pytest_terminal_summary(self, terminalreporter, config):
+        if config.getoption("--counts"):
+            for test, count in self.cases.items():
+                terminalreporter.write_line(f"{count:,} cases: {test}")
+        for test, what in self.left_out:
+            terminalreporter.write_line(f"left out: {test}: {what}")
+        terminalreporter.write_line(f"{sum(self.cases.values()):,} cases")
+
+    @pytest.hookimpl(trylast=True)
+    def pytest_unconfigure(self):
+        left_out = f", {len(self.left_out)} left out" if self.left_out else ""
+        print(f"{self.counts['passed']} passed, {self.counts['failed']} failed{left_out}")
+
+
+def pytest_configure(config):
+    if not hasattr(config, "workerinput"):
+        config.pluginmanager.register(Told(), "told")
+
+
+@pytest.fixture(scope="session")
+def program(pytestconfig):
+    """The program, as a path."""
+    file = os.path.realpath(pytestconfig.getoption("program"))
+    if not os.access(file, os.X_OK):
+        pytest.fail(f"there is no program {file}: run tests/quick, ./postcopy or 'rt ci' first", pytrace=False)
+    return file
+
+
+@pytest.fixture
+def room():
+    """A folder that is empty, and gone after the test."""
+    with tempfile.TemporaryDirectory(prefix="postcopy-tests-") as folder:
+        yield folder
+
+
+@pytest.fixture(scope="session")
+def cc():
+    """Sees to it that there is a C compiler."""
+    if subprocess.run([f"{TOP}/tools/need", "cc:gcc,libc6-dev"], stdin=subprocess.DEVNULL).returncode:
+        pytest.fail("there is no C compiler: install gcc and libc6-dev", pytrace=False)
+    return "cc"
+
+
+@pytest.fixture(scope="session")
+def refusing(cc):
+    """The library that stands before the system's calls, counts them, and refuses some."""
+    with tempfile.TemporaryDirectory(prefix="postcopy-tests-") as folder:
+        made = f"{folder}/refusing.so"
+        subprocess.run([cc, "-std=c11", "-O2", "-shared", "-fPIC", "-o", made, f"{TOP}/c/tests/refusing.c"], check=True)
+        yield made
+
+
+@pytest.fixture(scope="session")
+def library(cc):
+    """The folder of the library for C, where it was built, or put."""
+    subprocess.run([f"{TOP}/tools/need", "nm:binutils"], stdin=subprocess.DEVNULL, check=True)
+    subprocess.run([f"{TOP}/tools/library"], stdin=subprocess.DEVNULL, stdout=subprocess.DEVNULL, check=True)
+    return f"{TOP}/crates/postcopy_c/out"
+
+
+@pytest.fixture(scope="session")
+def page():
+    """The page in one file, where it was built, or put."""
+    subprocess.run([f"{TOP}/tools/page"], stdin=subprocess.DEVNULL, stdout=subprocess.DEVNULL, check=True)
+    return f"{TOP}/crates/postcopy_c/out/postcopy.html"

@@ -1,0 +1,237 @@
+"""Where the shapes of a picture stand, and how they are painted, read back from its text.
+
+What is wanted comes from the session and its order: which records have a box in which column and row, which arrow goes from
+which box to which, and what each sign looks like.
+"""
+import re
+
+from session_text import LOGS
+
+SVG = "{http://www.w3.org/2000/svg}"
+SHARED = 40  # half the room between two columns is less
+
+# What a row's class says of the record, and the box and the sign that go with it.
+BOXES = {"row record faulty": ("box-faulty", "cross"), "row record concerned": ("box-concerned", "diamond"),
+         "row record of-page": ("box-page", None), "row record": ("box", None), "row stuck": ("box-stuck", None)}
+
+# How each class is painted: fill, stroke, width of the stroke, dashes.
+PAINTS = {"box-faulty": ("#ffe3dc", "#c21e1e", "3.5", None), "box-concerned": ("#fff3d6", "#9a6700", "2.5", "7 3"),
+          "box-page": ("#dbeafe", "#0969da", "1.5", None), "box": ("#f6f8fa", "#818b98", None, None),
+          "box-stuck": ("#fbe7f3", "#a40e6e", "2", "2 3"), "fold": ("#ffffff", "#818b98", None, "1 3"),
+          "cross": ("none", "#c21e1e", "2.5", None), "diamond": ("#9a6700", None, None, None),
+          "life": (None, "#d1d9e0", None, None), "paper": ("#ffffff", None, None, None),
+          "ink": ("#1f2328", None, None, None), "soft": ("#59636e", None, None, None),
+          "tip": ("#6e7781", None, None, None), "tip-page": ("#0969da", None, None, None), "tip-tied": ("#c21e1e", None, None, None)}
+ARROWS = {"arrow": ("#6e7781", "1.2", "url(#head)"), "arrow-page": ("#0969da", "2", "url(#head-page)"),
+          "arrow-tied": ("#c21e1e", "2", "url(#head-tied)")}
+
+# What the legend says of each sign: of a box or an arrow, and whether it is dashed.
+MEANINGS = {("box-faulty", False): {"the faulty record", "waits for another of these"},
+            ("box-concerned", True): {"the record that its fault concerns"}, ("box-page", False): {"about the same page"},
+            ("box", False): {"another record"}, ("box-stuck", True): {"the next of its log, not taken"},
+            ("arrow", False): {"is received"}, ("arrow", True): {"is received; it has no row"},
+            ("arrow-tied", False): {"has to come first"}, ("arrow-tied", True): {"one behind it has to come first"}}
+
+
+def number(element, name):
+    return int(element.get(name))
+
+
+class Box:
+    """The box of a record, or of what is folded, with its row's group."""
+
+    def __init__(self, row):
+        self.row, self.rect = row, row.find(SVG + "rect")
+        self.left, self.top = number(self.rect, "x"), number(self.rect, "y")
+        self.width, self.height = number(self.rect, "width"), number(self.rect, "height")
+        self.right, self.middle = self.left + self.width, self.top + self.height // 2
+
+    def has(self, x, y):
+        """Which of its sides has this point: 'left', 'right', or None."""
+        if not self.top < y < self.top + self.height:
+            return None
+        return {self.left: "left", self.right: "right"}.get(x)
+
+
+def name_of(row):
+    """The log and place of a row's record."""
+    log, place = re.match(r"line \d+ \((\w+) (\d+)\): ", row.find(SVG + "title").text).groups()
+    return log, int(place)
+
+
+def is_fold(row):
+    return "fold-row" in row.get("class").split()
+
+
+class Drawing:
+    """The shapes of a picture."""
+
+    def __init__(self, picture):
+        self.picture = picture
+        rows = [group for group in picture.iter(SVG + "g") if (group.get("class") or "").startswith("row")]
+        self.rows = [Box(row) for row in rows]
+        self.boxes = {name_of(box.row): box for box in self.rows if not is_fold(box.row)}
+        self.legend = picture.find(f".//{SVG}g[@class='legend']")
+        self.lines = [line for line in picture.iter(SVG + "line") if line not in set(self.legend.iter(SVG + "line"))]
+        self.columns = {text.text: number(text, "x") for text in picture.iter(SVG + "text") if text.get("font-weight") == "bold" and text.text in LOGS}
+
+    def at(self, x, y):
+        """The record at whose side a point is, and which side, or None."""
+        return next(((name, box.has(x, y)) for name, box in self.boxes.items() if box.has(x, y)), None)
+
+
+def columns_wrongly(drawing, session):
+    """What is wrong with the columns, or None: one for each log but a lane without records, from left to right, with a line."""
+    wanted = [log for log in LOGS if log != "lane" or session.logs["lane"]]
+    if list(drawing.columns) != wanted:
+        return f"columns {list(drawing.columns)}, not {wanted}"
+    places = list(drawing.columns.values())
+    lines = sorted(number(line, "x1") for line in drawing.lines if line.get("class") == "life" and line.get("x1") == line.get("x2"))
+    return None if places == sorted(set(places)) == lines else f"columns at {places}, and lines down at {lines}"
+
+
+def rows_wrongly(drawing):
+    """What is wrong with where the boxes stand, or None: each in a row of its own below the one before, in its log's column."""
+    middles = [box.middle for box in drawing.rows]
+    steps = {low - high for high, low in zip(middles, middles[1:])}
+    if len(steps) > 1 or any(step <= 0 for step in steps):
+        return f"rows at {middles}"
+    step = next(iter(steps), 26)
+    low = max((number(line, "y2") for line in drawing.lines if line.get("class") == "life"), default=0)
+    if middles and not middles[-1] < low <= middles[-1] + step:
+        return f"columns as far as {low}, and a last row at {middles[-1]}"
+    for name, box in drawing.boxes.items():
+        if (box.left + box.right) // 2 != drawing.columns[name[0]]:
+            return f"a box of {name} from {box.left} to {box.right}, not in the column at {drawing.columns[name[0]]}"
+        line = [text for text in box.row.findall(SVG + "text") if text.get("text-anchor") == "end"]
+        label = next(text for text in box.row.findall(SVG + "text") if text.get("text-anchor") is None)
+        wanted = re.match(r"line (\d+) ", box.row.find(SVG + "title").text).group(1)
+        if [text.text for text in line] != [wanted]:
+            return f"{[text.text for text in line]} in the margin of line {wanted}"
+        if not (box.left < number(label, "x") < box.right and box.top < number(label, "y") < box.top + box.height and number(line[0], "y") == number(label, "y")):
+            return f"a label of {name} outside its box"
+    for left, right in zip(LOGS, LOGS[1:]):
+        if left in drawing.columns and right in drawing.columns and drawing.columns[right] - drawing.columns[left] < SHARED:
+            return f"the columns of {left} and {right} are too near"
+    return None
+
+
+def arrow_of(drawing, line):
+    """From which record's side to which record's side an arrow goes, or None for a stub."""
+    ends = drawing.at(number(line, "x1"), number(line, "y1")), drawing.at(number(line, "x2"), number(line, "y2"))
+    return ends
+
+
+def side_to(own, other):
+    return "left" if LOGS.index(other) < LOGS.index(own) else "right"
+
+
+def is_marked(box):
+    return box.row.get("class") not in ("row record", "row stuck")
+
+
+def wanted_arrows(drawing, named):
+    """The arrows between the rows of the order, each with its class, by what each record receives."""
+    inside = {name: box for name, box in drawing.boxes.items() if "behind" not in box.row.get("class").split()}
+    for name, box in inside.items():
+        sent = named(name)
+        if sent is not None and sent in inside:
+            kind = "arrow-page" if is_marked(box) and is_marked(inside[sent]) else "arrow"
+            yield kind, (sent, side_to(sent[0], name[0])), (name, side_to(name[0], sent[0]))
+        elif sent is not None:
+            yield "arrow", None, (name, side_to(name[0], sent[0]))
+
+
+def wanted_ties(circle, named):
+    """The arrows between records that wait for one another, each from the next of them, and whether it is dashed."""
+    for name in circle:
+        sent = named(name)
+        after = next(other for other in circle if other[0] == sent[0])
+        yield "arrow-tied", (after, side_to(after[0], name[0])), (name, side_to(name[0], after[0])), after != sent
+
+
+def arrows_wrongly(drawing, named, circle):
+    """What is wrong with the arrows, or None."""
+    found = []
+    for line in drawing.lines:
+        kind = line.get("class")
+        if kind == "life":
+            continue
+        if kind not in ARROWS or (line.get("stroke"), line.get("stroke-width"), line.get("marker-end")) != ARROWS[kind]:
+            return f"an arrow {line.attrib}"
+        begin, end = arrow_of(drawing, line)
+        dashed = line.get("stroke-dasharray") is not None
+        if end is None or kind == "arrow" and dashed != (begin is None):
+            return f"an arrow that goes nowhere, or has the wrong dashes: {line.attrib}"
+        out = number(line, "x1") - number(line, "x2")
+        if begin is None and not (line.get("y1") == line.get("y2") and 0 < abs(out) < SHARED and (out < 0) == (end[1] == "left")):
+            return f"the end of an arrow {line.attrib}"
+        found.append((kind, begin, end) + ((dashed,) if kind == "arrow-tied" else ()))
+    wanted = [*wanted_arrows(drawing, named), *wanted_ties(circle, named)]
+    missing, more = [arrow for arrow in wanted if arrow not in found], [arrow for arrow in found if arrow not in wanted]
+    return None if not missing and not more and len(found) == len(wanted) else f"arrows {more}, not {missing}"
+
+
+def painted_wrongly(drawing):
+    """What is wrong with how the parts are painted, or None."""
+    for element in drawing.picture.iter():
+        kind = element.get("class")
+        if kind in PAINTS:
+            found = tuple(element.get(name) for name in ("fill", "stroke", "stroke-width", "stroke-dasharray"))
+            if found != PAINTS[kind]:
+                return f"{kind} is painted {found}"
+    for name, box in drawing.boxes.items():
+        words = box.row.get("class").replace(" behind", "")
+        if words not in BOXES:
+            return f"a row '{words}'"
+        kind, sign = BOXES[words]
+        signs = [path.get("class") for path in box.row.iter(SVG + "path")]
+        if box.rect.get("class") != kind or signs != [sign] * (sign is not None):
+            return f"a box {box.rect.get('class')} with {signs} in a row '{words}'"
+        for place in (group for group in box.row.findall(SVG + "g")):
+            x, y = map(int, re.match(r"translate\((\d+) (\d+)\)$", place.get("transform")).groups())
+            if not (box.right - 20 < x < box.right and y == box.middle):
+                return f"the sign of {name} at {x}, {y}"
+    return None
+
+
+def explained_wrongly(drawing):
+    """What is wrong with the legend, or None: a sign that does not occur or is missing, or one with another's meaning."""
+    found = set()
+    for entry in drawing.legend.findall(SVG + "g"):
+        sign = next(element for element in entry if element.tag in (SVG + "rect", SVG + "line"))
+        key = sign.get("class"), sign.get("stroke-dasharray") is not None
+        meaning = entry.find(SVG + "text").text
+        if meaning not in MEANINGS.get(key, ()):
+            return f"'{meaning}' of {key}"
+        found.add((key, meaning))
+    arrows = {(line.get("class").replace("-page", ""), line.get("stroke-dasharray") is not None) for line in drawing.lines if line.get("class") != "life"}
+    boxes = {(box.rect.get("class"), box.rect.get("stroke-dasharray") is not None) for box in drawing.boxes.values()}
+    occurs = arrows | boxes
+    return None if {key for key, _ in found} == occurs else f"a legend of {sorted({key for key, _ in found})}, not {sorted(occurs)}"
+
+
+def sized_wrongly(drawing):
+    """What is wrong with the picture's extent, or None: all that is drawn is within it, and the heading is above the rest."""
+    picture = drawing.picture
+    width, height = number(picture, "width"), number(picture, "height")
+    if picture.get("viewBox") != f"0 0 {width} {height}":
+        return f"a view of {picture.get('viewBox')} of {width} by {height}"
+    heading = [number(text, "y") for text in picture.findall(SVG + "text")]
+    body = picture.find(SVG + "g")
+    down = int(re.match(r"translate\(0 (\d+)\)$", body.get("transform")).group(1))
+    top = min(number(text, "y") for text in body.findall(SVG + "text")) + down
+    if heading != sorted(set(heading)) or not heading[-1] < top - 12:
+        return f"a heading at {heading} above columns at {top}"
+    if any(box.right > width for box in drawing.rows) or any(box.top + box.height + down > height for box in drawing.rows):
+        return f"a box beyond {width} by {height}"
+    return None
+
+
+def shown_wrongly(picture, session, named, circle):
+    """What is wrong with the shapes of a picture of a session, or None."""
+    drawing = Drawing(picture)
+    return (columns_wrongly(drawing, session) or rows_wrongly(drawing) or arrows_wrongly(drawing, named, circle)
+            or painted_wrongly(drawing) or explained_wrongly(drawing) or sized_wrongly(drawing))
+
+

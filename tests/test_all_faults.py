@@ -1,0 +1,71 @@
+"""Compares the pages that `audit --all` says have a fault with those of a slow model, and what `explain` says of a page and of a
+line that are named with both.
+
+The sessions are those of test_explained.py. Of one that is clean or faulty, `audit --all` has to write its first line, how many
+pages have a fault, and each with its first one; and the same pages as an object. Of another it writes the first line alone.
+`explain --page` has to name the faulty record of the page just where it has one, and `explain --line` the record at the line.
+"""
+import json
+import os
+import subprocess
+
+import pytest
+from cases import same
+from check_model import Session as Judged
+from session_text import LOGS, SessionText
+from test_explained import made_texts
+from world_model import page_faults
+
+TOP = os.path.dirname(os.path.dirname(os.path.abspath(__file__)))
+
+# So many pages of a session, and so many of its records, are asked about.
+FEW = 4
+
+
+class Tests:
+    """What the program says of a session."""
+
+    same = staticmethod(same)
+
+    def __init__(self, program):
+        self.program, self.most = program, 0
+
+    def says(self, text, *words):
+        ran = subprocess.run([self.program, *words, "-"], input=text.encode("latin-1"), capture_output=True)
+        return ran.stdout.decode("latin-1"), ran.returncode
+
+    def session(self, what, text):
+        first, status = self.says(text, "audit", "--quiet")
+        if first.split()[0] not in ("clean", "faulty"):
+            self.same(f"all faults of {what}", self.says(text, "audit", "--all"), (first, status))
+            return
+        session, lines = Judged(text), SessionText(text)
+        found = {page: (lines.line(log, n), reason, log, n) for page, (log, n, reason) in page_faults(session).items()}
+        self.most = max(self.most, len(found))
+        told = "".join(f"page {page} line {line} {reason}\n" for page, (line, reason, _, _) in found.items())
+        self.same(f"all faults of {what}", self.says(text, "audit", "--all"), (f"{first}faulty-pages {len(found)}\n{told}", status))
+        pages = json.loads(self.says(text, "audit", "--all", "--format", "json")[0])["pages"]
+        self.same(f"the object of {what}", pages, [{"page": page, "line": it[0], "reason": it[1]} for page, it in found.items()])
+        for page in range(min(session.pages, FEW)):
+            self.page(f"page {page} of {what}", text, first, page, found.get(page))
+        for log in LOGS:
+            for n in range(min(len(lines.logs[log]), FEW)):
+                told, _ = self.says(text, "explain", "--line", str(lines.line(log, n)))
+                name = f"line {lines.line(log, n)} ({log} {n})"
+                self.same(f"{name} of {what}", (told.startswith(first), name in told.replace("\nLine ", "\nline ")), (True, True))
+
+    def page(self, what, text, first, page, fault):
+        told, _ = self.says(text, "explain", "--page", str(page))
+        wrong = [line for line in told.splitlines() if " is wrong: " in line]
+        wanted = [f"Line {fault[0]} ({fault[2]} {fault[3]})"] if fault else []
+        self.same(f"the words on {what}", (told.startswith(first), f"page {page}" in told), (True, True))
+        self.same(f"the fault of {what}", [line.split(" is wrong: ")[0] for line in wrong], wanted)
+
+
+@pytest.mark.slow
+@pytest.mark.cases(3970)
+def test_all_faults(program):
+    tests = Tests(program)
+    for file, text in made_texts()[::3]:
+        tests.session(os.path.relpath(file, TOP), text)
+    same("sessions with faults on more than one page", tests.most > 1, True)

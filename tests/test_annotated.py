@@ -1,0 +1,218 @@
+"""What postcopy-annotate tells other tools of sessions, beside what the program says of them."""
+import json
+import os
+import re
+import shutil
+import subprocess
+import xml.etree.ElementTree as ElementTree
+from urllib.parse import unquote
+
+import pytest
+from cases import same
+from sarif_shape import faults
+
+TOP = os.path.dirname(os.path.dirname(os.path.realpath(__file__)))
+SCRIPT = f"{TOP}/share/bin/postcopy-annotate"
+
+# Names that a form writes otherwise than they stand, or that a program would take for an option.
+NAMES = ("plain", "a:b,c%d", "<&\">'", "-dash", "two words", "\u00e9")
+CONTENTS = {"clean": "handover", "early": "early-access", "knot": "circle-of-receipts", "shape": "wrong-shape", "refused": "leading-zero"}
+
+
+pytestmark = pytest.mark.quick
+
+
+class Tests:
+    same = staticmethod(same)
+
+    def __init__(self, program, room):
+        self.program, self.room = program, room
+        self.version = subprocess.run([program, "--version"], capture_output=True, text=True).stdout.split()[1]
+
+    def asked(self, command, name):
+        path = f"./{name}"
+        child = subprocess.run([self.program, command, path], cwd=self.room, stdin=subprocess.DEVNULL, capture_output=True, text=True)
+        return child.returncode, child.stdout.splitlines(), child.stderr.removeprefix(path)
+
+    def told(self, *words, program=None):
+        words = [SCRIPT, "--program", program or self.program, *words]
+        child = subprocess.run(words, cwd=self.room, stdin=subprocess.DEVNULL, capture_output=True, text=True)
+        return child.returncode, child.stdout, child.stderr
+
+    def wanted(self, name):
+        """The place, the reason and the text that are to be told of a session, or None of a clean one."""
+        status, lines, errors = self.asked("audit", name)
+        if status == 0:
+            return None
+        words = lines[0].split(" ")
+        if errors:
+            place, text = re.fullmatch(r":(\d+:\d+): (.*)\n", errors).groups()
+            return place, words[0], text
+        numbers = [words[at + 1] for at, it in enumerate(words) if it == "line"]
+        reason = words[0] if words[-1] in numbers else words[-1]
+        return numbers[0], reason, self.asked("explain", name)[1][1]
+
+    def one_session(self, name):
+        wanted = self.wanted(name)
+        # (behind `--` a name may begin with a dash)
+        status, output, errors = self.told("--", name)
+        self.same(f"the status and the errors of {name}", (status, errors), (0 if wanted is None else 1, ""))
+        lines = "" if wanted is None else f"{name}:{wanted[0]}: {wanted[1]}: {wanted[2]}\n"
+        self.same(f"the lines of {name}", output, lines)
+        self.same(f"the annotation of {name}", self.annotation(name), None if wanted is None else (name, *wanted))
+        self.same(f"the result of {name}", self.sarif(name), None if wanted is None else (name, *wanted))
+        self.same(f"the test of {name}", self.junit(name), (name, wanted and (wanted[1], wanted[2], f"{name}:{wanted[0]}: {wanted[2]}")))
+
+    def annotation(self, name):
+        """What GitHub's runner reads of the annotation: the file, the place, the title and the message."""
+        output = self.told("--as", "github", "--", name)[1]
+        found = re.fullmatch(r"::error file=([^,:]*),line=([^,:]*)(?:,col=([^,:]*))?,title=([^,:]*)::(.*)\n", output)
+        if not found:
+            return None
+        file, line, column, title, text = (re.sub("%([0-9A-F]{2})", lambda it: chr(int(it[1], 16)), it or "") for it in found.groups())
+        return file, f"{line}:{column}" if column else line, title, text
+
+    def sarif_log(self, *words):
+        """A log of SARIF, which has the form of its standard."""
+        log = json.loads(self.told("--as", "sarif", *words)[1])
+        self.same(f"what is wrong with the form of a log over {words}", faults(log), [])
+        return log
+
+    def sarif(self, name):
+        """What SARIF tells of a session, as for an annotation; its rule is one that the tool names."""
+        run, = self.sarif_log("--", name)["runs"]
+        self.same(f"the end of the run over {name}", run["invocations"], [{"executionSuccessful": True, "toolExecutionNotifications": []}])
+        if not run["results"]:
+            return None
+        result, = run["results"]
+        driver = run["tool"]["driver"]
+        rule, = driver["rules"]
+        words = rule["shortDescription"]["text"]
+        self.same(f"the rules of {name}", (rule["id"], rule["fullDescription"]["text"], len(words) > 10), (result["ruleId"], f"{words[0].upper()}{words[1:]}.", True))
+        self.same(f"the driver's version for {name}", driver["version"], self.version)
+        place = result["locations"][0]["physicalLocation"]
+        region = ":".join(str(place["region"][it]) for it in ("startLine", "startColumn") if it in place["region"])
+        return unquote(place["artifactLocation"]["uri"]), region, result["ruleId"], result["message"]["text"]
+
+    def junit(self, name):
+        output = self.told("--as", "junit", "--", name)[1]
+        case = ElementTree.fromstring(output.encode()).find("testcase")
+        failure = case.find("failure")
+        return case.get("name"), None if failure is None else (failure.get("type"), failure.get("message"), failure.text)
+
+    def many(self):
+        """Several sessions in one call, and one that cannot be judged."""
+        alone = "".join(self.told(name)[1] for name in CONTENTS)
+        self.same("several sessions", self.told(*CONTENTS), (1, alone, ""))
+        self.same("clean sessions", self.told("clean", "clean"), (0, "", ""))
+        self.same("a file that is not there", self.told("nothing", "early")[:2], (3, "nothing: not judged: file nothing\n" + self.told("early")[1]))
+        for name, shown in (("a\nb: clean", '"a\\u000ab: clean"'), ("x\x1b[31m", '"x\\u001b[31m"'), ('"q"', '"\\"q\\""'), ("back\\slash é", "back\\slash é")):
+            shutil.copy(f"{TOP}/tests/cases/refused-page-past-the-machine/session", f"{self.room}/{name}")
+            status, output, errors = self.told(name)
+            self.same(f"a session of the name {shown}", (status, output.startswith(f"{shown}:7:5: session-text: found "), output.count("\n"), errors), (1, True, 1, ""))
+        report = ElementTree.fromstring(self.told("--as", "junit", "nothing", *CONTENTS)[1].encode())
+        counts = [report.get(it) for it in ("tests", "failures", "errors")]
+        self.same("the counts of a report", counts, ["6", "4", "1"])
+        run, = self.sarif_log("nothing", *CONTENTS)["runs"]
+        notes = [it["message"]["text"] for it in run["invocations"][0]["toolExecutionNotifications"]]
+        self.same("a log with a session that was not judged", (len(run["results"]), run["invocations"][0]["executionSuccessful"], notes),
+                  (4, False, ["nothing: file nothing"]))
+        self.same("the error of a report", report.find("testcase").find("error").get("message"), "file nothing")
+
+    def calls(self):
+        """How often the program is called, and with how many words."""
+        log = f"{self.room}/calls"
+        with open(f"{self.room}/counting", "w", encoding="ascii") as file:
+            file.write(f'#!/bin/sh\necho "$1 $#" >> {log}\nexec {self.program} "$@"\n')
+        os.chmod(file.name, 0o755)
+        def made(*words):
+            open(log, "w").close()
+            answer = self.told(*words, program=file.name)
+            with open(log, encoding="ascii") as calls:
+                return answer, calls.read().splitlines()
+        self.same("1,200 clean sessions", made(*["clean"] * 1200), ((0, "", ""), ["audit 501", "audit 501", "audit 201"]))
+        self.same("one more that is clean", made(*["clean"] * 1201)[1], ["audit 501", "audit 501", "audit 202"])
+        self.same("one that is left over", made(*["clean"] * 501), ((0, "", ""), ["audit 501", "audit 2"]))
+        early = self.told("early")[1]
+        self.same("two of 600 that are not", made(*["clean"] * 300, "early", *["clean"] * 298, "early"), ((1, early * 2, ""), ["audit 501", "audit 101", "explain 2", "explain 2"]))
+        gone = "nothing: not judged: file nothing\n"
+        self.same("two that are not there", [made(*["clean"] * 3, "nothing", "clean", "early", "nothing")[0]], [(3, gone + early + gone, "")])
+        self.same("none that is there", self.told("nothing", "nothing")[:2], (3, gone * 2))
+        self.same("a program that always fails", self.told("early", "clean", program="false")[:2],
+                  (3, "early: not judged: the program ended with the status 1\nclean: not judged: the program ended with the status 1\n"))
+
+    def odd_names(self):
+        """Names that a list of lines could be read wrong by, and one that is no text."""
+        names = ("ok\nclean: clean", "x: clean", "\x1b[31mred", "line\u2028end", os.fsdecode(b"not-utf-8-\xff"), "a %20 b#c?")
+        for name in names:
+            shutil.copy(f"{self.room}/early", f"{self.room}/{name}")
+        text = self.wanted("early")[2]
+        shown = ('"ok\\u000aclean: clean"', "x: clean", '"\\u001b[31mred"', '"line\\u2028end"', '"not-utf-8-\\udcff"', "a %20 b#c?")
+        self.same("names in lines", self.told(*names, "clean"), (1, "".join(f"{it}:13: early: {text}\n" for it in shown), ""))
+        run, = self.sarif_log("clean", *names)["runs"]
+        places = [unquote(it["locations"][0]["physicalLocation"]["artifactLocation"]["uri"], errors="surrogateescape") for it in run["results"]]
+        self.same("names in SARIF", places, list(names))
+        self.same("a name that is not there", self.told("no\nthing", "clean")[1], '"no\\u000athing": not judged: file "no\\u000athing"\n')
+
+    def meanings(self):
+        """Each reason has its words in SARIF."""
+        with open(f"{TOP}/docs/ANSWERS.md", encoding="utf-8") as file:
+            line, = re.findall(r"^The reasons are .*", file.read(), re.MULTILINE)
+        reasons = {*re.findall("`([a-z-]+)`", line), "knot", "session-text", "incomplete"}
+        with open(SCRIPT, encoding="utf-8") as file:
+            told = re.findall(r'^    "([a-z-]+)": "[^"]+",$', file.read(), re.MULTILINE)
+        self.same("what has a meaning", sorted(told), sorted(reasons))
+
+    def incomplete(self):
+        """Sessions that do not tell of a whole migration, where that is asked for."""
+        front = "the session does not tell of a whole migration: incomplete"
+        for case, place, rest in (("four-empty-logs", "", "halt"), ("placement-left-out", "", "page 2"), ("drop-left-out", ":60", "line 60")):
+            shutil.copy(f"{TOP}/tests/cases/complete-{case}/session", f"{self.room}/{case}")
+            self.same(f"{case}, without asking", self.told(case), (0, "", ""))
+            told = 1, f"{case}{place}: incomplete: {front} {rest}\n", ""
+            self.same(case, self.told("--complete", case), told)
+            self.same(f"{case}, twice", self.told("--complete", case, case), (1, told[1] * 2, ""))
+            of_pages = (0, "", "") if case == "drop-left-out" else told
+            self.same(f"{case}, by its pages", self.told("--complete-pages", case), of_pages)
+            self.same(f"{case}, by its pages, twice", self.told("--complete-pages", case, case), (of_pages[0], of_pages[1] * 2, ""))
+            self.same(f"{case}, by both", self.told("--complete", "--complete-pages", case), told)
+            run, = self.sarif_log("--complete", case)["runs"]
+            region = run["results"][0]["locations"][0]["physicalLocation"].get("region")
+            self.same(f"the place of {case}", region, {"startLine": int(place[1:])} if place else None)
+        shutil.copy(f"{TOP}/tests/cases/complete-whole-migration/session", f"{self.room}/whole")
+        self.same("a whole migration", self.told("--complete", "whole"), (0, "", ""))
+        self.same("a fault, where a whole migration is asked for", self.told("--complete", "early"), self.told("early"))
+
+    def refused(self):
+        """Texts that are refused, with the words that stand in their folders."""
+        for case in ("page-past-the-machine", "upper-case-contents", "count-too-large", "gzip-file"):
+            at = f"{TOP}/tests/cases/refused-{case}"
+            shutil.copy(f"{at}/session", f"{self.room}/{case}")
+            with open(f"{at}/stderr", encoding="ascii") as file:
+                place, text = re.fullmatch(r"session:(\d+:\d+): (.*)\n", file.read()).groups()
+            self.same(case, self.told(case), (1, f"{case}:{place}: session-text: {text}\n", ""))
+
+    def wrong_words(self):
+        self.same("no session", self.told()[:2], (2, ""))
+        self.same("a form that is none", self.told("--as", "prose", "early")[:2], (2, ""))
+        status, output, errors = self.told("early", program=f"{self.room}/no-program")
+        self.same("a program that is not there", (status, output, "no-program" in errors), (3, "", True))
+
+    def each(self):
+        for kind in CONTENTS:
+            self.one_session(kind)
+        for name in NAMES:
+            shutil.copy(f"{self.room}/early", f"{self.room}/{name}")
+            self.one_session(name)
+
+
+@pytest.mark.parametrize("part", (
+    pytest.param(Tests.each, marks=pytest.mark.cases(86)), pytest.param(Tests.many, marks=pytest.mark.cases(10)),
+    pytest.param(Tests.calls, marks=pytest.mark.cases(7)), pytest.param(Tests.odd_names, marks=pytest.mark.cases(3)),
+    pytest.param(Tests.meanings, marks=pytest.mark.cases(1)), pytest.param(Tests.incomplete, marks=pytest.mark.cases(23)),
+    pytest.param(Tests.refused, marks=pytest.mark.cases(4)), pytest.param(Tests.wrong_words, marks=pytest.mark.cases(3))),
+    ids=lambda it: it.__name__)
+def test_annotated(program, room, part):
+    for kind, example in CONTENTS.items():
+        shutil.copy(f"{TOP}/examples/{example}/session", f"{room}/{kind}")
+    part(Tests(program, room))

@@ -1,0 +1,98 @@
+"""Checks certificates that were changed in small ways, and compares each verdict with that of a slow checker.
+
+The slow checker is check_model.py. Each certificate is cut after each byte, has each byte changed and a byte more before
+each, and has each number of each entry and the length of each run replaced by small ones, and its log by the others; and each
+session meets the certificates of the others.
+"""
+import itertools
+import os
+import subprocess
+from concurrent.futures import ThreadPoolExecutor
+
+import pytest
+from cases import same
+from check_model import Session, verdict
+from session_text import LOGS
+
+TOP = os.path.dirname(os.path.dirname(os.path.abspath(__file__)))
+BYTES = b"0149 \n\r-\xff"
+MORE = b"0 \n"
+
+
+def changes(session, text):
+    """The certificate and its changes, each once."""
+    found = {text: None}
+    found.update(dict.fromkeys(text[:n] for n in range(len(text))))
+    found.update(dict.fromkeys(text[:n] + bytes([byte]) + text[n + 1:] for n in range(len(text)) for byte in BYTES))
+    found.update(dict.fromkeys(text[:n] + bytes([byte]) + text[n:] for n in range(len(text) + 1) for byte in MORE))
+    lines = text.decode().split("\n")
+    for page in range(session.pages):
+        for entry in entries(session, lines[2 + page].split(" ")[2:]):
+            found["\n".join(lines[:2 + page] + [" ".join(["page", str(page)] + entry)] + lines[3 + page:]).encode()] = None
+    for n in range(session.pages + 3, len(lines) - 2):
+        _, log, length = lines[n].split(" ")
+        for run in [f"run {log} {other}" for other in range(10)] + [f"run {other} {length}" for other in LOGS]:
+            found["\n".join(lines[:n] + [run] + lines[n + 1:]).encode()] = None
+    return list(found)
+
+
+def entries(session, entry):
+    """Other entries of a page: with the first two numbers or the last two replaced, and of the other kinds."""
+    def up_to(size):
+        return [str(n) for n in range(size + 1)]
+    guest, source, pager = (up_to(len(log)) for log in (session.guest, session.source, session.pager))
+    seen = entry[-2:] if entry[0] in ("source", "balloon") else ["-", "-"]
+    sent = entry[1:-2] if entry[0] == "source" else ["0", entry[1] if entry[0] == "balloon" else "0"]
+    looks = [list(pair) for pair in itertools.product(guest, guest)] + [["-", "-"]]
+    yield ["none"]
+    for use in guest:
+        yield ["fresh", use]
+    for pair in itertools.product(source, pager):
+        yield ["source", *pair, *seen]
+    for look in looks:
+        yield ["source", *sent, *look]
+        yield ["balloon", sent[1], *look]
+    for place in pager:
+        yield ["balloon", place, *seen]
+
+
+CERTIFICATES = (
+    ("examples/handover/session", "examples/handover/certificate"),
+    ("examples/released-page/session", "examples/released-page/certificate"),
+    ("examples/initial-memory/session", "examples/initial-memory/certificate"),
+    ("tests/cases/placed-by-a-repeat/session", "tests/cases/placed-by-a-repeat/certificate"),
+    ("tests/cases/look-below-the-placement/session", "tests/cases/look-below-the-placement/certificate"),
+    ("examples/released-at-the-target/session", "examples/released-at-the-target/certificate"),
+    ("tests/cases/first-version-of-a-certificate/session", "tests/cases/first-version-of-a-certificate/certificate"),
+    ("examples/pushed-by-the-lane/session", "examples/pushed-by-the-lane/certificate"),
+    ("tests/cases/placed-by-a-repeat-of-the-lane/session", "tests/cases/placed-by-a-repeat-of-the-lane/certificate"),
+    ("tests/cases/certify-asked-for-and-pushed/session", "tests/cases/certify-asked-for-and-pushed/stdout"),
+)
+
+
+@pytest.mark.slow
+@pytest.mark.cases(23970)
+def test_changed_certificates(program):
+    found = set()
+    others = []
+    for _, certificate in CERTIFICATES:
+        with open(os.path.join(TOP, certificate), "rb") as text:
+            others.append(text.read())
+    with ThreadPoolExecutor(os.cpu_count()) as pool:
+        for path, certificate in CERTIFICATES:
+            path, certificate = os.path.join(TOP, path), os.path.join(TOP, certificate)
+            with open(path, "rb") as text:
+                recorded = text.read()
+            session = Session(recorded.decode())
+            with open(certificate, "rb") as text:
+                texts = list(dict.fromkeys(others + changes(session, text.read())))
+
+            def answer(text):
+                # The two texts in one input: the session ends at its own line `end`.
+                return subprocess.run([program], input=recorded + text, capture_output=True).stdout.decode().rstrip("\n")
+
+            for text, answered in zip(texts, pool.map(answer, texts)):
+                wanted = verdict(session, text)
+                found.add(wanted.split(" line ")[0])
+                same(f"{path}, of {text!r}", answered, wanted)
+    assert found == {"certificate-text", "pages", "runs", "page", "yes"}

@@ -1,0 +1,30 @@
+"""A log that is full: after the halt the source sends the state once more until its log has 1,048,576 records. A further
+record is refused, and an event that finds nothing to do is not.
+"""
+import subprocess
+
+import pytest
+from cases import same
+
+pytestmark = pytest.mark.quick
+
+SCRIPT = "postcopy-script 1\npages 1\ncells 1\ninit 0\npivots 1\nwindow 1\ndown -\nup -\nvcpus 1\nvcpu 0 0\nend\n"
+SESSION = ("postcopy-session 1\npages 1\ncells 1\ninit 0\nguest 1\nhalt\nsource 1048576\nhalted 0\nstate\n" + "again 1\n" * 1048574
+           + "link 0\npager 0\nend\n")
+
+
+def ticks(count, last):
+    """The events of a halt, so many ticks and a last event."""
+    return f"postcopy-events 1\nevents {count + 2}\nhalt\n" + "source-tick\n" * count + f"{last}\nend\n"
+
+
+@pytest.mark.cases(3)
+def test_full_log(program, room):
+    with open(f"{room}/script", "w", encoding="ascii") as file:
+        file.write(SCRIPT)
+    for what, count, last, output, status in (("fills", 1048573, "source-tick", SESSION, 0), ("rests on", 1048574, "push", SESSION, 0),
+                                              ("overfills", 1048574, "source-tick", "log-full\n", 1)):
+        with open(f"{room}/events", "w", encoding="ascii") as file:
+            file.write(ticks(count, last))
+        ran = subprocess.run([program, "steps", "script", "events"], cwd=room, stdin=subprocess.DEVNULL, stdout=subprocess.PIPE)
+        same(f"the log, with what {what} it", (ran.returncode, ran.stdout == output.encode()), (status, True))

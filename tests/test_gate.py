@@ -1,0 +1,42 @@
+"""The gate goes on after a part that fails, tells what came of each part, and is red where the toolchain is not there."""
+import os
+import re
+import shutil
+import subprocess
+
+import pytest
+
+TOP = os.path.dirname(os.path.dirname(os.path.abspath(__file__)))
+PARTS = ("rt ci", "tools/library --build", "tools/page --build", "tools/compare-shipped", "tests/pytest -n auto --durations 15")
+LEFT_OUT = "left out: there is no toolchain of Rattle here, whose command is rt"
+
+pytestmark = pytest.mark.quick
+
+
+def gate(room, failing=(), has_rt=True):
+    """What the gate says where these parts fail, over commands that do nothing else; what came of each part; and its status."""
+    for name in ("tools/library", "tools/page", "tools/compare-shipped", "tests/pytest", "bin/rt", "postcopy"):
+        if has_rt or name != "bin/rt":
+            os.makedirs(os.path.dirname(f"{room}/{name}"), exist_ok=True)
+            with open(f"{room}/{name}", "w", encoding="ascii") as file:
+                file.write(f"#!/bin/sh\nexit {int(name in failing)}\n")
+            os.chmod(file.name, 0o755)
+    shutil.copy(f"{TOP}/tests/run", f"{room}/tests/run")
+    os.makedirs(f"{room}/bin", exist_ok=True)
+    for name in ("bash", "dirname"):
+        os.symlink(shutil.which(name), f"{room}/bin/{name}")
+    ran = subprocess.run([f"{room}/tests/run"], env={"PATH": f"{room}/bin"}, stdin=subprocess.DEVNULL, stdout=subprocess.PIPE, stderr=subprocess.STDOUT, text=True)
+    return dict(re.findall(r"^ *\d+:\d\d  (.*?): (.*)$", ran.stdout, re.M)), ran.returncode
+
+
+def test_right(room):
+    assert gate(room) == (dict.fromkeys(PARTS, "ok"), 0)
+
+
+@pytest.mark.parametrize("name, part", (("bin/rt", PARTS[0]), ("tools/page", PARTS[2]), ("tests/pytest", PARTS[4])))
+def test_failing(room, name, part):
+    assert gate(room, [name]) == ({**dict.fromkeys(PARTS, "ok"), part: "FAILED"}, 1)
+
+
+def test_no_toolchain(room):
+    assert gate(room, has_rt=False) == ({**dict.fromkeys(PARTS, LEFT_OUT), PARTS[4]: "ok"}, 1)

@@ -1,0 +1,187 @@
+"""Long texts, of which several threads read parts: whole ones, and ones with a fault in each part.
+
+A session of 8 MB and runs of 7 MB, which are read in the first MiB and in three pieces of 2 MiB behind it and more, are
+replayed: both from files, and each of them from the standard input. Of a text that is refused the line has to be told, and
+what was found there. An input that fails in a later piece is told too; one of
+which a read is interrupted there, since the program is stopped while it waits for more, is replayed as ever.
+
+A table of lines may have as many lines as the text of a session of a large machine: one with more lines than a machine has
+pages, and one of more bytes than a text may have that is not long, are read by `explain --lines`.
+"""
+import errno
+import os
+import signal
+import socket
+import struct
+import subprocess
+import sys
+import time
+
+import pytest
+from cases import leave_out, same
+
+TOP = os.path.realpath(f"{os.path.dirname(os.path.realpath(__file__))}/..")
+# How many writes a session has, and how many runs a merging, and the line of the first of each.
+WRITES, FIRST_WRITE = 250_000, 6
+RUNS, FIRST_RUN = 620_000, 3
+# Which write or run is wrong: in the first MiB, in parts of each piece behind it, and the last.
+WRONG_WRITES = (1_000, 35_000, 50_000, 66_000, 82_000, 100_000, 130_000, 150_000, 165_000, 200_000, 220_000, WRITES - 1)
+WRONG_RUNS = (5_000, 100_000, 150_000, 200_000, 330_000, 450_000, 600_000, RUNS - 1)
+# After how many bytes an input fails, or a read of it is interrupted: in the first MiB, at its end, and in each piece behind it.
+BROKEN = (1_000_000, 1 << 20, 2_000_000, 3 << 20, 4_000_000, 6_000_000, 8_000_000)
+
+
+def session(wrong=None):
+    """A session of a guest that only writes. The write of this index is of no page."""
+    pages = (65_536 if at == wrong else at % 65_536 for at in range(WRITES))
+    writes = "".join(f"w 3 {page} 0 18446744073709551615\n" for page in pages)
+    head = f"postcopy-session 1\npages 65536\ncells 1\ninit 0\nguest {WRITES}\n"
+    return f"{head}{writes}source 0\nlink 0\npager 0\nend\n".encode()
+
+
+def merging(wrong=None):
+    """Runs by turns of two logs. The run of this index has no record."""
+    runs = "".join(f"run {'link' if at % 2 else 'guest'} {0 if at == wrong else 1}\n" for at in range(RUNS))
+    return f"postcopy-runs 1\nruns {RUNS}\n{runs}end\n".encode()
+
+
+WRONG_WRITE = 'found "65536" in "w 3 65536 0 18446744073709551615"; expected P, a page from 0 to 65535, as in "w V P C X"'
+WRONG_RUN = 'found "0" in "run {log} 0"; expected N, a number from 1 to 134217728, as in "run {log} N"'
+
+
+def cases():
+    """What is tried, the two texts, the line that is to be written, and what is to be told of the first text or the second."""
+    whole, runs = session(), merging()
+    yield "both are whole", whole, runs, b"no-merging\n", None, ""
+    for at in WRONG_WRITES:
+        line = FIRST_WRITE + at
+        yield f"write {at} is wrong", session(at), runs, b"session-text line %d\n" % line, 0, f"{line}:5: {WRONG_WRITE}"
+    for at in WRONG_RUNS:
+        line, log = FIRST_RUN + at, "link" if at % 2 else "guest"
+        told = f"{line}:{len('run ' + log) + 2}: {WRONG_RUN.format(log=log)}"
+        yield f"run {at} is wrong", whole, merging(at), b"runs-text line %d\n" % line, 1, told
+
+
+def failed_after(program, room, text):
+    """What comes of a replay whose input gives this text and then fails."""
+    near, far = socket.socketpair()
+    # What is sent to the near end and not read there makes of its closing a failure at the far end.
+    far.sendall(b"\n")
+    child = subprocess.Popen(
+        [program, "replay", "-", "runs"], cwd=room, stdin=far, stdout=subprocess.PIPE, stderr=subprocess.PIPE
+    )
+    far.close()
+    near.sendall(text)
+    near.close()
+    return (*child.communicate(), child.returncode)
+
+
+def is_waiting(child):
+    """Whether a thread of a process waits in a call on the standard input."""
+    for thread in os.listdir(f"/proc/{child.pid}/task"):
+        try:
+            with open(f"/proc/{child.pid}/task/{thread}/syscall") as file:
+                if file.read().split(" ")[1:2] == ["0x0"]:
+                    return True
+        except (FileNotFoundError, ProcessLookupError):
+            # (the thread has ended)
+            pass
+    return False
+
+
+def interrupted(command, room, first, rest):
+    """What comes of a command that is stopped, and goes on, while it waits for the rest of its input. A read of a socket that has
+    a limit of time is interrupted by that."""
+    near, far = socket.socketpair()
+    far.setsockopt(socket.SOL_SOCKET, socket.SO_RCVTIMEO, struct.pack("ll", 1000, 0))
+    child = subprocess.Popen(command, cwd=room, stdin=far, stdout=subprocess.PIPE, stderr=subprocess.PIPE)
+    far.close()
+    near.sendall(first)
+    while child.poll() is None and not is_waiting(child):
+        time.sleep(0.001)
+    if child.returncode is None:
+        child.send_signal(signal.SIGSTOP)
+        os.waitpid(child.pid, os.WUNTRACED)
+        child.send_signal(signal.SIGCONT)
+        try:
+            near.sendall(rest)
+        except BrokenPipeError:
+            pass
+    near.close()
+    return (*child.communicate(), child.returncode)
+
+
+# Reads the standard input until nothing comes, and tells the error of the last read.
+READER = """
+import ctypes
+room, system = ctypes.create_string_buffer(100), ctypes.CDLL(None, use_errno=True)
+while system.read(0, room, 100) > 0:
+    pass
+print(ctypes.get_errno())
+"""
+
+
+def is_interrupted(room):
+    """Whether a read is interrupted so here, and the system tells what a thread waits for."""
+    if not os.path.exists("/proc/self/syscall"):
+        return False
+    try:
+        return interrupted([sys.executable, "-c", READER], room, b"some", b"more")[0] == b"%d\n" % errno.EINTR
+    except PermissionError:
+        return False
+
+
+# What is told by the lines of a table, and how many lines it has and what stands in each.
+NO_RESUME = "postcopy-session 1\npages 1\ncells 1\ninit 0\nguest 1\nresume 1\nsource 0\nlink 0\npager 2\ngot 0\nready\nend\n".encode()
+TABLES = ((16_777_217, 7), (13_421_773, 1_000_000_000_000_000_007))
+
+
+def write(room, name, text):
+    with open(f"{room}/{name}", "wb") as file:
+        file.write(text)
+
+
+def replayed(program, room):
+    """Replays of long texts: what is tried, what comes of it, and what has to."""
+    for what, first, second, wanted, refused, why in cases():
+        write(room, "session", first)
+        write(room, "runs", second)
+        for names, given in ((("session", "runs"), b""), (("-", "runs"), first), (("session", "-"), second)):
+            ran = subprocess.run([program, "replay", *names], cwd=room, input=given, capture_output=True)
+            told = b"" if refused is None else f"{names[refused]}:{why}\n".encode()
+            yield f"{what}, replay {' '.join(names)}", (ran.stdout, ran.stderr, ran.returncode), (wanted, told, 1)
+
+
+def broken(program, room):
+    """The same of inputs that fail, or of which a read is interrupted."""
+    whole = session()
+    write(room, "runs", merging())
+    for count in BROKEN:
+        yield f"an input that fails after {count} bytes", failed_after(program, room, whole[:count]), (b"", b"file -\n", 3)
+    if not is_interrupted(room):
+        leave_out("an input of which a read is interrupted, since none is interrupted here")
+        return
+    for count in BROKEN:
+        found = interrupted([program, "replay", "-", "runs"], room, whole[:count], whole[count:])
+        yield f"an input of which a read is interrupted after {count} bytes", found, (b"no-merging\n", b"", 1)
+
+
+def told_by_tables(program, room):
+    """The same of what is told by long tables of lines."""
+    write(room, "session", NO_RESUME)
+    for count, line in TABLES:
+        with open(f"{room}/table", "wb") as file:
+            for at in range(0, count, 1_000_000):
+                file.write(b"%d\n" % line * min(1_000_000, count - at))
+        ran = subprocess.run([program, "explain", "--lines", "table", "session"], cwd=room, capture_output=True)
+        first = ran.stdout.split(b"\n")[0]
+        yield f"a table of {count} lines", (first, ran.stderr, ran.returncode), (b"shape line %d phases" % line, b"", 1)
+        os.remove(f"{room}/table")
+
+
+@pytest.mark.parametrize("tries", (
+    pytest.param(replayed, marks=pytest.mark.cases(63)), pytest.param(broken, marks=pytest.mark.cases(14)),
+    pytest.param(told_by_tables, marks=pytest.mark.cases(2))), ids=lambda it: it.__name__)
+def test_long_texts(program, room, tries):
+    for case in tries(program, room):
+        same(*case)

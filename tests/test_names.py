@@ -1,0 +1,123 @@
+"""Files with names that would forge a line or reach into a terminal: each name that is told is told as it is, or in quotation marks.
+
+Told are names in the list of several sessions and in their objects, of files that cannot be read, and before the words on why a
+text is refused or a certificate does not fit. What is told has to be the line that is wanted, it has to have no control character,
+and the name has to be read back from it, by Python's reader of JSON where it begins with a quotation mark.
+"""
+import itertools
+import json
+import os
+import subprocess
+import unicodedata
+
+import pytest
+from cases import same
+
+TOP = os.path.dirname(os.path.dirname(os.path.realpath(__file__)))
+EXAMPLES = {"clean": "examples/handover/session", "faulty": "examples/early-access/session",
+            "refused": "tests/cases/refused-page-past-the-machine/session"}
+MISFIT = "tests/cases/wrong-first-access"
+
+# Each control character and other characters beside it, alone and among letters; and names that would be taken for others.
+CODES = [*range(1, 0x30), 0x5b, 0x5c, 0x5d, *range(0x7e, 0xa2), 0xad, 0xe9, 0x100, 0x7ff, 0x800, 0x4e00, 0x10ffff, 0x1f600]
+WHOLE = ["a\nb: clean", "ok\nclean: clean", "x\x1b[31mred\x1b[0m", "\"quoted\"", "\"", "\"\"", "in \"the\" middle", "back\\slash", "\\n", "\\u000a", "\"\\u000a\"",
+         "\r", "tab\tbed", "\x85next", "\xc2\x9b", "\u202eright", "a b", "é\n", "\x7f\x80\x9f\xa0", "ü" * 40 + "\n", "a:1:2: found", "\"a\" "]
+
+
+def names():
+    """Names of files: no slash, and neither `-` nor an option."""
+    found = [text for code in CODES for text in (chr(code), f"a{chr(code)}b", f"{chr(code)}\u00c2")] + WHOLE
+    return [it for it in dict.fromkeys(found) if "/" not in it and it not in (".", "..") and not it.startswith("-")]
+
+
+def shown(name):
+    """The name as it has to be told: by Unicode's table of what is a control character."""
+    if not any(unicodedata.category(letter) == "Cc" for letter in name) and not name.startswith('"'):
+        return name
+    return quoted(name)
+
+
+def quoted(name):
+    return '"' + "".join(f"\\u{ord(letter):04x}" if unicodedata.category(letter) == "Cc" else f"\\{letter}" if letter in '"\\' else letter for letter in name) + '"'
+
+
+def read_back(told):
+    """The name that is told so."""
+    return json.loads(told) if told.startswith('"') else told
+
+
+class Tests:
+    same = staticmethod(same)
+
+    def __init__(self, program, room):
+        self.program, self.room = program, room
+
+    def run(self, *words):
+        ran = subprocess.run([self.program, *words], cwd=self.room, stdin=subprocess.DEVNULL, capture_output=True)
+        return ran.returncode, ran.stdout.decode(), ran.stderr.decode()
+
+    def told(self, what, words, status, output, errors):
+        """Looks at what both streams begin with, and at that nothing of them is a control character."""
+        found = self.run(*words)
+        self.same(f"what is told of {what}", (found[0], found[1][:len(output)], found[2][:len(errors)]), (status, output, errors))
+        for text in found[1:]:
+            odd = [letter for letter in text.replace("\n", "") if unicodedata.category(letter) == "Cc"]
+            self.same(f"control characters in what is told of {what}", odd, [])
+
+
+def put(path, name):
+    with open(f"{TOP}/{name}", "rb") as file, open(path, "wb") as copy:
+        copy.write(file.read())
+
+
+def of_one(tests, name):
+    """A name of a session that is refused, of a file that is not there, and of a certificate that does not fit."""
+    told = shown(name)
+    tests.same(f"the name {told} read back", read_back(told), name)
+    tests.told(f"a refused session {told}", ("audit", f"refused/{name}"), 1, "session-text line 7\n", f"{shown(f'refused/{name}')}:7:5: found ")
+    tests.told(f"a refused session {told} in full", ("explain", f"refused/{name}"), 1, "session-text line 7\n", f"{shown(f'refused/{name}')}:7:5: found ")
+    os.chdir(f"{tests.room}/refused")
+    here = subprocess.run([tests.program, "certify", name], stdin=subprocess.DEVNULL, capture_output=True)
+    tests.same(f"a refused session {told} here", (here.returncode, here.stderr.decode().startswith(f"{told}:7:5: found ")), (1, True))
+    for words in (("audit",), ("explain",), ("draw",), ("steps", f"{TOP}/examples/lost-and-repeated/script")):
+        gone = subprocess.run([tests.program, *words, f"{name}gone"], stdin=subprocess.DEVNULL, capture_output=True)
+        tests.same(f"{words[0]} of no file {told}", (gone.returncode, gone.stdout, gone.stderr.decode()), (3, b"", f"file {shown(f'{name}gone')}\n"))
+    tests.told(f"a certificate {told}", ("check", f"{TOP}/{MISFIT}/session", f"misfit/{name}"), 1, "page line 4\n", f"{shown(f'misfit/{name}')}:4: found ")
+
+
+def of_several(tests, found):
+    """Lists of sessions under these names: a line for each, and an object for each, from which the names are read back."""
+    words = [f"{kind}/{name}" for kind, name in itertools.product(("clean", "faulty"), found)]
+    status, output, errors = tests.run("audit", *words)
+    line = {"clean": "clean", "faulty": "faulty line 13 early"}
+    wanted = [f"{shown(word)}: {line[word.partition('/')[0]]}" for word in words]
+    tests.same("the list of sessions", (status, output.split("\n"), errors), (1, [*wanted, f"{len(found)} of {len(words)} sessions are clean", ""], ""))
+    told = [read_back(it.rpartition(": ")[0]) for it in output.split("\n")[:len(words)]]
+    tests.same("the names in the list", told, words)
+    for option in ((), ("--all",), ("--complete",), ("--quiet",)):
+        alone = {kind: json.loads(tests.run("audit", "--format", "json", *option, f"{TOP}/{EXAMPLES[kind]}")[1]) for kind in ("clean", "faulty")}
+        status, output, errors = tests.run("audit", "--format", "json", *option, *words)
+        objects = [json.loads(it, object_pairs_hook=list) for it in output.splitlines() if it]
+        tests.same(f"the objects of sessions with {option}", [it[0] for it in objects], [("file", word) for word in words])
+        tests.same(f"the rest of the objects with {option}", [json.loads(it, object_pairs_hook=dict) | {"file": None} for it in output.splitlines()],
+                   [alone[word.partition("/")[0]] | {"file": None} for word in words])
+        lines = output.split("\n")
+        tests.same(f"the texts of the objects with {option}", [it.startswith('{"file":' + quoted(word) + ',"verdict":') for it, word in zip(lines, words)], [True] * len(words))
+        tests.same(f"how many lines with {option}", (status, len(lines), errors), (1, len(words) + 1, ""))
+    one = tests.run("audit", "--format", "json", words[0])[1]
+    tests.same("the object of one session", one.startswith('{"verdict":"clean"'), True)
+
+
+@pytest.mark.cases(4445)
+def test_names(program, room, monkeypatch):
+    monkeypatch.chdir(room)
+    tests = Tests(program, room)
+    for kind, source in (*EXAMPLES.items(), ("misfit", f"{MISFIT}/certificate")):
+        os.mkdir(f"{room}/{kind}")
+        for name in names():
+            put(f"{room}/{kind}/{name}", source)
+    for name in names():
+        of_one(tests, name)
+    of_several(tests, names())
+    # No two names are told alike.
+    same("how many names are told", len({shown(name) for name in names()}), len(names()))

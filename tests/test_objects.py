@@ -1,0 +1,177 @@
+"""What audits, checks and explanations write as objects of JSON, beside the lines that they write of the same texts, and `--quiet`.
+
+The texts are those of the example folders and of the test cases, with and without `--complete`. Of each answer in lines of text
+an object is made here, by docs/FORMATS.md and the session's own lines; the program has to write that object, on one line with no
+space, with the same status and the same words on standard error. The object of an explanation is that of the audit with records, each
+of a kind that its role has, and named in the words of the explanation.
+"""
+import glob
+import itertools
+import json
+import os
+import subprocess
+
+import pytest
+from cases import same
+
+from session_text import SessionText
+
+TOP = os.path.dirname(os.path.dirname(os.path.realpath(__file__)))
+
+# What names the page of a record of these words, by its place among the record's fields.
+PAGE_FIELD = {"r": 2, "w": 2, "send": 1, "place": 1, "zero": 1}
+
+
+# What the first word of a record of each role is, where the role says it.
+ROLES = {
+    "changed": ("w", "z"), "halt": ("halt",), "sent": ("send",), "delivered": ("down",), "taken": ("got", "pull"),
+    "placed": ("place", "zero"), "placed-again": ("place", "zero"), "look": ("see",), "touch": ("r", "w", "z"), "resume": ("resume",), "faulty": None, "waits": None,
+}
+
+
+def record_of(session, line):
+    """The log and the number of the record at a line of a session's text, and the page that it is of."""
+    for log, records in session.logs.items():
+        first = session.line(log, 0) if records else 0
+        if records and first <= line < first + len(records):
+            words = records[line - first].split(" ")
+            field = PAGE_FIELD.get(words[0])
+            return {"log": log, "record": line - first}, field and int(words[field])
+    raise ValueError(f"no record at line {line}")
+
+
+def runs_of(lines):
+    """The runs among the lines of a report or a certificate."""
+    return [[word, int(count)] for key, word, count in (line.split(" ") for line in lines if line.startswith("run "))]
+
+
+def found_runs(session):
+    """The runs of the found order, as far as it goes."""
+    return [[log, len(list(names))] for log, names in itertools.groupby(session.found_order(), key=lambda name: name[0])]
+
+
+def incomplete(session, words):
+    """The object of a session that lacks something."""
+    if words[0] == "page":
+        return {"verdict": "incomplete", "missing": "page", "page": int(words[1])}
+    if words[0] == "line":
+        line = int(words[1])
+        return {"verdict": "incomplete", "missing": "placement", "line": line, **record_of(session, line)[0]}
+    return {"verdict": "incomplete", "missing": words[0]}
+
+
+def object_of(text, session_bytes):
+    """The object of an answer in lines. The runs of a knot, which stand in no line, are those of a slow model."""
+    lines = text.decode().splitlines()
+    words = lines[0].split(" ")
+    verdict = {"verdict": words[0]}
+    if words[0] in ("yes", "pages"):
+        return verdict
+    if words[0] == "clean":
+        return {**verdict, "runs": runs_of(lines)}
+    if words[0] in ("session-text", "certificate-text", "runs", "page"):
+        return {**verdict, "line": int(words[2])}
+    session = SessionText(session_bytes.decode())
+    if words[0] == "incomplete":
+        return incomplete(session, words[1:])
+    line = int(words[2])
+    record, page = record_of(session, line)
+    found = {**verdict, "line": line, **record}
+    if words[0] == "knot":
+        return {**found, "runs": found_runs(session)}
+    found["reason"] = words[3]
+    return found if words[0] == "shape" else {**found, "page": page, "runs": runs_of(lines)}
+
+
+class Tests:
+    same = staticmethod(same)
+
+    def __init__(self, program, room):
+        self.program, self.room = program, room
+        self.seen, self.roles = set(), set()
+
+    def ran(self, *words):
+        child = subprocess.run([self.program, *words], cwd=self.room, stdin=subprocess.DEVNULL, capture_output=True)
+        return child.returncode, child.stdout, child.stderr
+
+    def one(self, what, words, session_bytes):
+        """The object of an answer, and its first line alone."""
+        status, text, errors = self.ran(*words)
+        if words[0] == "audit":
+            self.same(f"--quiet of {what}", self.ran("audit", "--quiet", *words[1:]), (status, text.splitlines(keepends=True)[0], errors))
+        given, output, told = self.ran(words[0], "--format", "json", *words[1:])
+        self.same(f"the status and the errors of {what}", (given, told), (status, errors))
+        if words[0] == "audit":
+            self.same(f"--quiet of the object of {what}", self.ran("audit", "--quiet", "--format", "json", *words[1:]), (given, output, told))
+        found = json.loads(output)
+        self.seen.add((found["verdict"], found.get("reason") or found.get("missing")))
+        self.same(f"the line of {what}", output.decode(), json.dumps(found, separators=(",", ":")) + "\n")
+        self.same(f"the object of {what}", list(found.items()), list(object_of(text, session_bytes).items()))
+
+    def story(self, what, session_bytes):
+        """The object of an explanation, beside that of the audit and the words."""
+        status, output, errors = self.ran("explain", "--format", "json", "session")
+        report = json.loads(self.ran("audit", "--format", "json", "session")[1])
+        words = self.ran("explain", "session")
+        self.same(f"the status of the story of {what}", status, words[0])
+        found = json.loads(output)
+        self.same(f"the line of the story of {what}", output.decode(), json.dumps(found, separators=(",", ":")) + "\n")
+        records = found.pop("records", [])
+        self.same(f"the story of {what}", list(found.items()), list(report.items()))
+        if not records:
+            return
+        session, told = SessionText(session_bytes.decode()), words[1].decode()
+        for record in records:
+            line, log, n = (record[name] for name in ("line", "log", "record"))
+            self.same(f"the line of {record} of {what}", session.line(log, n), line)
+            kinds = ROLES[record["role"]]
+            self.same(f"the kind of {record} of {what}", kinds is None or session.logs[log][n].split(" ")[0] in kinds, True)
+            self.roles.add(record["role"])
+            if record["role"] != "delivered":
+                self.same(f"the name of {record} of {what}", f"line {line} ({log} {n})" in told.replace("\nLine ", "\nline "), True)
+
+    def write(self, name, text):
+        with open(f"{self.room}/{name}", "wb") as file:
+            file.write(text)
+
+    def session(self, what, text):
+        self.write("session", text)
+        for more in ((), ("--complete",)):
+            self.one(f"{what} {' '.join(more)}", ["audit", *more, "session"], text)
+        self.story(what, text)
+
+    def pair(self, what, text, certificate):
+        self.write("session", text)
+        self.write("certificate", certificate)
+        for more in ((), ("--complete",)):
+            self.one(f"{what}, with its certificate {' '.join(more)}", ["check", *more, "session", "certificate"], text)
+
+
+def texts(folder):
+    """The session and the certificate of a folder, where it has them."""
+    found = []
+    for name in ("session", "certificate"):
+        path = f"{folder}/{name}"
+        found.append(open(path, "rb").read() if os.path.isfile(path) else None)
+    return found
+
+
+@pytest.mark.quick
+@pytest.mark.cases(5600)
+def test_objects(program, room):
+    tests = Tests(program, room)
+    for folder in sorted(glob.glob(f"{TOP}/examples/*") + glob.glob(f"{TOP}/tests/cases/*")):
+        session, certificate = texts(folder)
+        what = os.path.relpath(folder, TOP)
+        if session is not None and len(session) < 1_000_000:
+            tests.session(what, session)
+            if certificate is not None:
+                tests.pair(what, session, certificate)
+    reasons = {reason for verdict, reason in tests.seen if verdict == "faulty"}
+    same("the faults that were met", sorted(reasons), ["altered", "early", "given", "over", "read", "stale", "twice", "unfit"])
+    verdicts = {verdict for verdict, _ in tests.seen}
+    every = ["certificate-text", "clean", "faulty", "incomplete", "knot", "page", "pages", "runs", "session-text", "shape", "yes"]
+    same("the verdicts that were met", sorted(verdicts), every)
+    missing = {reason for verdict, reason in tests.seen if verdict == "incomplete"}
+    same("the roles that were met", sorted(tests.roles), sorted(ROLES))
+    same("what was missing", sorted(missing), ["all", "done", "halt", "page", "placement", "resume", "returned"])

@@ -1,0 +1,112 @@
+"""Two options together mean what both say, or are a usage fault: no part of what is asked is dropped. Each pair that a command has
+is given, in both orders.
+
+Over a session that is clean and complete, one that is clean and lacks something, faulty ones, one of a wrong shape, a knot and one
+that is refused. What each option says alone is tested elsewhere; here the answer with two is compared with what follows from the
+answers with one.
+"""
+import itertools
+import json
+import os
+import re
+import subprocess
+
+import pytest
+from cases import count, same
+
+TOP = os.path.dirname(os.path.dirname(os.path.realpath(__file__)))
+SESSIONS = [f"{TOP}/{name}" for name in ("examples/handover/session", "examples/early-access/session", "examples/stale-page/session",
+                                         "tests/cases/complete-pages-without-the-rest/session", "tests/cases/audit-all/session",
+                                         "tests/cases/audit-all-wrong-shape/session", "tests/cases/object-of-what-is-missing/session")]
+WHOLE, PAGES, ALL, QUIET, JSON = ("--complete",), ("--complete-pages",), ("--all",), ("--quiet",), ("--format", "json")
+PAGE, LINE = ("--page", "0"), ("--line", "9")
+MORE = 1000
+
+
+def first_line(text):
+    return text.split("\n")[0]
+
+
+class Tests:
+    def __init__(self, program, room):
+        self.program, self.table = program, f"{room}/table"
+        self.lines = ("--lines", self.table)
+        with open(self.table, "w", encoding="ascii") as file:
+            file.writelines(f"{n + MORE}\n" for n in range(1, 400))
+
+    def run(self, *words):
+        done = subprocess.run([self.program, *words], stdin=subprocess.DEVNULL, capture_output=True, text=True, timeout=60)
+        return done.returncode, done.stdout, done.stderr
+
+    def refused(self, words):
+        """Words that clash: nothing is answered, and what is wrong is told with the names of the options."""
+        status, output, errors = self.run(*words)
+        same(" ".join(words), (status, output, errors[:7]), (2, "", "error: "))
+        for option in (word for word in words if word.startswith("--")):
+            count(option in errors, f"{' '.join(words)} does not tell of {option}")
+
+    def moved(self, text, mark):
+        return re.sub(rf"(?<={mark})\d+", lambda found: str(int(found[0]) + MORE), text)
+
+    def together(self, command, one, other, names):
+        """What a command answers with both options, by what it answers with one. The first is the one that comes first below."""
+        alone = {each: self.run(command, *each, *names)[:2] for each in (one, other)}
+        if one in (WHOLE, PAGES):
+            if other == PAGES:
+                return alone[WHOLE]
+            lacking, plain = alone[one], alone[other]
+            if plain[0] != 0 or lacking[0] == 0:
+                return plain
+            if other == self.lines:
+                return lacking[0], self.moved(lacking[1], r"\b[Ll]ine ")
+            if other != JSON:
+                return lacking
+            word = first_line(lacking[1]).split(" ")
+            return 1, {"verdict": "incomplete", "missing": "placement" if word[1] == "line" else word[1]}
+        if (one, other) == (ALL, JSON):
+            pages = re.findall(r"^page (\d+) line (\d+) (.+)$", alone[ALL][1], re.M)
+            told = json.loads(alone[JSON][1])
+            if told["verdict"] in ("clean", "faulty"):
+                told["pages"] = [{"page": int(page), "line": int(line), "reason": reason} for page, line, reason in pages]
+            return alone[JSON][0], told
+        if (one, other) == (QUIET, JSON):
+            return alone[JSON]
+        if other == self.lines:
+            status, text = alone[one]
+            return status, self.moved(text, '"line":' if one == JSON else r"\b[Ll]ine ")
+        raise ValueError((command, one, other))
+
+    def pair(self, command, one, other, names):
+        want = self.together(command, one, other, names)
+        for words in ([command, *one, *other, *names], [command, *other, *one, *names], [command, *names, *one, *other]):
+            got = self.run(*words)[:2]
+            if isinstance(want[1], dict):
+                told = json.loads(got[1])
+                got = got[0], {key: told[key] for key in want[1]} if want[1].keys() <= told.keys() else told
+            same(" ".join(words), got, want)
+
+
+@pytest.mark.quick
+@pytest.mark.cases(650)
+def test_options(program, room):
+    tests = Tests(program, room)
+    clashes = {"audit": {(ALL, QUIET)}, "explain": {(PAGE, LINE), (PAGE, JSON), (LINE, JSON)}, "check": set()}
+    options = {"audit": (WHOLE, PAGES, ALL, QUIET, JSON), "explain": (WHOLE, PAGES, PAGE, LINE, JSON, tests.lines), "check": (WHOLE, PAGES, JSON)}
+    for session, command in itertools.product(SESSIONS, options):
+        names = [session]
+        if command == "check":
+            names.append(f"{room}/certificate")
+            with open(names[1], "w", encoding="ascii") as file:
+                file.write(tests.run("certify", session)[1])
+        for one, other in itertools.combinations(options[command], 2):
+            if (one, other) in clashes[command]:
+                tests.refused([command, *one, *other, *names])
+                tests.refused([command, *names, *other, *one])
+            else:
+                tests.pair(command, one, other, names)
+    tests.refused(["audit", *ALL, *SESSIONS])
+    lines = tests.run("audit", *SESSIONS)[:2]
+    same("the first lines of several sessions", tests.run("audit", *QUIET, *SESSIONS)[:2], lines)
+    objects = "".join(tests.run("audit", *ALL, *JSON, name)[1] for name in SESSIONS)
+    told = [json.loads(line) for line in tests.run("audit", *ALL, *JSON, *SESSIONS)[1].splitlines()]
+    same("the objects of several sessions", [{key: it[key] for key in it if key != "file"} for it in told], [json.loads(line) for line in objects.splitlines()])

@@ -1,0 +1,152 @@
+"""An output whose reader goes away is no fault: the status stays the one of the answer, and nothing is told of the output. An
+output that fails otherwise is one.
+
+Over each folder of examples/ and tests/cases/, with a reader that is gone at the start; in pipelines of a shell, as they
+stand in scripts; and with answers that are longer than a pipe holds, whose reader takes some of them.
+"""
+import os
+import subprocess
+
+import pytest
+from cases import right
+
+TOP = os.path.dirname(os.path.dirname(os.path.realpath(__file__)))
+
+# A session whose certificate has 65,536 pages: more than a pipe holds. Its guest reads a page at the target.
+LARGE = b"""postcopy-session 1
+pages 65536
+cells 1
+init 0
+guest 4
+halt
+resume 1
+see 3
+r 0 0 0 0
+source 3
+halted 0
+state
+send 0 0000000000000000
+link 2
+down 1
+down 2
+pager 4
+got 0
+ready
+got 1
+place 0 2 0000000000000000
+end
+"""
+
+# What a shell answers where each part of a pipeline counts: the program's status, since `head` has 0.
+PIPELINES = (
+    ("{program} certify large | head -1", 0, b"postcopy-certificate 1\n"),
+    ("{program} audit large | head -2", 0, b"clean\npostcopy-certificate 1\n"),
+    ("{program} audit large | grep -q '^clean'", 0, b""),
+    ("{program} audit early | head -1", 1, b"faulty line 9 early\n"),
+    ("{program} --help | head -0", 0, b""),
+)
+
+# A guest that reads its page with no look at a placement.
+EARLY = b"""postcopy-session 1
+pages 1
+cells 1
+init 1
+page 0 0000000000000005
+guest 3
+halt
+resume 1
+r 0 0 0 5
+source 2
+halted 0
+state
+link 1
+down 1
+pager 2
+got 0
+ready
+end
+"""
+
+
+def folders():
+    for kind in ("examples", "tests/cases"):
+        for name in sorted(os.listdir(f"{TOP}/{kind}")):
+            yield f"{TOP}/{kind}/{name}"
+
+
+def ran(program, folder, output):
+    """The status and the errors of a folder's words, with this output."""
+    with open(f"{folder}/args", encoding="utf-8") as file:
+        words = file.read().splitlines()
+    given = f"{folder}/stdin" if os.path.exists(f"{folder}/stdin") else os.devnull
+    with open(given, "rb") as file:
+        child = subprocess.run([program, *words], cwd=folder, stdin=file, stdout=output, stderr=subprocess.PIPE)
+    return child.returncode, child.stderr
+
+
+def with_no_reader(program, folder):
+    reader, writer = os.pipe()
+    os.close(reader)
+    try:
+        return ran(program, folder, writer)
+    finally:
+        os.close(writer)
+
+
+def is_of_several(folder):
+    """Whether a folder's words name several sessions: why one of them is refused is told as it is read, before the answer is written."""
+    with open(f"{folder}/args", encoding="utf-8") as file:
+        words = file.read().splitlines()
+    return words[:1] == ["audit"] and sum(os.path.exists(f"{folder}/{word}") for word in words[1:]) > 1
+
+
+def wrong_folder(program, folder):
+    """What is wrong with a folder's answer where its reader is gone, or its output is full."""
+    plain, gone = ran(program, folder, subprocess.DEVNULL), with_no_reader(program, folder)
+    if gone != plain:
+        return f"{folder}: {gone} with no reader, and {plain} with one"
+    with open("/dev/full", "wb") as full:
+        found = ran(program, folder, full)
+    told = plain[1] if is_of_several(folder) else b""
+    wanted = (3, told + b"output\n") if plain[0] < 2 else plain
+    return None if found == wanted else f"{folder}: {found} on a full disk, not {wanted}"
+
+
+def wrong_pipeline(program, room, line, status, output):
+    words = ["bash", "-o", "pipefail", "-c", line.format(program=f"'{program}'")]
+    child = subprocess.run(words, cwd=room, stdin=subprocess.DEVNULL, capture_output=True)
+    found = (child.returncode, child.stdout, child.stderr)
+    return None if found == (status, output, b"") else f"{line}: {found}, not {(status, output)}"
+
+
+def wrong_taking(program, room, takes):
+    """What is wrong where a reader takes so many bytes of a long answer and goes away."""
+    words = [program, "certify", f"{room}/large"]
+    child = subprocess.Popen(words, stdin=subprocess.DEVNULL, stdout=subprocess.PIPE, stderr=subprocess.PIPE)
+    taken = child.stdout.read(takes)
+    child.stdout.close()
+    errors = child.stderr.read()
+    found = (child.wait(), len(taken), errors)
+    return None if found == (0, takes, b"") else f"a reader that takes {takes} bytes: {found}"
+
+
+@pytest.fixture
+def texts(room):
+    for name, text in (("large", LARGE), ("early", EARLY)):
+        with open(f"{room}/{name}", "wb") as file:
+            file.write(text)
+    return room
+
+
+@pytest.mark.cases(355)
+def test_folders(program):
+    for folder in folders():
+        right(wrong_folder(program, folder))
+
+
+@pytest.mark.cases(len(PIPELINES) + 3)
+def test_pipelines(program, texts):
+    for pipeline in PIPELINES:
+        right(wrong_pipeline(program, texts, *pipeline))
+    for takes in (0, 1, 70000):
+        right(wrong_taking(program, texts, takes))

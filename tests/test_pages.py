@@ -1,0 +1,91 @@
+"""Whether what the pages say is so: README.md, CONTRIBUTING.md, and each page of docs/.
+
+Each command of a `console` block is run, in a folder of its own for each page, and what it writes is compared with what the page
+shows below it, where a line `...` stands for any lines. `python3 NAME.py` runs the last block of Python above it. No variable is
+set but PATH, HOME and what the page sets. What is not run is named here, with the reason.
+
+Each link has to lead somewhere. Each crate, function, clause, definition and file that a page names has to be there. Each count
+has to be that of the tree, and each sum that of its column. Each answer of the program has to stand in docs/ANSWERS.md and in the
+man page, and what tools/pages writes has to be up to date. What else was once said and untrue is looked for in so many words.
+"""
+import os
+import re
+import subprocess
+import tempfile
+
+import page_claims
+import page_names
+import pytest
+from cases import count, right
+from page_sources import Sources
+from page_text import TOP, commands_of, page_names as names_of_pages, read
+
+# The beginnings of commands that are not run, and why.
+NOT_RUN = {
+    "tests/": "these tests are among them",
+    "tools/page ": "the gate does it",
+    "rt ": "it proves a crate, which takes minutes",
+    "cd crates/": "it goes with the proof of a crate",
+    "tools/install": "test_release.py does it",
+    "tools/release": "test_release.py does it",
+    "cc ": "test_library.py does it",
+    "LD_LIBRARY_PATH=": "test_library.py does it",
+    "apt-get ": "it installs packages",
+    "recorders/qemu/": "it moves a guest of QEMU, which takes minutes",
+    "recorders/criu/": "it makes a root of another release of Debian, or moves a process by CRIU in one",
+}
+
+
+def is_shown(shown, lines):
+    """Whether these lines are what is shown, where a line `...` stands for any lines."""
+    if "..." not in shown:
+        return shown == lines
+    at = shown.index("...")
+    after = shown[at + 1:]
+    return shown[:at] == lines[:at] and any(is_shown(after, lines[tail:]) for tail in range(at, len(lines) + 1))
+
+
+def run_commands(page, program):
+    """Runs the commands of a page. Yields of each what is wrong, or None."""
+    with tempfile.TemporaryDirectory() as work:
+        os.symlink(program, f"{work}/postcopy")
+        for folder in ("c", "crates", "docs", "examples", "python", "recorders", "share", "tests", "tools"):
+            if os.path.isdir(f"{TOP}/{folder}"):
+                os.symlink(f"{TOP}/{folder}", f"{work}/{folder}")
+        for command, shown, script in commands_of(read(page)):
+            if command.startswith(tuple(NOT_RUN)):
+                continue
+            file = re.fullmatch(r"(?:PYTHONPATH=python )?python3 (\w+\.py)", command)
+            if file:
+                with open(f"{work}/{file[1]}", "w", encoding="utf-8") as opened:
+                    opened.write(script)
+            env = {name: os.environ[name] for name in ("PATH", "HOME") if name in os.environ}
+            done = subprocess.run(["bash", "-c", command], cwd=work, env=env, text=True,
+                                  stdin=subprocess.DEVNULL, stdout=subprocess.PIPE, stderr=subprocess.STDOUT, timeout=60)
+            is_right = is_shown(shown, done.stdout.splitlines())
+            yield None if is_right else f"$ {command}\nthe page shows:\n" + "\n".join(shown) + "\nand it wrote:\n" + done.stdout
+
+
+pytestmark = pytest.mark.quick
+
+
+@pytest.mark.cases(50)
+def test_commands(program):
+    for name in names_of_pages():
+        for wrong in run_commands(name, program):
+            right(wrong, name)
+
+
+@pytest.mark.cases(6000)
+def test_claims():
+    pages, sources = {name: read(name) for name in names_of_pages()}, Sources()
+    for wrong in (*page_names.wrong(pages, sources), *page_claims.wrong(pages, sources)):
+        count(False, wrong)
+    for _ in range(page_names.looked_up):
+        count(True, "")
+
+
+def test_written():
+    """What tools/pages writes is up to date."""
+    done = subprocess.run([f"{TOP}/tools/pages", "--check"], stdout=subprocess.PIPE, stderr=subprocess.STDOUT, text=True)
+    assert (done.stdout, done.returncode) == ("", 0)

@@ -1,0 +1,273 @@
+"""Draws the sessions of the example folders, and many more, and compares each picture with the session's order.
+
+Of some sessions a page is used often before it goes wrong. The further ones are recorded by random schedules of events, of half of them the lane carries some packets, and many are
+changed at a record, so that they have faults of every kind; others are small, and place pages behind a use as well as before
+it. They are the same in each run. Where `audit` refuses a session's
+text, `draw` has to say the same line. Else it has to write a well-formed picture with no script, of at most 203 rows, in which
+each record of the order has its place in one row, in the order's sequence: of the order that the report has, of the found order
+as far as it goes where the report has none, and of the runs before the first bad one where runs are given. The heading has to
+be the report's first line, and then what `explain` says first, and to say which order that is, and whether all show the fault. The row
+of the faulty record has to be marked, and that of the record which it concerns by its reason, which `explain` has to name;
+behind the order stand the next of each log, these two where it has not come to them, and a circle with its arrows. Each record's
+row has one title, and its label in a box that has room for it. Which records have a row of their own, and no fold, is what
+picture_rows.py says; where each box, arrow, stub, column and sign stands, how it is painted, and what the legend says of it, is
+what picture_shapes.py wants of the order.
+"""
+import glob
+import os
+import random
+import re
+import xml.etree.ElementTree as ElementTree
+
+import pytest
+import test_random_schedules as schedules
+from cases import right
+from check_model import Session, run_not_walked
+from picture_model import Told, is_in_every_order, sentences_of
+from picture_rows import own_rows
+from picture_shapes import shown_wrongly
+from session_text import LOGS, SessionText
+from small_sessions import small_session
+from steps_model import recorded
+from test_later_releases import over_the_lane
+from test_shown_orders import Program
+from world_model import REASONS
+
+TOP = os.path.dirname(os.path.dirname(os.path.abspath(__file__)))
+MOST_ROWS = 203
+RECORDED = 150
+SVG = "{http://www.w3.org/2000/svg}"
+
+
+def runs_of(text):
+    return [(log, int(count)) for log, count in re.findall(r"^run (\w+) (\d+)$", text, re.M)]
+
+
+def bad_run(session, runs):
+    """The place of the first of the runs that cannot be taken, or their number where records are left, or None."""
+    return run_not_walked(Session(session), [("run", *run) for run in runs])
+
+
+def order_of(session, report, runs):
+    """The records that are to be drawn, in their order: along the runs, if any are given, and else that of the report."""
+    records, head = SessionText(session), report.split("\n", 1)[0]
+    if runs is None and not head.startswith(("faulty", "clean")):
+        return records.found_order()
+    runs = runs_of(report if runs is None else runs)
+    return records.in_order(runs[:bad_run(session, runs)])
+
+
+def shown_order(told, text, runs, order):
+    """What the heading has to say of the order."""
+    session = told.session
+    if runs is not None:
+        bad = bad_run(text, runs_of(runs))
+        stop = "" if bad is None else f", which are no merging: up to line {bad + 3} of their text, which cannot be taken"
+        return f"Along the given runs{stop}"
+    if told.head[0] == "faulty":
+        return "It goes wrong in every order, as in this one" if is_in_every_order(told) else "In an order in which it goes wrong"
+    is_whole = len(order) == sum(map(len, session.logs.values()))
+    return "In the found order" + ("" if is_whole else ", as far as it goes")
+
+
+def headed_wrongly(told, shown, picture):
+    """What is wrong with the heading of a picture, or None: the report's first line, what is told first, which order, and how much."""
+    first, *found = [line.text for line in picture.findall(SVG + "text")]
+    wanted = told.report.split("\n", 1)[0] + "\n"
+    if [picture.find(SVG + "title").text, first] != [wanted] * 2:
+        return f"the heading {first!r}"
+    sentences = " ".join(sentences_of(told.report, told.told))
+    if " ".join(found[:-2]) != sentences:
+        return f"the heading {found[:-2]}, not {sentences!r}"
+    return None if found[-2] == shown else f"the heading {found[-2]!r}, not {shown!r}"
+
+
+def rows_of(picture):
+    return [group for group in picture.iter(SVG + "g") if (group.get("class") or "").startswith("row")]
+
+
+def is_behind(row):
+    return "behind" in row.get("class").split()
+
+
+def name_of(row):
+    """The line of a row's record, and its log and place."""
+    line, log, place = re.match(r"line (\d+) \((\w+) (\d+)\): ", row.find(SVG + "title").text).groups()
+    return int(line), (log, int(place))
+
+
+def ordered_wrongly(records, order, picture):
+    """What is wrong with the rows of a picture beside its order, or None."""
+    at, receipts = 0, 0
+    rows = [row for row in rows_of(picture) if not is_behind(row)]
+    if len(rows) > MOST_ROWS:
+        return f"{len(rows)} rows"
+    for row in rows:
+        titles = row.findall(SVG + "title")
+        if "fold-row" in row.get("class"):
+            text = row.find(SVG + "text").text
+            counts = {log: int(count) for log, count in re.findall(rf"({'|'.join(LOGS)}) (\d+)", text)}
+            count = int(text.split()[0])
+            part = order[at : at + count]
+            if count < 2 or len(part) != count or {log: sum(name[0] == log for name in part) for log in LOGS if any(name[0] == log for name in part)} != counts:
+                return f"a fold '{text}' of {part}"
+            at += count
+            continue
+        if len(titles) != 1:
+            return f"{len(titles)} titles"
+        line, name = name_of(row)
+        if at >= len(order) or name != order[at] or line != records.line(*order[at]):
+            return f"a row of {name} in line {line}, not of {order[at:at + 1]}"
+        receipts += records.named(*order[at]) is not None
+        at += 1
+    if at != len(order):
+        return f"{at} of {len(order)} records"
+    arrows = arrows_of(picture, "arrow") + arrows_of(picture, "arrow-page")
+    return None if arrows == receipts else f"{arrows} arrows to {receipts} receipts"
+
+
+def arrows_of(picture, kind):
+    """How many arrows of a kind there are, but for the legend's."""
+    legend = list(picture.find(f".//{SVG}g[@class='legend']").iter(SVG + "line"))
+    return sum(1 for line in picture.iter(SVG + "line") if line.get("class") == kind and line not in legend)
+
+
+def behind_wrongly(told, order, picture):
+    """What is wrong with the records behind the order, or None: the next of each log, the faulty one, what it concerns, and a circle."""
+    logs, taken = told.session.logs, {log: sum(name[0] == log for name in order) for log in LOGS}
+    left = {(log, taken[log]) for log in LOGS if taken[log] < len(logs[log])} | ({told.fault, told.concerned, *told.circle} - {None} - set(order))
+    wanted = sorted(left, key=lambda name: (LOGS.index(name[0]), name[1]))
+    found = [name_of(row)[1] for row in rows_of(picture) if is_behind(row)]
+    if found != wanted:
+        return f"{found} behind the order, not {wanted}"
+    ties = arrows_of(picture, "arrow-tied")
+    return None if ties == len(told.circle) else f"{ties} arrows of a circle of {len(told.circle)}"
+
+
+def marked_wrongly(told, picture):
+    """What is wrong with the marks of the faulty record, or of a circle, and of the record that the fault concerns, or None."""
+    found = {mark: sorted(name_of(row)[1] for row in rows_of(picture) if mark in row.get("class").split()) for mark in ("faulty", "concerned")}
+    wanted = {"faulty": sorted({told.fault, *told.circle} - {None}), "concerned": sorted({told.concerned} - {None, told.fault})}
+    if found != wanted:
+        return f"{found} marked, not {wanted}"
+    untold = [name for name in found["concerned"] if not told.names(name)]
+    return f"{untold} marked, which `explain` does not name" if untold else None
+
+
+def boxed_wrongly(told, picture):
+    """What is wrong with the boxes and with the legend, or None."""
+    legend = picture.find(f".//{SVG}g[@class='legend']")
+    looks = set()
+    for row in rows_of(picture):
+        if "fold-row" in row.get("class"):
+            continue
+        number, label = (part.text for part in row.findall(f".//{SVG}tspan"))
+        box, (_, name) = row.find(SVG + "rect"), name_of(row)
+        looks.add(box.get("class"))
+        if (number, label) != (str(name[1]), told.label(name)):
+            return f"a box {number!r} {label!r} of {name}, not {told.label(name)!r}"
+        if 7 * (len(number) + len(label)) + 38 > int(box.get("width")):
+            return f"a box too narrow for {label!r}"
+    known = {box.get("class") for box in legend.iter(SVG + "rect")}
+    return None if known == looks else f"a legend of {known}, and boxes of {looks}"
+
+
+def kept_wrongly(told, records, order, picture):
+    """What is wrong with the records of the order that have a row of their own, or None."""
+    found = [name_of(row)[1] for row in rows_of(picture) if not is_behind(row) and "fold-row" not in row.get("class")]
+    wanted = own_rows(told, records, order)
+    more, missing = [name for name in found if name not in wanted], [name for name in wanted if name not in found]
+    return None if found == wanted else f"rows of {more} and none of {missing}"
+
+
+def drawn_wrongly(program, session, runs=None):
+    """What is wrong with the picture of a session, or None, and the kind of its report."""
+    report, _ = program.says("audit", session=session)
+    texts = {"session": session} if runs is None else {"session": session, "runs": runs}
+    answer, status = program.says("draw", **texts)
+    words = report.split("\n", 1)[0].split()
+    kind = " ".join(words[:1] + words[3:] * (words[0] == "faulty"))
+    if kind == "session-text":
+        return (None if (answer, status) == (report, 1) else f"status {status}"), kind
+    if status != 0 or "script" in answer.lower():
+        return f"status {status}, or a script", kind
+    try:
+        picture = ElementTree.fromstring(answer)
+    except ElementTree.ParseError as error:
+        return f"no well-formed text: {error}", kind
+    records, order = SessionText(session), order_of(session, report, runs)
+    explained, _ = program.says("explain", session=session)
+    told = Told(session, report, explained)
+    told.look_at({records.line(log, n): (log, n) for log in LOGS for n in range(len(records.logs[log]))})
+    shown = shown_order(told, session, runs, order)
+    return (headed_wrongly(told, shown, picture) or ordered_wrongly(records, order, picture) or behind_wrongly(told, order, picture)
+            or marked_wrongly(told, picture) or boxed_wrongly(told, picture) or kept_wrongly(told, records, order, picture)
+            or shown_wrongly(picture, told.session, lambda name: records.named(*name), told.circle)), kind
+
+
+def changed(rng, session):
+    """The session with one record changed, left out or moved."""
+    session = SessionText(session)
+    log = rng.choice([log for log in LOGS if session.logs[log]] or [None])
+    if log is None:
+        return session.text()
+    records = session.logs[log]
+    at = rng.randrange(len(records))
+    numbers = [n for n, word in enumerate(records[at].split()) if n and len(word) < 16]
+    how = rng.random()
+    if how < 0.5 and numbers:
+        words, n = records[at].split(), rng.choice(numbers)
+        words[n] = str(max(0, int(words[n]) + rng.choice((-1, 1, 2, -3))))
+        records[at] = " ".join(words)
+    elif how < 0.75 and at + 1 < len(records):
+        records[at], records[at + 1] = records[at + 1], records[at]
+    else:
+        del records[at]
+    return session.text()
+
+
+def used_often(text):
+    """The session, whose guest begins with many writes and reads of page 1."""
+    session, more = SessionText(text), ["w 0 1 0 5", "r 0 1 0 5"] * 60
+    session.logs["guest"][:0] = more
+    for log in ("source", "pager"):
+        for n, record in enumerate(session.logs[log]):
+            word, *numbers = record.split(" ")
+            if word in ("halted", "fault"):
+                session.logs[log][n] = f"{word} {int(numbers[0]) + len(more)}"
+    return session.text()
+
+
+def sessions():
+    for file in sorted(glob.glob(TOP + "/examples/*/session") + glob.glob(TOP + "/tests/cases/*/session")):
+        with open(file, encoding="latin-1") as text:
+            yield file[len(TOP) + 1 :], text.read()
+    for name in ("explain-stale-page", "explain-wrong-read", "explain-early-access", "explain-second-placement"):
+        with open(f"{TOP}/tests/cases/{name}/session", encoding="latin-1") as text:
+            yield f"{name}, a page used often", used_often(text.read())
+    rng = random.Random(20)
+    for n in range(RECORDED):
+        session = recorded(*schedules.random_schedule(n)).session()
+        if n % 2:
+            session = over_the_lane(rng, session)
+        yield f"schedule {n}", session
+        yield f"schedule {n}, changed", changed(rng, session)
+        yield f"schedule {n}, changed twice", changed(rng, changed(rng, session))
+        yield f"small session {n}", small_session(rng)
+
+
+@pytest.mark.slow
+@pytest.mark.cases(2150)
+def test_pictures(program, room):
+    kinds, asked = set(), Program(program, room)
+    for name, session in sessions():
+        found, kind = drawn_wrongly(asked, session)
+        kinds.add(kind)
+        right(found, name)
+        report, _ = asked.says("audit", session=session)
+        lines = re.findall(r"^run .*$", report, re.M)
+        for some in (lines, lines[:-1], lines[1:]) if len(lines) > 2 else ():
+            runs = "\n".join(["postcopy-runs 1", f"runs {len(some)}", *some, "end", ""])
+            right(drawn_wrongly(asked, session, runs)[0], f"{name}, along runs")
+    wanted = {"clean", "knot", "session-text", "shape", *(f"faulty {reason}" for reason in REASONS)}
+    assert not wanted - kinds, "no session comes out so"

@@ -1,0 +1,158 @@
+"""Migrations between two QEMUs of this machine, recorded and judged: each kind, and faults that have to be found.
+
+A verdict, or an end of a QEMU, other than expected is a failure; nothing is tried again, and the folder is kept. A few of the
+cases are run, and where QEMU is not installed it is installed, if that is possible within two minutes; where it is not, they are
+left out. So is a migration that this machine was too slow for, so that it did not come to what was planned. With --all each case is
+run, by the QEMU of --qemu, and what did not come to that is a failure; what is expected of a newer QEMU than 7.2 is told by its version.
+"""
+import json
+import os
+import re
+import shutil
+import subprocess
+import sys
+import tempfile
+import time
+
+import pytest
+
+TOP = os.path.dirname(os.path.dirname(os.path.abspath(__file__)))
+sys.path[:0] = [f"{TOP}/recorders/qemu", f"{TOP}/recorders"]
+import build
+from emulator import Emulator
+
+INSTALL_SECONDS = 120
+CLEAN, DONE = "clean, yes", "source completed, target completed"
+
+# A name, the words of `migrate`, and patterns of what the audit and what QEMU have to say.
+KINDS = [(kind, [kind, "--flush"], CLEAN, DONE) for kind in
+         ("live", "left", "cells", "wide", "paused", "processors", "preempt", "recovery", "preempt-recovery")]
+FAULTS = [
+    ("lost-write", ["lost-write"], "faulty line [0-9]+ read", DONE),
+    ("lost-write-flush", ["lost-write", "--flush"], CLEAN, DONE),
+    ("flip", ["live", "--flush", "--fault", "flip"], "faulty line [0-9]+ (read|altered)", DONE),
+    ("flip-end", ["live", "--flush", "--fault", "flip-end"], "faulty line [0-9]+ altered", DONE),
+    ("stale", ["live", "--flush", "--pages", "512", "--fault", "stale"], "faulty line [0-9]+ (read|altered)", DONE),
+    ("swap", ["live", "--flush", "--pages", "512", "--fault", "swap"], "faulty line [0-9]+ (read|altered)", DONE),
+    ("drop", ["live", "--flush", "--pages", "512", "--fault", "drop", "--after", "20000"], "faulty line [0-9]+ (early|read)", DONE),
+    ("keep-drop", ["live", "--flush", "--pages", "512", "--fault", "keep-drop", "--after", "20000"], "faulty line [0-9]+ (early|read)", DONE),
+    ("preflip", ["left", "--flush", "--fault", "preflip"], "faulty line [0-9]+ (read|altered)", DONE),
+    ("forget", ["recovery", "--flush", "--fault", "forget", "--skip", "0", "--after", "20000"], "faulty line [0-9]+ (early|read)", DONE),
+    ("early", ["live", "--flush", "--fault", "early"], "faulty line [0-9]+ (early|read)", DONE),
+]
+# Ends of QEMU, those of 7.2. What is left of the logs is judged; a target whose load has failed may start the guest before it ends.
+# That guest may have lost its own stack with the other pages, and then it tells what is no event.
+LEFT = "clean, yes|faulty line [0-9]+ (read|early)"
+ENDS = [
+    ("keep", ["live", "--flush", "--fault", "keep"], LEFT, "source postcopy-[a-z]*, target (ENDED|failed|postcopy-paused)"),
+    ("twice", ["live", "--flush", "--fault", "twice"], LEFT, "source postcopy-[a-z]*, target (ENDED|failed|postcopy-paused)"),
+    ("cut-behind-package", ["preempt", "--flush", "--cut", "-1"], LEFT, "source postcopy-paused, target ENDED"),
+    ("started-after-failed-load", ["recovery", "--flush", "--pages", "64", "--cpus", "2", "--writes", "15", "--pace", "20000", "--warm", "200",
+                                   "--pre-pages", "80", "--cut", "-1", "--linger", "100"],
+     f"{LEFT}|not judged: the guest's bytes .*", "source postcopy-(active|paused), target (ENDED|failed)"),
+    ("cut-behind-last-page", ["recovery", "--flush", "--pages", "64", "--cut", "55"], CLEAN, "source postcopy-active, target postcopy-paused"),
+]
+CASES = KINDS + FAULTS + ENDS
+# What a newer QEMU does in a case, from a version on: lost writes are gone, and the source starts its guest again.
+AGAIN = "shape line [0-9]+ both|incomplete returned"
+NEWER = {
+    "lost-write": [((10, 0), CLEAN, DONE)],
+    "cut-behind-last-page": [((10, 0), AGAIN, "source failed, target postcopy-paused")],
+    "cut-behind-package": [((11, 1), AGAIN, "source failed, target (HANGS|ENDED|failed|postcopy-paused)")],
+    "started-after-failed-load": [((11, 1), AGAIN, "source failed, target (ENDED|failed|postcopy-paused)")],
+}
+# What the name of each folder ends with: QEMU's options are cut at commas, its log's name has a percent sign for the process,
+# and a socket's path has at most 107 bytes.
+STRANGE = f", 100%s of = 'it' {'x' * 100}"
+IN_GATE = ("live", "left", "preempt", "preempt-recovery", "flip")
+
+pytestmark = pytest.mark.qemu
+
+
+def install():
+    """Installs what is missing. Answers whether it is there then."""
+    if not shutil.which("apt-get") or os.geteuid() != 0:
+        return False
+    until = time.monotonic() + INSTALL_SECONDS
+    for words in (["update"], ["install", "-y", "--no-install-recommends", *build.PACKAGES.split()]):
+        try:
+            done = subprocess.run(["apt-get", *words], stdout=subprocess.DEVNULL, stderr=subprocess.DEVNULL,
+                                  stdin=subprocess.DEVNULL, env=dict(os.environ, DEBIAN_FRONTEND="noninteractive"),
+                                  timeout=max(until - time.monotonic(), 1))
+        except subprocess.TimeoutExpired:
+            return False
+        if done.returncode:
+            return False
+    return True
+
+
+def what_is_missing(qemu, may_install):
+    """Words for what this machine lacks, or None."""
+    try:
+        build.require_tools()
+        Emulator(qemu)
+        return None
+    except build.Missing as fault:
+        missing = str(fault)
+    return what_is_missing(qemu, False) if may_install and install() else missing
+
+
+def too_slow(folder):
+    """Why a migration did not come to what was planned, where the machine was too slow for it."""
+    try:
+        with open(f"{folder}/outcome.json", encoding="utf-8") as file:
+            remarks = json.load(file)["remarks"]
+    except OSError:
+        return None
+    return next((it for it in remarks if re.match("gave up: pre-copy: completed|it took more than|[0-9]+ cut not reached", it)), None)
+
+
+def wanted_of(name, version, verdict, outcome):
+    """What a case has to come to, by a QEMU of this version."""
+    for since, newer_verdict, newer_outcome in NEWER.get(name, ()):
+        if version >= since:
+            verdict, outcome = newer_verdict, newer_outcome
+    return verdict, outcome
+
+
+def run(case, qemu, room, is_in_gate):
+    """Whether a case went as it should, or was left out, and a line that tells it."""
+    name, words, *wanted = case
+    verdict, outcome = wanted_of(name, Emulator(qemu).version, *wanted)
+    folder = f"{room}/{name}{STRANGE}"
+    began = time.monotonic()
+    done = subprocess.run([f"{TOP}/recorders/qemu/migrate", *words, "--qemu", qemu, "--quiet", folder], stdout=subprocess.PIPE, text=True)
+    said = dict(re.findall(r"^(QEMU|The audit) says: (.*)$", done.stdout, re.MULTILINE))
+    is_right = bool(re.fullmatch(verdict, said.get("The audit", "")) and re.fullmatch(outcome, said.get("QEMU", "")))
+    line = f"{said.get('The audit', 'no verdict')}; {said.get('QEMU', 'nothing of QEMU')}; {time.monotonic() - began:.1f} s"
+    if is_right:
+        shutil.rmtree(folder)
+        return True, f"{name}: {line}"
+    why = too_slow(folder) if is_in_gate else None
+    if why and not said.get("The audit", "").startswith("faulty"):
+        pytest.skip(why)
+    return False, f"failed: {name}: {line}\n  wanted {verdict}; {outcome}\n  kept in {folder}"
+
+
+@pytest.fixture(scope="module")
+def qemu(pytestconfig):
+    """The name of a QEMU that is there, with what its recorder needs."""
+    name = pytestconfig.getoption("--qemu")
+    is_all = pytestconfig.getoption("--all")
+    if missing := what_is_missing(name, not is_all):
+        (pytest.fail if is_all else pytest.skip)(missing)
+    build.build()
+    return name
+
+
+def pytest_generate_tests(metafunc):
+    cases = [it for it in CASES if metafunc.config.getoption("--all") or it[0] in IN_GATE]
+    metafunc.parametrize("case", cases, ids=[it[0] for it in cases])
+
+
+def test_qemu(qemu, program, pytestconfig, monkeypatch, case):
+    monkeypatch.setenv("POSTCOPY", program)
+    room = tempfile.mkdtemp(prefix="qemu-")
+    is_right, line = run(case, qemu, room, not pytestconfig.getoption("--all"))
+    assert is_right, line
+    shutil.rmtree(room)

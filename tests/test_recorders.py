@@ -1,0 +1,40 @@
+"""Tests of recorders/ that need neither QEMU nor CRIU: the parsers of what goes over their connections, the relays, the folders,
+what differs between versions, roots of other releases of Debian, sessions of records by their names, and kept recordings.
+
+Each kept recording has to become its session, byte for byte, and to have its verdict. And each fact that the conversion of
+a recording rests on is shown by a recording in which it is told wrong: that has to be found.
+"""
+import os
+import sys
+
+import pytest
+
+TOP = os.path.dirname(os.path.dirname(os.path.abspath(__file__)))
+sys.path[:0] = [f"{TOP}/recorders/tests", f"{TOP}/recorders/qemu", f"{TOP}/recorders/criu", f"{TOP}/recorders"]
+import campaign_test
+import check
+import criu_campaign_test
+import criu_programs_test
+import criu_test
+import criu_waiting_test
+import facts_test
+import folders_test
+import page_server_test
+import records_test
+import relay_test
+import roots_test
+import stream_test
+import versions_test
+
+
+# How many cases each has at least.
+LEAST = {
+    records_test: 12, roots_test: 21, stream_test: 35, relay_test: 45, folders_test: 37, campaign_test: 26, versions_test: 46, facts_test: 151,
+    page_server_test: 145, criu_campaign_test: 34, criu_programs_test: 13, criu_waiting_test: 28, criu_test: 57,
+}
+
+
+@pytest.mark.parametrize("module", [pytest.param(it, marks=pytest.mark.cases(least), id=it.__name__) for it, least in LEAST.items()])
+def test_recorders(program, monkeypatch, module):
+    monkeypatch.setenv("POSTCOPY", program)
+    module.run(check.Tests())

@@ -1,0 +1,213 @@
+"""Writes sessions from the traces of examples/recording and examples/recording-woken-early, and has them judged.
+
+Each folder's traces have to give its session, byte for byte, and the program its answers to that. The times in the traces
+have to be no matter. And each change of the traces, which is one thing that goes wrong in a migration, has to be found at
+the record that tells of it. Where the lane brings some of the packets, it has a trace too, and the session is of the second
+version; but for that it has to be the same, with the same entries in its certificate. And the C of docs/RECORDING.md has to
+compile.
+"""
+import os
+import re
+import subprocess
+import sys
+
+import pytest
+from cases import same
+
+from session_text import LOGS, SessionText, logs_of
+
+TOP = os.path.dirname(os.path.dirname(os.path.abspath(__file__)))
+RIGHT, EARLY = "examples/recording", "examples/recording-woken-early"
+SCRIPT = f"{TOP}/{RIGHT}/session_from_traces.py"
+
+# What goes wrong, the changes of the right traces (what stands in a trace just once, and what takes its place), and the first
+# line of the report.
+CHANGES = (
+    ("a page is sent as it was before the disk wrote to it", {
+        "source": [("a9 page frame=40002 sum=e3960d5b18af7c42", "a9 page frame=40002 sum=51e07c3b86d4f92a")],
+        "pager": [("of=p21 sum=e3960d5b18af7c42", "of=p21 sum=51e07c3b86d4f92a")],
+    }, "faulty line 34 stale"),
+    ("a page is changed on its way", {"pager": [("of=p13 sum=27b4e8135c90fa6d", "of=p13 sum=27b4e8135c90fa6c")]}, "faulty line 57 altered"),
+    ("a packet that comes late is placed over a write", {"pager": [("drop of=p19", "place frame=40001 of=p19 sum=27b4e8135c90fa6d")]}, "faulty line 61 twice"),
+    ("a write is lost", {"guest": [("g24 read actor=cpu0 frame=40001 sum=6ac5d90f3e8271b4", "g24 read actor=cpu0 frame=40001 sum=27b4e8135c90fa6d")]}, "faulty line 25 read"),
+    ("a released page is sent", {
+        "source": [("a9 page frame=40002 sum=e3960d5b18af7c42", "a9 page frame=40003 sum=0000000000000000")],
+        "pager": [("place frame=40002 of=p21 sum=e3960d5b18af7c42", "drop of=p21")],
+    }, "faulty line 34 given"),
+    ("a page that was written after its release is placed as zeros", {
+        "guest": [
+            ("g10 free actor=cpu1 frame=40003\n", "g10 free actor=cpu1 frame=40003\n0 g25 write actor=cpu1 frame=40003 sum=b00c55e2974af3d1\n"),
+            ("g23 read actor=cpu1 frame=40003 sum=0000000000000000", "g23 read actor=cpu1 frame=40003 sum=b00c55e2974af3d1"),
+        ],
+    }, "faulty line 60 unfit"),
+    ("a wake tells of what came only after it", {"guest": [("g17 woken actor=cpu0 pager=p15", "g17 woken actor=cpu0 pager=p18")]}, "knot line 19"),
+    ("a repeat is told as a second page", {"source": [("repeat of=a5", "page frame=40001 sum=27b4e8135c90fa6d")]}, "shape line 33 second-send"),
+    ("the source starts its guest again", {"source": [("a11 finish\n", "a11 finish\n0 a12 restart\n")]}, "shape line 37 both"),
+    ("nothing, seen through one page", {"guest": [("frames=40000-40003", "frames=40001-40001")]}, "clean"),
+    ("nothing, seen through one page, where a look shows a newer placement of another", {
+        "guest": [("frames=40000-40003", "frames=40000-40000"), ("look actor=disk0 frame=40000 pager=p11", "look actor=disk0 frame=40000 pager=p15")],
+    }, "clean"),
+)
+
+# The packets of the right traces that the lane may bring as well, which are those of the pages that were pushed: what the link's
+# trace and the pager's have of them, their places in the link's log, and the lane's trace.
+BY_THE_LANE = {
+    "link": [("09:31:03.002 t5 down source=a6\n", ""), ("09:31:03.034 t9 down source=a9\n", "")],
+    "pager": [("p10 packet link=t5", "p10 pushed lane=l1"), ("p21 packet link=t9", "p21 pushed lane=l2")],
+}
+CARRIED = (2, 6)
+LANE = "# The lane. Time: none.\n- l1 down source=a6\n- l2 down source=a9\n"
+LANE_CHANGES = (
+    ("nothing", {}, "clean"),
+    ("a page is changed on its way by the lane", {"pager": [("of=p10 sum=9d2c41f07ab35e68", "of=p10 sum=9d2c41f07ab35e69")]}, "faulty line 55 altered"),
+    ("the lane brings what the source did not send down", {"lane": [("l2 down source=a9", "l2 down source=a10")]}, "shape line 46 named"),
+)
+
+# What the C of docs/RECORDING.md takes for given.
+PRELUDE = """
+#include <linux/userfaultfd.h>
+#include <pthread.h>
+#include <postcopy_record.h>
+#include <sys/ioctl.h>
+extern int uffd;
+extern uint32_t placed_as[];
+extern postcopy_log *pager;
+extern pthread_mutex_t pager_lock;
+extern uint64_t address_of(uint32_t page);
+"""
+
+# The same, of the traces where the pager wakes the guest too early.
+EARLY_CHANGES = (
+    ("seen through the page that it woke the guest for", {"guest": [("frames=40000-40003", "frames=40001-40001")]}, "faulty line 11 early"),
+    ("seen through two other pages", {"guest": [("frames=40000-40003", "frames=40002-40003")]}, "clean"),
+)
+
+
+def read(name):
+    with open(f"{TOP}/{name}", encoding="ascii", newline="") as file:
+        return file.read()
+
+
+def traces_of(folder):
+    return {log: read(f"{folder}/{log}.trace") for log in logs_of(1)}
+
+
+def traces_with_a_lane():
+    return {**changed(traces_of(RIGHT), BY_THE_LANE), "lane": LANE}
+
+
+def changed(traces, changes):
+    """The traces with each old text, which has to stand just once, replaced by the new one."""
+    traces = dict(traces)
+    for log, texts in changes.items():
+        for old, new in texts:
+            if traces[log].count(old) != 1:
+                raise ValueError(f"'{old}' does not stand once in {log}.trace")
+            traces[log] = traces[log].replace(old, new)
+    return traces
+
+
+def front_of(session, counts):
+    """A session whose logs have just their first records, so many of each."""
+    front = SessionText(session)
+    for log, count in counts.items():
+        del front.logs[log][count:]
+    return front.text()
+
+
+class Tests:
+    wants = staticmethod(same)
+
+    def __init__(self, program, room):
+        self.program, self.room = program, room
+
+    def written(self, traces, *options):
+        """What the script writes of these traces, what it says, and its status."""
+        for log in LOGS:
+            if log in traces:
+                with open(f"{self.room}/{log}.trace", "w", encoding="ascii") as file:
+                    file.write(traces[log])
+            elif os.path.exists(f"{self.room}/{log}.trace"):
+                os.remove(f"{self.room}/{log}.trace")
+        ran = subprocess.run([sys.executable, "-B", SCRIPT, self.room, *options], capture_output=True, encoding="ascii")
+        return ran.stdout, ran.stderr, ran.returncode
+
+    def answer(self, command, *texts):
+        """What the program answers to these texts, and its status."""
+        for number, text in enumerate(texts):
+            with open(f"{self.room}/{number}", "w", encoding="ascii") as file:
+                file.write(text)
+        ran = subprocess.run([self.program, command, *map(str, range(len(texts)))], cwd=self.room, capture_output=True, encoding="ascii")
+        return ran.stdout, ran.returncode
+
+    def of_folders(self):
+        for folder in (RIGHT, EARLY):
+            self.wants(f"the session of {folder}", self.written(traces_of(folder)), (read(f"{folder}/session"), "", 0))
+            timeless = {log: re.sub("^[0-9][^ ]*", "0", text, flags=re.MULTILINE) for log, text in traces_of(folder).items()}
+            self.wants(f"{folder} with no times", self.written(timeless), (read(f"{folder}/session"), "", 0))
+        session, certificate = read(f"{RIGHT}/session"), read(f"{RIGHT}/certificate")
+        self.wants("audit", self.answer("audit", session), ("clean\n" + certificate, 0))
+        self.wants("certify", self.answer("certify", session), (certificate, 0))
+        self.wants("check", self.answer("check", session, certificate), ("yes\n", 0))
+        early = read(f"{EARLY}/session")
+        self.wants("audit of an early wake", self.answer("audit", early), (read(f"{EARLY}/stdout"), 1))
+        self.wants("certify of an early wake", self.answer("certify", early), ("faulty line 19 early\n", 1))
+
+    def of_changes(self):
+        for folder, changes in ((RIGHT, CHANGES), (EARLY, EARLY_CHANGES)):
+            for what, texts, wanted in changes:
+                session, said, status = self.written(changed(traces_of(folder), texts))
+                self.wants(f"writing: {what}", (said, status), ("", 0))
+                self.wants(what, self.answer("audit", session)[0].split("\n", 1)[0], wanted)
+
+    def of_lane(self):
+        traces, session = traces_with_a_lane(), SessionText(read(f"{RIGHT}/session"))
+        session.tell_in(2)
+        session.carry(CARRIED)
+        self.wants("the session with a lane", self.written(traces), (session.text(), "", 0))
+        report, _ = self.answer("audit", session.text())
+        entries = re.findall("^page .*", read(f"{RIGHT}/certificate"), re.MULTILINE)
+        self.wants("its entries", re.findall("^page .*", report, re.MULTILINE), entries)
+        for what, texts, wanted in LANE_CHANGES:
+            text, said, status = self.written(changed(traces, texts))
+            self.wants(f"writing: {what}", (said, status), ("", 0))
+            self.wants(what, self.answer("audit", text)[0].split("\n", 1)[0], wanted)
+        del traces["lane"]
+        hole = "session_from_traces.py: pager.trace: p10 tells of l1, which lane.trace has not\n"
+        self.wants("no trace of the lane", self.written(traces), ("", hole, 1))
+
+    def of_holes(self):
+        """Traces that tell of what is not there, and traces that end early: what came of later events is left out."""
+        traces, session = traces_of(RIGHT), read(f"{RIGHT}/session")
+        later = changed(traces, {"pager": [("drop of=p19", "drop of=p21")]})
+        self.wants("a later packet", self.written(later), ("", "session_from_traces.py: pager.trace: p20 tells of p21, which pager.trace has not before it\n", 1))
+        twice = changed(traces, {"pager": [(" p19 packet", " p16 packet")]})
+        self.wants("a name that comes twice", self.written(twice), ("", "session_from_traces.py: pager.trace: line 20 names a second p16\n", 1))
+        half = {**traces, "pager": traces["pager"] + "81354"}
+        self.wants("a line that ends early", self.written(half), (session, "", 0))
+        for log, ends, said, counts in (
+            ("link", "t8", "source.trace: a10 tells of t10, which link.trace has not", {"guest": 17, "source": 8, "link": 5, "pager": 13}),
+            ("source", "a2", "link.trace: t1 tells of a2, which source.trace has not", {"guest": 5, "source": 0, "link": 0, "pager": 0}),
+        ):
+            ended = {**traces, log: re.sub(f"^[^ \n]+ {ends} .*", "", traces[log], flags=re.MULTILINE | re.DOTALL)}
+            self.wants(f"{log}.trace ends before {ends}", self.written(ended), ("", f"session_from_traces.py: {said}\n", 1))
+            cut = front_of(session, counts)
+            self.wants("the same, cut", self.written(ended, "--cut"), (cut, "", 0))
+            self.wants("audit of what was cut", self.answer("audit", cut)[0].split("\n", 1)[0], "clean")
+
+
+@pytest.mark.quick
+@pytest.mark.cases(51)
+def test_recording(program, room):
+    tests = Tests(program, room)
+    tests.of_folders()
+    tests.of_changes()
+    tests.of_lane()
+    tests.of_holes()
+
+
+def test_page(cc):
+    """The C that docs/RECORDING.md shows. Its commands are run by test_pages.py."""
+    shown = re.search(r"```c\n(.*?)```", read("docs/RECORDING.md"), re.S)[1]
+    words = [cc, "-std=c11", "-Wall", "-Wextra", "-Werror", "-Wno-unused-function", "-fsyntax-only", f"-I{TOP}/c", "-x", "c", "-"]
+    assert subprocess.run(words, input=PRELUDE + shown, encoding="ascii").returncode == 0

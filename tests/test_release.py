@@ -1,0 +1,458 @@
+"""What a release has: one version everywhere, completions and man pages of each command, an installation that can be removed, and files
+that a second run makes again, byte for byte.
+
+The options that a command's help lists have to stand on its man page, and to be offered by bash, zsh and fish. What `tools/install`
+puts under a prefix is compared with the list here, and is gone behind `--uninstall`, with nothing else. `tools/release` runs twice, in
+two copies of the tree: the files are compared, and looked at by Debian's tools; the packages are installed into a folder and removed,
+and the program of each is run. The shell lines of the workflows in share/ci are run.
+"""
+import ctypes
+import glob
+import hashlib
+import os
+import re
+import shutil
+import subprocess
+import sys
+import tarfile
+import zipfile
+
+import pytest
+from cases import leave_out, same
+from needed import can_have
+
+TOP = os.path.dirname(os.path.dirname(os.path.realpath(__file__)))
+SCRIPTS = {"postcopy-session": "recorders/session", "postcopy-annotate": "share/bin/postcopy-annotate", "postcopy-report": "share/bin/postcopy-report"}
+MODULES = ("__init__", "recorded", "recorder", "records", "sessions", "testing")
+
+# What stands under a prefix, where the version is 1.2.3.
+INSTALLED = f"""
+    bin/postcopy bin/postcopy-annotate bin/postcopy-report bin/postcopy-session
+    include/postcopy.h include/postcopy_record.h
+    lib/libpostcopy.a lib/libpostcopy.so lib/libpostcopy.so.1 lib/libpostcopy.so.1.2.3 lib/pkgconfig/postcopy.pc
+    share/bash-completion/completions/postcopy share/bash-completion/completions/postcopy-annotate
+    share/bash-completion/completions/postcopy-report share/bash-completion/completions/postcopy-session
+    share/fish/vendor_completions.d/postcopy.fish share/fish/vendor_completions.d/postcopy-annotate.fish
+    share/fish/vendor_completions.d/postcopy-report.fish share/fish/vendor_completions.d/postcopy-session.fish
+    share/man/man1/postcopy.1 share/man/man1/postcopy-annotate.1 share/man/man1/postcopy-report.1 share/man/man1/postcopy-session.1
+    share/man/man3/postcopy.3 share/man/man5/postcopy.5
+    share/postcopy/postcopy.html share/postcopy/postcopy_record.c {" ".join(f"share/postcopy/python/postcopy/{it}.py" for it in MODULES)}
+    share/zsh/site-functions/_postcopy
+"""
+
+def read(name, how="r"):
+    with open(name if os.path.isabs(name) else f"{TOP}/{name}", how) as file:
+        return file.read()
+
+
+def ran(*words, **how):
+    """What a command writes, with its errors behind its output, and its status."""
+    child = subprocess.run(words, stdin=subprocess.DEVNULL, stdout=subprocess.PIPE, stderr=subprocess.STDOUT, **how)
+    return child.stdout.decode(errors="replace"), child.returncode
+
+
+def run(*words, **how):
+    """What a command writes; it has to end well."""
+    return subprocess.run(words, stdin=subprocess.DEVNULL, stdout=subprocess.PIPE, check=True, **how).stdout.decode()
+
+
+def files_below(folder):
+    """What stands below a folder, files and links."""
+    return sorted(os.path.relpath(f"{at}/{it}", folder) for at, _, names in os.walk(folder) for it in names)
+
+
+def folders_below(folder):
+    return sorted(os.path.relpath(at, folder) for at, _, _ in os.walk(folder))
+
+@pytest.fixture(scope="module")
+def prefix(tmp_path_factory):
+    """An installation."""
+    at = f"{tmp_path_factory.mktemp('installed')}/prefix"
+    run(f"{TOP}/tools/install", at)
+    return at
+
+
+@pytest.fixture(scope="module")
+def commands(prefix):
+    return list(commands_of(prefix))
+
+
+@pytest.fixture(scope="module")
+def tree(tmp_path_factory):
+    return copy_of_tree(f"{tmp_path_factory.mktemp('tree')}/tree")
+
+
+@pytest.fixture(scope="module")
+def release(tree, tmp_path_factory):
+    """The files of a release."""
+    at = f"{tmp_path_factory.mktemp('release')}/release"
+    run(f"{tree}/tools/release", at, stderr=subprocess.DEVNULL)
+    return at
+
+
+# The version.
+
+
+@pytest.mark.quick
+@pytest.mark.cases(14)
+def test_version(prefix):
+    """Each place that tells the version tells the one of the file VERSION."""
+    version = read("VERSION").strip()
+    number = "{:d}{:02d}{:02d}".format(*map(int, version.split(".")))
+    library = ctypes.CDLL(f"{prefix}/lib/libpostcopy.so")
+    package = "import postcopy; print(postcopy.__version__, postcopy.version())"
+    env = {**os.environ, "PYTHONPATH": f"{TOP}/python", "POSTCOPY_LIBRARY": f"{prefix}/lib/libpostcopy.so"}
+    told = {
+        "the program": re.findall(r"^postcopy (.*)$", run(f"{prefix}/bin/postcopy", "--version"), re.M),
+        "the words of the command line": re.findall(r'^const VERSION: &str = "(.*)";$', read("crates/command_words/src/building.rt"), re.M),
+        "the package for Python, and its library": run(sys.executable, "-B", "-c", package, env=env).split(),
+        "the pkg-config file": re.findall(r"^Version: (.*)$", read(f"{prefix}/lib/pkgconfig/postcopy.pc"), re.M),
+        "the example for Rust": re.findall(r'^version = "(.*)"$', read("rust/Cargo.toml"), re.M),
+        "the changelog": re.findall(r"^## (\d\S*) - \d{4}-\d\d-\d\d$", read("CHANGELOG.md"), re.M)[:1],
+        "the page": re.findall(r'<p id="version">postcopy (.*)</p>', read(f"{prefix}/share/postcopy/postcopy.html")),
+    }
+    for page in glob.glob(f"{TOP}/share/man/man?/*"):
+        told[os.path.basename(page)] = re.findall(r'^\.TH \S+ [135] \d{4}-\d\d-\d\d "postcopy ([0-9.]+)" "', read(page), re.M)
+    for place, found in told.items():
+        same(f"the version that is told by {place}", set(found), {version})
+    same("the number of the library and of its header", [str(library.postcopy_version()), *re.findall(r"POSTCOPY_VERSION (\d+)", read("c/postcopy.h"))], [number] * 2)
+    same("the soname", f"libpostcopy.so.{version.split('.')[0]}".encode() in read(f"{prefix}/lib/libpostcopy.so", "rb"), True)
+
+
+# What is installed, and removed.
+
+
+@pytest.mark.cases(17)
+def test_installation(prefix, room):
+    """What stands under a prefix, and that nothing of it stays."""
+    wanted = sorted(INSTALLED.replace("1.2.3", read("VERSION").strip()).split())
+    root = f"{room}/root"
+    run(f"{TOP}/tools/install", "/usr", env={**os.environ, "DESTDIR": root, "LIBDIR": "/usr/lib/here"})
+    same("what is installed", files_below(prefix), sorted([*wanted, "share/postcopy/installed"]))
+    same("what is installed below DESTDIR", files_below(f"{root}/usr"), sorted(re.sub("^lib/", "lib/here/", it) for it in wanted))
+    same("what is below DESTDIR", os.listdir(root), ["usr"])
+    same("the pkg-config file", read(f"{root}/usr/lib/here/pkgconfig/postcopy.pc").split("\n")[:2], ["prefix=/usr", "libdir=/usr/lib/here"])
+    modes = {it: os.stat(f"{prefix}/{it}").st_mode & 0o777 for it in wanted}
+    same("what may be run", sorted(it for it, mode in modes.items() if mode != 0o644),
+         sorted(it for it in wanted if it.startswith("bin/") or it.startswith("lib/libpostcopy.so")))
+    removed(f"{room}/where files were")
+
+
+def removed(prefix):
+    """An installation into a folder that has files, and its removal."""
+    remove = f"{TOP}/tools/install", "--uninstall"
+    os.makedirs(f"{prefix}/bin")
+    os.makedirs(f"{prefix}/include")
+    open(f"{prefix}/bin/mine", "w").close()
+    before = files_below(prefix), folders_below(prefix)
+    env = {**os.environ, "LIBDIR": f"{prefix}/lib/here"}
+    run(f"{TOP}/tools/install", prefix, env=env)
+    list_file = f"{prefix}/share/postcopy/installed"
+    # a version before had another file, and the same one again
+    os.mkdir(f"{prefix}/share/older")
+    for it in ("share/older/file", "bin/older"):
+        open(f"{prefix}/{it}", "w").close()
+    with open(list_file, "a") as file:
+        file.write(f"folder {prefix}/share/older\nfile {prefix}/share/older/file\nfile {prefix}/bin/older\n")
+    run(f"{TOP}/tools/install", prefix, env=env)
+    same("what an earlier version had alone is gone", [it for it in files_below(prefix) if "older" in it], [])
+    lines = read(list_file).splitlines()
+    same("lines that the list has twice", len(lines) - len(set(lines)), 0)
+    same("the list of files", sorted(it[5:] for it in lines if it.startswith("file ")), sorted(f"{prefix}/{it}" for it in files_below(prefix) if it not in (*before[0], "share/postcopy/installed")))
+    same("a removal below DESTDIR", ran(*remove, prefix, env={**os.environ, "DESTDIR": "/tmp"})[1], 1)
+    same("a removal", ran(*remove, prefix), ("", 0))
+    same("what stays of it", (files_below(prefix), folders_below(prefix)), before)
+    said, status = ran(*remove, prefix)
+    same("a second removal", (f"there is no {list_file}" in said, status), (True, 1))
+    run(f"{TOP}/tools/install", f"{prefix}/new")
+    open(f"{prefix}/new/share/mine", "w").close()
+    said, status = ran(*remove, f"{prefix}/new")
+    same("a removal around a file that somebody put there", (said, status, files_below(f"{prefix}/new")),
+         ("".join(f"tools/install: {it} stays, since it holds other files\n" for it in (f"{prefix}/new/share", f"{prefix}/new")), 0, ["share/mine"]))
+    for words in (("relative",), ("/a", "/b"), ("--uninstall", "/a", "/b"), ("--remove",)):
+        same(f"tools/install {words}", ran(f"{TOP}/tools/install", *words)[1], 2)
+
+
+# Man pages and completions.
+
+
+def options_of(told):
+    """The options that a help of the program lists, each with its short form."""
+    found = re.findall(r"^ +(?:(-\w), |    )?(--[a-z-]+)", told.partition("Options:")[2], re.M)
+    return {it for pair in found for it in pair if it}
+
+
+def commands_of(prefix):
+    """Each command and each script that is installed, as it is typed, with the options that its help tells."""
+    program = f"{prefix}/bin/postcopy"
+    told = run(program, "--help")
+    names = re.findall(r"^  ([a-z-]+) ", told.partition("Commands:")[2].partition("\n\n")[0], re.M)
+    yield ("postcopy",), options_of(told)
+    for it in names:
+        if it != "help":
+            yield ("postcopy", it), options_of(run(program, it, "--help"))
+    for it in sorted(os.path.basename(it) for it in glob.glob(f"{prefix}/bin/postcopy-*")):
+        found = re.findall(r"(?<![\w-])(--?[a-z][a-z-]*)", run(f"{prefix}/bin/{it}", "--help").replace("--complete-pages", "--complete-pages "))
+        yield (it,), set(found)
+
+
+@pytest.mark.quick
+@pytest.mark.cases(22)
+def test_man_pages(prefix, commands):
+    """Each option stands on the man page of its command, as the name of an entry."""
+    for words, options in commands:
+        page = read(f"{prefix}/share/man/man1/{words[0]}.1")
+        entries = re.findall(r"^\.TP\n(\..*)$", page.partition("\n.SH OPTIONS\n")[2].partition("\n.SH ")[0], re.M)
+        told = {it for line in entries for it in re.findall(r"(?<![\w-])--?[a-zA-Z][a-z-]*", line.replace("\\-", "-").replace("\\fR", " ").replace("\\fP", " "))}
+        same(f"the options of {' '.join(words)} that its man page lacks", sorted(options - told), [])
+        if len(words) > 1:
+            same(f"the man page's entry of {words[1]}", f'\n.BI {words[1]} "' in page, True)
+    if shutil.which("mandoc") or can_have("mandoc:mandoc"):
+        for page in glob.glob(f"{prefix}/share/man/man?/*"):
+            same(f"what is wrong with {os.path.basename(page)}", ran("mandoc", "-T", "lint", "-W", "warning", page)[0], "")
+    else:
+        leave_out("the form of man pages (there is no mandoc)")
+
+
+def by_bash(prefix, asked):
+    script = """
+        prefix=$1; shift
+        source "$prefix/share/bash-completion/completions/postcopy"
+        for typed; do
+            read -ra COMP_WORDS <<< "$typed"
+            [[ $typed != *' ' ]] || COMP_WORDS+=("")
+            call=$(complete -p "${COMP_WORDS[0]}" | sed 's/.*-F \\([^ ]*\\).*/\\1/')
+            COMP_WORDS[0]=$prefix/bin/${COMP_WORDS[0]}; COMP_CWORD=$((${#COMP_WORDS[@]} - 1)); COMPREPLY=()
+            "$call" "${COMP_WORDS[0]}"
+            printf '%s\\n' "${COMPREPLY[@]}" ''
+        done
+    """
+    return run("bash", "-c", script, "", prefix, *asked)
+
+
+def by_fish(prefix, asked):
+    script = """
+        set -p fish_complete_path $argv[1]/share/fish/vendor_completions.d
+        set -p PATH $argv[1]/bin
+        for typed in $argv[2..]
+            complete -C "$typed"
+            echo
+        end
+    """
+    env = {**os.environ, "HOME": "/nonexistent", "XDG_RUNTIME_DIR": "/nonexistent"}
+    return re.sub("\t.*", "", run("fish", "--no-config", "-c", script, prefix, *asked, env=env, stderr=subprocess.DEVNULL))
+
+
+def by_zsh(prefix, asked):
+    env = {**os.environ, "PATH": f"{prefix}/bin:{os.environ['PATH']}"}
+    return run("zsh", "-f", f"{TOP}/tests/offered.zsh", f"{prefix}/share/zsh/site-functions", *asked, env=env, timeout=300)
+
+
+@pytest.mark.cases(31)
+@pytest.mark.parametrize("name, offered", (("bash", by_bash), ("zsh", by_zsh), ("fish", by_fish)), ids=("bash", "zsh", "fish"))
+def test_completions(prefix, commands, name, offered):
+    """What a shell offers behind a dash, and in the place of a value. A file is offered where there is one."""
+    if not (shutil.which(name) or can_have(f"{name}:{name}")):
+        pytest.skip(f"there is no {name}")
+    wanted = {"postcopy audit --format ": {"text", "json"}, "postcopy migrate --link ": {"memory", "tcp"}, "postcopy-annotate --as ": {"lines", "github", "junit", "sarif"},
+              "postcopy ": {words[1] for words, _ in commands if len(words) > 1} | {"help"}}
+    for words, options in commands:
+        wanted[f"{' '.join(words)} -"] = {it for it in options if it[1] != "-"}
+        wanted[f"{' '.join(words)} --"] = {it for it in options if it[1] == "-"}
+    file = f"postcopy audit {prefix}/lib/pkg"
+    found = dict(zip([*wanted, file], offered(prefix, [*wanted, file]).split("\n\n")))
+    for typed, options in wanted.items():
+        # (a shell may offer long options behind one dash, and options beside commands)
+        hits = {it for it in found.get(typed, "").split("\n") if it and (it[0] == "-") == typed.endswith("-") and not (typed.endswith(" -") and it[:2] == "--")}
+        # (each help tells -h, or has it without telling)
+        same(f"what {name} offers behind {typed!r}", sorted(hits - {"-h"}), sorted(options - {"-h"}))
+    same(f"the file that {name} offers", [os.path.basename(it.rstrip("/")) for it in found.get(file, "").split("\n") if it], ["pkgconfig"])
+
+
+# A release.
+
+
+def copy_of_tree(place):
+    """A checkout of the tree as it stands, with one commit."""
+    names = run("git", "-C", TOP, "ls-files", "-z", "-co", "--exclude-standard").split("\0") if os.path.exists(f"{TOP}/.git") else files_below(TOP)
+    for it in names:
+        if it and os.path.lexists(f"{TOP}/{it}") and not it.startswith(".git/") and "/out/" not in it:
+            os.makedirs(os.path.dirname(f"{place}/{it}"), exist_ok=True)
+            shutil.copy2(f"{TOP}/{it}", f"{place}/{it}", follow_symlinks=False)
+    who = {f"GIT_{it}_{what}": value for it in ("AUTHOR", "COMMITTER")
+           for what, value in (("NAME", "Tests"), ("EMAIL", "tests@tests.example.org"), ("DATE", "2026-01-02T03:04:05Z"))}
+    for words in (("init", "-q"), ("add", "-A"), ("commit", "-qm", "a release")):
+        run("git", "-C", place, *words, env={**os.environ, **who})
+    return place
+
+
+@pytest.mark.cases(14)
+def test_release(tree, release, room):
+    """Files of a release, made twice in two places, and when none are made."""
+    version, second = read("VERSION").strip(), f"{room}/a second one"
+    run("git", "clone", "-q", tree, second)
+    run(f"{second}/tools/release", env={**os.environ, "TZ": "Asia/Tokyo", "LC_ALL": "C.UTF-8"}, preexec_fn=lambda: os.umask(0o077))
+    made = files_below(release)
+    same("the files of a release", made, sorted((
+        "SHA256SUMS", f"libpostcopy-dev_{version}-1_amd64.deb", f"libpostcopy1_{version}-1_amd64.deb", f"postcopy-{version}-py3-none-manylinux_2_34_x86_64.whl",
+        f"postcopy-{version}-x86_64-linux.tar.gz", f"postcopy-{version}.html", f"postcopy_{version}-1_amd64.deb")))
+    for it in made:
+        same(f"{it}, made a second time", read(f"{second}/release/{it}", "rb") == read(f"{release}/{it}", "rb"), True)
+    sums = {it: hashlib.sha256(read(f"{release}/{it}", "rb")).hexdigest() for it in made if it != "SHA256SUMS"}
+    same("the digests", dict(reversed(it.split("  ")) for it in read(f"{release}/SHA256SUMS").splitlines()), sums)
+    same("the tree behind a release", run("git", "-C", second, "status", "--porcelain"), "")
+    refusals(second)
+
+
+def refusals(tree):
+    """Trees of which no release is made."""
+    def says(why):
+        said, status = ran(f"{tree}/tools/release", f"{tree}/none")
+        same(f"a release where {why}", (why in said, status, os.path.exists(f"{tree}/none")), (True, 1, False))
+
+    with open(f"{tree}/more", "w") as file:
+        file.write("more\n")
+    says("the tree differs from its commit")
+    os.remove(f"{tree}/more")
+    git = ("git", "-C", tree, "-c", "user.name=T", "-c", "user.email=t@example.org", "commit", "-qam")
+    for name, old, new, why in (("VERSION", read("VERSION"), "9.9.9\n", "CHANGELOG.md says nothing of 9.9.9"),
+                                ("crates.txt", read("crates.txt"), read("crates.txt") + "\n", "of other sources than these")):
+        for text, message in ((new, "changed"), (old, "back")):
+            with open(f"{tree}/{name}", "w") as file:
+                file.write(text)
+            run(*git, message)
+            if text == new:
+                says(why)
+    same("tools/release --help", ran(f"{tree}/tools/release", "--help")[1], 2)
+
+
+# The workflows, and the container.
+
+
+def shell_lines(name):
+    """The lines that a workflow or a container has a shell run."""
+    text = read(f"share/ci/{name}")
+    return re.findall(r"^ +(?:- )?run: (.*)$|^    - (.*)$|^RUN (.*)$", text, re.M)
+
+
+@pytest.mark.cases(11)
+def test_workflows(tree, room):
+    """The shell lines of the workflows and of the container, with folders of the test in place of those that they name. Those that
+    install packages are not run."""
+    os.makedirs(f"{room}/work/recorded")
+    for name in ("handover", "early-access"):
+        shutil.copy(f"{TOP}/examples/{name}/session", f"{room}/work/recorded/{name}.session")
+    wanted = {"github.yml": [("", 0), ("", 0), ("::error file=recorded/early-access.session,line=13,title=early::", 1), ("", 0)],
+              "gitlab.yml": [("", 0), ("", 1), ("", 0)], "Dockerfile": [("", 0)]}
+    for name, answers in wanted.items():
+        at = f"{room}/{name}"
+        os.mkdir(at)
+        lines = [re.sub(r"(?<= )/tmp/tingaro|/usr/local", lambda it: f"{at}/{it[0].split('/')[-1]}", "".join(it)) for it in shell_lines(name) if "apt-get" not in "".join(it)]
+        if name == "Dockerfile":
+            shutil.copytree(tree, f"{at}/tingaro", symlinks=True)
+            lines = [it.replace("/tmp/tingaro/", f"{at}/tingaro/") for it in lines]
+        env = {**os.environ, "TINGARO": f"file://{tree}", "RUNNER_TEMP": at, "HOME": f"{at}/home", "GITHUB_PATH": f"{at}/path"}
+        said = []
+        for line in lines:
+            if os.path.exists(f"{at}/path"):
+                env["PATH"] = f"{read(f'{at}/path').strip()}:{os.environ['PATH']}"
+            elif os.path.exists(f"{at}/local/bin"):
+                env["PATH"] = f"{at}/local/bin:{os.environ['PATH']}"
+            said.append(ran("bash", "-e", "-c", line, cwd=f"{room}/work", env=env))
+        same(f"what the lines of {name} come to", [(told[:len(start)], status) for (told, status), (start, _) in zip(said, answers)], answers)
+        same(f"how many lines of {name} are run", len(lines), len(answers))
+        if name != "Dockerfile":
+            same(f"the report of {name}", b"early-access.session" in read(f"{room}/work/report.html", "rb"), True)
+            os.remove(f"{room}/work/report.html")
+    same("the tests that GitLab shows", [it in read(f"{room}/work/sessions.xml") for it in ('tests="2" failures="1"', 'type="early"')], [True, True])
+    same("the container's program", judges(f"{room}/Dockerfile/local/bin/postcopy"), ("yes\n", 0))
+    same("the container's sources", os.listdir(f"{room}/Dockerfile"), ["local"])
+
+
+def judges(program):
+    """Whether a program judges a session of the examples."""
+    return ran(program, "check", f"{TOP}/examples/handover/session", f"{TOP}/examples/handover/certificate")
+
+
+@pytest.mark.cases(4)
+def test_archive(release, room):
+    """The archive, unpacked anywhere."""
+    name, = glob.glob(f"{release}/*.tar.gz")
+    with tarfile.open(name) as archive:
+        entries = archive.getmembers()
+    same("who owns what the archive has", {(it.uid, it.gid, it.mode & 0o022, it.mtime) for it in entries}, {(0, 0, 0, 1767323045)} | {(0, 0, 0o022, 1767323045) for it in entries if it.issym()})
+    run("tar", "-C", room, "-xf", name)
+    at = f"{room}/{os.path.basename(name)[:-len('.tar.gz')]}"
+    wanted = [*INSTALLED.replace("1.2.3", read("VERSION").strip()).split(), "LICENSE", "CHANGELOG.md"]
+    same("what the archive has", files_below(at), sorted(wanted))
+    same("the program of the archive", judges(f"{at}/bin/postcopy"), ("yes\n", 0))
+    same("the program's bytes", read(f"{at}/bin/postcopy", "rb") == read("shipped/x86_64-linux/postcopy", "rb"), True)
+    if shutil.which("pkg-config"):
+        how = {**os.environ, "PKG_CONFIG_PATH": f"{at}/lib/pkgconfig"}
+        found = [os.path.normpath(it[2:]) for it in run("pkg-config", "--cflags", "--libs-only-L", "postcopy", env=how).split()]
+        same("the paths that pkg-config tells", found, [f"{at}/include", f"{at}/lib"])
+
+
+@pytest.mark.cases(4)
+def test_packages(release, room):
+    """The packages for Debian: lintian, an installation into a folder, and its removal."""
+    packages = sorted(glob.glob(f"{release}/*.deb"))
+    if shutil.which("lintian"):
+        same("lintian", ran("lintian", "--allow-root", "--tag-display-limit", "0", "--fail-on", "error,warning", *packages), ("", 0))
+    else:
+        leave_out("lintian (there is none)")
+    if os.geteuid() or not shutil.which("dpkg"):
+        leave_out("an installation of the packages (it takes the superuser, and dpkg)")
+        return
+    root = f"{room}/debian"
+    os.makedirs(f"{root}/var/lib/dpkg/updates")
+    for it in ("status", "available"):
+        open(f"{root}/var/lib/dpkg/{it}", "w").close()
+    dpkg = ("dpkg", f"--root={root}", "--force-depends", "--log=/dev/null")
+    said, status = ran(*dpkg, "-i", *packages)
+    same("an installation by dpkg", status, 0)
+    if status:
+        print(said)
+    files = [it for it in files_below(root) if not it.startswith("var/lib/dpkg/")]
+    doc = [f"share/doc/{it}/{what}" for it in ("postcopy", "libpostcopy1", "libpostcopy-dev") for what in ("changelog.Debian.gz", "changelog.gz", "copyright")]
+    doc += [f"share/lintian/overrides/{it}" for it in ("postcopy", "libpostcopy1", "libpostcopy-dev")]
+    wanted = [re.sub(r"^lib/", "lib/x86_64-linux-gnu/", it) for it in INSTALLED.replace("1.2.3", read("VERSION").strip()).split()]
+    wanted = [f"{it}.gz" if it.startswith("share/man/") else it.replace("zsh/site-functions", "zsh/vendor-completions") for it in wanted]
+    same("what the packages install", files, sorted(f"usr/{it}" for it in (*wanted, *doc)))
+    told = "".join(read(it) for it in glob.glob(f"{root}/var/lib/dpkg/info/*.md5sums"))
+    same("the digests of what the packages install", sorted(told.splitlines()),
+         sorted(f"{hashlib.md5(read(f'{root}/{it}', 'rb')).hexdigest()}  {it}" for it in files if not os.path.islink(f"{root}/{it}")))
+    same("the program that is installed", judges(f"{root}/usr/bin/postcopy"), ("yes\n", 0))
+    for it in ("lib/x86_64-linux-gnu/libpostcopy.so.1", "lib/x86_64-linux-gnu/libpostcopy.a", "bin/postcopy"):
+        same(f"the bytes of {it}", read(f"{root}/usr/{it}", "rb") == read(f"shipped/x86_64-linux/{os.path.basename(it).replace('.so.1', '.so')}", "rb"), True)
+    first = {os.path.basename(it): read(it).split("\n")[0] for it in glob.glob(f"{root}/usr/bin/postcopy-*")}
+    same("what runs the scripts", first, dict.fromkeys(SCRIPTS, "#!/usr/bin/python3"))
+    said, status = ran(*dpkg, "--purge", "postcopy", "libpostcopy-dev", "libpostcopy1")
+    same("a removal by dpkg", (status, "warning" in said), (0, False))
+    same("what stays of the packages", [it for it in (*files_below(root), *folders_below(root)) if not f"{it}/".startswith(("./", "var/"))], [])
+
+
+@pytest.mark.cases(3)
+def test_wheel(release, room):
+    """The wheel of an index: its tag, what it holds, and that pip takes it."""
+    name, = glob.glob(f"{release}/*.whl")
+    with zipfile.ZipFile(name) as wheel:
+        texts = {it: wheel.read(it) for it in wheel.namelist()}
+    told = {it.split("/")[1]: text.decode() for it, text in texts.items() if ".dist-info/" in it}
+    same("the wheel's tag", re.findall(r"^Tag: (.*)$", told["WHEEL"], re.M), ["py3-none-manylinux_2_34_x86_64"])
+    needs = [tuple(map(int, it.split(b"."))) for it in re.findall(rb"GLIBC_([0-9.]+)", texts["postcopy/libpostcopy.so"])]
+    same("the newest glibc that the wheel's library takes", max(needs) <= (2, 34), True)
+    same("the wheel's version", re.findall(r"^Version: (.*)$", told["METADATA"], re.M), [read("VERSION").strip()])
+    if shutil.which("twine"):
+        same("twine check", ran("twine", "check", "--strict", name, env={**os.environ, "NO_COLOR": "1"})[1], 0)
+    else:
+        leave_out("the wheel's description (there is no twine)")
+    if ran(sys.executable, "-m", "pip", "--version")[1] == 0:
+        words = ("-m", "pip", "install", "--quiet", "--no-index", "--no-deps", "--disable-pip-version-check", "--target", f"{room}/site", name)
+        run(sys.executable, *words, env={**os.environ, "PIP_ROOT_USER_ACTION": "ignore"})
+        code = f"import postcopy; print(postcopy.audit('{TOP}/examples/handover/session').is_safe, postcopy.version(), postcopy.__file__)"
+        env = {it: value for it, value in os.environ.items() if it != "POSTCOPY_LIBRARY"}
+        same("the package that pip installed", run(sys.executable, "-B", "-c", code, cwd=room, env={**env, "PYTHONPATH": f"{room}/site"}).split(),
+             ["True", read("VERSION").strip(), f"{room}/site/postcopy/__init__.py"])
+    else:
+        leave_out("the wheel's installation (there is no pip)")

@@ -1,0 +1,283 @@
+"""An answer that goes to a file, by `-o FILE`: the file has all of it, or stays as it was.
+
+What goes to a file is what goes to standard output without the option, and for a migration, whose records depend on its
+threads, what `check` says `yes` to.
+"""
+import os
+import resource
+import signal
+import stat
+import subprocess
+
+import pytest
+from cases import count, same
+
+TOP = os.path.dirname(os.path.dirname(os.path.realpath(__file__)))
+
+STEPS = f"{TOP}/examples/lost-and-repeated"
+SCRIPT = f"{TOP}/examples/migrated/script"
+
+# How a recording of one page begins.
+RECORDING = b"postcopy-session 1\npages 1\ncells 1\ninit 0\n"
+
+# Where c/tests/refusing.c tells how many calls there were.
+COUNTS = 99
+
+
+class Run:
+    """The program in a room of its own, and the library that refuses calls."""
+
+    def __init__(self, program, room, library):
+        self.program, self.room, self.library = program, room, library
+
+    def __call__(self, *words, stdin=b"", **more):
+        child = subprocess.run([self.program, *words], cwd=self.room, input=stdin, capture_output=True, **more)
+        return child.returncode, child.stdout, child.stderr
+
+    def refusing(self, what, *words):
+        """What comes of words where these calls of the system are refused, and how many calls for memory there were."""
+        with open(f"{self.room}/counts", "w+b") as counts:
+            os.dup2(counts.fileno(), COUNTS)
+            found = self(*words, env={"LD_PRELOAD": self.library, "REFUSING": what}, pass_fds=(COUNTS,))
+            os.close(COUNTS)
+            counts.seek(0)
+            return found, int((counts.read().split() or [b"0"])[0])
+
+    def has(self, name):
+        """What a file of the room has; None where it is not there."""
+        try:
+            with open(f"{self.room}/{name}", "rb") as file:
+                return file.read()
+        except FileNotFoundError:
+            return None
+
+    def put(self, name, text):
+        with open(f"{self.room}/{name}", "wb") as file:
+            file.write(text)
+
+    def link(self, name):
+        """A device under a name of the room: a wrong program may put a file in its place, and the device stays."""
+        os.symlink(f"/dev/{name}", f"{self.room}/{name}")
+        return name
+
+
+def steps_words(*options):
+    return ("steps", *options, f"{STEPS}/script", f"{STEPS}/events")
+
+
+def a_new_file(run):
+    plain = run(*steps_words())
+    yield "without the option", plain[0], 0
+    for options in (("-o", "new"), ("-onew",), ("--output", "new"), ("--output=new",)):
+        yield f"{options}", run(*steps_words(*options)), (0, b"", b"")
+        yield f"the file of {options}", run.has("new"), plain[1]
+        os.remove(f"{run.room}/new")
+    yield "after the names", run("steps", f"{STEPS}/script", f"{STEPS}/events", "-o", "new"), (0, b"", b"")
+    yield "the file of an option after the names", run.has("new"), plain[1]
+
+
+def an_old_file(run):
+    run.put("old", b"what was there before, which is longer than nothing\n" * 100)
+    yield "over an old file", run(*steps_words("-o", "old")), (0, b"", b"")
+    yield "the old file", run.has("old"), run(*steps_words())[1]
+
+
+def the_users_own(run):
+    """A file of the user's own is no draft, whatever its name is, and no link is followed to another."""
+    run.put("new.part", b"what the user has there\n")
+    run.put("victim", b"what the user has behind a link\n")
+    os.symlink("victim", f"{run.room}/linked.part")
+    for name in ("new", "linked"):
+        yield f"over {name}", run(*steps_words("-o", name)), (0, b"", b"")
+        yield f"the file {name}", run.has(name), run(*steps_words())[1]
+    yield "the user's own file", run.has("new.part"), b"what the user has there\n"
+    yield "the user's own file behind a link", run.has("victim"), b"what the user has behind a link\n"
+    yield "the user's own link", os.readlink(f"{run.room}/linked.part"), "victim"
+    yield "no other files", sorted(os.listdir(run.room)), ["linked", "linked.part", "new", "new.part", "victim"]
+
+
+def who_may_read(run):
+    """The mode of a file that is there stays; that of a new one is left to the process's mask."""
+    for mask, name, mode in ((0o22, "plain", 0o644), (0o77, "private", 0o600), (0, "open", 0o666)):
+        yield f"a new file under the mask {mask:o}", run(*steps_words("-o", name), umask=mask), (0, b"", b"")
+        yield f"its mode under the mask {mask:o}", stat.S_IMODE(os.stat(f"{run.room}/{name}").st_mode), mode
+    for mode in (0o600, 0o640, 0o664, 0o755, 0o444):
+        run.put("old", b"what was there\n")
+        os.chmod(f"{run.room}/old", mode)
+        yield f"over a file of mode {mode:o}", run(*steps_words("-o", "old"), umask=0o22), (0, b"", b"")
+        yield f"the mode {mode:o}", stat.S_IMODE(os.stat(f"{run.room}/old").st_mode), mode
+        yield f"the file of mode {mode:o}", run.has("old"), run.has("plain")
+        os.remove(f"{run.room}/old")
+
+
+def who_owns_it(run):
+    """The owner and the group of a file that is there stay where the process may give them, as the superuser's may."""
+    if os.geteuid() != 0:
+        return
+    run.put("old", b"what was there\n")
+    os.chmod(f"{run.room}/old", 0o640)
+    os.chown(f"{run.room}/old", 12345, 23456)
+    yield "over another's file", run(*steps_words("-o", "old")), (0, b"", b"")
+    found = os.stat(f"{run.room}/old")
+    yield "another's file", (found.st_uid, found.st_gid, stat.S_IMODE(found.st_mode)), (12345, 23456, 0o640)
+
+
+def a_link(run):
+    """A link to a file stays, and the file that it leads to gets the text; so does a new file where a link leads to none."""
+    text = run(*steps_words())[1]
+    for folder in ("far", "other"):
+        os.mkdir(f"{run.room}/{folder}")
+    run.put("far/old", b"what was there\n")
+    links = (("link", "far/old"), ("other/again", "../link"), ("whole", f"{run.room}/far/whole"), ("none", "far/new"))
+    for name, leads_to in links:
+        os.symlink(leads_to, f"{run.room}/{name}")
+    for name, leads_to, file in (*((*link, "far/old") for link in links[:2]), (*links[2], "far/whole"), (*links[3], "far/new")):
+        yield f"through {name}", run(*steps_words("-o", name)), (0, b"", b"")
+        yield f"the link {name}", os.readlink(f"{run.room}/{name}"), leads_to
+        yield f"the file behind {name}", run.has(file), text
+        run.put("far/old", b"what was there\n")
+    yield "the files behind links", sorted(os.listdir(f"{run.room}/far")), ["new", "old", "whole"]
+    os.symlink("round", f"{run.room}/round")
+    yield "a link to itself", run(*steps_words("-o", "round")), (3, b"", b"output\n")
+
+
+def two_writers(run):
+    """Two that write one file at once: the file has the text of one of them, and each ends well."""
+    long = b"".join(b"w 0 0 0 %d\n" % value for value in range(40_000))
+    texts = []
+    for name, number in (("a", 1), ("b", 2)):
+        run.put(name, RECORDING + b"guest %d\n" % (40_000 + number) + long + b"w 0 0 0 0\n" * number + b"source 0\nlink 0\npager 0\nend\n")
+        status, text, _ = run("window", name, "0", "1")
+        texts.append(text)
+        yield f"the window of {name}", (status, len(text) > 500_000), (0, True)
+    for turn in range(30):
+        writers = [subprocess.Popen([run.program, "window", "-o", "shared", name, "0", "1"], cwd=run.room) for name in ("a", "b")]
+        yield f"two writers, turn {turn}", [writer.wait() for writer in writers], [0, 0]
+        yield f"the file of two writers, turn {turn}", run.has("shared") in texts, True
+
+
+def two_names(run):
+    """The lines of a window and its session go to two files: one that both words name is refused, and nothing is written."""
+    run.put("recording", RECORDING + b"guest 0\nsource 0\nlink 0\npager 0\nend\n")
+    session = run("window", "recording", "0", "1")[1]
+    os.mkdir(f"{run.room}/folder")
+    os.symlink("new", f"{run.room}/link")
+    os.symlink("folder", f"{run.room}/other")
+    run.put("old", b"as it was\n")
+    one = (("new", "new"), ("old", "old"), ("new", "./new"), ("old", f"{run.room}/old"), ("link", "new"), ("folder/new", "other/new"),
+           ("folder/../new", "new"), ("/dev/null", "/dev/null"))
+    before = sorted(os.listdir(run.room))
+    for lines, output in (*one, *(names[::-1] for names in one)):
+        status, told, errors = run("window", "--lines", lines, "-o", output, "recording", "0", "1")
+        yield f"one file for {lines} and {output}", (status, told, errors), (2, b"", b"error: --lines and --output name one file\n")
+    yield "the old file", run.has("old"), b"as it was\n"
+    yield "no new files", sorted(os.listdir(run.room)), before
+    yield "two files", run("window", "--lines", "lines", "-o", "session", "recording", "0", "1"), (0, b"", b"")
+    yield "the session", run.has("session"), session
+    yield "its lines", run.has("lines"), b"".join(b"%d\n" % line for line in range(1, session.count(b"\n") + 1))
+    yield "the same name in two folders", run("window", "--lines", "folder/session", "-o", "session", "recording", "0", "1"), (0, b"", b"")
+    yield "the lines in another folder", run.has("folder/session"), run.has("lines")
+
+
+def a_limit_on_files(run):
+    """A limit on the size of files, where whoever starts the program has set its signal aside."""
+    def limit():
+        signal.signal(signal.SIGXFSZ, signal.SIG_IGN)
+        resource.setrlimit(resource.RLIMIT_FSIZE, (100, 100))
+    run.put("old", b"as it was\n")
+    yield "a file that is too large", run(*steps_words("-o", "old"), preexec_fn=limit, restore_signals=False), (3, b"", b"output\n")
+    yield "the file that stays", run.has("old"), b"as it was\n"
+
+
+def lines_of_nothing(run):
+    """Where the session goes nowhere, the file of its lines stays as it was."""
+    run.put("recording", RECORDING + b"guest 0\nsource 0\nlink 0\npager 0\nend\n")
+    run.put("lines", b"as it was\n")
+    for output in ("not-there/new", run.link("full")):
+        yield f"no session in {output}", run("window", "--lines", "lines", "-o", output, "recording", "0", "1"), (3, b"", b"output\n")
+        yield f"the lines of no session in {output}", run.has("lines"), b"as it was\n"
+
+
+def refused_memory(run):
+    """Where a growth is refused, whichever it is, alone or with all after it, nothing goes to standard output in place of the file."""
+    run.put("recording", RECORDING + b"guest 0\nsource 0\nlink 0\npager 0\nend\n")
+    for words, names in ((steps_words("-o", "new"), ["new"]), (("window", "--lines", "lines", "-o", "new", "recording", "0", "1"), ["lines", "new"])):
+        run(*words)
+        wanted, old = [run.has(name) for name in names], [b"as it was\n"] * len(names)
+        growths, statuses = run.refusing("-", *words)[1], set()
+        for first, last in ((first, last) for first in range(1, growths + 1) for last in (first, 9999999)):
+            for name in names:
+                run.put(name, b"as it was\n")
+            (status, output, errors), _ = run.refusing(f"memory {first} {last} memory", *words)
+            told = {0: b"", 3: b"output\n", 4: b"out of memory\n"}
+            yield f"growths {first} to {last} of {words[0]}", (output, errors, [run.has(name) for name in names]), (b"", told.get(status), old if status else wanted)
+            statuses.add(status)
+        yield f"the statuses of {words[0]}", statuses >= {0, 4}, True
+
+
+def a_refused_script(run):
+    run.put("kept", b"as it was\n")
+    run.put("no-script", b"nothing\n")
+    refused = run("steps", "no-script", f"{STEPS}/events")
+    yield "a refused script", refused[:2], (1, b"script-text line 1\n")
+    yield "a refused script with the option", run("steps", "-o", "kept", "no-script", f"{STEPS}/events"), refused
+    yield "the file that stays", run.has("kept"), b"as it was\n"
+    yield "a refused script and a new file", run("steps", "-o", "none", "no-script", f"{STEPS}/events"), refused
+    yield "the file that is not made", run.has("none"), None
+
+
+def no_text(run):
+    run.put("kept", b"as it was\n")
+    yield "a script that is not there", run("migrate", "-o", "kept", "not-there"), (3, b"", b"file not-there\n")
+    yield "the file that stays where nothing was read", run.has("kept"), b"as it was\n"
+
+
+def no_place(run):
+    failed = (3, b"", b"output\n")
+    yield "a folder that is not there", run(*steps_words("-o", "not-there/new")), failed
+    os.mkdir(f"{run.room}/folder")
+    yield "a folder", run(*steps_words("-o", "folder")), failed
+    yield "the folder", os.listdir(f"{run.room}/folder"), []
+    yield "a full device", run(*steps_words("-o", run.link("full"))), failed
+    yield "no name", run(*steps_words("-o", "")), failed
+
+
+def a_device(run):
+    yield "a device", run(*steps_words("-o", run.link("null"))), (0, b"", b"")
+    yield "the device", stat.S_ISCHR(os.stat(f"{run.room}/null").st_mode), True
+    yield "standard output by its name", run(*steps_words("-o", run.link("stdout")))[:2], run(*steps_words())[:2]
+    run.put("log", b"what was there\n")
+    with open(f"{run.room}/log", "ab") as log:
+        child = subprocess.run([run.program, *steps_words("-o", "stdout")], cwd=run.room, stdout=log, stderr=subprocess.PIPE)
+    yield "standard output that is a file", (child.returncode, child.stderr), (0, b"")
+    yield "the file goes on", run.has("log"), b"what was there\n" + run(*steps_words())[1]
+    yield "the link to standard output", os.readlink(f"{run.room}/stdout"), "/dev/stdout"
+
+
+def a_migration(run):
+    yield "a migration", run("migrate", SCRIPT, "-o", "both"), (0, b"", b"")
+    yield "the check of it", run(stdin=run.has("both")), (0, b"yes\n", b"")
+
+
+def other_commands(run):
+    for words in (("audit", "-o", "new", "session"), ("check", "--output", "new", "session", "certificate")):
+        status, output, errors = run(*words)
+        yield f"{words}", (status, output, errors != b""), (2, b"", True)
+    yield "the file of other commands", run.has("new"), None
+
+
+ALL = (a_new_file, an_old_file, the_users_own, who_may_read, who_owns_it, a_link, two_writers, two_names, a_limit_on_files, lines_of_nothing, refused_memory,
+       a_refused_script, no_text, no_place, a_device, a_migration, other_commands)
+
+
+# How many cases each has at least.
+LEAST = {a_link: 14, two_writers: 62, two_names: 23, who_may_read: 21, the_users_own: 8, a_new_file: 11, refused_memory: 1294, a_device: 6}
+
+
+@pytest.mark.parametrize("tested", [pytest.param(it, marks=pytest.mark.cases(LEAST.get(it, 1)), id=it.__name__) for it in ALL])
+def test_saved(program, room, refusing, tested):
+    for case in tested(Run(program, room, refusing)):
+        same(*case)
+    left = [name for _, _, names in os.walk(room) for name in names if name.startswith(".")]
+    if left:
+        count(False, f"{tested.__name__} leaves {left}")
