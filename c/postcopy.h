@@ -37,12 +37,13 @@ enum postcopy_kind {
     POSTCOPY_INCOMPLETE = 17   /* missing: every merging of the session is safe, but it does not tell of all that it should */
 };
 
-/* Why, of POSTCOPY_SHAPE the first four, and of POSTCOPY_FAULTY the others. 0 is no reason. */
+/* Why, of POSTCOPY_SHAPE the first five, and of POSTCOPY_FAULTY the others. 0 is no reason. */
 enum postcopy_reason {
     POSTCOPY_REASON_PHASES = 1,
     POSTCOPY_REASON_NAMED = 2,
     POSTCOPY_REASON_START = 3,
     POSTCOPY_REASON_SECOND_SEND = 4,
+    POSTCOPY_REASON_BOTH = 5,
     POSTCOPY_REASON_READ = 11,
     POSTCOPY_REASON_EARLY = 12,
     POSTCOPY_REASON_GIVEN = 13,

@@ -70,13 +70,15 @@ uint32_t postcopy_record_halt(postcopy_log *guest);
 uint32_t postcopy_record_resume(postcopy_log *guest, uint32_t ready);
 uint32_t postcopy_record_see(postcopy_log *guest, uint32_t placement);
 
-/* The source. `halt` is a number of the guest's log, `sent` of an earlier state or send of its own, `up` of the link's. */
+/* The source. `halt` is a number of the guest's log, `sent` of an earlier state or send of its own, `up` of the link's. With
+   `back` it starts its guest again, and the log ends. */
 uint32_t postcopy_record_halted(postcopy_log *source, uint32_t halt);
 uint32_t postcopy_record_state(postcopy_log *source);
 uint32_t postcopy_record_send(postcopy_log *source, uint32_t page, const uint64_t *contents, size_t cells);
 uint32_t postcopy_record_again(postcopy_log *source, uint32_t sent);
 uint32_t postcopy_record_ask(postcopy_log *source, uint32_t up);
 uint32_t postcopy_record_done(postcopy_log *source);
+uint32_t postcopy_record_back(postcopy_log *source);
 
 /* The link and the lane. `sent` is a number of the source's log, or, of what goes up, of the pager's. */
 uint32_t postcopy_record_down(postcopy_log *link_or_lane, uint32_t sent);

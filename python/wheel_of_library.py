@@ -1,9 +1,10 @@
 """Builds the wheel of the package, with the shared library in it. Python's own library is all that it needs.
 
     pip install ./python, pip wheel ./python         or, with no pip:
-    python3 python/wheel_of_library.py FOLDER
+    python3 python/wheel_of_library.py FOLDER [PLATFORM]
 
-The library is that of the checkout: where a source was changed, tools/library builds it first.
+The library is that of the checkout: where a source was changed, tools/library builds it first. PLATFORM is the one of the wheel's
+name, as manylinux_2_34_x86_64; where none is given, it is that of the machine.
 """
 import base64
 import hashlib
@@ -17,9 +18,13 @@ import zipfile
 HERE = os.path.dirname(os.path.abspath(__file__))
 
 
+def read(name):
+    with open(f"{HERE}/{name}", encoding="utf-8") as file:
+        return file.read()
+
+
 def project(field):
-    with open(f"{HERE}/pyproject.toml", encoding="utf-8") as file:
-        return re.search(rf'^{field} = "(.*)"$', file.read(), re.M)[1]
+    return re.search(rf'^{field} = "(.*)"$', read("pyproject.toml"), re.M)[1]
 
 
 def library():
@@ -41,10 +46,10 @@ def contents():
     yield "postcopy/libpostcopy.so", library()
 
 
-def build_wheel(wheel_directory, config_settings=None, metadata_directory=None):
+def build_wheel(wheel_directory, config_settings=None, metadata_directory=None, platform=None):
     """Writes the wheel into a folder, and answers its name."""
-    name, version = project("name"), project("version")
-    tag = "py3-none-" + re.sub(r"[-.]", "_", sysconfig.get_platform())
+    name, version = project("name"), read("../VERSION").strip()
+    tag = "py3-none-" + (platform or re.sub(r"[-.]", "_", sysconfig.get_platform()))
     info = f"{name}-{version}.dist-info"
     files = dict(contents())
     with open(f"{HERE}/../LICENSE", "rb") as file:
@@ -52,6 +57,7 @@ def build_wheel(wheel_directory, config_settings=None, metadata_directory=None):
     files[f"{info}/METADATA"] = (
         f"Metadata-Version: 2.1\nName: {name}\nVersion: {version}\nSummary: {project('description')}\n"
         f"Requires-Python: {project('requires-python')}\nLicense: {project('license')}\nLicense-File: LICENSE\nAuthor: the Tingaro authors\n"
+        f"Description-Content-Type: text/markdown\n\n{read(project('readme'))}"
     ).encode()
     files[f"{info}/WHEEL"] = f"Wheel-Version: 1.0\nGenerator: {name}\nRoot-Is-Purelib: false\nTag: {tag}\n".encode()
     rows = []
@@ -72,6 +78,6 @@ def build_wheel(wheel_directory, config_settings=None, metadata_directory=None):
 
 
 if __name__ == "__main__":
-    if len(sys.argv) != 2:
+    if len(sys.argv) not in (2, 3):
         sys.exit(__doc__)
-    print(build_wheel(sys.argv[1]))
+    print(build_wheel(sys.argv[1], platform=sys.argv[2] if len(sys.argv) == 3 else None))

@@ -19,6 +19,11 @@ sum_of() {
     sha256sum < "$1" | cut -d ' ' -f 1
 }
 
+# The newest version of glibc that a program names.
+glibc_of() {
+    grep -ao 'GLIBC_[0-9][0-9.]*' "$1" | sort -Vu | tail -n 1 | cut -d _ -f 2
+}
+
 # Whether a file has the bytes that the manifest tells of the shipped file of a name.
 has_shipped_bytes() {
     [ -r "$1" ] && [ "$(sum_of "$1")" = "$(manifest "$2")" ]

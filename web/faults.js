@@ -3,7 +3,7 @@
 "use strict";
 
 // The numbers of the reasons, by their names in a report.
-const NUMBERS = { phases: 1, named: 2, start: 3, "second-send": 4, read: 11, early: 12, given: 13, stale: 14, twice: 15, altered: 16, unfit: 17, over: 18 };
+const NUMBERS = { phases: 1, named: 2, start: 3, "second-send": 4, both: 5, read: 11, early: 12, given: 13, stale: 14, twice: 15, altered: 16, unfit: 17, over: 18 };
 const MOST_ROWS = 300, HEADS = ["page", "line", "reason"];
 
 let listed = [], sorting = { by: "line", isDown: false };

@@ -2,7 +2,7 @@
 "use strict";
 
 const MOST_LINES = 400;
-const AT = /\bline (\d+)\b(?: \(\w+ \d+\))?/g;
+const AT = /\b[Ll]ine (\d+)\b(?: \(\w+ \d+\))?/g;
 
 // The worker and its questions.
 

@@ -24,6 +24,7 @@ const UNUSED = "Each page came as the guest left it. But the session tells of no
 // What a clean session lacks that does not tell that its guest moved, by the library's line, where $1 is a page.
 const LACKS = [
   [/^incomplete halt$/, "No record says that the guest was halted, so nothing says that it moved."],
+  [/^incomplete returned$/, "The guest returned to the source, which started it again: it never went on at the target."],
   [/^incomplete resume$/, "No record says that the guest went on at the target."],
   [/^incomplete page (\d+)$/, "No record says that page $1 came: it was owed to the target, and was neither placed nor released there."],
   [/^(.*)$/, "The library says: $1."],
@@ -50,8 +51,9 @@ const ORDERS = {
 const REASONS = {
   1: "a record stands in the wrong phase",
   2: "a record names what is not there, or of the wrong kind",
-  3: "a log does not begin as it has to",
+  3: "a log does not begin, or end, as it has to",
   4: "a page is sent a second time",
+  5: "the source starts the guest again, which was resumed at the target",
   11: "the guest reads another value than on one machine that never moved",
   12: "the guest uses a page that it was not seen to have by then",
   13: "a page is sent that the guest had released",

@@ -1,4 +1,4 @@
-/* What tests/recorded-calls asks of the recorder:
+/* What tests/test_recorded_calls.py asks of the recorder:
 
        recording calls FOLDER                     makes the calls that standard input lists, and tells the numbers
        recording threads FOLDER THREADS RECORDS   appends from threads, each record with the number of the thread's one before
@@ -56,6 +56,7 @@ static const struct {
     {"halted", NULL, postcopy_record_halted, NULL},       {"state", postcopy_record_state, NULL, NULL},
     {"again", NULL, postcopy_record_again, NULL},         {"ask", NULL, postcopy_record_ask, NULL},
     {"ask_sent", NULL, postcopy_record_ask_sent, NULL},   {"done", postcopy_record_done, NULL, NULL},
+    {"back", postcopy_record_back, NULL, NULL},
     {"down", NULL, postcopy_record_down, NULL},           {"up", NULL, postcopy_record_up, NULL},
     {"got", NULL, postcopy_record_got, NULL},             {"got_sent", NULL, postcopy_record_got_sent, NULL},
     {"pull", NULL, postcopy_record_pull, NULL},           {"pull_sent", NULL, postcopy_record_pull_sent, NULL},

@@ -101,7 +101,8 @@ class Reason(enum.IntEnum):
     """Why a session has not the right shape, or a page is faulty.
 
     PHASES: a record in the wrong phase. NAMED: it names what is not there, or of the wrong kind. START: a log does not begin as it
-    has to. SECOND_SEND: a page is sent twice. READ: a wrong value. EARLY: a use of a page that was not seen to be placed. GIVEN: a
+    has to, or the source's `back` is not its log's last record. SECOND_SEND: a page is sent twice. BOTH: the source starts the guest
+    again that was resumed at the target. READ: a wrong value. EARLY: a use of a page that was not seen to be placed. GIVEN: a
     released page is sent. STALE, ALTERED: a page is sent, or placed, with other contents than it has at the halt. TWICE: a second
     placement. UNFIT: zeros for a page that was not released. OVER: a placement over the guest's release at the target.
     """
@@ -110,6 +111,7 @@ class Reason(enum.IntEnum):
     NAMED = 2
     START = 3
     SECOND_SEND = 4
+    BOTH = 5
     READ = 11
     EARLY = 12
     GIVEN = 13

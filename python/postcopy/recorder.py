@@ -228,6 +228,10 @@ class Log:
     def done(self) -> int:
         return self._append("source", "done")
 
+    def back(self) -> int:
+        """The source starts its guest again, and the log ends."""
+        return self._append("source", "back")
+
     # The link and the lane. `sent` is a number of the source's log, or, of what goes up, of the pager's.
 
     def down(self, sent: int) -> int:

@@ -79,6 +79,7 @@ source send send page contents
 source again again source:sent
 source ask ask link:up
 source done done
+source back back
 link down down source:sent
 link up up pager:sent
 lane down down source:sent

@@ -47,9 +47,9 @@ class Session:
         return is_fit and all(len(records) <= limits.records for records in self.logs.values())
 
     def version(self) -> int:
-        """The version of its text: the third where it is large, or past the limits of the others; else the second where there is a
-        lane, or a release after the resume; and else the first."""
-        if self.is_large or not self.fits(SMALL):
+        """The version of its text: the third where it is large, or past the limits of the others, or where the source started the
+        guest again; else the second where there is a lane, or a release after the resume; and else the first."""
+        if self.is_large or not self.fits(SMALL) or ("back",) in self.logs["source"]:
             return 3
         words = [record[0] for record in self.logs["guest"]]
         is_late = "resume" in words and "z" in words[words.index("resume"):]

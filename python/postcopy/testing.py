@@ -22,6 +22,7 @@ _ASKED = {
 #: What is missing, by the word after `incomplete` and the number after that.
 _MISSING = {
     "halt": "The guest was never halted: its log has no `halt`, so nothing says that a migration began.",
+    "returned": "The guest returned to the source: its log has no `resume`, and the source started it again.",
     "resume": "The guest never went on at the target: its log has no `resume`.",
     "page": "Page {} was owed to the target at the halt, and was neither placed nor released there.",
     "all": "The pager never said that every owed page had come: its log has no `all` behind their placements.",
