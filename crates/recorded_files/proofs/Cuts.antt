@@ -103,6 +103,7 @@ source_there c (Send p x) e = (tt, tt)
 source_there c (Again sending) e = (below sending (c Source) e, tt)
 source_there c (Ask up) e = (below up (c Link) e, tt)
 source_there c Done e = tt
+source_there c Back e = tt
 
 link_there : (c : Cursors) (r : LinkRec) → is_received c (named_first (link_row r).fields) ≡ true → AllByRecursion (NamesThere c) (link_row r).fields
 link_there c (Down sending) e = (below sending (c Source) e, tt)
