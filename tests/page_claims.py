@@ -11,8 +11,8 @@ ANSWERS = "docs/ANSWERS.md"
 MAN1, MAN5 = "share/man/man1/postcopy.1", "share/man/man5/postcopy.5"
 
 # What the glossary has to explain.
-TERMS = ("merging", "receipt", "knot", "halt", "owed page", "settled", "look", "flat machine", "pivot", "fate", "lane", "certificate",
-         "cut", "run", "party", "channel", "mutant", "pool of workers")
+TERMS = ("merging", "receipt", "knot", "cycle", "halt", "owed page", "cancelled", "look", "guard", "sum", "flat machine", "pivot",
+         "delivery outcome", "lane", "certificate", "cut", "run", "party", "channel", "mutant", "pool of workers")
 
 # Words that have a plain one, in every page.
 WORDS = {
