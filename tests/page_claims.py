@@ -3,7 +3,7 @@ import glob
 import os
 import re
 
-from page_text import TOP, headings, links, number_of, plain, read, rows
+from page_text import TOP, headings, links, number_of, read, rows
 
 README_MOST = 6144
 GUARANTEES, REFERENCE, FORMATS, MAP = "docs/GUARANTEES.md", "docs/REFERENCE.md", "docs/FORMATS.md", "docs/MAP.md"
@@ -13,16 +13,6 @@ MAN1, MAN5 = "share/man/man1/postcopy.1", "share/man/man5/postcopy.5"
 # What the glossary has to explain.
 TERMS = ("merging", "receipt", "knot", "cycle", "halt", "owed page", "cancelled", "look", "guard", "sum", "flat machine", "pivot",
          "delivery outcome", "lane", "certificate", "cut", "run", "party", "channel", "mutant", "pool of workers")
-
-# Words that have a plain one, in every page.
-WORDS = {
-    r"[Ww]ant of memory": "out of memory",
-    r"\bcrews?\b": "pool of workers",
-    r"\bdear(?:er|est)?\b": "expensive",
-    r"\b[Ss]tands? (?:on|upon)\b(?! (?:its|their|two|one) feet)": "depends on",
-    r"\b[Bb]ehind\b": "after",
-    r"\bmust-fail edits?\b|\bedits? (?:of the code )?that the prover\b": "mutants",
-}
 
 # Sentences that were untrue, by the pages that may not have them (or all), and what is true.
 UNTRUE = (
@@ -188,16 +178,6 @@ def wrong_sentences(pages):
                 yield f"{name}: where it says '{about}' it has to say '{wanted}': {truth}"
 
 
-def wrong_words(pages):
-    for name, page in pages.items():
-        written = r"<!-- written by tools/pages.*?<!-- end"
-        page = re.sub(written, lambda it: "\n" * it[0].count("\n"), page, flags=re.S)
-        for number, line in lines(plain(page)):
-            for pattern, better in WORDS.items():
-                if re.search(pattern, line):
-                    yield f"{name}, line {number}: '{re.search(pattern, line)[0]}' is '{better}'"
-
-
 def wrong_ratios(pages):
     """How a record of a migration compares with one of `steps`, by the table above the sentence."""
     page = pages["docs/PERFORMANCE.md"]
@@ -330,6 +310,6 @@ def wrong_installed(sources):
 def wrong(pages, sources):
     """All that is wrong with what is claimed."""
     found = [*wrong_counts(pages, sources), *wrong_lists(pages), *wrong_sums(pages), *wrong_costs(pages, sources), *wrong_scripts(pages)]
-    found += [*wrong_definitions(pages), *wrong_house(pages), *wrong_sentences(pages), *wrong_words(pages), *wrong_ratios(pages)]
+    found += [*wrong_definitions(pages), *wrong_house(pages), *wrong_sentences(pages), *wrong_ratios(pages)]
     found += [*wrong_tables(pages), *wrong_readme(pages), *wrong_glossary(pages), *wrong_answers(pages, sources), *wrong_texts(pages)]
     return [*found, *wrong_silences(pages, sources), *wrong_licence(), *wrong_installed(sources)]
