@@ -34,7 +34,7 @@ UNUSED = ("is_miss", "goes_down", "link_named", "lane_named")
 
 # What a page has to say beside what would be untrue alone: the page, the line it is about, and what that line must have.
 ALSO = (
-    (REFERENCE, r"a page is covered where", r"released", "pages that the guest released at the target are covered too"),
+    (REFERENCE, r"a page is covered if", r"released", "pages that the guest released at the target are covered too"),
     (REFERENCE, r"a record's receipt is", r"LaneRec::named", "the lane's records have receipts"),
     (REFERENCE, r"clause `told`: \*EndsAsked\*", r"\*takes\*.*version", "told is asked only where the command line takes the words"),
     *((REFERENCE, r"used by none of these laws", rf"\*{it}\*", "this rule is used by no law, too") for it in UNUSED),
