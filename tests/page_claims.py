@@ -3,25 +3,16 @@ import glob
 import os
 import re
 
-from page_text import TOP, headings, links, number_of, plain, read, rows
+from page_text import TOP, headings, links, number_of, read, rows
 
 README_MOST = 6144
-GUARANTEES, FORMATS, MAP, ANSWERS = "docs/GUARANTEES.md", "docs/FORMATS.md", "docs/MAP.md", "docs/ANSWERS.md"
+GUARANTEES, REFERENCE, FORMATS, MAP = "docs/GUARANTEES.md", "docs/REFERENCE.md", "docs/FORMATS.md", "docs/MAP.md"
+ANSWERS = "docs/ANSWERS.md"
 MAN1, MAN5 = "share/man/man1/postcopy.1", "share/man/man5/postcopy.5"
 
 # What the glossary has to explain.
-TERMS = ("merging", "receipt", "knot", "halt", "owed page", "settled", "look", "flat machine", "pivot", "fate", "lane", "certificate",
-         "cut", "run", "party", "channel", "mutant", "pool of workers")
-
-# Words that have a plain one, in every page.
-WORDS = {
-    r"[Ww]ant of memory": "out of memory",
-    r"\bcrews?\b": "pool of workers",
-    r"\bdear(?:er|est)?\b": "expensive",
-    r"\b[Ss]tands? (?:on|upon)\b(?! (?:its|their|two|one) feet)": "depends on",
-    r"\b[Bb]ehind\b": "after",
-    r"\bmust-fail edits?\b|\bedits? (?:of the code )?that the prover\b": "mutants",
-}
+TERMS = ("merging", "receipt", "knot", "cycle", "halt", "owed page", "cancelled", "look", "guard", "sum", "flat machine", "pivot",
+         "delivery outcome", "lane", "certificate", "cut", "run", "party", "channel", "mutant", "pool of workers")
 
 # Sentences that were untrue, by the pages that may not have them (or all), and what is true.
 UNTRUE = (
@@ -31,11 +22,11 @@ UNTRUE = (
     (None, r"(?:every|each) owed page (?:was|is) placed(?!,? (?:or|and|neither))", "or was released at the target, and settled"),
     (None, r"says that all are placed(?! or)", "or settled"),
     (None, r"three to six times", "the table has other ratios"),
-    (GUARANTEES, r"which records are folded.*\| tested", "nothing tests which records are folded"),
-    (GUARANTEES, r"agrees with the plan; which records are folded", "nothing tests which records are folded"),
-    (GUARANTEES, r"only constructors, `released_list` and `FaultQueue::fault` take", "FaultQueue::left_without takes memory too"),
-    (GUARANTEES, r"wait for the threads that they start, and return", "they return once their threads have ended"),
-    (GUARANTEES, r"^\| where the status is 0 or 1, the output gained", "only where the command line takes the words"),
+    (REFERENCE, r"which records are folded.*\| tested", "nothing tests which records are folded"),
+    (REFERENCE, r"agrees with the plan; which records are folded", "nothing tests which records are folded"),
+    (REFERENCE, r"only constructors, `released_list` and `FaultQueue::fault` take", "FaultQueue::left_without takes memory too"),
+    (REFERENCE, r"wait for the threads that they start, and return", "they return once their threads have ended"),
+    (REFERENCE, r"^\| where the status is 0 or 1, the output gained", "only where the command line takes the words"),
 )
 
 # Definitions of the right shape that no law uses, and that nothing else on the page names.
@@ -43,11 +34,11 @@ UNUSED = ("is_miss", "goes_down", "link_named", "lane_named")
 
 # What a page has to say beside what would be untrue alone: the page, the line it is about, and what that line must have.
 ALSO = (
-    (GUARANTEES, r"a page is covered where", r"released", "pages that the guest released at the target are covered too"),
-    (GUARANTEES, r"a record's receipt is", r"LaneRec::named", "the lane's records have receipts"),
-    (GUARANTEES, r"clause `told`: \*EndsAsked\*", r"\*takes\*.*version", "told is asked only where the command line takes the words"),
-    *((GUARANTEES, r"used by none of these laws", rf"\*{it}\*", "this rule is used by no law, too") for it in UNUSED),
-    (GUARANTEES, r"^\| every function returns", r"once their threads have ended", "those that start threads wait for them"),
+    (REFERENCE, r"a page is covered if", r"released", "pages that the guest released at the target are covered too"),
+    (REFERENCE, r"a record's receipt is", r"LaneRec::named", "the lane's records have receipts"),
+    (REFERENCE, r"clause `told`: \*EndsAsked\*", r"\*takes\*.*version", "told is asked only where the command line takes the words"),
+    *((REFERENCE, r"used by none of these laws", rf"\*{it}\*", "this rule is used by no law, too") for it in UNUSED),
+    (GUARANTEES, r"^\| Every function returns", r"once their threads have ended", "those that start threads wait for them"),
     (GUARANTEES, r"A released page comes back as zeros' stands for", r"not sent", "the headline's last claim has an exact clause"),
     (ANSWERS, r"^\| 0 \|", r"--help.*--version", "help and version have status 0"),
     (FORMATS, r"^`--help` writes", r"status 0", "help and version have status 0"),
@@ -143,10 +134,10 @@ def definition_files():
 
 def wrong_definitions(pages):
     """The list of trusted definitions."""
-    listed = pages[GUARANTEES].partition("\n## Trusted definitions\n")[2]
+    listed = pages[REFERENCE].partition("\n## Trusted definitions\n")[2]
     for it in sorted(definition_files()):
         if f"`{it}`" not in listed:
-            yield f"{GUARANTEES}: the list of trusted definitions lacks {it}"
+            yield f"{REFERENCE}: the list of trusted definitions lacks {it}"
 
 
 def dependencies():
@@ -185,16 +176,6 @@ def wrong_sentences(pages):
             found = [line for _, line in lines(pages[name]) if re.search(about, line)]
             if not any(re.search(wanted, it) for it in found):
                 yield f"{name}: where it says '{about}' it has to say '{wanted}': {truth}"
-
-
-def wrong_words(pages):
-    for name, page in pages.items():
-        written = r"<!-- written by tools/pages.*?<!-- end"
-        page = re.sub(written, lambda it: "\n" * it[0].count("\n"), page, flags=re.S)
-        for number, line in lines(plain(page)):
-            for pattern, better in WORDS.items():
-                if re.search(pattern, line):
-                    yield f"{name}, line {number}: '{re.search(pattern, line)[0]}' is '{better}'"
 
 
 def wrong_ratios(pages):
@@ -329,6 +310,6 @@ def wrong_installed(sources):
 def wrong(pages, sources):
     """All that is wrong with what is claimed."""
     found = [*wrong_counts(pages, sources), *wrong_lists(pages), *wrong_sums(pages), *wrong_costs(pages, sources), *wrong_scripts(pages)]
-    found += [*wrong_definitions(pages), *wrong_house(pages), *wrong_sentences(pages), *wrong_words(pages), *wrong_ratios(pages)]
+    found += [*wrong_definitions(pages), *wrong_house(pages), *wrong_sentences(pages), *wrong_ratios(pages)]
     found += [*wrong_tables(pages), *wrong_readme(pages), *wrong_glossary(pages), *wrong_answers(pages, sources), *wrong_texts(pages)]
     return [*found, *wrong_silences(pages, sources), *wrong_licence(), *wrong_installed(sources)]

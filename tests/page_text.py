@@ -35,6 +35,11 @@ def prose(page):
     return re.sub(r"^```.*?^```$", lambda block: "\n" * block[0].count("\n"), page, flags=re.M | re.S)
 
 
+def without_written(page):
+    """A page without what a program writes into it: an empty line for each of these lines."""
+    return re.sub(r"^<!-- written by .*?^<!-- end[^\n]*$", lambda block: "\n" * block[0].count("\n"), page, flags=re.M | re.S)
+
+
 def plain(page):
     """The prose without what stands in backticks."""
     return re.sub(r"`[^`\n]*`", "``", prose(page))

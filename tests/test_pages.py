@@ -7,6 +7,8 @@ set but PATH, HOME and what the page sets. What is not run is named here, with t
 Each link has to lead somewhere. Each crate, function, clause, definition and file that a page names has to be there. Each count
 has to be that of the tree, and each sum that of its column. Each answer of the program has to stand in docs/ANSWERS.md and in the
 man page, and what tools/pages writes has to be up to date. What else was once said and untrue is looked for in so many words.
+
+Words of a list are refused, and paragraphs that are too long: in the pages as they are, and in pages into which one is planted.
 """
 import os
 import re
@@ -15,6 +17,7 @@ import tempfile
 
 import page_claims
 import page_names
+import page_style
 import pytest
 from cases import count, right
 from page_sources import Sources
@@ -28,7 +31,8 @@ NOT_RUN = {
     "cd crates/": "it goes with the proof of a crate",
     "tools/install": "test_release.py does it",
     "tools/release": "test_release.py does it",
-    "cc ": "test_library.py does it",
+    "cc ": "test_library.py and test_recording.py do it",
+    "./smallest ": "test_recording.py does it",
     "LD_LIBRARY_PATH=": "test_library.py does it",
     "apt-get ": "it installs packages",
     "recorders/qemu/": "it moves a guest of QEMU, which takes minutes",
@@ -83,6 +87,32 @@ def test_claims():
         count(False, wrong)
     for _ in range(page_names.looked_up):
         count(True, "")
+
+
+def test_style():
+    for wrong in page_style.wrong({name: read(name) for name in (*names_of_pages(), "python/README.md")}):
+        count(False, wrong)
+
+
+PLANTED = {
+    "a word": ("A packet meets its fate.", "'fate' is 'delivery outcome'"),
+    "words": ("The cause is want of memory.", "'want of memory' is 'out of memory'"),
+    "words in a table": ("| A page of one's own | |", "'one's own' is 'your own'"),
+    "a long item": ("- A packet that is `fate` or " + "word " * 90, "a paragraph of 97 words, and 90 are the most"),
+    "a long paragraph of two lines": ("word " * 60 + "\n" + "word " * 31, "a paragraph of 91 words, and 90 are the most"),
+    "a long cell": ("| short | " + "word " * 91 + "|", "a paragraph of 91 words, and 90 are the most"),
+    "two paragraphs": ("word " * 90 + "\n\n" + "word " * 90, None),
+    "code": ("```text\nfate " + "word " * 91 + "\n```", None),
+    "what is written": ("<!-- written by it -->\n| fate | " + "word " * 91 + "|\n<!-- end of it -->", None),
+}
+
+
+@pytest.mark.parametrize("planted, wrong", PLANTED.values(), ids=PLANTED.keys())
+def test_planted_style(planted, wrong):
+    """A page that is right, and what is planted into it."""
+    found = page_style.wrong({"README.md": f"{read('README.md')}\n{planted}\n\nThe end.\n"})
+    line = read("README.md").count("\n") + 2
+    assert found == ([f"README.md, line {line}: {wrong}"] if wrong else [])
 
 
 def test_written():

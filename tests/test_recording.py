@@ -4,15 +4,17 @@ Each folder's traces have to give its session, byte for byte, and the program it
 have to be no matter. And each change of the traces, which is one thing that goes wrong in a migration, has to be found at
 the record that tells of it. Where the lane brings some of the packets, it has a trace too, and the session is of the second
 version; but for that it has to be the same, with the same entries in its certificate. And the C of docs/RECORDING.md has to
-compile.
+compile, and its skeleton to record a session that is judged as the page shows.
 """
 import os
 import re
+import shutil
 import subprocess
 import sys
 
 import pytest
 from cases import same
+from page_text import commands_of
 
 from session_text import LOGS, SessionText, logs_of
 
@@ -206,8 +208,33 @@ def test_recording(program, room):
     tests.of_holes()
 
 
+def test_skeleton(program, cc, room):
+    """The program in C that docs/RECORDING.md begins with: it compiles without a warning, and what it records is judged as the
+    page shows; and with the change that the page names, too."""
+    page = read("docs/RECORDING.md")
+    skeleton = re.search(r"```c\n(/\* smallest\.c: .*?)```", page, re.S)[1]
+    assert skeleton.count("\n") <= 40
+    for folder in ("c", "python", "recorders"):
+        os.symlink(f"{TOP}/{folder}", f"{room}/{folder}")
+    os.symlink(program, f"{room}/postcopy")
+    (compiling, nothing, _), (judging, shown, _) = commands_of(page)[:2]
+    assert (compiling.startswith(f"{cc} -pthread "), nothing, shown) == (True, [], ["clean"])
+    strict = compiling.replace(f"{cc} ", f"{cc} -std=c11 -Wall -Wextra -Werror ", 1)
+    right, wrong = re.search(r"Change `(.+?)` in the call of `memcpy` to `(.+?)`", page).groups()
+    assert skeleton.count(f"memcpy(at_target[page], {right}") == 1
+    for text, lines in (
+        (skeleton, shown),
+        (skeleton.replace(f"[page], {right}", f"[page], {wrong}"), [re.search(r"and the audit says `(.+?)`", page)[1]]),
+    ):
+        with open(f"{room}/smallest.c", "w", encoding="ascii") as file:
+            file.write(text)
+        shutil.rmtree(f"{room}/recording", ignore_errors=True)
+        ran = subprocess.run(["bash", "-c", f"{strict} && {judging}"], cwd=room, stdout=subprocess.PIPE, encoding="ascii")
+        assert ran.stdout.splitlines() == lines
+
+
 def test_page(cc):
-    """The C that docs/RECORDING.md shows. Its commands are run by test_pages.py."""
-    shown = re.search(r"```c\n(.*?)```", read("docs/RECORDING.md"), re.S)[1]
+    """The further C that docs/RECORDING.md shows. Its other commands are run by test_pages.py."""
+    shown, = re.findall(r"```c\n(static void place\(.*?)```", read("docs/RECORDING.md"), re.S)
     words = [cc, "-std=c11", "-Wall", "-Wextra", "-Werror", "-Wno-unused-function", "-fsyntax-only", f"-I{TOP}/c", "-x", "c", "-"]
     assert subprocess.run(words, input=PRELUDE + shown, encoding="ascii").returncode == 0
