@@ -234,8 +234,14 @@ def page_to_show(folder):
     for line in report.splitlines():
         if line.startswith("page ") and not report.startswith("clean"):
             return int(line.split()[1])
+    page = 0
     with open(f"{folder}/target.raw", "rb") as lines:
-        return next((int(line.split()[2]) for line in lines if line.startswith(b"uffd fault ")), 0)
+        for line in lines:
+            if line.startswith(b"uffd fault "):
+                page = int(line.split()[2])
+            elif line.startswith(b"uffd miss "):
+                break
+    return page
 
 
 def explain_and_draw(folder):

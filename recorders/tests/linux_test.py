@@ -4,6 +4,7 @@ The recording made by hand has four pages. Page 0 was left at the target by pre-
 page 3 is of zeros.
 """
 import gzip
+import hashlib
 import os
 import re
 import shutil
@@ -13,11 +14,14 @@ import tempfile
 import debian
 import dialect
 import judge
+import linux_cut
 import linux_run
 import linux_session
 from kinds import Plan
+from pack import unpack
 from stream import PAGE_BYTES
 
+RECORDINGS = f"{os.path.dirname(os.path.dirname(os.path.abspath(__file__)))}/qemu/recordings/linux"
 BASE = 0x100000
 CELLS = 512
 PAGES = 4
@@ -205,6 +209,59 @@ def of_the_self_test(tests):
                 "not judged: the migration did not come to its end: source failed, target ENDED")
 
 
+def kept():
+    """The kept recordings: the name, the hash of the session and its verdict."""
+    with open(f"{RECORDINGS}/expected", encoding="ascii") as lines:
+        return [line.rstrip("\n").split(" ", 2) for line in lines]
+
+
+def changed(data, change):
+    """The bytes of records, each as `change` answers it, or None to leave it out."""
+    told = (change((chr(kind), vcpu, where, value)) for value, where, kind, vcpu, _ in struct.iter_unpack("<QIBBH", data))
+    return records(*filter(None, told))
+
+
+def of_recordings(tests):
+    """Windows of migrations of Debian's kernel. The hash is that of the window of the whole session, as the program cut it."""
+    for name, digest, wanted in kept():
+        with tempfile.TemporaryDirectory() as folder:
+            unpack(f"{RECORDINGS}/{name}.tar.xz", folder)
+            verdict, _ = linux_session.judged(folder, True, "")
+            with open(f"{folder}/session", "rb") as file:
+                tests.wants(f"the session of {name}, byte for byte", hashlib.sha256(file.read()).hexdigest(), digest)
+            tests.wants(f"the verdict of {name}", verdict.line, wanted)
+
+
+def of_a_cut(tests):
+    """A recording of which some pages are cut has the session of their window."""
+    with tempfile.TemporaryDirectory() as folder:
+        write(made(), folder)
+        linux_session.judged(folder, True, "")
+        for first, count in ((0, 4), (0, 1), (1, 2), (2, 2), (3, 1)):
+            window, _ = judge.ask(folder, "window", "session", str(first), str(count))
+            linux_cut.Cut(folder, first, count, f"{folder}/cut").make()
+            verdict, _ = linux_session.judged(f"{folder}/cut", True, "")
+            with open(f"{folder}/cut/session", encoding="ascii") as file:
+                tests.wants(f"{count} pages from {first} on", (file.read() == window, verdict.line), (True, "clean, yes"))
+
+
+def of_frames_that_are_missing(tests):
+    """A real recording without what interrupts pushed: memory at the halt is not what is told."""
+    with tempfile.TemporaryDirectory() as folder:
+        unpack(f"{RECORDINGS}/frames.tar.xz", folder)
+        for side in ("source", "target"):
+            with open(f"{folder}/{side}.accesses", "rb") as file:
+                data = file.read()
+            left = changed(data, lambda record: None if record[0] == "f" else record)
+            tests.wants(f"{side}: there are frames", len(left) < len(data), True)
+            with open(f"{folder}/{side}.accesses", "wb") as out:
+                out.write(left)
+            with open(f"{folder}/{side}.counts", "a", encoding="ascii") as out:
+                out.write(f"records {len(left) // 16}\n")
+        verdict, found = linux_session.judged(folder, True, "")
+        tests.wants("there is no verdict", verdict.line.startswith("not judged: the source's memory at the halt is not what was recorded"), True)
+
+
 def of_gates(tests):
     """Where interrupts go, by the guest's table; some push an error's code too."""
     entry = struct.pack("<HHBBHII", 0x1234, 0x10, 0, 0x8E, 0x8160, 0xFFFFFFFF, 0)
@@ -240,6 +297,9 @@ def run(tests):
         tests.leave_out("recordings of Linux guests: there is no gcc, which builds the program that makes the guest's log")
         return
     of_one_by_hand(tests)
+    of_recordings(tests)
+    of_a_cut(tests)
+    of_frames_that_are_missing(tests)
     of_facts(tests)
     of_a_page_that_never_came(tests)
     of_the_self_test(tests)
