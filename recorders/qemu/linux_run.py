@@ -14,7 +14,7 @@ from run import Migration
 
 BOOTED = "guest: booted"
 RECORD_BYTES = 16
-FILES = (*folders.FILES, "vmlinuz", "initrd", "start", "gates", "idt", "init.mem", "end.mem", "placements", "guest.lines", "self-test", "lines", "page",
+FILES = (*folders.FILES, "vmlinuz", "initrd", "start", "gates", "idt", "init.mem", "end.mem", "placements", "guest.lines", "self-test", "lines", "page", "result.json",
          *(f"{side}.{what}" for side in ("source", "target") for what in ("accesses", "counts", "console")))
 WITH_ERROR_CODE = {8, 10, 11, 12, 13, 14, 17, 21, 29, 30}  # the interrupts at which a processor pushes one cell more than 5
 WORDS = "console=ttyS0 quiet no_timer_check"  # a busy machine is late, and the kernel's look at its timer then ends in a panic

@@ -224,7 +224,6 @@ def judged(folder, is_whole, ended, say=lambda line: None):
         judge.write(f"{folder}/self-test", found.line() + "\n")
         verdict = judge.Verdict(judge.complete_line(folder))
     judge.write(f"{folder}/verdict", verdict.line + "\n")
-    judge.write(f"{folder}/witness", judge.witness(folder))
     return verdict, found
 
 

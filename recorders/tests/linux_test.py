@@ -15,9 +15,11 @@ import debian
 import dialect
 import judge
 import linux_cut
+import linux_results
 import linux_run
 import linux_session
 from kinds import Plan
+from linux_results import Result, result_from_text
 from pack import unpack
 from stream import PAGE_BYTES
 
@@ -195,6 +197,8 @@ def of_the_self_test(tests):
             ("a write at the target that is not told", made(target=without(TARGET, TARGET[8])), at_end),
             ("a change of a page table that is no mark", made(halt=HALT.with_cells({place(0, ENTRY): 0x1023}), placed=HALT),
              "not judged: the source's memory at the halt is not what was recorded, in 1 cells: page 0 cell 7, recorded 0x1001 and found 0x1023"),
+            ("marks in a cell that is no entry of a page table", made(halt=HALT.with_cells({place(0, 1): 0x60}), placed=HALT),
+             "not judged: the source's memory at the halt is not what was recorded, in 1 cells: page 0 cell 1, recorded 0 and found 0x60"),
             ("a change that nobody told", made(source=(("u", 0, 3, 4), *SOURCE)), "not judged: the guest's log: unseen 1"),
             ("a write behind the halt", made(source=(*SOURCE, ("w", 0, 3, 0))), "not judged: the guest's log: behind 1"),
             ("no memory of the end", made(end=None), "not judged: the target's memory at the end was not kept"),
@@ -284,6 +288,33 @@ def of_an_initramfs(tests):
     tests.wants("once more", debian.initramfs(dict(reversed(files.items()))) == made_of, True)
 
 
+def of_results(tests):
+    """What became of runs, in a word, and the table by version."""
+    def result(version="7.2.22", is_bare=False, verdict="clean, yes", lost=0, says=(), is_first_round=True):
+        return Result(version, is_bare, 2, "busy", is_first_round, "", verdict, lost, list(says))
+
+    results = [result(), result(verdict="faulty line 7 read", lost=3, says=["target: guest: WRONG"]), result(verdict="not judged: .."), result("10.0.13"),
+               result(is_bare=True, verdict="", lost=4), result(is_bare=True, verdict="", says=["target: kernel BUG"]), result(is_bare=True, verdict=""),
+               result(is_bare=True, verdict="not judged: there was no post-copy"), result(verdict="incomplete page 3", is_first_round=False)]
+    tests.wants("in a word", [one.in_a_word for one in results], ["clean", "faulty", "not judged", "clean", "lost pages", "something wrong", "nothing lost", "not judged", "incomplete"])
+    tests.wants("as a text and back", [result_from_text(one.to_text()) for one in results], results)
+    tests.wants("the table", linux_results.table(results).splitlines(), [
+        "| Migrations of | 7.2.22 | 10.0.13 |", "| --- | --- | --- |",
+        "| bare, 2 processors, `busy`, the switch in pre-copy's first round | 1 not judged, 1 nothing lost, 1 lost pages, 1 something wrong | |",
+        "| recorded, 2 processors, `busy`, the switch in a later round | 1 incomplete | |",
+        "| recorded, 2 processors, `busy`, the switch in pre-copy's first round | 1 clean, 1 faulty, 1 not judged | 1 clean |"])
+    with tempfile.TemporaryDirectory() as folder:
+        write({**made(), "relay.pages": bytes(3 * PAGE_BYTES)}, folder)
+        for side, line in (("source", "guest: booted"), ("target", "guest: WRONG: a file is not what was written")):
+            with open(f"{folder}/{side}.console", "w", encoding="ascii") as out:
+                print(line, file=out)
+        found = linux_results.result_of(folder, "busy", False, "faulty line 7 read", 9.04)
+        tests.wants("of a folder", (found.version, found.cpus, found.lost, found.says, found.seconds, found.is_first_round),
+                    ("7.2", 1, 1, ["target: guest: WRONG: a file is not what was written"], 9.0, True))
+        os.unlink(f"{folder}/halt.mem")
+        tests.wants("without post-copy", linux_results.result_of(folder, "busy", True, "", 1).in_a_word, "not judged")
+
+
 def of_interfaces(tests):
     tests.wants("the plugins' interfaces", [dialect.interface_of(dialect.version_of(version)) for version in ("5.2.0", "7.2.22", "8.1.0", "10.0.13", "11.1.3", "12.0.0")],
                 [None, 1, 1, 4, 7, 7])
@@ -293,6 +324,7 @@ def run(tests):
     of_gates(tests)
     of_an_initramfs(tests)
     of_interfaces(tests)
+    of_results(tests)
     if not shutil.which("gcc"):
         tests.leave_out("recordings of Linux guests: there is no gcc, which builds the program that makes the guest's log")
         return
