@@ -20,7 +20,7 @@ BUSYBOX = "busybox-static"
 TOOLS = ("apt-get", "apt-cache", "dpkg-deb")
 SECONDS = 600  # to download a package
 TRIES = 3
-FILES = {"vmlinuz": re.compile(r"\./boot/vmlinuz-.*"), "busybox": re.compile(r"\./(usr/)?bin/busybox")}
+FILES = {"vmlinuz": re.compile(r"\./boot/vmlinuz-[^/]*"), "busybox": re.compile(r"\./(usr/)?bin/busybox")}
 
 
 def top():

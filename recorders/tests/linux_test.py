@@ -5,10 +5,14 @@ page 3 is of zeros.
 """
 import gzip
 import hashlib
+import io
 import os
 import re
 import shutil
 import struct
+import subprocess
+import sys
+import tarfile
 import tempfile
 
 import debian
@@ -21,9 +25,11 @@ import linux_session
 from kinds import Plan
 from linux_results import Result, result_from_text
 from pack import unpack
+from roots import Missing
 from stream import PAGE_BYTES
+from versions_test import QEMU, program, qemu_like, read
 
-RECORDINGS = f"{os.path.dirname(os.path.dirname(os.path.abspath(__file__)))}/qemu/recordings/linux"
+RECORDINGS = f"{QEMU}/recordings/linux"
 BASE = 0x100000
 CELLS = 512
 PAGES = 4
@@ -315,6 +321,66 @@ def of_results(tests):
         tests.wants("without post-copy", linux_results.result_of(folder, "busy", True, "", 1).in_a_word, "not judged")
 
 
+def deb(path, *names):
+    """A package as the `dpkg-deb` here takes it: the archive of its files."""
+    with tarfile.open(path, "w") as archive:
+        for name in names:
+            member = tarfile.TarInfo(name)
+            member.size = len(name)
+            archive.addfile(member, io.BytesIO(name.encode()))
+
+
+def of_packages(tests, room):
+    """The kernel and busybox are got from packages once, both or none; a mirror that fails for a moment is tried again."""
+    kept = {name: os.environ.get(name) for name in ("PATH", "XDG_CACHE_HOME")}
+    os.makedirs(f"{room}/bin")
+    os.environ.update(PATH=f"{room}/bin:{os.environ['PATH']}", XDG_CACHE_HOME=f"{room}/cache")
+    try:
+        deb(f"{room}/linux-image-9_1_amd64.deb", "./boot/config-9", "./boot/vmlinuz-9", "./boot/vmlinuz-9/x")
+        deb(f"{room}/busybox-static_1_amd64.deb", "./usr/share/doc/busybox", "./bin/busybox")
+        program(f"{room}/bin/dpkg-deb", 'cat "$2"')
+        program(f"{room}/bin/apt-cache", "echo 'Package: any'; echo 'Depends: linux-image-9 (= 1)'")
+        program(f"{room}/bin/apt-get", "echo 'E: no network' >&2; exit 100")
+        said = tests.refuses("where there is no network", Missing, lambda: debian.get(lambda line: None))
+        tests.wants("why, and nothing is left of it", ("no network" in said, os.path.exists(f"{room}/cache/postcopy/linux")), (True, False))
+        program(f"{room}/bin/apt-get", f'echo "$*" >> {room}/asked', f'[ -e {room}/tried ] || {{ touch {room}/tried; exit 100; }}', f'cp {room}/"$3"_*.deb .')
+        told = []
+        folder = debian.get(told.append)
+        tests.wants("what is there", {name: read(f"{folder}/{name}") for name in os.listdir(folder)},
+                    {"vmlinuz": "./boot/vmlinuz-9", "busybox": "./bin/busybox", "packages": "linux-image-9_1_amd64.deb\nbusybox-static_1_amd64.deb\n"})
+        tests.wants("what was told", [line.split(",")[0] for line in told], [
+            "download: linux-image-9", "unpack: linux-image-9_1_amd64.deb", "download: busybox-static", "unpack: busybox-static_1_amd64.deb"])
+        tests.wants("how often apt was asked", len(read(f"{room}/asked").splitlines()), 3)
+        debian.get(told.append)
+        tests.wants("once they are there nothing is got", (len(told), len(read(f"{room}/asked").splitlines())), (4, 3))
+        shutil.rmtree(folder)
+        deb(f"{room}/busybox-static_1_amd64.deb", "./bin/other")
+        tests.refuses("a package without the file", Missing, lambda: debian.get(told.append))
+        tests.wants("and then neither is there", os.path.exists(folder), False)
+    finally:
+        for name, value in kept.items():
+            os.environ.pop(name)
+            if value is not None:
+                os.environ[name] = value
+
+
+def of_words(tests, room):
+    """Words that mean nothing together, a folder of others, and what a machine lacks: with the status that is told."""
+    qemu = qemu_like(room, "5.2.0", ())
+    os.makedirs(f"{room}/others")
+    with open(f"{room}/others/file", "w", encoding="ascii"):
+        pass
+    for words, status, said in ((("--memory", "200"), 2, "--memory is 64 to 129"), (("--cpus", "9"), 2, "--cpus is 1 to 4"),
+                                (("--kernel", "any"), 2, "--kernel and --initrd go together"), (("--fault", "keep"), 2, "invalid choice: 'keep'"),
+                                (("--kernel", f"{room}/none", "--initrd", qemu, "--qemu", qemu), 3, f"{room}/none cannot be read"),
+                                (("--kernel", qemu, "--initrd", qemu, "--qemu", qemu), 3, "QEMU 5.2.0 has no interface for plugins that is known here"),
+                                (("--qemu", f"{room}/none"), 3, "is no program here")):
+        done = subprocess.run([sys.executable, "-B", f"{QEMU}/linux", f"{room}/seen", *words], capture_output=True, text=True)
+        tests.wants(f"linux {words[0]}", (done.returncode, said in done.stderr), (status, True))
+    done = subprocess.run([sys.executable, "-B", f"{QEMU}/linux", f"{room}/others", "--kernel", qemu, "--initrd", qemu, "--qemu", qemu], capture_output=True, text=True)
+    tests.wants("a folder of others", (done.returncode, "was not made by this recorder" in done.stderr, os.listdir(f"{room}/others")), (2, True, ["file"]))
+
+
 def of_interfaces(tests):
     tests.wants("the plugins' interfaces", [dialect.interface_of(dialect.version_of(version)) for version in ("5.2.0", "7.2.22", "8.1.0", "10.0.13", "11.1.3", "12.0.0")],
                 [None, 1, 1, 4, 7, 7])
@@ -325,6 +391,9 @@ def run(tests):
     of_an_initramfs(tests)
     of_interfaces(tests)
     of_results(tests)
+    for of_them in (of_packages, of_words):
+        with tempfile.TemporaryDirectory() as room:
+            of_them(tests, room)
     if not shutil.which("gcc"):
         tests.leave_out("recordings of Linux guests: there is no gcc, which builds the program that makes the guest's log")
         return
