@@ -483,7 +483,7 @@ static void OF_PLUGIN(on_reset) { start(); }
 static void look_for_start(unsigned vcpu __attribute__((unused)), void *opaque __attribute__((unused)))
 {
     int wanted = 1;
-    if (memory && atomic_compare_exchange_strong(&is_start_wanted, &wanted, 2))
+    if (is_start_wanted == 1 && memory && atomic_compare_exchange_strong(&is_start_wanted, &wanted, 2))
         qemu_plugin_reset(plugin, REGISTERED(on_reset));
 }
 

@@ -222,17 +222,20 @@ def judged(folder, is_whole, ended, say=lambda line: None):
     else:
         say(f"self-test: {found.line()}")
         judge.write(f"{folder}/self-test", found.line() + "\n")
+        say("judges")
         verdict = judge.Verdict(judge.complete_line(folder))
     judge.write(f"{folder}/verdict", verdict.line + "\n")
     return verdict, found
 
 
-def page_to_show(folder):
-    """The first page that has a fault; else the first that the guest waited for."""
+def faulty_pages(folder):
+    """The pages that have a fault, from a session that is not clean."""
     report, _ = judge.ask(folder, "audit", "--all", "session")
-    for line in report.splitlines():
-        if line.startswith("page ") and not report.startswith("clean"):
-            return int(line.split()[1])
+    return [int(line.split()[1]) for line in report.splitlines() if line.startswith("page ")]
+
+
+def waited_for(folder):
+    """The first page that the guest waited for, or 0."""
     page = 0
     with open(f"{folder}/target.raw", "rb") as lines:
         for line in lines:
@@ -243,9 +246,11 @@ def page_to_show(folder):
     return page
 
 
-def explain_and_draw(folder):
-    """Explains and draws the window of one page: the words, and the page; or None."""
-    page = page_to_show(folder)
+def explain_and_draw(folder, is_clean):
+    """Explains and draws the window of one page, the first that has a fault or, where none has, the first that the guest waited for:
+    the words, and the page; or None."""
+    page = next(iter([] if is_clean else faulty_pages(folder)), None)
+    page = waited_for(folder) if page is None else page
     _, status = judge.ask(folder, "window", "session", str(page), "1", "-o", "page", "--lines", "lines")
     if status:
         return None

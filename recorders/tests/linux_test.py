@@ -182,6 +182,18 @@ def of_facts(tests):
         tests.wants(f"told: {what}", reason_of(files), wanted)
 
 
+def of_the_page_that_is_shown(tests):
+    """One page is explained and drawn: the first that has a fault, or else the first that the guest waited for."""
+    wrong = {"placed": HALT.with_cells({place(2, 0): 76}), "end": END.with_cells({place(2, 0): 76})}
+    for what, files, page, first in (("clean", made(), 1, "clean"), ("faulty", made(**wrong), 2, "faulty")):
+        with tempfile.TemporaryDirectory() as folder:
+            write(files, folder)
+            verdict, _ = linux_session.judged(folder, True, "")
+            words, shown = linux_session.explain_and_draw(folder, verdict.is_clean)
+            tests.wants(f"the page that is shown of one that is {what}", (shown, words.split()[0], read(f"{folder}/explained") == words, read(f"{folder}/picture.svg")[:4]),
+                        (page, first, True, "<svg"))
+
+
 def of_a_page_that_never_came(tests):
     """All memory is read at the end: so a page that nobody placed and nobody used is found where it is not what it should be."""
     target = tuple((kind, vcpu, where, 3 if value == 4 else value) for kind, vcpu, where, value in without(TARGET, TARGET[11], TARGET[14]))
@@ -402,5 +414,6 @@ def run(tests):
     of_a_cut(tests)
     of_frames_that_are_missing(tests)
     of_facts(tests)
+    of_the_page_that_is_shown(tests)
     of_a_page_that_never_came(tests)
     of_the_self_test(tests)
