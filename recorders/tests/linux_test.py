@@ -182,6 +182,20 @@ def of_facts(tests):
         tests.wants(f"told: {what}", reason_of(files), wanted)
 
 
+def of_a_page_that_is_given_up(tests):
+    """A page that was there when memory was guarded, and that the target shall forget, is no placement of the session."""
+    later = {value: value + 1 for value in (2, 3, 4)}
+    target = (TARGET[0], ("p", 63, 3, 2), *((kind, vcpu, where, later.get(value, value) if kind in "sp" else value) for kind, vcpu, where, value in TARGET[1:]))
+    seen = tuple(("s", 0, 0, 2) if one == ("s", 0, 0, 1) else one for one in target)
+    have = TARGET_RAW.replace("uffd have 0 0\n", "uffd have 0 0\nuffd have 3 0\n")
+    with tempfile.TemporaryDirectory() as folder:
+        write(made(target=seen, target_raw=have), folder)
+        verdict, _ = linux_session.judged(folder, True, "")
+        with open(f"{folder}/session", encoding="ascii") as file:
+            looks = [line for line in file if line.startswith("see ")]
+    tests.wants("a look that showed it shows what came before it", (verdict.line, looks), ("clean, yes", ["see 3\n", "see 7\n", "see 11\n"]))
+
+
 def of_the_page_that_is_shown(tests):
     """One page is explained and drawn: the first that has a fault, or else the first that the guest waited for."""
     wrong = {"placed": HALT.with_cells({place(2, 0): 76}), "end": END.with_cells({place(2, 0): 76})}
@@ -414,6 +428,7 @@ def run(tests):
     of_a_cut(tests)
     of_frames_that_are_missing(tests)
     of_facts(tests)
+    of_a_page_that_is_given_up(tests)
     of_the_page_that_is_shown(tests)
     of_a_page_that_never_came(tests)
     of_the_self_test(tests)
