@@ -25,6 +25,7 @@ import linux_session
 from kinds import Plan
 from linux_results import Result, result_from_text
 from pack import unpack
+from qmp import Gone
 from roots import Missing
 from stream import PAGE_BYTES
 from versions_test import QEMU, program, qemu_like, read
@@ -347,6 +348,57 @@ def of_results(tests):
         tests.wants("without post-copy", linux_results.result_of(folder, "busy", True, "", 1).in_a_word, "not judged")
 
 
+def of_the_machine(tests):
+    """What a QEMU of a Linux guest is asked for. The source waits for a start, and writes its memory; a bare one has no plugin."""
+    plan = Plan(kind="linux", ram=128, pages=32512, base=BASE, workload="work=64:0")
+    one = linux_run.LinuxMachine.__new__(linux_run.LinuxMachine)
+    one.library, one.pipe = "/room/one.so", "/room/one.pipe"
+    for name, wanted in (("source", {"RECORD_START": "start", "RECORD_INIT": "init.mem", "RECORD_ACCESSES": "source.accesses"}),
+                         ("target", {"RECORD_START": None, "RECORD_INIT": None, "RECORD_ACCESSES": "target.accesses"})):
+        one.name = name
+        told = one.environment(plan)
+        tests.wants(f"what the {name}'s library is told", ({key: told.get(key) for key in wanted}, told["RECORD_RAM"], told["RECORD_PAGES"]),
+                    (wanted, str(128 << 20), "32512"))
+        tests.wants(f"the {name}'s guest", one.guest(plan), [
+            "-kernel", "./vmlinuz", "-initrd", "./initrd", "-append", "console=ttyS0 quiet no_timer_check work=64:0", "-serial", f"file:./{name}.console",
+            "-action", "reboot=shutdown,shutdown=pause"])
+    tests.wants("one thread for all processors, and the plugin", one.hardware("pc", plan), ["-machine", "pc", "-accel", "tcg,thread=single", "-plugin", "/room/one.so"])
+    one.library = None
+    tests.wants("a bare one", one.hardware("pc", plan), ["-machine", "pc", "-accel", "tcg,thread=single"])
+
+
+class Booting:
+    """In the place of a QEMU whose guest has said this."""
+
+    def __init__(self, said, is_there=True):
+        self.words, self.is_there = said, is_there
+
+    def said(self):
+        return self.words
+
+    def is_running(self):
+        return self.is_there
+
+    @staticmethod
+    def last_error():
+        return "no such machine"
+
+
+def of_boots(tests):
+    """The boot ends with the guest's word, or with a panic, which is told at once; or it is waited for a time."""
+    def booted(said, is_there=True, boot=None):
+        one = linux_run.LinuxMigration.__new__(linux_run.LinuxMigration)
+        one.plan, one.say, one.source, one.ready, one.boot = Plan(limit=0.2), lambda line: None, Booting(said, is_there), "guest: booted", boot
+        one.boot_up()
+        return True
+
+    tests.wants("one that is up", booted("guest: booted, 1 processors"), True)
+    tests.wants("one that is waited for", booted("any", boot=0.1), True)
+    for what, words, said in (("a panic", ("a line\n[ 0.1] Kernel panic - not syncing: x\nmore",), "it said: [ 0.1] Kernel panic - not syncing: x"),
+                              ("one that takes too long", ("a line\nanother",), "it said: another"), ("a QEMU that ends", ("", False), "no such machine")):
+        tests.wants(f"{what} is told", said in tests.refuses(what, Gone, lambda: booted(*words)), True)
+
+
 def deb(path, *names):
     """A package as the `dpkg-deb` here takes it: the archive of its files."""
     with tarfile.open(path, "w") as archive:
@@ -417,6 +469,8 @@ def run(tests):
     of_an_initramfs(tests)
     of_interfaces(tests)
     of_results(tests)
+    of_the_machine(tests)
+    of_boots(tests)
     for of_them in (of_packages, of_words):
         with tempfile.TemporaryDirectory() as room:
             of_them(tests, room)
