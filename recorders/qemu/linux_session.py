@@ -207,6 +207,17 @@ class LinuxRecording(Recording):
         return found
 
 
+def verdict_line(folder):
+    """The verdict in a line, of the session of a whole migration. The certificate is the report's: a session of a gigabyte is read twice."""
+    report, _ = judge.ask(folder, "audit", "--complete", "session")
+    judge.write(f"{folder}/report", report)
+    first, _, certificate = report.partition("\n")
+    if first != "clean":
+        return first or "not judged: the program said nothing"
+    judge.write(f"{folder}/certificate", certificate)
+    return f"clean, {judge.ask(folder, 'check', '--complete', 'session', 'certificate')[0].strip()}"
+
+
 def judged(folder, is_whole, ended, say=lambda line: None):
     """Judges a recording and leaves what was found in its folder. There is no verdict where the self-test fails, or where the migration
     did not come to its end; `ended` says how it did. Answers the Verdict, and the SelfTest or None."""
@@ -223,7 +234,7 @@ def judged(folder, is_whole, ended, say=lambda line: None):
         say(f"self-test: {found.line()}")
         judge.write(f"{folder}/self-test", found.line() + "\n")
         say("judges")
-        verdict = judge.Verdict(judge.complete_line(folder))
+        verdict = judge.Verdict(verdict_line(folder))
     judge.write(f"{folder}/verdict", verdict.line + "\n")
     return verdict, found
 
