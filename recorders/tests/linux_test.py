@@ -3,6 +3,7 @@
 The recording made by hand has four pages. Page 0 was left at the target by pre-copy, page 1 is waited for, page 2 comes unasked, and
 page 3 is of zeros.
 """
+import contextlib
 import gzip
 import hashlib
 import io
@@ -28,7 +29,7 @@ from pack import unpack
 from qmp import Gone
 from roots import Missing
 from stream import PAGE_BYTES
-from versions_test import QEMU, program, qemu_like, read
+from versions_test import QEMU, command, program, qemu_like, read
 
 RECORDINGS = f"{QEMU}/recordings/linux"
 BASE = 0x100000
@@ -459,6 +460,48 @@ def of_words(tests, room):
     tests.wants("a folder of others", (done.returncode, "was not made by this recorder" in done.stderr, os.listdir(f"{room}/others")), (2, True, ["file"]))
 
 
+# In the place of recorders/qemu/linux: leaves a result, and the status that its last word names.
+MADE_UP = """import os, sys
+folder, status = sys.argv[1], int(sys.argv[-1])
+if status == 3:
+    sys.exit(3)
+os.makedirs(folder)
+for name in ("session", "halt.mem", "verdict"):
+    open(f"{folder}/{name}", "w").close()
+with open(f"{folder}/result.json", "w") as out:
+    out.write(%r if status == 0 else %r)
+sys.exit(status)
+"""
+
+
+def of_runs(tests, room):
+    """Runs one after another: each adds a line, big files go, and the table of all is written."""
+    results = [Result("7.2.22", False, 1, "spread", True, "", verdict, 0, [], 60.0, 4.0) for verdict in ("clean, yes", "faulty line 7 read")]
+    with open(f"{room}/linux", "w", encoding="ascii") as out:
+        out.write(MADE_UP % tuple(result.to_text() for result in results))
+    runs = command("linux_runs")
+    runs.HERE, runs.PAGE = room, f"{room}/page.md"
+    with open(runs.PAGE, "w", encoding="ascii") as page:
+        page.write("before\n{}old\n{}after\n".format(*runs.MARKS))
+
+    def made(*words):
+        kept, sys.argv = sys.argv, ["linux_runs", *words]
+        try:
+            with contextlib.redirect_stdout(io.StringIO()), contextlib.redirect_stderr(io.StringIO()):
+                return runs.main()
+        finally:
+            sys.argv = kept
+
+    tests.wants("the statuses", [made("2", f"{room}/seen", "--", "0"), made("1", f"{room}/seen", "--keep", "--", "1"), made("1", f"{room}/seen", "--", "3"),
+                                 made("0", f"{room}/seen", "--write"), made("1", room, "--", "0")], [0, 0, 3, 0, 2])
+    tests.wants("what is kept", [sorted(os.listdir(f"{room}/seen/{number:04}")) for number in range(3)],
+                [["result.json", "verdict"]] * 2 + [["halt.mem", "result.json", "session", "verdict"]])
+    tests.wants("the results", runs.kept(f"{room}/seen"), [results[0], results[0], results[1]])
+    tests.wants("the page", read(runs.PAGE).splitlines()[2:7], [
+        "", "3 migrations, at a load of 4 to 4:", "", "| Migrations of | 7.2.22 |", "| --- | --- |"])
+    tests.wants("and its table", "| recorded, 1 processor, `spread`, the switch in pre-copy's first round | 2 clean, 1 faulty |" in read(runs.PAGE), True)
+
+
 def of_interfaces(tests):
     tests.wants("the plugins' interfaces", [dialect.interface_of(dialect.version_of(version)) for version in ("5.2.0", "7.2.22", "8.1.0", "10.0.13", "11.1.3", "12.0.0")],
                 [None, 1, 1, 4, 7, 7])
@@ -471,7 +514,7 @@ def run(tests):
     of_results(tests)
     of_the_machine(tests)
     of_boots(tests)
-    for of_them in (of_packages, of_words):
+    for of_them in (of_packages, of_words, of_runs):
         with tempfile.TemporaryDirectory() as room:
             of_them(tests, room)
     if not shutil.which("gcc"):
