@@ -3,7 +3,7 @@
 A verdict, or an end of a QEMU, other than expected is a failure; nothing is tried again, and the folder is kept. A few of the
 cases are run, and where QEMU is not installed it is installed, if that is possible within two minutes; where it is not, they are
 left out. So is a migration that this machine was too slow for, so that it did not come to what was planned. With --all each case is
-run, by the QEMU of --qemu, and what did not come to that is a failure; what is expected of a newer QEMU than 7.2 is told by its version.
+run, and Linux guests too, by the QEMU of --qemu, and what did not come to that is a failure; what is expected of a newer QEMU than 7.2 is told by its version.
 """
 import json
 import os
@@ -53,6 +53,9 @@ ENDS = [
     ("cut-behind-last-page", ["recovery", "--flush", "--pages", "64", "--cut", "55"], CLEAN, "source postcopy-active, target postcopy-paused"),
 ]
 CASES = KINDS + FAULTS + ENDS
+# An unmodified Linux guest, by recorders/qemu/linux: a name, its words, and patterns of what the audit has to say and of the status.
+LINUX = [("clean", [], CLEAN, 0), *((fault, ["--fault", fault], "faulty line [0-9]+ (read|altered|early|stale)", 1)
+                                    for fault in ("flip", "stale", "swap", "drop", "keep-drop", "preflip"))]
 # What a newer QEMU does in a case, from a version on: lost writes are gone, and the source starts its guest again.
 AGAIN = "shape line [0-9]+ both|incomplete returned"
 NEWER = {
@@ -146,7 +149,7 @@ def qemu(pytestconfig):
 
 
 def pytest_generate_tests(metafunc):
-    cases = [it for it in CASES if metafunc.config.getoption("--all") or it[0] in IN_GATE]
+    cases = LINUX if metafunc.function is test_linux else [it for it in CASES if metafunc.config.getoption("--all") or it[0] in IN_GATE]
     metafunc.parametrize("case", cases, ids=[it[0] for it in cases])
 
 
@@ -155,4 +158,17 @@ def test_qemu(qemu, program, pytestconfig, monkeypatch, case):
     room = tempfile.mkdtemp(prefix="qemu-")
     is_right, line = run(case, qemu, room, not pytestconfig.getoption("--all"))
     assert is_right, line
+    shutil.rmtree(room)
+
+
+def test_linux(qemu, program, pytestconfig, monkeypatch, case):
+    if not pytestconfig.getoption("--all"):
+        pytest.skip("it boots Linux, which takes a minute and 2 GB of disk: --all runs it")
+    monkeypatch.setenv("POSTCOPY", program)
+    name, words, verdict, status = case
+    room = tempfile.mkdtemp(prefix="linux-")
+    done = subprocess.run([f"{TOP}/recorders/qemu/linux", *words, "--qemu", qemu, "--quiet", f"{room}/{name}{STRANGE}"], capture_output=True, text=True)
+    said = dict(re.findall(r"^(QEMU|The audit) says: (.*)$", done.stdout, re.MULTILINE))
+    is_right = re.fullmatch(verdict, said.get("The audit", "")) and done.returncode == status
+    assert is_right, f"failed: {name}: {done.stdout}{done.stderr}\n  wanted {verdict}, status {status}\n  kept in {room}"
     shutil.rmtree(room)

@@ -70,6 +70,34 @@ def build_library(library):
     os.replace(f"{library}.new", library)
 
 
+def built(path, names, headers, *how):
+    """A program or library of these sources, built where it is not there or older than they are."""
+    os.makedirs(OUT, exist_ok=True)
+    sources = [f"{HERE}/{name}" for name in names]
+    with open(f"{path}.lock", "w") as lock:
+        fcntl.flock(lock, fcntl.LOCK_EX)
+        if is_stale(path, *sources, *(f"{HERE}/{name}" for name in headers)):
+            run("gcc", "-O2", "-Wall", "-Wextra", *how, "-o", f"{path}.new", *sources, "-ldl", "-lpthread")
+            os.replace(f"{path}.new", path)
+    return path
+
+
+def build_recorder(interface):
+    """The library that records accesses too, for a version of the plugins' interface."""
+    return built(f"{OUT}/accesses-{interface}.so", ("accesses.c", "preload.c"), ("accesses.h", "preload.h", "plugin.h"),
+                 "-shared", "-fPIC", f"-DINTERFACE={interface}")
+
+
+def build_guest_log():
+    """The program that makes the guest's log."""
+    return built(f"{OUT}/guest_log", ("guest_log.c",), ("accesses.h",))
+
+
+def build_work():
+    """The work of a Linux guest."""
+    return built(f"{OUT}/work", ("linux_guest/work.c",), (), "-static")
+
+
 def build():
     """The paths of the ROM and of the library, built where they are not there or older than their sources."""
     os.makedirs(OUT, exist_ok=True)
@@ -78,7 +106,7 @@ def build():
         fcntl.flock(lock, fcntl.LOCK_EX)
         if is_stale(rom, *(f"{HERE}/guest/{name}" for name in ("start.S", "walk.c", "rom.ld"))):
             build_rom(rom)
-        if is_stale(library, f"{HERE}/preload.c"):
+        if is_stale(library, f"{HERE}/preload.c", f"{HERE}/preload.h"):
             build_library(library)
     return rom, library
 

@@ -3,7 +3,9 @@
 A page of 4,096 bytes has as many cells as the guest uses words of it. The rest of the page is zeros; where it is not, the last
 cell is mixed with a hash of the rest, so that it differs.
 """
+import array
 import hashlib
+import sys
 
 from stream import PAGE_BYTES
 from wire import ZERO
@@ -11,10 +13,14 @@ from wire import ZERO
 
 def cells_of(page, words):
     used, rest = page[:words * 8], page[words * 8:]
-    values = [int.from_bytes(used[at:at + 8], "little") for at in range(0, len(used), 8)]
+    values = array.array("Q", used)
+    if sys.byteorder == "big":
+        values.byteswap()
     if rest.count(0) != len(rest):
         values[-1] ^= int.from_bytes(hashlib.blake2b(rest, digest_size=8).digest(), "big")
-    return "".join(f"{value:016x}" for value in values)
+    if sys.byteorder == "little":
+        values.byteswap()
+    return values.tobytes().hex()
 
 
 class Contents:

@@ -60,6 +60,7 @@ class Recording:
         is_in_flight = source.in_flight.is_behind_touch(is_by_block=not plan.kvm)
         target = self.target_side(session, self.wire, self.contents, plan.base, plan.target_version, is_in_flight, bool(source.last))
         target.read(Pipe(source.in_flight), self.read("target.raw"))
+        self.target = target
         self.links(session)
         if len(session.logs["guest"]) > SMALL.records and not is_from_halt:
             return self.session(is_from_halt=True)

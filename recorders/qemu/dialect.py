@@ -69,6 +69,7 @@ TARGET = (
     Form("guard", rf"{LIBRARY} guard "),
     Form("have", rf"{LIBRARY} have (?P<page>\d+) (?P<place>\d+)"),
     Form("fault", rf"{LIBRARY} fault (?P<page>\d+) (?P<thread>\d+)"),
+    Form("miss", rf"{LIBRARY} miss (?P<number>\d+)"),  # of a guest whose accesses a plugin records: the fault told last is this one's
     Form("place", rf"{LIBRARY} place (?P<page>\d+) (?P<place>\d+)"),
     Form("zero", rf"{LIBRARY} zero (?P<page>\d+)"),
     Form("refused", rf"{LIBRARY} refused (?P<page>\d+) (?P<error>\d+)"),
@@ -83,11 +84,18 @@ BESIDES = {
                "postcopy_ram_fault_thread_quit"),
 }
 FORMS = {"source": SOURCE, "target": TARGET}
+# The version of the interface that a plugin asks for, from a version of QEMU on: recorders/qemu/plugin.h has what differs.
+INTERFACES = (((7, 2), 1), ((10, 0), 4), ((11, 0), 7))
 
 
 def version_of(text):
     """A version's text as (major, minor)."""
     return tuple(int(part) for part in text.split(".")[:2])
+
+
+def interface_of(version):
+    """The version of the plugins' interface, or None before there is one that is known."""
+    return next((interface for since, interface in reversed(INTERFACES) if since <= version), None)
 
 
 def events_of(side, version):

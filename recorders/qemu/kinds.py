@@ -35,6 +35,9 @@ class Plan:
     skip: int = 3             # of the pages that the fault could take
     linger: int = 0           # milliseconds by which a QEMU that ends with an error ends later
     limit: float = 40.0       # seconds for each part of the migration
+    workload: str = ""        # of a Linux guest, whose accesses a plugin records: words of its kernel's command line
+    recorded: float = 0.0     # and for how many seconds it is recorded before the migration starts
+    run_on: float = 0.0       # and goes on at the target, behind the end
     base: int = BASE
     source_version: str = KEPT  # of QEMU; written by who makes the migration
     target_version: str = KEPT

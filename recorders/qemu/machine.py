@@ -55,33 +55,45 @@ class PipeReader:
 class Machine:
     """QEMU stands in `folder`, and finds there what it reads and writes. Its sockets, its pipe and a link to the library that it
     preloads are in `room`. So whatever the name of the folder has in it, no option of QEMU does. `machine` is the type of the machine,
-    and `trace` the events that it traces."""
+    and `trace` the events that it traces. Without a library it is bare: nothing is preloaded."""
 
     def __init__(self, name, folder, room, plan, library, path, machine="pc", trace=(), extra=()):
         self.name, self.folder = name, folder
-        self.pipe, self.socket, preloaded = room.name(f"{name}.pipe"), room.name(f"{name}.qmp"), room.name(f"{name}.so")
+        self.pipe, self.socket, self.library = room.name(f"{name}.pipe"), room.name(f"{name}.qmp"), library and room.name(f"{name}.so")
         os.mkfifo(self.pipe, 0o600)
-        os.symlink(os.path.abspath(library), preloaded)
+        if library:
+            os.symlink(os.path.abspath(library), self.library)
         self.reader = PipeReader(self.pipe, f"{folder}/{name}.raw")
         self.errors = f"{folder}/{name}.errors"
-        environment = dict(
-            os.environ, LD_PRELOAD=preloaded, RECORD_PIPE=self.pipe, RECORD_CONTENTS=f"{name}.pages",
-            RECORD_RAM=str(plan.ram << 20), RECORD_BASE=str(plan.base), RECORD_PAGES=str(plan.pages),
-            RECORD_LINGER=str(plan.linger),
-            RECORD_EARLY=str(plan.skip + 1 if plan.fault == "early" and name == "target" else 0))
-        memory = ["-object", f"memory-backend-memfd,id={PC_RAM},size={plan.ram}M,hugetlb=on,hugetlbsize=2M",
-                  "-machine", f"memory-backend={PC_RAM}"] if plan.huge else []
         command = [
-            path, "-name", name, "-machine", f"{machine},accel={'kvm' if plan.kvm else 'tcg'}", "-m", f"{plan.ram}M", "-smp", str(plan.cpus),
-            *memory, "-nodefaults", "-no-user-config", "-display", "none", "-bios", "./guest.bin",
-            "-chardev", f"file,id=told,path={self.pipe}", "-device", "isa-debugcon,iobase=0xe9,chardev=told",
+            path, "-name", name, *self.hardware(machine, plan), "-m", f"{plan.ram}M", "-smp", str(plan.cpus),
+            "-nodefaults", "-no-user-config", "-display", "none", *self.guest(plan),
             "-qmp", f"unix:{self.socket},server=on,wait=off", "-D", self.pipe,
             *(word for event in trace for word in ("-trace", event)), *extra]
         with open(f"{folder}/{name}.command", "w") as out:
             print(*command, file=out)
+        environment = {**os.environ, **self.environment(plan)} if library else None
         with open(self.errors, "w") as errors:
             self.process = subprocess.Popen(command, cwd=folder, env=environment, stderr=errors, stdin=subprocess.DEVNULL, preexec_fn=die_with_parent)
         self.qmp, self.lock, self.hangs = None, threading.Lock(), False
+
+    def environment(self, plan):
+        """What the preloaded library is told."""
+        return dict(
+            LD_PRELOAD=self.library, RECORD_PIPE=self.pipe, RECORD_CONTENTS=f"{self.name}.pages",
+            RECORD_RAM=str(plan.ram << 20), RECORD_BASE=str(plan.base), RECORD_PAGES=str(plan.pages),
+            RECORD_LINGER=str(plan.linger),
+            RECORD_EARLY=str(plan.skip + 1 if plan.fault == "early" and self.name == "target" else 0))
+
+    def hardware(self, machine, plan):
+        """The machine, its processors and its memory, as QEMU's options."""
+        memory = ["-object", f"memory-backend-memfd,id={PC_RAM},size={plan.ram}M,hugetlb=on,hugetlbsize=2M",
+                  "-machine", f"memory-backend={PC_RAM}"] if plan.huge else []
+        return ["-machine", f"{machine},accel={'kvm' if plan.kvm else 'tcg'}", *memory]
+
+    def guest(self, plan):
+        """The guest, and where it tells what it does."""
+        return ["-bios", "./guest.bin", "-chardev", f"file,id=told,path={self.pipe}", "-device", "isa-debugcon,iobase=0xe9,chardev=told"]
 
     def is_running(self):
         return self.process.poll() is None

@@ -10,16 +10,17 @@ sys.path.append(os.path.dirname(os.path.dirname(os.path.abspath(__file__))))
 import packing  # noqa: E402
 
 FILES = ("plan.json", "relay.log", "relay.pages", "source.raw", "target.raw", "target.pages", "halt.mem")
+OF_LINUX = ("init.mem", "end.mem", *(f"{side}.{what}" for side in ("source", "target") for what in ("accesses", "counts")))
 
 
 def pack(folder, path):
-    """Packs what a session is made from."""
-    packing.pack(folder, FILES, path)
+    """Packs what a session is made from; of a Linux guest, what its log is made from too."""
+    packing.pack(folder, (*FILES, *OF_LINUX) if os.path.exists(f"{folder}/init.mem") else FILES, path)
 
 
 def unpacked(path):
     """The files of a packed recording, by their names. Raises ValueError where it holds any other."""
-    return packing.unpacked(path, FILES)
+    return packing.unpacked(path, (*FILES, *OF_LINUX))
 
 
 def unpack(path, folder):

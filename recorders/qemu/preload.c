@@ -36,21 +36,21 @@
 #include <sys/stat.h>
 #include <sys/uio.h>
 #include <unistd.h>
+#include "preload.h"
 
 #if defined __x86_64__ && defined __GLIBC__
 __asm__(".symver dlsym, dlsym@GLIBC_2.2.5");
 #endif
 
-#define PAGE 4096UL
 #define DESCRIPTORS 1024
-#define MOST_PAGES 65536
 
 enum use { UNKNOWN, GUEST, USERFAULT, OTHER };
 
-static pthread_mutex_t lock = PTHREAD_MUTEX_INITIALIZER;
-static int pipe_end = -1, contents_file = -1;
+pthread_mutex_t lock = PTHREAD_MUTEX_INITIALIZER;
+int pipe_end = -1;
+uint64_t ram, base, pages;
+static int contents_file = -1, page_map = -1;
 static uint64_t pipe_inode;
-static uint64_t ram, base, pages;
 static uint64_t window; /* where the window is in this process, 0 before it is guarded */
 static long stored, early, linger;
 static char use_of[DESCRIPTORS], is_waited_for[MOST_PAGES];
@@ -61,7 +61,7 @@ static ssize_t (*real_writev)(int, const struct iovec *, int);
 static int (*real_close)(int);
 static void (*real_exit)(int) __attribute__((noreturn));
 
-static uint64_t number(const char *name)
+uint64_t number(const char *name)
 {
     uint64_t value = 0;
     for (const char *text = getenv(name); text && *text >= '0' && *text <= '9'; text++)
@@ -91,7 +91,8 @@ __attribute__((constructor)) static void begin(void)
         return;
     pipe_end = open(path, O_WRONLY | O_CLOEXEC);
     contents_file = open(contents, O_WRONLY | O_CREAT | O_TRUNC | O_CLOEXEC, 0666);
-    if (pipe_end < 0 || contents_file < 0 || !is_pipe(pipe_end, &pipe_inode)) {
+    page_map = open("/proc/self/pagemap", O_RDONLY | O_CLOEXEC);
+    if (pipe_end < 0 || contents_file < 0 || page_map < 0 || !is_pipe(pipe_end, &pipe_inode)) {
         perror("preload");
         exit(1);
     }
@@ -104,7 +105,7 @@ __attribute__((constructor)) static void begin(void)
 
 static int is_known(int fd, enum use use)
 {
-    return fd >= 0 && fd < DESCRIPTORS && use_of[fd] == use;
+    return fd >= 0 && fd < DESCRIPTORS && (enum use)use_of[fd] == use;
 }
 
 /* The page of the window at an address, or -1. */
@@ -122,16 +123,29 @@ static long store(const void *contents)
     return stored++;
 }
 
+int is_present(const void *address)
+{
+    uint64_t entry = 0;
+    return pread(page_map, &entry, 8, (uintptr_t)address / PAGE * 8) == 8 && entry >> 62; /* present, or swapped */
+}
+
+/* Tells of a page that is in place. */
+static void tell_page(const char *how, long page, const void *contents)
+{
+    if (contents)
+        dprintf(pipe_end, "uffd %s %ld %ld\n", how, page, store(contents));
+    else
+        dprintf(pipe_end, "uffd zero %ld\n", page);
+    if (heard_page)
+        heard_page(page, contents);
+}
+
 /* The pages of the window that are there, once it is guarded. */
 static void tell_present(void)
 {
-    int map = open("/proc/self/pagemap", O_RDONLY | O_CLOEXEC);
-    for (uint64_t page = 0; page < pages; page++) {
-        uint64_t entry, address = window + page * PAGE;
-        if (pread(map, &entry, 8, address / PAGE * 8) == 8 && entry >> 62) /* present, or swapped */
-            dprintf(pipe_end, "uffd have %lu %ld\n", page, store((void *)address));
-    }
-    real_close(map);
+    for (uint64_t page = 0; page < pages; page++)
+        if (is_present((void *)(window + page * PAGE)))
+            tell_page("have", page, (void *)(window + page * PAGE));
 }
 
 static int guard(int fd, unsigned long request, struct uffdio_register *what)
@@ -159,7 +173,7 @@ static int place_too_early(int fd, struct uffdio_copy *copy, long page)
     memcpy((void *)copy->dst, (void *)copy->src, copy->len);
     pthread_mutex_lock(&lock);
     dprintf(pipe_end, "uffd early %ld\n", page);
-    dprintf(pipe_end, "uffd place %ld %ld\n", page, store((void *)copy->src));
+    tell_page("place", page, (void *)copy->src);
     pthread_mutex_unlock(&lock);
     copy->copy = copy->len;
     return 0;
@@ -172,10 +186,8 @@ static void tell_placement(long page, int answer, int error, const void *content
         return;
     if (answer)
         dprintf(pipe_end, "uffd refused %ld %d\n", page, error);
-    else if (contents)
-        dprintf(pipe_end, "uffd place %ld %ld\n", page, store(contents));
     else
-        dprintf(pipe_end, "uffd zero %ld\n", page);
+        tell_page("place", page, contents);
 }
 
 /* Makes a placement of one page, which may be a huge one, tells it, and wakes who waits. `contents` is NULL for zeros. */
@@ -228,6 +240,8 @@ static void tell_fault(const struct uffd_msg *message)
     pthread_mutex_lock(&lock);
     is_waited_for[page] = 1;
     dprintf(pipe_end, "uffd fault %ld %u\n", page, message->arg.pagefault.feat.ptid);
+    if (heard_fault)
+        heard_fault(page, message->arg.pagefault.feat.ptid);
     pthread_mutex_unlock(&lock);
 }
 

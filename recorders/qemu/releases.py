@@ -69,22 +69,29 @@ def merged(name):
     return f"usr/{name}" if re.match("lib(64)?(/|$)", name) else name
 
 
-def unpack(package, root):
-    """Unpacks of a package what QEMU runs with: no rights of others, no device, nothing outside of the root."""
+@contextlib.contextmanager
+def opened(package):
+    """The archive of a package's files, to be read from its start to its end."""
     with subprocess.Popen(["dpkg-deb", "--fsys-tarfile", package], stdout=subprocess.PIPE) as process:
         with tarfile.open(fileobj=process.stdout, mode="r|") as archive:
-            for member in archive:
-                member.name = merged(member.name)
-                if not NEEDED.fullmatch(member.name) or not (member.isreg() or member.issym() or member.islnk()):
-                    continue
-                if member.issym() and member.linkname.startswith("/"):
-                    member.linkname = os.path.relpath(merged(member.linkname), os.path.dirname(member.name))
-                elif member.islnk():
-                    member.linkname = merged(member.linkname)
-                member.mode = 0o755 if member.mode & 0o111 else 0o644
-                archive.extract(member, root)
+            yield archive
     if process.returncode:
         raise Missing(f"dpkg-deb cannot unpack {package}")
+
+
+def unpack(package, root):
+    """Unpacks of a package what QEMU runs with: no rights of others, no device, nothing outside of the root."""
+    with opened(package) as archive:
+        for member in archive:
+            member.name = merged(member.name)
+            if not NEEDED.fullmatch(member.name) or not (member.isreg() or member.issym() or member.islnk()):
+                continue
+            if member.issym() and member.linkname.startswith("/"):
+                member.linkname = os.path.relpath(merged(member.linkname), os.path.dirname(member.name))
+            elif member.islnk():
+                member.linkname = merged(member.linkname)
+            member.mode = 0o755 if member.mode & 0o111 else 0o644
+            archive.extract(member, root)
 
 
 def loader_of(root):

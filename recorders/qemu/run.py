@@ -46,6 +46,8 @@ class Migration:
     """Recorded into `folder`, which has to be one that folders.take takes. `say` takes lines of progress. `emulators` are those of
     the source and of the target."""
 
+    files, machine_class, seconds_between_lines = folders.FILES, Machine, 1
+
     def __init__(self, plan, folder, say, emulators):
         self.source_emulator, self.target_emulator = emulators
         self.plan = replace(plan, source_version=self.source_emulator.version_text, target_version=self.target_emulator.version_text)
@@ -53,14 +55,14 @@ class Migration:
         self.machines = []
 
     def run(self):
-        folders.look_at(self.folder)
+        folders.look_at(self.folder, self.files)
         build.require_tools()
-        rom, library = build.build()
+        library = self.build()
         machine, traces = self.prepare(library)
-        folders.take(self.folder)
+        folders.take(self.folder, self.files)
         with open(f"{self.folder}/plan.json", "w") as out:
             out.write(self.plan.to_text())
-        build.rom_for(self.plan, rom, f"{self.folder}/guest.bin")
+        self.put_guest()
         began = time.monotonic()
         self.room = folders.Room()
         try:
@@ -76,6 +78,15 @@ class Migration:
             json.dump(asdict(self.outcome), out, indent=1)
         return self.outcome
 
+    def build(self):
+        """The library that both QEMUs preload."""
+        self.rom, library = build.build()
+        return library
+
+    def put_guest(self):
+        """Puts into the folder what the guest is started from."""
+        build.rom_for(self.plan, self.rom, f"{self.folder}/guest.bin")
+
     def prepare(self, library):
         """The type of both machines, and what each side traces. Raises Missing where a QEMU lacks what the plan needs."""
         for emulator in {self.source_emulator, self.target_emulator}:
@@ -89,7 +100,7 @@ class Migration:
                            self.plan.fault, self.plan.skip, cuts, bool(self.plan.multifd), self.save_memory)
 
         def start(name, emulator, *extra):
-            self.machines.append(Machine(name, self.folder, self.room, self.plan, library, emulator.path, machine, traces[name], extra))
+            self.machines.append(self.machine_class(name, self.folder, self.room, self.plan, library, emulator.path, machine, traces[name], extra))
             return self.machines[-1]
 
         try:
@@ -122,9 +133,8 @@ class Migration:
         self.target("migrate-incoming", uri=f"unix:{self.relay.target}")
         versions = " to ".join(dict.fromkeys([plan.source_version, plan.target_version]))
         self.say(f"QEMU {versions}, {'KVM' if plan.kvm else 'TCG'}")
-        self.say(f"guest: {plan.pages} pages of {plan.words} words, {plan.cpus} processor{'s' if plan.cpus > 1 else ''}")
-        if not self.source.wait_for_accesses(plan.pages * 3 // 4 + plan.warm, plan.limit):
-            raise Gone("the guest does not walk")
+        self.say(self.guest_line())
+        self.warm_up()
         if plan.paused:
             self.source("stop")
         self.source("migrate", uri=f"unix:{self.relay.path}")
@@ -133,6 +143,19 @@ class Migration:
         self.source("migrate-start-postcopy")
         self.follow()
         self.finish()
+
+    def guest_line(self):
+        plan = self.plan
+        return f"guest: {plan.pages} pages of {plan.words} words, {plan.cpus} processor{'s' if plan.cpus > 1 else ''}"
+
+    def warm_up(self):
+        """Waits until the guest has done what it is to do before it is moved."""
+        if not self.source.wait_for_accesses(self.plan.pages * 3 // 4 + self.plan.warm, self.plan.limit):
+            raise Gone("the guest does not walk")
+
+    def run_on(self):
+        """Waits until the guest has done what it is to do at the target, behind the end."""
+        self.target.wait_for_accesses(self.plan.after, self.plan.limit / 4)
 
     def set_up(self):
         capabilities = [{"capability": name, "state": True} for name in self.plan.capabilities()]
@@ -185,10 +208,14 @@ class Migration:
             if there in ("failed", "postcopy-paused"):
                 self.remark(f"the target went to {there} by itself")
                 return
-            if time.monotonic() - told > 1:
+            if time.monotonic() - told > self.seconds_between_lines:
                 told = time.monotonic()
-                self.say(f"post-copy: {self.relay.sent_after} pages")
+                self.say(f"post-copy: {self.stands()}")
             time.sleep(0.02)
+
+    def stands(self):
+        """How far post-copy has come."""
+        return f"{self.relay.sent_after} pages"
 
     def paused(self, machine):
         """Waits until a QEMU has noticed the cut; one that does not is told to pause."""
@@ -233,8 +260,9 @@ class Migration:
             if plan.paused and outcome.target == "completed":
                 self.target("cont")
             if outcome.target == "completed":
-                self.target.wait_for_accesses(plan.after, plan.limit / 4)
+                self.run_on()
                 self.target("stop")
+                self.at_end()
         except (Gone, Refused) as fault:
             self.remark(f"target: {fault}")
         if outcome.target in ("failed", "ended"):
@@ -246,6 +274,9 @@ class Migration:
             self.remark(f"source: {fault}")
         outcome.source = self.end_of(self.source, outcome.source)
         self.say(outcome.line())
+
+    def at_end(self):
+        """What is to be done where the guest stands still at the target."""
 
     def end_of(self, machine, status):
         """How a QEMU ended: ENDED where the process did, HANGS where it does not answer, or what it says."""

@@ -63,13 +63,7 @@ class SourceSide:
 
     def halt(self):
         self.is_halted = True
-        self.last = self.done_before(self.in_flight)
-        if self.last:
-            self.access(self.last)
-        if self.is_from_halt:
-            self.session.logs["guest"].clear()
-            self.session.initial = {page: self.contents.cells("halt.mem", page) for page in range(self.session.pages)}
-        self.session.add("guest", "halt", name=("halt",))
+        self.guest_halts()
         self.add("halted", halt=("halt",))
         if not self.wire.has_state:
             return
@@ -77,6 +71,16 @@ class SourceSide:
         for page in self.wire.left:
             self.add("send", name=("left", page), page=page, contents=self.contents.cells("halt.mem", page))
         self.send_untraced()
+
+    def guest_halts(self):
+        """The end of the guest's log at the source."""
+        self.last = self.done_before(self.in_flight)
+        if self.last:
+            self.access(self.last)
+        if self.is_from_halt:
+            self.session.logs["guest"].clear()
+            self.session.initial = {page: self.contents.cells("halt.mem", page) for page in range(self.session.pages)}
+        self.session.add("guest", "halt", name=("halt",))
 
     def start_again(self):
         """The last record of the source: nothing that it does for a migration comes behind it."""

@@ -1,4 +1,5 @@
 """What differs between QEMUs: what one lacks is told before, roots of other releases, one that hangs, and a guest at both sides."""
+import functools
 import importlib.machinery
 import importlib.util
 import io
@@ -13,6 +14,7 @@ import time
 
 import build
 import emulator
+import found_page
 import machine
 import plain
 import qmp
@@ -263,10 +265,11 @@ def of_what_was_found(tests, room):
         "| What became of it | 7.2.22 | 10.0.13 |", "| --- | --- | --- |", "| clean | 1 | 1 |", "| target ended while it loaded | 2 | |",
         "| both ran | | 1 |", "| not judged | | |", "| in all | 3 | 2 |", "",
         "| Clean, of the kind | 7.2.22 | 10.0.13 |", "| --- | --- | --- |", "| `live` | 1 of 1 | 1 of 2 |", "| `paused` | 0 of 2 | |"])
+    put = functools.partial(found_page.put, both=found.MARKS)
     page = f"before\n{found.BEGIN}old\n{found.END}after\n"
-    tests.wants("the page", found.put(page, "new\n"), f"before\n{found.BEGIN}\nnew\n\n{found.END}after\n")
-    tests.wants("and once more", found.put(found.put(page, "new\n"), "new\n"), found.put(page, "new\n"))
-    tests.refuses("a page without their place", ValueError, lambda: found.put("before\n", "new\n"))
+    tests.wants("the page", put(page, "new\n"), f"before\n{found.BEGIN}\nnew\n\n{found.END}after\n")
+    tests.wants("and once more", put(put(page, "new\n"), "new\n"), put(page, "new\n"))
+    tests.refuses("a page without their place", ValueError, lambda: put("before\n", "new\n"))
 
 
 def run(tests):

@@ -1,0 +1,128 @@
+"""A Linux to boot: Debian's kernel and busybox out of its packages, in a folder of the user's cache, and an initramfs made here."""
+import contextlib
+import fcntl
+import glob
+import gzip
+import os
+import re
+import shutil
+import stat
+import subprocess
+import tempfile
+
+import build
+from releases import opened
+from roots import Missing, cache
+
+HERE = f"{os.path.dirname(os.path.abspath(__file__))}/linux_guest"
+META = "linux-image-cloud-amd64"  # which depends on the newest kernel
+BUSYBOX = "busybox-static"
+TOOLS = ("apt-get", "apt-cache", "dpkg-deb")
+SECONDS = 600  # to download a package
+TRIES = 3
+FILES = {"vmlinuz": re.compile(r"\./boot/vmlinuz-[^/]*"), "busybox": re.compile(r"\./(usr/)?bin/busybox")}
+
+
+def top():
+    return cache("linux")
+
+
+def require_tools():
+    lacks = [tool for tool in TOOLS if not shutil.which(tool)]
+    if lacks:
+        raise Missing(f"{', '.join(lacks)} not found: the kernel is got by apt, on Debian. Elsewhere name one by --kernel and --initrd")
+
+
+def ask(*words, folder="."):
+    try:
+        done = subprocess.run(words, cwd=folder, capture_output=True, text=True, timeout=SECONDS, env=dict(os.environ, LC_ALL="C"))
+    except (OSError, subprocess.TimeoutExpired) as fault:
+        raise Missing(f"{' '.join(words)}: {fault}") from None
+    if done.returncode:
+        raise Missing(f"{' '.join(words)}: {(done.stderr.strip().splitlines() or ['it said nothing'])[-1]}\n"
+                      "As root: apt-get update")
+    return done.stdout
+
+
+def kernel_package():
+    """The package of the newest kernel that apt knows."""
+    told = ask("apt-cache", "show", "--no-all-versions", META)
+    match = re.search(r"^Depends: (linux-image-\S+)", told, re.MULTILINE)
+    if not match:
+        raise Missing(f"{META} depends on no kernel")
+    return match[1]
+
+
+def download(package, folder):
+    """Downloads a package, whose file it answers; tries again what a mirror refuses for a moment."""
+    for _ in range(TRIES - 1):
+        with contextlib.suppress(Missing):
+            ask("apt-get", "download", "-q", package, folder=folder)
+            break
+    else:
+        ask("apt-get", "download", "-q", package, folder=folder)
+    return glob.glob(f"{glob.escape(folder)}/{package}_*.deb")[0]
+
+
+def take_out(package, name, folder):
+    """Takes a file out of a package."""
+    with opened(package) as archive:
+        for member in archive:
+            if FILES[name].fullmatch(member.name) and member.isreg():
+                with open(f"{folder}/{name}", "wb") as out:
+                    shutil.copyfileobj(archive.extractfile(member), out)
+    if not os.path.exists(f"{folder}/{name}"):
+        raise Missing(f"{os.path.basename(package)} has no {name}")
+
+
+def get(say):
+    """Where the kernel and busybox are: got where they are not there yet, both or none."""
+    folder = top()
+    os.makedirs(os.path.dirname(folder), exist_ok=True)
+    with open(f"{folder}.lock", "w", encoding="ascii") as lock:
+        fcntl.flock(lock, fcntl.LOCK_EX)
+        if os.path.isdir(folder):
+            return folder
+        require_tools()
+        shutil.rmtree(f"{folder}.new", ignore_errors=True)
+        os.makedirs(f"{folder}.new")
+        with tempfile.TemporaryDirectory() as room:
+            os.chmod(room, 0o755)
+            names = {"vmlinuz": kernel_package(), "busybox": BUSYBOX}
+            with open(f"{folder}.new/packages", "w", encoding="ascii") as kept:
+                for name, package in names.items():
+                    say(f"download: {package}")
+                    file = download(package, room)
+                    say(f"unpack: {os.path.basename(file)}, {os.path.getsize(file) >> 10} KiB")
+                    take_out(file, name, f"{folder}.new")
+                    kept.write(f"{os.path.basename(file)}\n")
+        os.rename(f"{folder}.new", folder)
+    return folder
+
+
+# The initramfs: an archive of the form `newc`.
+
+def entry(number, name, mode, data=b""):
+    fields = (number, mode, 0, 0, 1, 0, len(data), 0, 0, 0, 0, len(name) + 1, 0)
+    head = b"070701" + b"".join(b"%08X" % field for field in fields) + name.encode() + b"\0"
+    return head + bytes(-len(head) % 4) + data + bytes(-len(data) % 4)
+
+
+def initramfs(files):
+    """The bytes of an initramfs: by name, the mode and the contents. The same files give the same bytes."""
+    entries = [entry(number, name, mode, data) for number, (name, (mode, data)) in enumerate(sorted(files.items()), 1)]
+    return gzip.compress(b"".join([*entries, entry(0, "TRAILER!!!", 0)]), mtime=0)
+
+
+def read(path):
+    with open(path, "rb") as file:
+        return file.read()
+
+
+def build_initramfs(busybox, path):
+    """Makes the initramfs of busybox, the work and the first process."""
+    program, folder = stat.S_IFREG | 0o755, (stat.S_IFDIR | 0o755, b"")
+    with open(path, "wb") as out:
+        out.write(initramfs({
+            "bin": folder, "dev": folder, "bin/busybox": (program, read(busybox)), "bin/sh": (stat.S_IFLNK | 0o777, b"busybox"),
+            "init": (program, read(f"{HERE}/init")), "work": (program, read(build.build_work()))}))

@@ -1,0 +1,90 @@
+"""What became of migrations of Linux guests, one line each, and the table of them by version."""
+import json
+import os
+from dataclasses import asdict, dataclass
+
+import dialect
+from convert import recording_in
+from results import markdown
+from witness import pages_that_differ
+
+FILE = "result.json"
+WRONG = ("guest: WRONG", "BUG", "Oops", "panic", "segfault", "general protection")  # in a line of the console that tells of something wrong
+IN_FIRST_ROUND = "the switch in pre-copy's first round"
+LATER = "the switch in a later round"
+RUIN = ("clean", "faulty", "incomplete", "not judged", "nothing lost", "lost pages", "something wrong")
+
+
+@dataclass
+class Result:
+    version: str
+    is_bare: bool
+    cpus: int
+    workload: str        # its name
+    is_first_round: bool  # whether the switch came before pre-copy had sent each page once
+    fault: str
+    verdict: str         # of the audit, or `not judged: ..`; of a bare one nothing, or that
+    lost: int            # pages that were left at the target, and are not what the source has at the halt
+    says: list           # what the guest says on its console of something wrong
+    seconds: float = 0.0
+    load: float = 0.0    # of the machine
+
+    def to_text(self):
+        return json.dumps(asdict(self))
+
+    @property
+    def in_a_word(self):
+        if self.verdict.startswith("not judged"):
+            return "not judged"
+        if self.is_bare:
+            return "lost pages" if self.lost else "something wrong" if self.says else "nothing lost"
+        return "clean" if self.verdict == "clean, yes" else self.verdict.split(" ")[0]
+
+    @property
+    def row(self):
+        """What is told of the runs that are counted together."""
+        return (f"{'bare' if self.is_bare else 'recorded'}, {self.cpus} processor{'s' if self.cpus > 1 else ''}, `{self.workload}`, "
+                f"{IN_FIRST_ROUND if self.is_first_round else LATER}" + (f", `{self.fault}` put in" if self.fault else ""))
+
+
+def result_from_text(text):
+    return Result(**json.loads(text))
+
+
+def what_guest_says(folder):
+    """Lines of the consoles that tell of something wrong."""
+    lines = []
+    for side in ("source", "target"):
+        path = f"{folder}/{side}.console"
+        if os.path.exists(path):
+            with open(path, encoding="utf-8", errors="replace") as file:
+                lines += [f"{side}: {line.strip()}" for line in file if any(word in line for word in WRONG)]
+    return lines
+
+
+def result_of(folder, workload, is_bare, verdict, seconds):
+    """What became of the migration in a folder, which is left there too."""
+    recording = recording_in(folder)
+    plan, lost = recording.plan, []
+    if os.path.exists(f"{folder}/halt.mem"):
+        lost, _ = pages_that_differ(recording)
+    else:
+        verdict = verdict or "not judged: there was no post-copy"
+    result = Result(plan.source_version, is_bare, plan.cpus, workload, plan.pre_pages <= plan.pages, plan.fault, verdict, len(lost),
+                    what_guest_says(folder), round(seconds, 1), round(os.getloadavg()[0], 1))
+    with open(f"{folder}/{FILE}", "w", encoding="utf-8") as out:
+        print(result.to_text(), file=out)
+    return result
+
+
+def table(results):
+    """How often what became of the runs of each kind, by version."""
+    versions = sorted({result.version for result in results}, key=dialect.version_of)
+    lines = []
+    for row in sorted({result.row for result in results}):
+        cells = []
+        for version in versions:
+            words = [result.in_a_word for result in results if (result.row, result.version) == (row, version)]
+            cells.append(", ".join(f"{words.count(word)} {word}" for word in RUIN if word in words))
+        lines.append([row, *cells])
+    return markdown([["Migrations of", *versions], *lines])

@@ -1,0 +1,531 @@
+"""Linux guests whose accesses were recorded: what the conversion rests on, each told wrong in a recording made by hand, and kept ones.
+
+The recording made by hand has four pages. Page 0 was left at the target by pre-copy, page 1 is waited for, page 2 comes unasked, and
+page 3 is of zeros.
+"""
+import contextlib
+import gzip
+import hashlib
+import io
+import os
+import re
+import shutil
+import struct
+import subprocess
+import sys
+import tarfile
+import tempfile
+
+import debian
+import dialect
+import judge
+import linux_cut
+import linux_results
+import linux_run
+import linux_session
+from kinds import Plan
+from linux_results import Result, result_from_text
+from pack import unpack
+from qmp import Gone
+from roots import Missing
+from stream import PAGE_BYTES
+from versions_test import QEMU, command, program, qemu_like, read
+
+RECORDINGS = f"{QEMU}/recordings/linux"
+BASE = 0x100000
+CELLS = 512
+PAGES = 4
+STACK, ENTRY, CODE, USED = 100, 7, 30, 9  # cells, of pages 0, 0, 2 and 1
+COUNTS = {"records": 0, "accesses": 9, "implied": 0, "unseen": 0, "frames": 1, "frames_untold": 0, "parts_untold": 0, "gates": 256, "misses": 1, "words": 0}
+
+
+def place(page, cell):
+    return page * CELLS + cell
+
+
+def records(*told):
+    """The bytes of records: the kind, the processor, the cell or page, and the value."""
+    return b"".join(struct.pack("<QIBBH", value, where, ord(kind), vcpu, 0) for kind, vcpu, where, value in told)
+
+
+class Memory:
+    """A memory of the four pages, cell by cell."""
+
+    def __init__(self, cells):
+        self.cells = dict(cells)
+
+    def with_cells(self, cells):
+        return Memory({**self.cells, **cells})
+
+    def bytes(self):
+        return b"".join(self.cells.get(at, 0).to_bytes(8, "little") for at in range(PAGES * CELLS))
+
+    def page(self, number):
+        return self.bytes()[number * PAGE_BYTES:(number + 1) * PAGE_BYTES]
+
+
+INIT = Memory({place(0, ENTRY): 0x1001, place(1, USED): 5, place(2, CODE): 0x9090, place(2, 0): 77})
+# The guest counts in page 1, an interrupt pushes a frame in page 0, and the processor marks an entry of a page table.
+SOURCE = (("w", 0, place(1, USED), 6), ("f", 0, place(0, STACK), 0x33), ("h", 63, 0, 0))
+HALT = INIT.with_cells({place(1, USED): 6, place(0, STACK): 0x33, place(0, ENTRY): 0x1021})
+# It goes on at the target: looks at page 0, waits for page 1, counts on, is interrupted, goes to the code of page 2.
+TARGET = (
+    ("p", 63, 0, 1), ("g", 63, 0, 0), ("s", 0, 0, 1), ("r", 0, place(0, STACK), 0x33), ("r", 0, place(0, ENTRY), 0x1021),
+    ("q", 0, 1, 1), ("p", 63, 1, 2), ("s", 0, 1, 2), ("w", 0, place(1, USED), 7), ("f", 0, place(0, STACK), 0x34), ("r", 0, place(0, STACK), 0x34),
+    ("p", 63, 2, 3), ("p", 63, 3, 4), ("s", 0, 2, 4), ("c", 0, place(2, CODE), 0x9090), ("m", 0, place(0, ENTRY), 0x1061), ("h", 63, 0, 0))
+END = HALT.with_cells({place(1, USED): 7, place(0, STACK): 0x34, place(0, ENTRY): 0x1061})
+LOG = """open 0 main new
+down 0 page pre pc.ram {0} 0 0
+down 0 discard pc.ram {1} 12288
+down 0 state 100
+up 0 request pc.ram {1} 4096
+down 0 page post pc.ram {1} 1 1
+down 0 page post pc.ram {2} 2 2
+down 0 page post pc.ram {3} zero zero
+up 0 shut 0
+"""
+SOURCE_RAW = """vm_state_notify running 0 reason 7 (finish-migrate)
+migrate_handle_rp_req_pages in pc.ram at 0x101000 len 0x1000
+ram_save_page pc.ram: offset: 0x101000 host: 0x7f0000000000
+ram_save_page pc.ram: offset: 0x102000 host: 0x7f0000000000
+source_return_path_thread_shut 0
+"""
+TARGET_RAW = """loadvm_handle_cmd_packaged_received 0
+uffd guard 7f0000000000 8000000
+uffd have 0 0
+loadvm_postcopy_handle_listen after uffd
+vm_state_notify running 1 reason 9 (running)
+uffd fault 1 99
+uffd miss 1
+migrate_send_rp_message 3: len 12
+ram_load_postcopy_loop chan=0 addr=0x101000 flags=0x8
+uffd place 1 1
+ram_load_postcopy_loop chan=0 addr=0x102000 flags=0x8
+uffd place 2 2
+ram_load_postcopy_loop chan=0 addr=0x103000 flags=0x2
+uffd zero 3
+migrate_send_rp_message 1: len 4
+"""
+UNPLACED = TARGET_RAW.replace("ram_load_postcopy_loop chan=0 addr=0x102000 flags=0x8\nuffd place 2 2\n", "")
+
+
+def without(told, *wrong):
+    return tuple(one for one in told if one not in wrong)
+
+
+def made(source=SOURCE, target=TARGET, halt=HALT, end=END, target_raw=TARGET_RAW, log=LOG, counts=None, placed=HALT):
+    """The files of the recording, with what is told otherwise."""
+    sides = {"source": source, "target": target}
+    return {
+        "plan.json": Plan(kind="linux", pages=PAGES, words=CELLS, base=BASE).to_text().encode(),
+        "relay.log": log.format(*(BASE + page * PAGE_BYTES for page in range(PAGES))).encode(),
+        "relay.pages": HALT.page(0) + HALT.page(1) + HALT.page(2), "target.pages": placed.page(0) + placed.page(1) + placed.page(2),
+        "source.raw": SOURCE_RAW.encode(), "target.raw": target_raw.encode(),
+        "init.mem": INIT.bytes(), "halt.mem": halt.bytes(), **({"end.mem": end.bytes()} if end else {}),
+        **{f"{side}.accesses": records(*told) for side, told in sides.items()},
+        **{f"{side}.counts": "".join(f"{name} {count}\n" for name, count in {**COUNTS, "records": len(told), **(counts or {}).get(side, {})}.items()).encode()
+           for side, told in sides.items()}}
+
+
+def write(files, folder):
+    for name, data in files.items():
+        with open(f"{folder}/{name}", "wb") as out:
+            out.write(data)
+
+
+def verdict_of(files, is_whole=True):
+    with tempfile.TemporaryDirectory() as folder:
+        write(files, folder)
+        return linux_session.judged(folder, is_whole, "source failed, target ENDED")[0].line
+
+
+def reason_of(files):
+    return judge.Verdict(verdict_of(files)).reason
+
+
+def of_one_by_hand(tests):
+    """The session of the recording made by hand, line by line."""
+    with tempfile.TemporaryDirectory() as folder:
+        write(made(), folder)
+        verdict, found = linux_session.judged(folder, True, "")
+        with open(f"{folder}/session", encoding="ascii") as file:
+            lines = [re.sub("0{100,}", "0..", line) for line in file.read().splitlines()]
+        left = sorted(set(os.listdir(folder)) & {"guest.lines", "self-test", "report", "certificate"})
+    cells = {page: re.sub("0{100,}", "0..", "".join(f"{HALT.cells.get(place(page, cell), 0):016x}" for cell in range(CELLS))) for page in range(PAGES)}
+    began = {page: re.sub("0{100,}", "0..", "".join(f"{INIT.cells.get(place(page, cell), 0):016x}" for cell in range(CELLS))) for page in range(PAGES)}
+    tests.wants("the session", lines, [
+        "postcopy-session 3", "pages 4", "cells 512", "init 3", *(f"page {page} {began[page]}" for page in (0, 1, 2)),
+        "guest 16", "w 0 1 9 6", "w 0 0 100 51", "w 63 0 7 4129", "halt", "resume 1", "see 3", "r 0 0 100 51", "r 0 0 7 4129", "miss 0 1", "see 7",
+        "w 0 1 9 7", "w 0 0 100 52", "r 0 0 100 52", "see 11", "r 0 2 30 37008", "w 63 0 7 4193",
+        "source 9", "halted 3", "state", f"send 0 {cells[0]}", "ask 2", *(f"send {page} {cells[page]}" for page in (1, 2, 3)), "ask 6", "done",
+        "link 7", "down 1", "down 2", "up 5", "down 4", "down 5", "down 6", "up 12", "lane 0",
+        "pager 13", "got 0", "ready", "got 1", f"place 0 2 {cells[0]}", "fault 8", "want 1", "got 3", f"place 1 6 {cells[1]}", "got 4",
+        f"place 2 8 {cells[2]}", "got 5", f"place 3 10 {cells[3]}", "all", "end"])
+    tests.wants("its verdict", verdict.line, "clean, yes")
+    tests.wants("what is left of it", left, ["certificate", "report", "self-test"])
+    tests.wants("the self-test", (list(found.faults()), found.counts["log"]["halt-marks"], found.counts["log"]["end-marks"]), ([], 1, 0))
+
+
+def of_facts(tests):
+    """Each fact that a session of a Linux guest rests on, told wrong or left out; and what comes of it."""
+    code, mark, frame, wrote = TARGET[14], TARGET[15], TARGET[9], TARGET[8]
+    marked = ("r", 0, place(0, ENTRY), 0x1061)
+    behind = tuple(one for one in TARGET if one[:3] != ("s", 0, 1))
+    behind = behind[:behind.index(wrote) + 1] + (("s", 0, 1, 2),) + behind[behind.index(wrote) + 1:]
+    for what, files, wanted in (
+            ("a frame that an interrupt pushed at the target, of which the stack is read", made(target=without(TARGET, frame), end=None), "not judged"),
+            ("a mark of a page table that is read", made(target=(*without(TARGET, TARGET[-1]), marked, TARGET[-1])), "clean, yes"),
+            ("the same, where nobody told the mark", made(target=(*without(TARGET, mark, TARGET[-1]), marked, TARGET[-1])), "faulty read"),
+            ("code that is fetched before its page is in place", made(target=(*TARGET[:5], code, *without(TARGET[5:], code))), "faulty early"),
+            ("the same, where the fetch is not told", made(target=without(TARGET, code)), "clean, yes"),
+            ("a look that is told behind the access", made(target=behind), "faulty early"),
+            ("a page whose contents were changed on the way", made(placed=HALT.with_cells({place(2, 0): 76}), end=END.with_cells({place(2, 0): 76})), "faulty altered"),
+            ("a page that was left at the target and is old", made(placed=HALT.with_cells({place(0, STACK): 0}), target=without(TARGET, TARGET[3])), "faulty altered")):
+        tests.wants(f"told: {what}", reason_of(files), wanted)
+
+
+def of_a_page_that_is_given_up(tests):
+    """A page that was there when memory was guarded, and that the target shall forget, is no placement of the session."""
+    later = {value: value + 1 for value in (2, 3, 4)}
+    target = (TARGET[0], ("p", 63, 3, 2), *((kind, vcpu, where, later.get(value, value) if kind in "sp" else value) for kind, vcpu, where, value in TARGET[1:]))
+    seen = tuple(("s", 0, 0, 2) if one == ("s", 0, 0, 1) else one for one in target)
+    have = TARGET_RAW.replace("uffd have 0 0\n", "uffd have 0 0\nuffd have 3 0\n")
+    with tempfile.TemporaryDirectory() as folder:
+        write(made(target=seen, target_raw=have), folder)
+        verdict, _ = linux_session.judged(folder, True, "")
+        with open(f"{folder}/session", encoding="ascii") as file:
+            looks = [line for line in file if line.startswith("see ")]
+    tests.wants("a look that showed it shows what came before it", (verdict.line, looks), ("clean, yes", ["see 3\n", "see 7\n", "see 11\n"]))
+
+
+def of_the_page_that_is_shown(tests):
+    """One page is explained and drawn: the first that has a fault, or else the first that the guest waited for."""
+    wrong = {"placed": HALT.with_cells({place(2, 0): 76}), "end": END.with_cells({place(2, 0): 76})}
+    for what, files, page, first in (("clean", made(), 1, "clean"), ("faulty", made(**wrong), 2, "faulty")):
+        with tempfile.TemporaryDirectory() as folder:
+            write(files, folder)
+            verdict, _ = linux_session.judged(folder, True, "")
+            words, shown = linux_session.explain_and_draw(folder, verdict.is_clean)
+            tests.wants(f"the page that is shown of one that is {what}", (shown, words.split()[0], read(f"{folder}/explained") == words, read(f"{folder}/picture.svg")[:4]),
+                        (page, first, True, "<svg"))
+
+
+def of_a_page_that_never_came(tests):
+    """All memory is read at the end: so a page that nobody placed and nobody used is found where it is not what it should be."""
+    target = tuple((kind, vcpu, where, 3 if value == 4 else value) for kind, vcpu, where, value in without(TARGET, TARGET[11], TARGET[14]))
+    log = LOG.replace("down 0 page post pc.ram {2} 2 2\n", "lost 0 page post pc.ram {2} 2 2\n")
+    lost = END.with_cells({place(2, CODE): 0, place(2, 0): 0})
+    tests.wants("a page that never came", reason_of(made(target=target, target_raw=UNPLACED, log=log, end=lost)), "faulty read")
+    tests.wants("where the memory is as it should be all the same", reason_of(made(target=target, target_raw=UNPLACED, log=log, end=END)), "not judged")
+    kept = made(target=target, target_raw=UNPLACED, log=log.replace("{2} 2 2", "{2} zero zero"), end=lost, halt=HALT.with_cells({place(2, CODE): 0, place(2, 0): 0}),
+                source=(*SOURCE[:2], ("w", 0, place(2, CODE), 0), ("w", 0, place(2, 0), 0), SOURCE[2]))
+    tests.wants("and one of zeros", reason_of(kept).split()[0], "incomplete")
+
+
+def of_the_self_test(tests):
+    """No verdict where the recorder did not record all, or where the migration did not come to its end."""
+    at_halt = "not judged: the source's memory at the halt is not what was recorded, in 1 cells: page 0 cell 100, recorded 0 and found 0x33"
+    at_end = "not judged: the target's memory at the end is not what was recorded, in 1 cells: page 1 cell 9, recorded 0x6 and found 0x7"
+    for what, files, wanted in (
+            ("a frame at the source that is not told", made(source=without(SOURCE, SOURCE[1])), at_halt),
+            ("a write at the target that is not told", made(target=without(TARGET, TARGET[8])), at_end),
+            ("a change of a page table that is no mark", made(halt=HALT.with_cells({place(0, ENTRY): 0x1023}), placed=HALT),
+             "not judged: the source's memory at the halt is not what was recorded, in 1 cells: page 0 cell 7, recorded 0x1001 and found 0x1023"),
+            ("marks in a cell that is no entry of a page table", made(halt=HALT.with_cells({place(0, 1): 0x60}), placed=HALT),
+             "not judged: the source's memory at the halt is not what was recorded, in 1 cells: page 0 cell 1, recorded 0 and found 0x60"),
+            ("a change that nobody told", made(source=(("u", 0, 3, 4), *SOURCE)), "not judged: the guest's log: unseen 1"),
+            ("a write behind the halt", made(source=(*SOURCE, ("w", 0, 3, 0))), "not judged: the guest's log: behind 1"),
+            ("no memory of the end", made(end=None), "not judged: the target's memory at the end was not kept"),
+            ("frames that were not found", made(counts={"target": {"frames_untold": 2}}), "not judged: target: frames untold 2"),
+            ("parts of accesses", made(counts={"source": {"parts_untold": 1}}), "not judged: source: parts untold 1"),
+            ("gates that are not known", made(counts={"target": {"gates": 0}}), "not judged: target: 0 of the guest's 256 interrupt gates are known"),
+            ("records that were lost", made(counts={"source": {"records": 9}}), "not judged: source: of 9 records 3 were kept"),
+            ("a source that was never halted", made(source=SOURCE[:2]), "not judged: the guest's log: source.accesses: the guest was never halted"),
+            ("bytes that are no record", made(source=(("x", 0, 0, 0), *SOURCE)), "not judged: the guest's log: source.accesses: record 0 is none")):
+        tests.wants(f"the self-test: {what}", verdict_of(files), wanted)
+    tests.wants("a migration that did not end", verdict_of(made(), is_whole=False),
+                "not judged: the migration did not come to its end: source failed, target ENDED")
+
+
+def kept():
+    """The kept recordings: the name, the hash of the session and its verdict."""
+    with open(f"{RECORDINGS}/expected", encoding="ascii") as lines:
+        return [line.rstrip("\n").split(" ", 2) for line in lines]
+
+
+def changed(data, change):
+    """The bytes of records, each as `change` answers it, or None to leave it out."""
+    told = (change((chr(kind), vcpu, where, value)) for value, where, kind, vcpu, _ in struct.iter_unpack("<QIBBH", data))
+    return records(*filter(None, told))
+
+
+def of_recordings(tests):
+    """Windows of migrations of Debian's kernel. The hash is that of the window of the whole session, as the program cut it."""
+    for name, digest, wanted in kept():
+        with tempfile.TemporaryDirectory() as folder:
+            unpack(f"{RECORDINGS}/{name}.tar.xz", folder)
+            verdict, _ = linux_session.judged(folder, True, "")
+            with open(f"{folder}/session", "rb") as file:
+                tests.wants(f"the session of {name}, byte for byte", hashlib.sha256(file.read()).hexdigest(), digest)
+            tests.wants(f"the verdict of {name}", verdict.line, wanted)
+
+
+def of_a_cut(tests):
+    """A recording of which some pages are cut has the session of their window."""
+    with tempfile.TemporaryDirectory() as folder:
+        write(made(), folder)
+        linux_session.judged(folder, True, "")
+        for first, count in ((0, 4), (0, 1), (1, 2), (2, 2), (3, 1)):
+            window, _ = judge.ask(folder, "window", "session", str(first), str(count))
+            linux_cut.Cut(folder, first, count, f"{folder}/cut").make()
+            verdict, _ = linux_session.judged(f"{folder}/cut", True, "")
+            with open(f"{folder}/cut/session", encoding="ascii") as file:
+                tests.wants(f"{count} pages from {first} on", (file.read() == window, verdict.line), (True, "clean, yes"))
+
+
+def of_frames_that_are_missing(tests):
+    """A real recording without what interrupts pushed: memory at the halt is not what is told."""
+    with tempfile.TemporaryDirectory() as folder:
+        unpack(f"{RECORDINGS}/frames.tar.xz", folder)
+        for side in ("source", "target"):
+            with open(f"{folder}/{side}.accesses", "rb") as file:
+                data = file.read()
+            left = changed(data, lambda record: None if record[0] == "f" else record)
+            tests.wants(f"{side}: there are frames", len(left) < len(data), True)
+            with open(f"{folder}/{side}.accesses", "wb") as out:
+                out.write(left)
+            with open(f"{folder}/{side}.counts", "a", encoding="ascii") as out:
+                out.write(f"records {len(left) // 16}\n")
+        verdict, found = linux_session.judged(folder, True, "")
+        tests.wants("there is no verdict", verdict.line.startswith("not judged: the source's memory at the halt is not what was recorded"), True)
+
+
+def of_gates(tests):
+    """Where interrupts go, by the guest's table; some push an error's code too."""
+    entry = struct.pack("<HHBBHII", 0x1234, 0x10, 0, 0x8E, 0x8160, 0xFFFFFFFF, 0)
+    lines = linux_run.gates_of(entry * 256).splitlines()
+    tests.wants("gates", (len(lines), lines[3], lines[14]), (256, "ffffffff81601234 5", "ffffffff81601234 6"))
+
+
+def of_an_initramfs(tests):
+    """The archive has what the kernel looks for, by the form of `newc`; and the same files give the same bytes."""
+    files = {"init": (0o100755, b"#!/bin/sh\n"), "bin": (0o040755, b""), "bin/sh": (0o120777, b"busybox")}
+    made_of = debian.initramfs(files)
+    archive, found = gzip.decompress(made_of), {}
+    at = 0
+    while (name := archive[at + 110:at + 110 + int(archive[at + 94:at + 102], 16) - 1].decode()) != "TRAILER!!!":
+        fields = [int(archive[at + 6 + 8 * field:at + 14 + 8 * field], 16) for field in range(13)]
+        start = at + (110 + fields[11] + 3) // 4 * 4
+        found[name] = (archive[at:at + 6], fields[1], archive[start:start + fields[6]])
+        at = (start + fields[6] + 3) // 4 * 4
+    tests.wants("what is in it", found, {name: (b"070701", mode, data) for name, (mode, data) in files.items()})
+    tests.wants("once more", debian.initramfs(dict(reversed(files.items()))) == made_of, True)
+
+
+def of_results(tests):
+    """What became of runs, in a word, and the table by version."""
+    def result(version="7.2.22", is_bare=False, verdict="clean, yes", lost=0, says=(), is_first_round=True):
+        return Result(version, is_bare, 2, "busy", is_first_round, "", verdict, lost, list(says))
+
+    results = [result(), result(verdict="faulty line 7 read", lost=3, says=["target: guest: WRONG"]), result(verdict="not judged: .."), result("10.0.13"),
+               result(is_bare=True, verdict="", lost=4), result(is_bare=True, verdict="", says=["target: kernel BUG"]), result(is_bare=True, verdict=""),
+               result(is_bare=True, verdict="not judged: there was no post-copy"), result(verdict="incomplete page 3", is_first_round=False)]
+    tests.wants("in a word", [one.in_a_word for one in results], ["clean", "faulty", "not judged", "clean", "lost pages", "something wrong", "nothing lost", "not judged", "incomplete"])
+    tests.wants("as a text and back", [result_from_text(one.to_text()) for one in results], results)
+    tests.wants("the table", linux_results.table(results).splitlines(), [
+        "| Migrations of | 7.2.22 | 10.0.13 |", "| --- | --- | --- |",
+        "| bare, 2 processors, `busy`, the switch in pre-copy's first round | 1 not judged, 1 nothing lost, 1 lost pages, 1 something wrong | |",
+        "| recorded, 2 processors, `busy`, the switch in a later round | 1 incomplete | |",
+        "| recorded, 2 processors, `busy`, the switch in pre-copy's first round | 1 clean, 1 faulty, 1 not judged | 1 clean |"])
+    with tempfile.TemporaryDirectory() as folder:
+        write({**made(), "relay.pages": bytes(3 * PAGE_BYTES)}, folder)
+        for side, line in (("source", "guest: booted"), ("target", "guest: WRONG: a file is not what was written")):
+            with open(f"{folder}/{side}.console", "w", encoding="ascii") as out:
+                print(line, file=out)
+        found = linux_results.result_of(folder, "busy", False, "faulty line 7 read", 9.04)
+        tests.wants("of a folder", (found.version, found.cpus, found.lost, found.says, found.seconds, found.is_first_round),
+                    ("7.2", 1, 1, ["target: guest: WRONG: a file is not what was written"], 9.0, True))
+        os.unlink(f"{folder}/halt.mem")
+        tests.wants("without post-copy", linux_results.result_of(folder, "busy", True, "", 1).in_a_word, "not judged")
+
+
+def of_the_machine(tests):
+    """What a QEMU of a Linux guest is asked for. The source waits for a start, and writes its memory; a bare one has no plugin."""
+    plan = Plan(kind="linux", ram=128, pages=32512, base=BASE, workload="work=64:0")
+    one = linux_run.LinuxMachine.__new__(linux_run.LinuxMachine)
+    one.library, one.pipe = "/room/one.so", "/room/one.pipe"
+    for name, wanted in (("source", {"RECORD_START": "start", "RECORD_INIT": "init.mem", "RECORD_ACCESSES": "source.accesses"}),
+                         ("target", {"RECORD_START": None, "RECORD_INIT": None, "RECORD_ACCESSES": "target.accesses"})):
+        one.name = name
+        told = one.environment(plan)
+        tests.wants(f"what the {name}'s library is told", ({key: told.get(key) for key in wanted}, told["RECORD_RAM"], told["RECORD_PAGES"]),
+                    (wanted, str(128 << 20), "32512"))
+        tests.wants(f"the {name}'s guest", one.guest(plan), [
+            "-kernel", "./vmlinuz", "-initrd", "./initrd", "-append", "console=ttyS0 quiet no_timer_check work=64:0", "-serial", f"file:./{name}.console",
+            "-action", "reboot=shutdown,shutdown=pause"])
+    tests.wants("one thread for all processors, and the plugin", one.hardware("pc", plan), ["-machine", "pc", "-accel", "tcg,thread=single", "-plugin", "/room/one.so"])
+    one.library = None
+    tests.wants("a bare one", one.hardware("pc", plan), ["-machine", "pc", "-accel", "tcg,thread=single"])
+
+
+class Booting:
+    """In the place of a QEMU whose guest has said this."""
+
+    def __init__(self, said, is_there=True):
+        self.words, self.is_there = said, is_there
+
+    def said(self):
+        return self.words
+
+    def is_running(self):
+        return self.is_there
+
+    @staticmethod
+    def last_error():
+        return "no such machine"
+
+
+def of_boots(tests):
+    """The boot ends with the guest's word, or with a panic, which is told at once; or it is waited for a time."""
+    def booted(said, is_there=True, boot=None):
+        one = linux_run.LinuxMigration.__new__(linux_run.LinuxMigration)
+        one.plan, one.say, one.source, one.ready, one.boot = Plan(limit=0.2), lambda line: None, Booting(said, is_there), "guest: booted", boot
+        one.boot_up()
+        return True
+
+    tests.wants("one that is up", booted("guest: booted, 1 processors"), True)
+    tests.wants("one that is waited for", booted("any", boot=0.1), True)
+    for what, words, said in (("a panic", ("a line\n[ 0.1] Kernel panic - not syncing: x\nmore",), "it said: [ 0.1] Kernel panic - not syncing: x"),
+                              ("one that takes too long", ("a line\nanother",), "it said: another"), ("a QEMU that ends", ("", False), "no such machine")):
+        tests.wants(f"{what} is told", said in tests.refuses(what, Gone, lambda: booted(*words)), True)
+
+
+def deb(path, *names):
+    """A package as the `dpkg-deb` here takes it: the archive of its files."""
+    with tarfile.open(path, "w") as archive:
+        for name in names:
+            member = tarfile.TarInfo(name)
+            member.size = len(name)
+            archive.addfile(member, io.BytesIO(name.encode()))
+
+
+def of_packages(tests, room):
+    """The kernel and busybox are got from packages once, both or none; a mirror that fails for a moment is tried again."""
+    kept = {name: os.environ.get(name) for name in ("PATH", "XDG_CACHE_HOME")}
+    os.makedirs(f"{room}/bin")
+    os.environ.update(PATH=f"{room}/bin:{os.environ['PATH']}", XDG_CACHE_HOME=f"{room}/cache")
+    try:
+        deb(f"{room}/linux-image-9_1_amd64.deb", "./boot/config-9", "./boot/vmlinuz-9", "./boot/vmlinuz-9/x")
+        deb(f"{room}/busybox-static_1_amd64.deb", "./usr/share/doc/busybox", "./bin/busybox")
+        program(f"{room}/bin/dpkg-deb", 'cat "$2"')
+        program(f"{room}/bin/apt-cache", "echo 'Package: any'; echo 'Depends: linux-image-9 (= 1)'")
+        program(f"{room}/bin/apt-get", "echo 'E: no network' >&2; exit 100")
+        said = tests.refuses("where there is no network", Missing, lambda: debian.get(lambda line: None))
+        tests.wants("why, and nothing is left of it", ("no network" in said, os.path.exists(f"{room}/cache/postcopy/linux")), (True, False))
+        program(f"{room}/bin/apt-get", f'echo "$*" >> {room}/asked', f'[ -e {room}/tried ] || {{ touch {room}/tried; exit 100; }}', f'cp {room}/"$3"_*.deb .')
+        told = []
+        folder = debian.get(told.append)
+        tests.wants("what is there", {name: read(f"{folder}/{name}") for name in os.listdir(folder)},
+                    {"vmlinuz": "./boot/vmlinuz-9", "busybox": "./bin/busybox", "packages": "linux-image-9_1_amd64.deb\nbusybox-static_1_amd64.deb\n"})
+        tests.wants("what was told", [line.split(",")[0] for line in told], [
+            "download: linux-image-9", "unpack: linux-image-9_1_amd64.deb", "download: busybox-static", "unpack: busybox-static_1_amd64.deb"])
+        tests.wants("how often apt was asked", len(read(f"{room}/asked").splitlines()), 3)
+        debian.get(told.append)
+        tests.wants("once they are there nothing is got", (len(told), len(read(f"{room}/asked").splitlines())), (4, 3))
+        shutil.rmtree(folder)
+        deb(f"{room}/busybox-static_1_amd64.deb", "./bin/other")
+        tests.refuses("a package without the file", Missing, lambda: debian.get(told.append))
+        tests.wants("and then neither is there", os.path.exists(folder), False)
+    finally:
+        for name, value in kept.items():
+            os.environ.pop(name)
+            if value is not None:
+                os.environ[name] = value
+
+
+def of_words(tests, room):
+    """Words that mean nothing together, a folder of others, and what a machine lacks: with the status that is told."""
+    qemu = qemu_like(room, "5.2.0", ())
+    os.makedirs(f"{room}/others")
+    with open(f"{room}/others/file", "w", encoding="ascii"):
+        pass
+    for words, status, said in ((("--memory", "200"), 2, "--memory is 64 to 129"), (("--cpus", "9"), 2, "--cpus is 1 to 4"),
+                                (("--kernel", "any"), 2, "--kernel and --initrd go together"), (("--fault", "keep"), 2, "invalid choice: 'keep'"),
+                                (("--kernel", f"{room}/none", "--initrd", qemu, "--qemu", qemu), 3, f"{room}/none cannot be read"),
+                                (("--kernel", qemu, "--initrd", qemu, "--qemu", qemu), 3, "QEMU 5.2.0 has no interface for plugins that is known here"),
+                                (("--qemu", f"{room}/none"), 3, "is no program here")):
+        done = subprocess.run([sys.executable, "-B", f"{QEMU}/linux", f"{room}/seen", *words], capture_output=True, text=True)
+        tests.wants(f"linux {words[0]}", (done.returncode, said in done.stderr), (status, True))
+    done = subprocess.run([sys.executable, "-B", f"{QEMU}/linux", f"{room}/others", "--kernel", qemu, "--initrd", qemu, "--qemu", qemu], capture_output=True, text=True)
+    tests.wants("a folder of others", (done.returncode, "was not made by this recorder" in done.stderr, os.listdir(f"{room}/others")), (2, True, ["file"]))
+
+
+# In the place of recorders/qemu/linux: leaves a result, and the status that its last word names.
+MADE_UP = """import os, sys
+folder, status = sys.argv[1], int(sys.argv[-1])
+if status == 3:
+    sys.exit(3)
+os.makedirs(folder)
+for name in ("session", "halt.mem", "verdict"):
+    open(f"{folder}/{name}", "w").close()
+with open(f"{folder}/result.json", "w") as out:
+    out.write(%r if status == 0 else %r)
+sys.exit(status)
+"""
+
+
+def of_runs(tests, room):
+    """Runs one after another: each adds a line, big files go, and the table of all is written."""
+    results = [Result("7.2.22", False, 1, "spread", True, "", verdict, 0, [], 60.0, 4.0) for verdict in ("clean, yes", "faulty line 7 read")]
+    with open(f"{room}/linux", "w", encoding="ascii") as out:
+        out.write(MADE_UP % tuple(result.to_text() for result in results))
+    runs = command("linux_runs")
+    runs.HERE, runs.PAGE = room, f"{room}/page.md"
+    with open(runs.PAGE, "w", encoding="ascii") as page:
+        page.write("before\n{}old\n{}after\n".format(*runs.MARKS))
+
+    def made(*words):
+        kept, sys.argv = sys.argv, ["linux_runs", *words]
+        try:
+            with contextlib.redirect_stdout(io.StringIO()), contextlib.redirect_stderr(io.StringIO()):
+                return runs.main()
+        finally:
+            sys.argv = kept
+
+    tests.wants("the statuses", [made("2", f"{room}/seen", "--", "0"), made("1", f"{room}/seen", "--keep", "--", "1"), made("1", f"{room}/seen", "--", "3"),
+                                 made("0", f"{room}/seen", "--write"), made("1", room, "--", "0")], [0, 0, 3, 0, 2])
+    tests.wants("what is kept", [sorted(os.listdir(f"{room}/seen/{number:04}")) for number in range(3)],
+                [["result.json", "verdict"]] * 2 + [["halt.mem", "result.json", "session", "verdict"]])
+    tests.wants("the results", runs.kept(f"{room}/seen"), [results[0], results[0], results[1]])
+    tests.wants("the page", read(runs.PAGE).splitlines()[2:7], [
+        "", "3 migrations, at a load of 4 to 4:", "", "| Migrations of | 7.2.22 |", "| --- | --- |"])
+    tests.wants("and its table", "| recorded, 1 processor, `spread`, the switch in pre-copy's first round | 2 clean, 1 faulty |" in read(runs.PAGE), True)
+
+
+def of_interfaces(tests):
+    tests.wants("the plugins' interfaces", [dialect.interface_of(dialect.version_of(version)) for version in ("5.2.0", "7.2.22", "8.1.0", "10.0.13", "11.1.3", "12.0.0")],
+                [None, 1, 1, 4, 7, 7])
+
+
+def run(tests):
+    of_gates(tests)
+    of_an_initramfs(tests)
+    of_interfaces(tests)
+    of_results(tests)
+    of_the_machine(tests)
+    of_boots(tests)
+    for of_them in (of_packages, of_words, of_runs):
+        with tempfile.TemporaryDirectory() as room:
+            of_them(tests, room)
+    if not shutil.which("gcc"):
+        tests.leave_out("recordings of Linux guests: there is no gcc, which builds the program that makes the guest's log")
+        return
+    of_one_by_hand(tests)
+    of_recordings(tests)
+    of_a_cut(tests)
+    of_frames_that_are_missing(tests)
+    of_facts(tests)
+    of_a_page_that_is_given_up(tests)
+    of_the_page_that_is_shown(tests)
+    of_a_page_that_never_came(tests)
+    of_the_self_test(tests)
