@@ -6,9 +6,6 @@ from page_text import numbered_lines, plain, prose, without_written
 # The most words that a paragraph, an item of a list or a cell of a table may have.
 LONGEST = 90
 
-# The page that tools/pages writes whole, of what the folders of examples say.
-WRITTEN = "docs/EXAMPLES.md"
-
 # Words that were thrown out, in every page, and what is said instead. What stands in backticks is not looked at.
 WORDS = {
     r"[Ww]ant of memory": "out of memory",
@@ -63,5 +60,4 @@ def long_paragraphs(name, page):
 
 def wrong(pages):
     """All that is wrong with how the pages are written."""
-    pages = {name: page for name, page in pages.items() if name != WRITTEN}
     return [it for name, page in pages.items() for it in (*wrong_words(name, page), *long_paragraphs(name, page))]
