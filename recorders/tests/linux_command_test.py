@@ -68,6 +68,10 @@ def of_results(tests):
         found = linux_results.result_of(folder, "busy", False, "faulty line 7 read", 9.04)
         tests.wants("of a folder", (found.version, found.cpus, found.lost, found.says, found.seconds, found.is_first_round),
                     ("7.2", 1, 1, ["target: guest: WRONG: a file is not what was written"], 9.0, True))
+        for log, told in (("", "flip, not reached"), ("fault flip 2\n", "flip")):
+            write({"plan.json": Plan(kind="linux", fault="flip").to_text().encode(), "relay.log": log.encode()}, folder)
+            tests.wants("the fault that was put in", linux_results.result_of(folder, "busy", True, "", 1).fault, told)
+        write(made(), folder)
         os.unlink(f"{folder}/halt.mem")
         tests.wants("without post-copy", linux_results.result_of(folder, "busy", True, "", 1).in_a_word, "not judged")
 
@@ -174,12 +178,13 @@ def of_words(tests, room):
         pass
     for words, status, said in ((("--memory", "200"), 2, "--memory is 64 to 129"), (("--cpus", "9"), 2, "--cpus is 1 to 4"),
                                 (("--kernel", "any"), 2, "--kernel and --initrd go together"), (("--fault", "keep"), 2, "invalid choice: 'keep'"),
-                                (("--kernel", f"{room}/none", "--initrd", qemu, "--qemu", qemu), 3, f"{room}/none cannot be read"),
-                                (("--kernel", qemu, "--initrd", qemu, "--qemu", qemu), 3, "QEMU 5.2.0 has no interface for plugins that is known here"),
+                                (("--kernel", qemu, "--initrd", qemu), 2, "with --kernel, --ready or --boot has to say when the guest is up"),
+                                (("--kernel", f"{room}/none", "--initrd", qemu, "--qemu", qemu, "--boot", "1"), 3, f"{room}/none cannot be read"),
+                                (("--kernel", qemu, "--initrd", qemu, "--qemu", qemu, "--ready", "login"), 3, "QEMU 5.2.0 has no interface for plugins that is known here"),
                                 (("--qemu", f"{room}/none"), 3, "is no program here")):
         done = subprocess.run([sys.executable, "-B", f"{QEMU}/linux", f"{room}/seen", *words], capture_output=True, text=True)
         tests.wants(f"linux {words[0]}", (done.returncode, said in done.stderr), (status, True))
-    done = subprocess.run([sys.executable, "-B", f"{QEMU}/linux", f"{room}/others", "--kernel", qemu, "--initrd", qemu, "--qemu", qemu], capture_output=True, text=True)
+    done = subprocess.run([sys.executable, "-B", f"{QEMU}/linux", f"{room}/others", "--kernel", qemu, "--initrd", qemu, "--qemu", qemu, "--boot", "1"], capture_output=True, text=True)
     tests.wants("a folder of others", (done.returncode, "was not made by this recorder" in done.stderr, os.listdir(f"{room}/others")), (2, True, ["file"]))
 
 
