@@ -5,13 +5,14 @@ from dataclasses import asdict, dataclass
 
 import dialect
 from convert import recording_in
-from results import markdown
+from results import markdown, was_put_in
 from witness import pages_that_differ
 
 FILE = "result.json"
 WRONG = ("guest: WRONG", "BUG", "Oops", "panic", "segfault", "general protection")  # in a line of the console that tells of something wrong
 IN_FIRST_ROUND = "the switch in pre-copy's first round"
 LATER = "the switch in a later round"
+NOT_REACHED = ", not reached"
 RUIN = ("clean", "faulty", "incomplete", "not judged", "nothing lost", "lost pages", "something wrong")
 
 
@@ -22,7 +23,7 @@ class Result:
     cpus: int
     workload: str        # its name
     is_first_round: bool  # whether the switch came before pre-copy had sent each page once
-    fault: str
+    fault: str           # the kind that was put in, or one for which there was no occasion
     verdict: str         # of the audit, or `not judged: ..`; of a bare one nothing, or that
     lost: int            # pages that were left at the target, and are not what the source has at the halt
     says: list           # what the guest says on its console of something wrong
@@ -44,7 +45,7 @@ class Result:
     def row(self):
         """What is told of the runs that are counted together."""
         return (f"{'bare' if self.is_bare else 'recorded'}, {self.cpus} processor{'s' if self.cpus > 1 else ''}, `{self.workload}`, "
-                f"{IN_FIRST_ROUND if self.is_first_round else LATER}" + (f", `{self.fault}` put in" if self.fault else ""))
+                f"{IN_FIRST_ROUND if self.is_first_round else LATER}" + (f", with {self.fault}" if self.fault else ""))
 
 
 def result_from_text(text):
@@ -70,7 +71,8 @@ def result_of(folder, workload, is_bare, verdict, seconds):
         lost, _ = pages_that_differ(recording)
     else:
         verdict = verdict or "not judged: there was no post-copy"
-    result = Result(plan.source_version, is_bare, plan.cpus, workload, plan.pre_pages <= plan.pages, plan.fault, verdict, len(lost),
+    fault = plan.fault and (plan.fault if was_put_in(folder) else plan.fault + NOT_REACHED)
+    result = Result(plan.source_version, is_bare, plan.cpus, workload, plan.pre_pages <= plan.pages, fault, verdict, len(lost),
                     what_guest_says(folder), round(seconds, 1), round(os.getloadavg()[0], 1))
     with open(f"{folder}/{FILE}", "w", encoding="utf-8") as out:
         print(result.to_text(), file=out)

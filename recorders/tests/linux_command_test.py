@@ -1,0 +1,247 @@
+"""The command of Linux guests: the words, the packages, the initramfs, the machine and the boot, and what became of runs."""
+import contextlib
+import gzip
+import io
+import os
+import shutil
+import struct
+import subprocess
+import sys
+import tarfile
+import tempfile
+
+import debian
+import dialect
+import linux_results
+import linux_run
+from kinds import Plan
+from linux_results import Result, result_from_text
+from linux_test import BASE, made, write
+from qmp import Gone
+from roots import Missing
+from stream import PAGE_BYTES
+from versions_test import QEMU, command, program, qemu_like, read
+
+
+def of_gates(tests):
+    """Where interrupts go, by the guest's table; some push an error's code too."""
+    entry = struct.pack("<HHBBHII", 0x1234, 0x10, 0, 0x8E, 0x8160, 0xFFFFFFFF, 0)
+    lines = linux_run.gates_of(entry * 256).splitlines()
+    tests.wants("gates", (len(lines), lines[3], lines[14]), (256, "ffffffff81601234 5", "ffffffff81601234 6"))
+
+
+def of_an_initramfs(tests):
+    """The archive has what the kernel looks for, by the form of `newc`; and the same files give the same bytes."""
+    files = {"init": (0o100755, b"#!/bin/sh\n"), "bin": (0o040755, b""), "bin/sh": (0o120777, b"busybox")}
+    made_of = debian.initramfs(files)
+    archive, found = gzip.decompress(made_of), {}
+    at = 0
+    while (name := archive[at + 110:at + 110 + int(archive[at + 94:at + 102], 16) - 1].decode()) != "TRAILER!!!":
+        fields = [int(archive[at + 6 + 8 * field:at + 14 + 8 * field], 16) for field in range(13)]
+        start = at + (110 + fields[11] + 3) // 4 * 4
+        found[name] = (archive[at:at + 6], fields[1], archive[start:start + fields[6]])
+        at = (start + fields[6] + 3) // 4 * 4
+    tests.wants("what is in it", found, {name: (b"070701", mode, data) for name, (mode, data) in files.items()})
+    tests.wants("once more", debian.initramfs(dict(reversed(files.items()))) == made_of, True)
+
+
+def of_results(tests):
+    """What became of runs, in a word, and the table by version."""
+    def result(version="7.2.22", is_bare=False, verdict="clean, yes", lost=0, says=(), is_first_round=True):
+        return Result(version, is_bare, 2, "busy", is_first_round, "", verdict, lost, list(says))
+
+    results = [result(), result(verdict="faulty line 7 read", lost=3, says=["target: guest: WRONG"]), result(verdict="not judged: .."), result("10.0.13"),
+               result(is_bare=True, verdict="", lost=4), result(is_bare=True, verdict="", says=["target: kernel BUG"]), result(is_bare=True, verdict=""),
+               result(is_bare=True, verdict="not judged: there was no post-copy"), result(verdict="incomplete page 3", is_first_round=False)]
+    tests.wants("in a word", [one.in_a_word for one in results], ["clean", "faulty", "not judged", "clean", "lost pages", "something wrong", "nothing lost", "not judged", "incomplete"])
+    tests.wants("as a text and back", [result_from_text(one.to_text()) for one in results], results)
+    tests.wants("the table", linux_results.table(results).splitlines(), [
+        "| Migrations of | 7.2.22 | 10.0.13 |", "| --- | --- | --- |",
+        "| bare, 2 processors, `busy`, the switch in pre-copy's first round | 1 not judged, 1 nothing lost, 1 lost pages, 1 something wrong | |",
+        "| recorded, 2 processors, `busy`, the switch in a later round | 1 incomplete | |",
+        "| recorded, 2 processors, `busy`, the switch in pre-copy's first round | 1 clean, 1 faulty, 1 not judged | 1 clean |"])
+    with tempfile.TemporaryDirectory() as folder:
+        write({**made(), "relay.pages": bytes(3 * PAGE_BYTES)}, folder)
+        for side, line in (("source", "guest: booted"), ("target", "guest: WRONG: a file is not what was written")):
+            with open(f"{folder}/{side}.console", "w", encoding="ascii") as out:
+                print(line, file=out)
+        found = linux_results.result_of(folder, "busy", False, "faulty line 7 read", 9.04)
+        tests.wants("of a folder", (found.version, found.cpus, found.lost, found.says, found.seconds, found.is_first_round),
+                    ("7.2", 1, 1, ["target: guest: WRONG: a file is not what was written"], 9.0, True))
+        for log, told in (("", "flip, not reached"), ("fault flip 2\n", "flip")):
+            write({"plan.json": Plan(kind="linux", fault="flip").to_text().encode(), "relay.log": log.encode()}, folder)
+            tests.wants("the fault that was put in", linux_results.result_of(folder, "busy", True, "", 1).fault, told)
+        write(made(), folder)
+        os.unlink(f"{folder}/halt.mem")
+        tests.wants("without post-copy", linux_results.result_of(folder, "busy", True, "", 1).in_a_word, "not judged")
+
+
+def of_the_machine(tests):
+    """What a QEMU of a Linux guest is asked for. The source waits for a start, and writes its memory; a bare one has no plugin."""
+    plan = Plan(kind="linux", ram=128, pages=32512, base=BASE, workload="work=64:0")
+    one = linux_run.LinuxMachine.__new__(linux_run.LinuxMachine)
+    one.library, one.pipe = "/room/one.so", "/room/one.pipe"
+    for name, wanted in (("source", {"RECORD_START": "start", "RECORD_INIT": "init.mem", "RECORD_ACCESSES": "source.accesses"}),
+                         ("target", {"RECORD_START": None, "RECORD_INIT": None, "RECORD_ACCESSES": "target.accesses"})):
+        one.name = name
+        told = one.environment(plan)
+        tests.wants(f"what the {name}'s library is told", ({key: told.get(key) for key in wanted}, told["RECORD_RAM"], told["RECORD_PAGES"]),
+                    (wanted, str(128 << 20), "32512"))
+        tests.wants(f"the {name}'s guest", one.guest(plan), [
+            "-kernel", "./vmlinuz", "-initrd", "./initrd", "-append", "console=ttyS0 quiet no_timer_check work=64:0", "-serial", f"file:./{name}.console",
+            "-action", "reboot=shutdown,shutdown=pause"])
+    tests.wants("one thread for all processors, and the plugin", one.hardware("pc", plan), ["-machine", "pc", "-accel", "tcg,thread=single", "-plugin", "/room/one.so"])
+    one.library = None
+    tests.wants("a bare one", one.hardware("pc", plan), ["-machine", "pc", "-accel", "tcg,thread=single"])
+
+
+class Booting:
+    """In the place of a QEMU whose guest has said this."""
+
+    def __init__(self, said, is_there=True):
+        self.words, self.is_there = said, is_there
+
+    def said(self):
+        return self.words
+
+    def is_running(self):
+        return self.is_there
+
+    @staticmethod
+    def last_error():
+        return "no such machine"
+
+
+def of_boots(tests):
+    """The boot ends with the guest's word, or with a panic, which is told at once; or it is waited for a time."""
+    def booted(said, is_there=True, boot=None):
+        one = linux_run.LinuxMigration.__new__(linux_run.LinuxMigration)
+        one.plan, one.say, one.source, one.ready, one.boot = Plan(limit=0.2), lambda line: None, Booting(said, is_there), "guest: booted", boot
+        one.boot_up()
+        return True
+
+    tests.wants("one that is up", booted("guest: booted, 1 processors"), True)
+    tests.wants("one that is waited for", booted("any", boot=0.1), True)
+    for what, words, said in (("a panic", ("a line\n[ 0.1] Kernel panic - not syncing: x\nmore",), "it said: [ 0.1] Kernel panic - not syncing: x"),
+                              ("one that takes too long", ("a line\nanother",), "it said: another"), ("a QEMU that ends", ("", False), "no such machine")):
+        tests.wants(f"{what} is told", said in tests.refuses(what, Gone, lambda: booted(*words)), True)
+
+
+def deb(path, *names):
+    """A package as the `dpkg-deb` here takes it: the archive of its files."""
+    with tarfile.open(path, "w") as archive:
+        for name in names:
+            member = tarfile.TarInfo(name)
+            member.size = len(name)
+            archive.addfile(member, io.BytesIO(name.encode()))
+
+
+def of_packages(tests, room):
+    """The kernel and busybox are got from packages once, both or none; a mirror that fails for a moment is tried again."""
+    kept = {name: os.environ.get(name) for name in ("PATH", "XDG_CACHE_HOME")}
+    os.makedirs(f"{room}/bin")
+    os.environ.update(PATH=f"{room}/bin:{os.environ['PATH']}", XDG_CACHE_HOME=f"{room}/cache")
+    try:
+        deb(f"{room}/linux-image-9_1_amd64.deb", "./boot/config-9", "./boot/vmlinuz-9", "./boot/vmlinuz-9/x")
+        deb(f"{room}/busybox-static_1_amd64.deb", "./usr/share/doc/busybox", "./bin/busybox")
+        program(f"{room}/bin/dpkg-deb", 'cat "$2"')
+        program(f"{room}/bin/apt-cache", "echo 'Package: any'; echo 'Depends: linux-image-9 (= 1)'")
+        program(f"{room}/bin/apt-get", "echo 'E: no network' >&2; exit 100")
+        said = tests.refuses("where there is no network", Missing, lambda: debian.get(lambda line: None))
+        tests.wants("why, and nothing is left of it", ("no network" in said, os.path.exists(f"{room}/cache/postcopy/linux")), (True, False))
+        program(f"{room}/bin/apt-get", f'echo "$*" >> {room}/asked', f'[ -e {room}/tried ] || {{ touch {room}/tried; exit 100; }}', f'cp {room}/"$3"_*.deb .')
+        told = []
+        folder = debian.get(told.append)
+        tests.wants("what is there", {name: read(f"{folder}/{name}") for name in os.listdir(folder)},
+                    {"vmlinuz": "./boot/vmlinuz-9", "busybox": "./bin/busybox", "packages": "linux-image-9_1_amd64.deb\nbusybox-static_1_amd64.deb\n"})
+        tests.wants("what was told", [line.split(",")[0] for line in told], [
+            "download: linux-image-9", "unpack: linux-image-9_1_amd64.deb", "download: busybox-static", "unpack: busybox-static_1_amd64.deb"])
+        tests.wants("how often apt was asked", len(read(f"{room}/asked").splitlines()), 3)
+        debian.get(told.append)
+        tests.wants("once they are there nothing is got", (len(told), len(read(f"{room}/asked").splitlines())), (4, 3))
+        shutil.rmtree(folder)
+        deb(f"{room}/busybox-static_1_amd64.deb", "./bin/other")
+        tests.refuses("a package without the file", Missing, lambda: debian.get(told.append))
+        tests.wants("and then neither is there", os.path.exists(folder), False)
+    finally:
+        for name, value in kept.items():
+            os.environ.pop(name)
+            if value is not None:
+                os.environ[name] = value
+
+
+def of_words(tests, room):
+    """Words that mean nothing together, a folder of others, and what a machine lacks: with the status that is told."""
+    qemu = qemu_like(room, "5.2.0", ())
+    os.makedirs(f"{room}/others")
+    with open(f"{room}/others/file", "w", encoding="ascii"):
+        pass
+    for words, status, said in ((("--memory", "200"), 2, "--memory is 64 to 129"), (("--cpus", "9"), 2, "--cpus is 1 to 4"),
+                                (("--kernel", "any"), 2, "--kernel and --initrd go together"), (("--fault", "keep"), 2, "invalid choice: 'keep'"),
+                                (("--kernel", qemu, "--initrd", qemu), 2, "with --kernel, --ready or --boot has to say when the guest is up"),
+                                (("--kernel", f"{room}/none", "--initrd", qemu, "--qemu", qemu, "--boot", "1"), 3, f"{room}/none cannot be read"),
+                                (("--kernel", qemu, "--initrd", qemu, "--qemu", qemu, "--ready", "login"), 3, "QEMU 5.2.0 has no interface for plugins that is known here"),
+                                (("--qemu", f"{room}/none"), 3, "is no program here")):
+        done = subprocess.run([sys.executable, "-B", f"{QEMU}/linux", f"{room}/seen", *words], capture_output=True, text=True)
+        tests.wants(f"linux {words[0]}", (done.returncode, said in done.stderr), (status, True))
+    done = subprocess.run([sys.executable, "-B", f"{QEMU}/linux", f"{room}/others", "--kernel", qemu, "--initrd", qemu, "--qemu", qemu, "--boot", "1"], capture_output=True, text=True)
+    tests.wants("a folder of others", (done.returncode, "was not made by this recorder" in done.stderr, os.listdir(f"{room}/others")), (2, True, ["file"]))
+
+
+# In the place of recorders/qemu/linux: leaves a result, and the status that its last word names.
+MADE_UP = """import os, sys
+folder, status = sys.argv[1], int(sys.argv[-1])
+if status == 3:
+    sys.exit(3)
+os.makedirs(folder)
+for name in ("session", "halt.mem", "verdict"):
+    open(f"{folder}/{name}", "w").close()
+with open(f"{folder}/result.json", "w") as out:
+    out.write(%r if status == 0 else %r)
+sys.exit(status)
+"""
+
+
+def of_runs(tests, room):
+    """Runs one after another: each adds a line, big files go, and the table of all is written."""
+    results = [Result("7.2.22", False, 1, "spread", True, "", verdict, 0, [], 60.0, 4.0) for verdict in ("clean, yes", "faulty line 7 read")]
+    with open(f"{room}/linux", "w", encoding="ascii") as out:
+        out.write(MADE_UP % tuple(result.to_text() for result in results))
+    runs = command("linux_runs")
+    runs.HERE, runs.PAGE = room, f"{room}/page.md"
+    with open(runs.PAGE, "w", encoding="ascii") as page:
+        page.write("before\n{}old\n{}after\n".format(*runs.MARKS))
+
+    def made(*words):
+        kept, sys.argv = sys.argv, ["linux_runs", *words]
+        try:
+            with contextlib.redirect_stdout(io.StringIO()), contextlib.redirect_stderr(io.StringIO()):
+                return runs.main()
+        finally:
+            sys.argv = kept
+
+    tests.wants("the statuses", [made("2", f"{room}/seen", "--", "0"), made("1", f"{room}/seen", "--keep", "--", "1"), made("1", f"{room}/seen", "--", "3"),
+                                 made("0", f"{room}/seen", "--write"), made("1", room, "--", "0")], [0, 0, 3, 0, 2])
+    tests.wants("what is kept", [sorted(os.listdir(f"{room}/seen/{number:04}")) for number in range(3)],
+                [["result.json", "verdict"]] * 2 + [["halt.mem", "result.json", "session", "verdict"]])
+    tests.wants("the results", runs.kept(f"{room}/seen"), [results[0], results[0], results[1]])
+    tests.wants("the page", read(runs.PAGE).splitlines()[2:7], [
+        "", "3 migrations, at a load of 4 to 4:", "", "| Migrations of | 7.2.22 |", "| --- | --- |"])
+    tests.wants("and its table", "| recorded, 1 processor, `spread`, the switch in pre-copy's first round | 2 clean, 1 faulty |" in read(runs.PAGE), True)
+
+
+def of_interfaces(tests):
+    tests.wants("the plugins' interfaces", [dialect.interface_of(dialect.version_of(version)) for version in ("5.2.0", "7.2.22", "8.1.0", "10.0.13", "11.1.3", "12.0.0")],
+                [None, 1, 1, 4, 7, 7])
+
+
+def run(tests):
+    of_gates(tests)
+    of_an_initramfs(tests)
+    of_interfaces(tests)
+    of_results(tests)
+    of_the_machine(tests)
+    of_boots(tests)
+    for of_them in (of_packages, of_words, of_runs):
+        with tempfile.TemporaryDirectory() as room:
+            of_them(tests, room)
