@@ -10,7 +10,7 @@ use Rattle.migration_types.specs.declared.records.LogName.TheVariants.{Guest, So
 use Rattle.migration_types.specs.declared.records.GuestRec.{GuestRec}
 use Rattle.migration_types.specs.declared.records.GuestRec.TheVariants.{Read, Write, Release, Miss, Halt, Resume, See}
 use Rattle.migration_types.specs.declared.records.SourceRec.{SourceRec}
-use Rattle.migration_types.specs.declared.records.SourceRec.TheVariants.{Halted, State, Send, Again, Ask, Done}
+use Rattle.migration_types.specs.declared.records.SourceRec.TheVariants.{Halted, State, Send, Again, Ask, Done, Back}
 use Rattle.migration_types.specs.declared.records.LinkRec.{LinkRec}
 use Rattle.migration_types.specs.declared.records.LinkRec.TheVariants.{Down, Up}
 use Rattle.migration_types.specs.declared.records.LaneRec.{LaneRec}
@@ -103,6 +103,7 @@ source_there c (Send p x) e = (tt, tt)
 source_there c (Again sending) e = (below sending (c Source) e, tt)
 source_there c (Ask up) e = (below up (c Link) e, tt)
 source_there c Done e = tt
+source_there c Back e = tt
 
 link_there : (c : Cursors) (r : LinkRec) → is_received c (named_first (link_row r).fields) ≡ true → AllByRecursion (NamesThere c) (link_row r).fields
 link_there c (Down sending) e = (below sending (c Source) e, tt)
