@@ -1,4 +1,5 @@
 pub mod Files
 pub mod Fronts
 pub mod Gathered
+pub mod Raw
 pub mod inner
