@@ -2,4 +2,5 @@ pub mod Files
 pub mod Fronts
 pub mod Gathered
 pub mod Raw
+pub mod Said
 pub mod inner
