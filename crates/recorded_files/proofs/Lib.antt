@@ -7,3 +7,4 @@ pub mod Cutting
 pub mod Taking
 pub mod Refusing
 pub mod Telling
+pub mod Saying

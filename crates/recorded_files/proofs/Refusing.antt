@@ -33,7 +33,7 @@ same_line (c ∷ a) (d ∷ b) x y i j e =
     let lines = rest.0 in
     (cc, rest.1)
 
-not_unwritten : (a x line more : List ℕ) → AllByRecursion IsInside a → AllByRecursion IsInside line → Stops more → a ++ 10 ∷ x ≡ line ++ more → ⊥
+pub not_unwritten : (a x line more : List ℕ) → AllByRecursion IsInside a → AllByRecursion IsInside line → Stops more → a ++ 10 ∷ x ≡ line ++ more → ⊥
 not_unwritten [] x [] more i j s e = let stops : 10 ≡ 0 = subst Stops (sym e) s in absurd (omega (arith, stops))
 not_unwritten [] x (c ∷ line) more i j s e = let is : c ≡ 10 = cc in absurd (j.0.0 is)
 not_unwritten (c ∷ a) x [] more i j s e = let stops : c ≡ 0 = subst Stops (sym e) s in absurd (i.0.1 stops)
@@ -172,15 +172,20 @@ not_record (Lost errno) n text le e = let r = first_small (decimal n) 108 _ text
 pub same_record : (n m : ℕ) (t u : List ℕ) → n ≤ last_number → m ≤ last_number → record_line n t ≡ record_line m u → n ≡ m
 same_record n m t u p q e = (numbers_same n m (32 ∷ t) (32 ∷ u) (small_number n p) (small_number m q) (no_digit-space t) (no_digit-space u) e).0
 
-pub same_first : (party other : Party) (f g m n : ℕ) → other ≡ party → f ≤ last_number → g ≤ last_number → opening_line other f m ≡ opening_line party g n → f ≡ g
-same_first party other f g m n same p q e =
-    let own_line : opening_line party f m ≡ opening_line party g n = subst (λ (o : Party). opening_line o f m ≡ opening_line party g n) same e in
-    same_record f g (decimal m) (decimal n) p q (cancel (codes "log " ++ (party_word party ++ 32 ∷ [])) (record_line f (decimal m)) (record_line g (decimal n)) (spread party f m ∙ (own_line ∙ sym (spread party g n))))
-  where
-    cancel : (xs ys zs : List ℕ) → xs ++ ys ≡ xs ++ zs → ys ≡ zs
-    cancel [] ys zs e = e
-    cancel (x ∷ xs) ys zs e = cancel xs ys zs cc
+pub cancel : (xs ys zs : List ℕ) → xs ++ ys ≡ xs ++ zs → ys ≡ zs
+cancel [] ys zs e = e
+cancel (x ∷ xs) ys zs e = cancel xs ys zs cc
 
+pub same_text : (n m : ℕ) (t u : List ℕ) → n ≤ last_number → m ≤ last_number → record_line n t ≡ record_line m u → t ≡ u
+same_text n m t u p q e = let both = (numbers_same n m (32 ∷ t) (32 ∷ u) (small_number n p) (small_number m q) (no_digit-space t) (no_digit-space u) e).1 in cc
+
+-- an opening's line tells its numbers
+pub same_numbers : (party other : Party) (f g m n : ℕ) → other ≡ party → f ≤ last_number → g ≤ last_number → m ≤ last_number → n ≤ last_number → opening_line other f m ≡ opening_line party g n → (f ≡ g) × (m ≡ n)
+same_numbers party other f g m n same p q r t e =
+    let own_line : opening_line party f m ≡ opening_line party g n = subst (λ (o : Party). opening_line o f m ≡ opening_line party g n) same e in
+    let both = cancel (codes "log " ++ (party_word party ++ 32 ∷ [])) (record_line f (decimal m)) (record_line g (decimal n)) (spread party f m ∙ (own_line ∙ sym (spread party g n))) in
+    (same_record f g (decimal m) (decimal n) p q both, decimal_injective m n (small_number m r) (small_number n t) (same_text f g (decimal m) (decimal n) p q both))
+  where
     spread : (party : Party) (f m : ℕ) → (codes "log " ++ (party_word party ++ 32 ∷ [])) ++ record_line f (decimal m) ≡ opening_line party f m
     spread party f m = append_assoc (codes "log ") (party_word party ++ 32 ∷ []) (record_line f (decimal m)) ∙ ap (λ (w : List ℕ). codes "log " ++ w) (append_assoc (party_word party) (32 ∷ []) (record_line f (decimal m)))
 

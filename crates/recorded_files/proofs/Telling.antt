@@ -17,7 +17,7 @@ use Rattle.recorded_files.specs.Files.{last_number, header, recording_line, open
 use Rattle.recorded_files.specs.Gathered.{Numbered}
 use Rattle.recorded_files.specs.Said.{IsWritten, Said, RiseTo, IsBehind, last_lines, records_onto, head_onto, IsHead, IsUnbegun, Says, IsRecord, IsRefusedAt, IsFault, Standing, CameTo}
 use Rattle.recorded_files.specs.inner.Finding.{AreAll, AreRead, IsLongAt, IsMoreAt}
-use Rattle.recorded_files.proofs.Refusing.{LinesTell, NextIs, next_is, not_record, same_first, same_record, line_refused, long_refused}
+use Rattle.recorded_files.proofs.Refusing.{LinesTell, NextIs, next_is, not_record, same_numbers, same_record, line_refused, long_refused}
 
 -- ---- the head
 
@@ -72,7 +72,7 @@ comes party name o came low line more (Some s) h r t =
     let e = t.spelled in
     let openings : opening_line s.opening.party s.opening.first s.opening.file ≡ opening_line o.party o.first o.file = cc in
     let tails : records_onto s.records (last_lines s.last) ≡ records_onto came [] ++ line ∷ more = cc in
-    let first = same_first o.party s.opening.party s.opening.first o.first s.opening.file o.file (t.head.is_party ∙ sym h.is_party) t.head.first h.first openings in
+    let first = (same_numbers o.party s.opening.party s.opening.first o.first s.opening.file o.file (t.head.is_party ∙ sym h.is_party) t.head.first h.first t.head.file h.file openings).0 in
     record {
       next = t.next;
       last = s.last;

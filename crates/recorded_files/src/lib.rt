@@ -21,6 +21,6 @@ pub use finding::greatest_front;
 pub use fronts::Front;
 pub use gathering::{Turn, next_turn, turns_gather};
 pub use heads::read_name;
-pub use laws::fronts_have_a_greatest;
+pub use laws::{files_say_one_thing, fronts_have_a_greatest};
 pub use lines::{HEADER, Last, Opening, Party, read_numbered};
 pub use raw::{RawPager, RawSource};
