@@ -3,3 +3,8 @@ pub mod Cuts
 pub mod Narrowing
 pub mod Visits
 pub mod Turns
+pub mod Cutting
+pub mod Taking
+pub mod Refusing
+pub mod Telling
+pub mod Saying

@@ -1,4 +1,6 @@
 pub mod Files
 pub mod Fronts
 pub mod Gathered
+pub mod Raw
+pub mod Said
 pub mod inner

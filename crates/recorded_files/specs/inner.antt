@@ -1,3 +1,4 @@
 -- What serves proofs alone.
+pub mod Finding
 pub mod Heads
 pub mod Reaches

@@ -1,8 +1,10 @@
 //! The lines of a recorder's file.
 
-ghost use Rattle.std.specs.Prelude.{◌≡◌, ◌≢◌, ◌≤◌, ℕ, List, ◌∷◌, ◌++◌, IfSome, IfNone};
+ghost use Rattle.std.specs.Prelude.{◌≡◌, ◌≢◌, ◌≤◌, ℕ, List, ◌∷◌, ◌++◌, IfSome, IfNone, IsTrue, ◌↔◌};
 ghost use Rattle.std.specs.Fmt.{decimal};
 ghost use Rattle.recorded_files.specs.Files.{last_number, opening_line, record_line, last_line, IsLast};
+ghost use Rattle.recorded_files.specs.Said.{IsBehind};
+ghost use Rattle.recorded_files.specs.declared.lines.Last.{Last as Left};
 
 use migration_types::LogName;
 use text_lines::{after_key, number_then, read_keyed};
@@ -111,5 +113,33 @@ impl Last {
             Ok(errno) => Some(Last::Lost(errno)),
             Err(_) => None,
         }
+    }
+}
+
+/// How a log was left, by the last line of a file whose records have numbers below this one.
+pub(crate) fn last_behind(line: &[u8], next: u64) -> Option<Last>
+    ensures found { IfSome result (λ last. IsLast last × IsBehind next last × (line.now ≡ last_line last)) }
+    ensures none { IfNone result ((last : Left) → IsLast last → IsBehind next last → line.now ≢ last_line last) }
+{
+    match Last::read(line) {
+        Some(last) => {
+            if is_behind(last, next) {
+                Some(last)
+            } else {
+                None
+            }
+        }
+        None => None,
+    }
+}
+
+/// Whether a count is behind all records of a file, whose numbers are below this one.
+fn is_behind(last: Last, next: u64) -> bool
+    ensures { IsTrue result ↔ IsBehind next last }
+{
+    match last {
+        Last::End(count) => next <= u64::from(count),
+        Last::Next(count) => next <= u64::from(count),
+        Last::Lost(_) => true,
     }
 }

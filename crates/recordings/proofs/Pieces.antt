@@ -20,10 +20,11 @@ use Rattle.recordings.specs.declared.RecordingFault.TheVariants.{Line, File, Mem
 use Rattle.recordings.specs.declared.place.Stage.{Stage}
 use Rattle.recordings.specs.declared.place.Stage.TheVariants.{Header, Pages, Cells, InitCount, Init, Guest, Source, Link, Lane, Pager, Done}
 use Rattle.recordings.specs.declared.walker.Walker.{Walker}
+use Rattle.recordings.specs.Reading.{ReadsBehind}
 use Rattle.recordings.specs.Walking.{Walks, IsRefusedAt, IsRefusedBy}
 use Rattle.recordings.specs.inner.Held.{recorded_of, Live}
 use Rattle.recordings.specs.inner.Stands.{HasMet, draft_of, text_stage, lines_onto}
-use Rattle.recordings.specs.inner.Goings.{Came, CameTo, Grows, ReadsBehind, RefusesAll}
+use Rattle.recordings.specs.inner.Goings.{Came, CameTo, Grows, RefusesAll}
 use Rattle.recordings.proofs.Goes.{done_spells, not_whole}
 use Rattle.recordings.proofs.Coming.{came_begins, behind_both}
 use Rattle.recordings.proofs.Texts.{plain_recording, short_line}

@@ -1,4 +1,5 @@
 pub mod Lines
+pub mod Reading
 pub mod Recordings
 pub mod Seen
 pub mod Wide

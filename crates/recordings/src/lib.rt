@@ -27,12 +27,14 @@ pub use laws::{
     lines_are_plain, lines_are_short, lines_tell_records, recordings_fit, sessions_are_recordings,
 };
 pub use machine::{BEYOND, Machine};
+pub use reading::read_behind;
 use reading::walk_through;
 use std::alloc::Global;
 use std::io::Read;
 use thiserror::Error;
 pub use visiting::Visitor;
 use walker::Walker;
+pub use walker::move_front;
 pub use wide::{WideGuest, WideInit, WideLane, WideLink, WidePager, WideSource};
 
 /// Why there is no recording.

@@ -2,8 +2,9 @@
 
 ghost use Rattle.std.specs.Prelude.{◌≡◌, ◌<◌, ◌≤◌, ℕ, Option, List, [], ◌++◌, length, take, IfOk, OnOk, IfErr};
 ghost use Rattle.recordings.specs.Lines.{longest_line};
+ghost use Rattle.recordings.specs.Reading.{ReadsBehind};
 ghost use Rattle.recordings.specs.Walking.{Walks, IsRefusedBy};
-ghost use Rattle.recordings.specs.inner.Goings.{Came, ReadsBehind};
+ghost use Rattle.recordings.specs.inner.Goings.{Came};
 
 use crate::walker::Walker;
 use crate::{RecordingFault, Visitor};
@@ -38,7 +39,11 @@ pub(crate) fn walk_through<R: Read, V: Visitor>(
 
 /// Reads behind so many bytes at the front of a buffer, and answers how many stand there now. A read that was interrupted
 /// is made again.
-fn read_behind<R: Read>(
+///
+/// # Errors
+///
+/// A read failed, or had no memory.
+pub fn read_behind<R: Read>(
     reader: &mut R,
     buffer: &mut [u8],
     kept: usize,

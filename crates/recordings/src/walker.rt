@@ -133,7 +133,7 @@ fn line_fault(number: u64, kind: FaultKind) -> RecordingFault
 }
 
 /// Moves the bytes from one place to another to the front.
-fn move_front(buffer: &mut [u8], start: usize, end: usize)
+pub fn move_front(buffer: &mut [u8], start: usize, end: usize)
     requires order { start ≤ end }
     requires within { end ≤ length buffer.old }
     ensures moved { take (end - start) buffer.new ≡ take (end - start) (drop start buffer.old) }

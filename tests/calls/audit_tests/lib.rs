@@ -23,6 +23,8 @@ pub mod numbers;
 mod orders;
 pub mod plain;
 #[cfg(test)]
+mod raw_records;
+#[cfg(test)]
 mod replays;
 #[cfg(test)]
 mod reports;

@@ -21,6 +21,8 @@ mod reason_lines;
 #[cfg(test)]
 mod reasons;
 #[cfg(test)]
+mod recorder_files;
+#[cfg(test)]
 mod recorder_lines;
 #[cfg(test)]
 mod records;

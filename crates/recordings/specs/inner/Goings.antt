@@ -1,6 +1,6 @@
 -- A walker of a recording's text, and what lines do to it.
-use Rattle.std.specs.Prelude.{◌≡◌, ℕ, ◌+◌, ◌≤◌, List, [], ◌∷◌, ◌++◌, Option, length, take}
-use Rattle.std.specs.Io.KnownBytes.{Consumes, IsAtEnd}
+use Rattle.std.specs.Prelude.{◌≡◌, ℕ, ◌+◌, List, [], ◌∷◌, ◌++◌, Option, length}
+use Rattle.std.specs.Io.KnownBytes.{Consumes}
 use Rattle.text_lines.specs.declared.FaultKind.{FaultKind}
 use Rattle.text_lines.specs.declared.FaultKind.TheVariants.{Memory as NoMemory}
 use Rattle.text_lines.specs.Text.{ended, Begins, IsLine, IsRefusalLine}
@@ -54,12 +54,3 @@ pub record CameTo {V : Type 0} (IsNew : V → Type 0) (Met : V → Recorded → 
   pub came : Came IsNew Met w visitor lines
   pub consumed : Consumes known rest (ended lines ++ unended)
   pub last : IsLine unended
-
--- bytes were read behind those at the front of a buffer, and none only where nothing is left
-pub record ReadsBehind (old new : Option (List ℕ)) (before after : List ℕ) (kept filled : ℕ) : Type 0 where
-  pub bytes : List ℕ
-  pub front : take filled after ≡ take kept before ++ bytes
-  pub consumed : Consumes old new bytes
-  pub within : filled ≤ length after
-  pub more : kept ≤ filled
-  pub at_end : filled ≡ kept → IsAtEnd new

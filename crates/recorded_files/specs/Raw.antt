@@ -1,0 +1,37 @@
+-- Records as a recorder writes them: those of a session, and three that stand in the place of a receipt, where nobody writes a
+-- log of the link or of the lane. They have the number that came with the message: of the source's log, or, of an ask, the pager's.
+use Rattle.std.specs.Prelude.{ℕ, ◌≤◌, List, ◌++◌, codes}
+use Rattle.std.specs.Fmt.{decimal}
+use Rattle.migration_types.specs.declared.version.Version.{Version}
+use Rattle.migration_types.specs.Extents.{Extent}
+use Rattle.session_log.specs.Records.{source_line, pager_line}
+use Rattle.recordings.specs.Recordings.{IsSourceRecOf, IsPagerRecOf}
+use Rattle.recordings.specs.Wide.{source_of, pager_of}
+use Rattle.recorded_files.specs.declared.raw.RawSource.{RawSource}
+use Rattle.recorded_files.specs.declared.raw.RawSource.TheVariants.{Own as OwnSource, AskSent}
+use Rattle.recorded_files.specs.declared.raw.RawPager.{RawPager}
+use Rattle.recorded_files.specs.declared.raw.RawPager.TheVariants.{Own as OwnPager, GotSent, PullSent}
+
+-- what a recorder answers in the place of a number, where a record was not written
+abbrev pub lost_number : ℕ
+lost_number = 4294967295
+
+-- their lines
+abbrev pub raw_source_line : RawSource → List ℕ
+raw_source_line (OwnSource rec) = source_line (source_of rec)
+raw_source_line (AskSent asking) = codes "ask-sent " ++ decimal asking
+
+abbrev pub raw_pager_line : RawPager → List ℕ
+raw_pager_line (OwnPager rec) = pager_line (pager_of rec)
+raw_pager_line (GotSent sending) = codes "got-sent " ++ decimal sending
+raw_pager_line (PullSent sending) = codes "pull-sent " ++ decimal sending
+
+-- their numbers are those of a machine of this extent
+abbrev pub IsRawSourceOf : Extent → RawSource → Type 0
+IsRawSourceOf e (OwnSource rec) = IsSourceRecOf e (source_of rec)
+IsRawSourceOf e (AskSent asking) = asking ≤ lost_number
+
+abbrev pub IsRawPagerOf : Version → Extent → RawPager → Type 0
+IsRawPagerOf version e (OwnPager rec) = IsPagerRecOf version e (pager_of rec)
+IsRawPagerOf version e (GotSent sending) = sending ≤ lost_number
+IsRawPagerOf version e (PullSent sending) = sending ≤ lost_number

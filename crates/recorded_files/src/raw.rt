@@ -1,0 +1,116 @@
+//! Records as a recorder writes them.
+
+ghost use Rattle.std.specs.Prelude.{◌≡◌, ◌≢◌, ◌≤◌, ℕ, [], ◌∷◌, ◌++◌, IfOk, IfErr, IfSome, IfNone, OnOk};
+ghost use Rattle.std.specs.Fmt.{decimal};
+ghost use Rattle.recordings.specs.Recordings.{IsMachine};
+ghost use Rattle.recordings.specs.Wide.{extent_of};
+ghost use Rattle.recorded_files.specs.Raw.{lost_number, raw_source_line, raw_pager_line, IsRawSourceOf, IsRawPagerOf};
+ghost use Rattle.recorded_files.specs.declared.raw.RawSource.{RawSource as Taken};
+ghost use Rattle.recorded_files.specs.declared.raw.RawPager.{RawPager as Received};
+
+use recordings::{Machine, WidePager, WideSource};
+use std::alloc::{AllocError, Global};
+use text_lines::{FaultKind, push_keyed, read_keyed};
+
+const ASK_SENT_KEY: &[u8] = b"ask-sent ";
+
+const GOT_SENT_KEY: &[u8] = b"got-sent ";
+
+const PULL_SENT_KEY: &[u8] = b"pull-sent ";
+
+/// A record of the source as a recorder writes it.
+#[derive(Drop)]
+pub enum RawSource {
+    /// One of a session.
+    Own(WideSource),
+    /// An `ask` that names the pager's record that was sent.
+    AskSent { asking: u64 },
+}
+
+/// A record of the pager as a recorder writes it.
+#[derive(Drop)]
+pub enum RawPager {
+    /// One of a session.
+    Own(WidePager),
+    /// A `got` that names the source's record that was sent.
+    GotSent { sending: u64 },
+    /// A `pull` that names the source's record that was sent.
+    PullSent { sending: u64 },
+}
+
+/// The number that stands behind a key, where a line is the two.
+fn sent(line: &[u8], key: &[u8]) -> Option<u64>
+    ensures found { IfSome result (λ n. (n ≤ lost_number) × (line.now ≡ key.now ++ decimal n)) }
+    ensures none { IfNone result ((n : ℕ) → n ≤ lost_number → line.now ≢ key.now ++ decimal n) }
+{
+    match read_keyed(line, key, u32::MAX) {
+        Ok(number) => Some(u64::from(number)),
+        Err(_) => None,
+    }
+}
+
+impl RawSource {
+    /// The record of the source that a line spells.
+    ///
+    /// # Errors
+    ///
+    /// It spells none, or there is no memory for the contents.
+    pub fn read(alloc: Global, machine: &Machine, line: &[u8]) -> Result<RawSource, FaultKind>
+        requires { IsMachine (extent_of machine.now) }
+        ensures found { IfOk result (λ r. IsRawSourceOf (extent_of machine.now) r × (line.now ≡ raw_source_line r)) }
+        ensures refused { IfErr result (λ kind. kind ≢ FaultKind.Memory → (r : Taken) → IsRawSourceOf (extent_of machine.now) r → line.now ≢ raw_source_line r) }
+    {
+        if let Some(asking) = sent(line, ASK_SENT_KEY) {
+            return Ok(RawSource::AskSent { asking });
+        }
+        match WideSource::read(alloc, machine, line) {
+            Ok(rec) => Ok(RawSource::Own(rec)),
+            Err(kind) => Err(kind),
+        }
+    }
+
+    /// Adds its line, with the line feed. An error: there is no memory for it.
+    pub fn push(&self, out: &mut Vec<u8>) -> Result<(), AllocError>
+        ensures { OnOk result (out.new.items ≡ out.old.items ++ (raw_source_line self.now ++ 10 ∷ [])) }
+    {
+        match self {
+            RawSource::Own(rec) => rec.push(out),
+            RawSource::AskSent { asking } => push_keyed(out, ASK_SENT_KEY, *asking),
+        }
+    }
+}
+
+impl RawPager {
+    /// The record of the pager that a line spells.
+    ///
+    /// # Errors
+    ///
+    /// It spells none, or there is no memory for the contents.
+    pub fn read(alloc: Global, machine: &Machine, line: &[u8]) -> Result<RawPager, FaultKind>
+        requires { IsMachine (extent_of machine.now) }
+        ensures found { IfOk result (λ r. IsRawPagerOf machine.now.version (extent_of machine.now) r × (line.now ≡ raw_pager_line r)) }
+        ensures refused { IfErr result (λ kind. kind ≢ FaultKind.Memory → (r : Received) → IsRawPagerOf machine.now.version (extent_of machine.now) r → line.now ≢ raw_pager_line r) }
+    {
+        if let Some(sending) = sent(line, GOT_SENT_KEY) {
+            return Ok(RawPager::GotSent { sending });
+        }
+        if let Some(sending) = sent(line, PULL_SENT_KEY) {
+            return Ok(RawPager::PullSent { sending });
+        }
+        match WidePager::read(alloc, machine, line) {
+            Ok(rec) => Ok(RawPager::Own(rec)),
+            Err(kind) => Err(kind),
+        }
+    }
+
+    /// Adds its line, with the line feed. An error: there is no memory for it.
+    pub fn push(&self, out: &mut Vec<u8>) -> Result<(), AllocError>
+        ensures { OnOk result (out.new.items ≡ out.old.items ++ (raw_pager_line self.now ++ 10 ∷ [])) }
+    {
+        match self {
+            RawPager::Own(rec) => rec.push(out),
+            RawPager::GotSent { sending } => push_keyed(out, GOT_SENT_KEY, *sending),
+            RawPager::PullSent { sending } => push_keyed(out, PULL_SENT_KEY, *sending),
+        }
+    }
+}
