@@ -16,8 +16,8 @@ module _ (tell : ℕ → ℕ) (s : Recorded) (role : Role) (log : LogName) (n : 
   abbrev if_there : Bool → List ToldRecord
   if_there b = cond b (record { role = role; log = log; place = n; line = tell (line_of s (log, n)) } ∷ []) []
 
-  pub told_there : (line : ℕ) → IsAtLineOf s log line n → told tell s role log (Some n) ≡ record { role = role; log = log; place = n; line = tell line } ∷ []
-  told_there line at = ap if_there (lt-ltb n (log_length s log) at.is_there) ∙ ap (λ (l : ℕ). at_line (tell l) ∷ []) (sym at.is_line)
+  pub told_there : (line shown : ℕ) → IsAtLineOf s log line n → shown ≡ tell line → told tell s role log (Some n) ≡ record { role = role; log = log; place = n; line = shown } ∷ []
+  told_there line shown at same = ap if_there (lt-ltb n (log_length s log) at.is_there) ∙ (ap (λ (l : ℕ). at_line (tell l) ∷ []) (sym at.is_line) ∙ ap (λ (l : ℕ). at_line l ∷ []) (sym same))
 
   pub told_past : log_length s log ≤ n → (old : List ToldRecord) → old ≡ old ++ told tell s role log (Some n)
   told_past past old = sym (ap (λ (t : List ToldRecord). old ++ t) (ap if_there (le-ltb n (log_length s log) past)) ∙ append-nil old)

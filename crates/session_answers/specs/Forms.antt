@@ -13,7 +13,6 @@ use Rattle.judged_texts.specs.declared.wanted.Wanted.{Wanted}
 use Rattle.report_json.specs.RecordsText.{explained_object}
 use Rattle.session_story.specs.Explained.{IsExplanation}
 use Rattle.session_story.specs.Told.{IsRefusedText, IsToldText}
-use Rattle.session_story.specs.declared.topics.Topic.{Topic}
 use Rattle.session_story.specs.declared.explaining.Explanation.{Explanation}
 use Rattle.session_answers.specs.Judged.{Judged, Refused, Reported}
 use Rattle.session_answers.specs.declared.forms.Form.{Form}
