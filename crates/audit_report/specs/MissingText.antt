@@ -7,15 +7,15 @@ use Rattle.migration_types.specs.Sessions.{Recorded, line_of}
 use Rattle.completeness.specs.declared.missing.Missing.{Missing}
 use Rattle.completeness.specs.declared.missing.Missing.TheVariants as missing
 
--- as in "incomplete page 7"; of what was taken, the line at which the session's text has the record that took it
-abbrev pub missing_line : Recorded → Missing → List ℕ
-missing_line s missing.Halt = codes "incomplete halt"
-missing_line s missing.Returned = codes "incomplete returned"
-missing_line s missing.Resume = codes "incomplete resume"
-missing_line s (missing.Page page) = codes "incomplete page " ++ decimal page
-missing_line s missing.All = codes "incomplete all"
-missing_line s missing.Done = codes "incomplete done"
-missing_line s (missing.Taken n) = codes "incomplete line " ++ decimal (line_of s (Pager, n))
+-- as in "incomplete page 7"; of what was taken, the line at which the session's text has the record that took it, told so
+abbrev pub missing_line : (ℕ → ℕ) → Recorded → Missing → List ℕ
+missing_line tell s missing.Halt = codes "incomplete halt"
+missing_line tell s missing.Returned = codes "incomplete returned"
+missing_line tell s missing.Resume = codes "incomplete resume"
+missing_line tell s (missing.Page page) = codes "incomplete page " ++ decimal page
+missing_line tell s missing.All = codes "incomplete all"
+missing_line tell s missing.Done = codes "incomplete done"
+missing_line tell s (missing.Taken n) = codes "incomplete line " ++ decimal (tell (line_of s (Pager, n)))
 
-abbrev pub missing_text : Recorded → Missing → List ℕ
-missing_text s m = ended (missing_line s m ∷ [])
+abbrev pub missing_text : (ℕ → ℕ) → Recorded → Missing → List ℕ
+missing_text tell s m = ended (missing_line tell s m ∷ [])

@@ -9,25 +9,33 @@ use Rattle.cert_text.specs.Grammar.{cert_lines}
 pub use Rattle.cert_text.specs.Order.{clean_line, faulty_line}
 use Rattle.audit_report.specs.declared.report.Report.{Report}
 use Rattle.audit_report.specs.declared.report.Report.TheVariants.{Clean, Shape, Knot, Faulty}
+use Rattle.audit_report.specs.ToldLines.{own}
 
 -- what is said of a line, and its number
 abbrev pub at_line : List ℕ → ℕ → List ℕ
 at_line said line = said ++ decimal line
 
--- as in "shape line 30 named"
-abbrev pub shape_line : ShapeFault → List ℕ
-shape_line fault = at_line (codes "shape line ") fault.line ++ 32 ∷ shape_word fault.reason
+-- as in "shape line 30 named", with its line told so
+abbrev pub shape_line_by : (ℕ → ℕ) → ShapeFault → List ℕ
+shape_line_by tell fault = at_line (codes "shape line ") (tell fault.line) ++ 32 ∷ shape_word fault.reason
 
 -- as in "knot line 10"
 abbrev pub knot_line : ℕ → List ℕ
 knot_line line = at_line (codes "knot line ") line
 
--- the first line of a report
+-- the first line of a report, with its line told so
+abbrev pub first_line_by : (ℕ → ℕ) → Report → List ℕ
+first_line_by tell (Shape fault) = shape_line_by tell fault
+first_line_by tell (Knot left found) = knot_line (tell left.line)
+first_line_by tell (Faulty line fault order many) = faulty_line (tell line) fault.reason
+first_line_by tell (Clean cert) = clean_line
+
+-- both with the line of the session's own text
+abbrev pub shape_line : ShapeFault → List ℕ
+shape_line fault = shape_line_by own fault
+
 abbrev pub first_line : Report → List ℕ
-first_line (Shape fault) = shape_line fault
-first_line (Knot left found) = knot_line left.line
-first_line (Faulty line fault order many) = faulty_line line fault.reason
-first_line (Clean cert) = clean_line
+first_line report = first_line_by own report
 
 -- what stands behind it: the text of the order's runs, or of the certificate
 abbrev pub lines_behind : Report → List (List ℕ)

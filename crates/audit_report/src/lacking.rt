@@ -5,6 +5,7 @@ ghost use Rattle.migration_types.specs.Sessions.{line_of};
 ghost use Rattle.completeness.specs.Complete.{IsFirstMissing};
 ghost use Rattle.audit_report.specs.MissingText.{missing_text};
 
+use crate::lines::Lines;
 use completeness::Missing;
 use migration_types::{LogName, Session, line_of};
 use std::alloc::AllocError;
@@ -18,14 +19,15 @@ pub fn line_of_taken(session: &Session, n: u32) -> u32
     line_of(session, LogName::Pager, n)
 }
 
-/// Adds the line that says what is missing from a session. An error: there is no memory for it.
-pub fn push_missing(
+/// Adds the line that says what is missing from a session, told by these lines. An error: there is no memory for it.
+pub fn push_missing<L: Lines>(
     out: &mut Vec<u8>,
+    lines: &L,
     session: &Session,
     missing: Missing,
 ) -> Result<(), AllocError>
     requires { IsFirstMissing session.now missing }
-    ensures { OnOk result (out.new.items ≡ out.old.items ++ missing_text session.now missing) }
+    ensures { OnOk result (out.new.items ≡ out.old.items ++ missing_text (L.tell lines.now) session.now missing) }
 {
     match missing {
         Missing::Halt => push_line(out, b"incomplete halt"),
@@ -36,7 +38,7 @@ pub fn push_missing(
         Missing::Done => push_line(out, b"incomplete done"),
         Missing::Taken(n) => {
             let line = line_of_taken(session, n);
-            push_keyed(out, b"incomplete line ", line)
+            push_keyed(out, b"incomplete line ", lines.line(line))
         }
     }
 }

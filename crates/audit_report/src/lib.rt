@@ -9,6 +9,7 @@ mod cuts;
 mod dependence;
 mod faulty;
 mod lacking;
+mod lines;
 mod orders;
 mod parts;
 mod placements;
@@ -19,9 +20,10 @@ pub use auditing::{Audited, FaultAndEntries, audit, audit_by};
 pub use dependence::depends_on;
 pub use faulty::{print_all_faults, push_faulty_pages};
 pub use lacking::{line_of_taken, push_missing};
+pub use lines::{Lines, OwnLines};
 pub use placements::first_placement;
 pub use printing::{
-    print_first_line, print_refused_session, print_report, push_first_line,
-    push_refused_certificate, push_refused_session, push_shape,
+    print_first_line, print_refused_session, print_report, push_first_line, push_first_line_by,
+    push_refused_certificate, push_refused_session, push_refused_session_by, push_shape,
 };
 pub use report::Report;

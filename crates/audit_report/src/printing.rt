@@ -4,9 +4,10 @@ ghost use Rattle.std.specs.Prelude.{◌≡◌, [], ◌∷◌, ◌++◌, IfOk, On
 ghost use Rattle.text_lines.specs.Text.{ended};
 ghost use Rattle.audit_report.specs.Reports.{ReportFits};
 ghost use Rattle.audit_report.specs.RefusalText.{refusal_text, certificate_refusal_text};
-ghost use Rattle.audit_report.specs.ReportText.{shape_line, first_line, lines_behind, report_text};
+ghost use Rattle.audit_report.specs.ReportText.{first_line, first_line_by, lines_behind, report_text, shape_line, shape_line_by};
 
 use crate::Report;
+use crate::lines::{Lines, OwnLines};
 use cert_check::ShapeFault;
 use cert_text::{CLEAN, FAULTY, push_cert, push_runs_text};
 use std::alloc::{AllocError, Global};
@@ -20,11 +21,22 @@ const SHAPE: &[u8] = b"shape line ";
 
 const KNOT: &[u8] = b"knot line ";
 
+/// Adds the line that says where the text of a session is refused, told by these lines.
+pub fn push_refused_session_by<L: Lines>(
+    out: &mut Vec<u8>,
+    lines: &L,
+    line: u32,
+) -> Result<(), AllocError>
+    ensures { OnOk result (out.new.items ≡ out.old.items ++ refusal_text (L.tell lines.now line)) }
+{
+    push_keyed(out, SESSION_TEXT, lines.line(line))
+}
+
 /// Adds the line that says where the text of a session is refused.
 pub fn push_refused_session(out: &mut Vec<u8>, line: u32) -> Result<(), AllocError>
     ensures { OnOk result (out.new.items ≡ out.old.items ++ refusal_text line) }
 {
-    push_keyed(out, SESSION_TEXT, line)
+    push_refused_session_by(out, &OwnLines, line)
 }
 
 /// The line that says where the text of a session is refused. An error: there is no memory for it.
@@ -43,25 +55,47 @@ pub fn push_refused_certificate(out: &mut Vec<u8>, line: u32) -> Result<(), Allo
     push_keyed(out, CERT_TEXT, line)
 }
 
+/// Adds the line of a fault of shape, told by these lines.
+fn push_shape_by<L: Lines>(
+    out: &mut Vec<u8>,
+    lines: &L,
+    fault: &ShapeFault,
+) -> Result<(), AllocError>
+    ensures { OnOk result (out.new.items ≡ out.old.items ++ ended (shape_line_by (L.tell lines.now) fault.now ∷ [])) }
+{
+    push_keyed_word(out, SHAPE, lines.line(fault.line), fault.reason.word())
+}
+
 /// Adds the line of a fault of shape.
 pub fn push_shape(out: &mut Vec<u8>, fault: &ShapeFault) -> Result<(), AllocError>
     ensures { OnOk result (out.new.items ≡ out.old.items ++ ended (shape_line fault.now ∷ [])) }
 {
-    push_keyed_word(out, SHAPE, fault.line, fault.reason.word())
+    push_shape_by(out, &OwnLines, fault)
+}
+
+/// Adds the first line of a report, told by these lines.
+pub fn push_first_line_by<L: Lines>(
+    out: &mut Vec<u8>,
+    lines: &L,
+    report: &Report,
+) -> Result<(), AllocError>
+    ensures { OnOk result (out.new.items ≡ out.old.items ++ ended (first_line_by (L.tell lines.now) report.now ∷ [])) }
+{
+    match report {
+        Report::Clean(_) => push_line(out, CLEAN),
+        Report::Shape(fault) => push_shape_by(out, lines, fault),
+        Report::Knot { left, .. } => push_keyed(out, KNOT, lines.line(left.line)),
+        Report::Faulty { line, fault, .. } => {
+            push_keyed_word(out, FAULTY, lines.line(*line), fault.reason.word())
+        }
+    }
 }
 
 /// Adds the first line of a report.
 pub fn push_first_line(out: &mut Vec<u8>, report: &Report) -> Result<(), AllocError>
     ensures { OnOk result (out.new.items ≡ out.old.items ++ ended (first_line report.now ∷ [])) }
 {
-    match report {
-        Report::Clean(_) => push_line(out, CLEAN),
-        Report::Shape(fault) => push_shape(out, fault),
-        Report::Knot { left, .. } => push_keyed(out, KNOT, left.line),
-        Report::Faulty { line, fault, .. } => {
-            push_keyed_word(out, FAULTY, *line, fault.reason.word())
-        }
-    }
+    push_first_line_by(out, &OwnLines, report)
 }
 
 /// The first line of a report. An error: there is no memory for it.

@@ -19,7 +19,10 @@ use Rattle.command_texts.specs.declared.answer.Fault.TheVariants.{File, Changed,
 use Rattle.command_texts.specs.Answers.{fault_status}
 use Rattle.command_texts.specs.Told.{Ends}
 use Rattle.command_texts.specs.Written.{Streams}
-use Rattle.session_answers.specs.declared.forms.LackForm.{LackForm}
+use Rattle.migration_types.specs.Sessions.{Recorded}
+use Rattle.audit_report.specs.ToldLines.{own}
+use Rattle.completeness.specs.declared.missing.Missing.{Missing}
+use Rattle.session_answers.specs.Lacks.{TellsLack}
 use Rattle.judge_commands.specs.Answers.{IsVerdictTold, verdict_lack, verdict_status, verdict_text}
 use Rattle.judge_commands.specs.Completed.{IsChecked, IsDemanded}
 use Rattle.commands.specs.Shown.{AsksCheck, IsTakenAsCheck, ShowsHeadline}
@@ -48,14 +51,14 @@ yes_told : (words : Verdict → List ℕ) (texts : List ℕ × List ℕ) (text :
 yes_told words texts text h = yes_of texts.0 texts.1 h.value h.is_right h.is_status
 
 -- what is answered with status 0 where more is asked is answered so without asking
-without_asking : (complete : Option Extent) (form : LackForm) (IsPlain : List ℕ → ℕ → Type 0) (session text : List ℕ) → IsDemanded complete form IsPlain session text 0 → IsPlain text 0
-without_asking None form IsPlain session text h = h
-without_asking (Some extent) form IsPlain session text (inl h) = h.is_plain
-without_asking (Some extent) form IsPlain session text (inr h) = let refused : 0 ≡ 1 = h.refused in absurd cc
+without_asking : (complete : Option Extent) (IsLackTold : Recorded → Missing → List ℕ → Type 0) (IsPlain : List ℕ → ℕ → Type 0) (session text : List ℕ) → IsDemanded complete IsLackTold IsPlain session text 0 → IsPlain text 0
+without_asking None IsLackTold IsPlain session text h = h
+without_asking (Some extent) IsLackTold IsPlain session text (inl h) = h.is_plain
+without_asking (Some extent) IsLackTold IsPlain session text (inr h) = let refused : 0 ≡ 1 = h.refused in absurd cc
 
 yes_in : (form : VerdictForm) (complete : Option Extent) (texts : List ℕ × List ℕ) (text : List ℕ) → IsChecked form complete texts text 0 → IsTextVerdict texts.0 texts.1 Yes
 yes_in form complete texts text h =
-    yes_told (verdict_text form) texts text (without_asking complete (verdict_lack form) (IsVerdictTold (verdict_text form) texts) texts.0 text h)
+    yes_told (verdict_text form) texts text (without_asking complete (TellsLack own (verdict_lack form)) (IsVerdictTold (verdict_text form) texts) texts.0 text h)
 
 -- where it ends without a fault
 shown_at : (checks : Checks) (IsFault : Fault → Type 0) (AreTexts : List ℕ × List ℕ → Type 0) (IsBeside : List ℕ × List ℕ → ℕ → Option (List ℕ) → Option (List ℕ) → Type 0) (old new : Streams)

@@ -23,9 +23,6 @@ use Rattle.command_words.specs.declared.asked.TwoTexts.{TwoTexts}
 use Rattle.command_words.specs.declared.asked.TwoTexts.TheVariants.{Check, Replay, Steps}
 use Rattle.command_words.specs.declared.asked.TwoTexts.TheVariants as two
 use Rattle.window_commands.specs.Tables.{SpellsTable}
-use Rattle.window_commands.specs.declared.relining.LinesIn.{LinesIn}
-use Rattle.window_commands.specs.declared.relining.LinesIn.TheVariants.{Words, Object}
-use Rattle.window_commands.specs.Relining.{IsRelinedAnswer}
 use Rattle.command_words.specs.declared.asked.Topic.{Topic as Named}
 use Rattle.command_words.specs.declared.asked.Topic.TheVariants as named
 use Rattle.session_story.specs.declared.topics.Topic.{Topic}
@@ -33,6 +30,8 @@ use Rattle.session_story.specs.declared.topics.Topic.TheVariants as topic
 use Rattle.session_answers.specs.declared.forms.Ask.{Ask}
 use Rattle.session_answers.specs.declared.forms.Form.{Form}
 use Rattle.session_answers.specs.declared.forms.Form.TheVariants as form
+use Rattle.session_answers.specs.declared.forms.Story.{Story}
+use Rattle.session_answers.specs.declared.forms.Story.TheVariants as tells
 use Rattle.judged_texts.specs.declared.wanted.Wanted.TheVariants as wanted
 use Rattle.command_words.specs.Table.{plain}
 use Rattle.completeness.specs.declared.missing.Extent.{Extent}
@@ -50,6 +49,7 @@ use Rattle.command_texts.specs.Several.{IsOneOf, Style, TellsSeveral}
 use Rattle.command_texts.specs.Told.{AreNamed, AreOfInput, Ends, IsNamed}
 use Rattle.command_texts.specs.Written.{AppendsFront, BothGain, Gains, Streams}
 use Rattle.judge_commands.specs.Answers.{AddsMisfitOf, how_much}
+use Rattle.judge_commands.specs.ByTables.{IsExplainedByTable}
 use Rattle.judge_commands.specs.Completed.{IsAnswered, IsChecked}
 use Rattle.judge_commands.specs.Noted.{TellsNoUse}
 use Rattle.judge_commands.specs.Replayed.{IsReplayAnswer}
@@ -82,16 +82,16 @@ list_form list.FirstLines = form.Lines wanted.FirstLine
 list_form list.Objects = form.Object
 list_form list.AllFaultsObjects = form.AllFaultsObject
 
-abbrev pub story_form : StoryForm → Form
-story_form (story.Words topic) = form.Words (told_topic topic)
-story_form story.Object = form.StoryObject
+abbrev pub story_form : StoryForm → Story
+story_form (story.Words topic) = tells.Words (told_topic topic)
+story_form story.Object = tells.Object
 
 -- what an audit asks of a session, an explanation, and an audit of several sessions of each
 abbrev pub audit_ask : Audits → Ask
 audit_ask audits = record { form = report_form audits.form; complete = extent_of audits.demand }
 
 abbrev pub explain_ask : Explains → Ask
-explain_ask explains = record { form = story_form explains.form; complete = extent_of explains.demand }
+explain_ask explains = record { form = form.Story (story_form explains.form); complete = extent_of explains.demand }
 
 abbrev pub list_ask : Lists → Ask
 list_ask lists = record { form = list_form lists.form; complete = extent_of lists.demand }
@@ -106,21 +106,12 @@ ask_of (Explain explains) = explain_ask explains
 abbrev pub IsOneAnswer : OneText → List ℕ → List ℕ → ℕ → Type 0
 IsOneAnswer task = IsAnswered (ask_of task)
 
--- where an explanation tells lines
-abbrev pub lines_in : StoryForm → LinesIn
-lines_in (story.Words topic) = Words
-lines_in story.Object = Object
-
--- the answer of an explanation with its lines told by the table that a second text spells
-abbrev pub IsRetold : Explains → List ℕ × List ℕ → List ℕ → ℕ → Type 0
-IsRetold explains = IsRelinedAnswer (IsAnswered (explain_ask explains)) (lines_in explains.form)
-
 -- the answer of a command on two texts
 abbrev pub IsTwoAnswer : TwoTexts → List ℕ × List ℕ → List ℕ → ℕ → Type 0
 IsTwoAnswer (Check checks) texts = IsChecked checks.form (extent_of checks.demand) texts
 IsTwoAnswer Replay texts = IsReplayAnswer texts.0 texts.1
 IsTwoAnswer Steps texts = IsStepsAnswer texts.0 texts.1
-IsTwoAnswer (two.Explain explains) texts = IsRetold explains texts
+IsTwoAnswer (two.Explain explains) texts = IsExplainedByTable (story_form explains.form) (extent_of explains.demand) texts
 
 -- the answer where there are no words: the one of `check` that no option changes
 abbrev pub IsPlainCheck : List ℕ × List ℕ → List ℕ → ℕ → Type 0

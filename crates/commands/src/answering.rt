@@ -13,7 +13,7 @@ ghost use Rattle.window_commands.specs.Windows.{EndsWindow};
 ghost use Rattle.commands.specs.Told.{EndsAsked, IsBesideOne, IsBesideTwo, IsOneAnswer, IsTwoAnswer, NoNote, window_of};
 
 use crate::drawing::{DrawAlongCommand, DrawCommand};
-use crate::judging::{ask_of, explain_ask, extent_of, lines_in};
+use crate::judging::{ask_of, extent_of, story_form};
 use crate::topics::told_topic;
 use command_texts::{
     Fault, Gathered, Telling, TextSource, perform_one, perform_two, read_named, tell_why, written,
@@ -21,13 +21,13 @@ use command_texts::{
 use command_words::{Asked, Carrier, Job, OneText, Pages, Topic, TwoTexts};
 use guest_script::ScriptParts;
 use host_commands::{StepsCommand, migrate_read};
-use judge_commands::{AuditCommand, CheckCommand, ReplayCommand};
+use judge_commands::{AuditCommand, CheckCommand, ExplainByTable, ReplayCommand};
 use std::alloc::Global;
 use std::io::{Read, Write};
 use std::net::{Net, TcpListener, TcpStream};
 use std::sync::Wait;
 use std::thread::Threads;
-use window_commands::{Relined, perform_window};
+use window_commands::perform_window;
 use window_cut::Window;
 
 // Does a command on the text under a name.
@@ -102,12 +102,10 @@ fn asked_two<'a, R: Threads + Sync, S: TextSource, I: Read + Send, O: Write, E: 
             errors,
         ),
         TwoTexts::Explain(explains) => {
-            let command = Relined {
-                command: AuditCommand {
-                    rt,
-                    ask: explain_ask(explains),
-                },
-                lines: lines_in(explains.form),
+            let command = ExplainByTable {
+                rt,
+                story: story_form(explains.form),
+                complete: extent_of(explains.demand),
             };
             perform_two(
                 rt, alloc, &command, first, second, texts, input, output, errors,

@@ -2,15 +2,14 @@
 
 ghost use Rattle.std.specs.Prelude.{◌≡◌};
 ghost use Rattle.command_texts.specs.Several.{style_of};
-ghost use Rattle.commands.specs.Told.{ask_of, audit_ask, explain_ask, extent_of, lines_in, list_ask, list_form, list_style, report_form, story_form};
+ghost use Rattle.commands.specs.Told.{ask_of, audit_ask, explain_ask, extent_of, list_ask, list_form, list_style, report_form, story_form};
 
 use crate::topics::told_topic;
 use command_texts::Listing;
 use command_words::{Audits, Demand, Explains, ListForm, Lists, OneText, ReportForm, StoryForm};
 use completeness::Extent;
 use judged_texts::Wanted;
-use session_answers::{Ask, Form};
-use window_commands::LinesIn;
+use session_answers::{Ask, Form, Story};
 
 /// What ends the list of what is told of several sessions, after how many of how many are clean.
 const ARE_CLEAN: &[u8] = b" sessions are clean\n";
@@ -50,13 +49,13 @@ fn list_form(form: ListForm) -> Form
     }
 }
 
-// How it is told what happened in a session.
-fn story_form(form: StoryForm) -> Form
+/// How it is told what happened in a session.
+pub(crate) fn story_form(form: StoryForm) -> Story
     ensures { result ≡ story_form form }
 {
     match form {
-        StoryForm::Words(topic) => Form::Words(told_topic(topic)),
-        StoryForm::Object => Form::StoryObject,
+        StoryForm::Words(topic) => Story::Words(told_topic(topic)),
+        StoryForm::Object => Story::Object,
     }
 }
 
@@ -70,12 +69,12 @@ fn audit_ask(audits: Audits) -> Ask
     }
 }
 
-/// What an explanation asks of a session.
-pub(crate) fn explain_ask(explains: Explains) -> Ask
+// What an explanation asks of a session.
+fn explain_ask(explains: Explains) -> Ask
     ensures { result ≡ explain_ask explains }
 {
     Ask {
-        form: story_form(explains.form),
+        form: Form::Story(story_form(explains.form)),
         complete: extent_of(explains.demand),
     }
 }
@@ -111,15 +110,5 @@ pub(crate) fn ask_of(task: OneText) -> Ask
         },
         OneText::Audit(audits) => audit_ask(audits),
         OneText::Explain(explains) => explain_ask(explains),
-    }
-}
-
-/// Where an explanation tells lines.
-pub(crate) fn lines_in(form: StoryForm) -> LinesIn
-    ensures { result ≡ lines_in form }
-{
-    match form {
-        StoryForm::Words(_) => LinesIn::Words,
-        StoryForm::Object => LinesIn::Object,
     }
 }

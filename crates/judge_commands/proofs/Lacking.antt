@@ -8,13 +8,15 @@ use Rattle.session_log.specs.Grammar.{SpellsSession}
 use Rattle.completeness.specs.Complete.{IsComplete}
 use Rattle.completeness.specs.declared.missing.Extent.{Extent}
 use Rattle.command_texts.specs.declared.answer.Answer.{Answer}
+use Rattle.completeness.specs.declared.missing.Missing.{Missing}
 use Rattle.session_answers.specs.declared.forms.LackForm.{LackForm}
+use Rattle.session_answers.specs.Lacks.{TellsLack}
 use Rattle.judge_commands.specs.Completed.{IsCompleteAnswer, IsDemanded}
 use Rattle.judge_commands.specs.inner.Held.{IsHeld, IsHeldWhere}
 
-module _ (form : LackForm) (IsPlain : List ℕ → ℕ → Type 0) (one : IsUnambiguous SpellsSession) (text : List ℕ) where
+module _ (tell : ℕ → ℕ) (form : LackForm) (IsPlain : List ℕ → ℕ → Type 0) (one : IsUnambiguous SpellsSession) (text : List ℕ) where
   -- an answer that is held to what was read answers a command that asks for a complete session
-  held_answer : (extent : Extent) (read : Result Recorded ℕ) (before after : Answer) → IsRead SpellsSession text read → IsPlain before.text.items before.status → IsHeld extent form read before after → IsCompleteAnswer extent form IsPlain text after.text.items after.status
+  held_answer : (extent : Extent) (read : Result Recorded ℕ) (before after : Answer) → IsRead SpellsSession text read → IsPlain before.text.items before.status → IsHeld tell extent form read before after → IsCompleteAnswer extent (TellsLack tell form) IsPlain text after.text.items after.status
   held_answer extent (Err line) before after refused is same = inl (record {
     is_plain = subst (λ (a : Answer). IsPlain a.text.items a.status) (sym same) is;
     complete = λ zero other spelled. absurd (refused.spells_nothing other spelled);
@@ -35,17 +37,17 @@ module _ (form : LackForm) (IsPlain : List ℕ → ℕ → Type 0) (one : IsUnam
   })
 
   -- the same where it may be asked for
-  pub held_where : (complete : Option Extent) (read : Result Recorded ℕ) (before after : Answer) → IsRead SpellsSession text read → IsPlain before.text.items before.status → IsHeldWhere complete form read before after → IsDemanded complete form IsPlain text after.text.items after.status
+  pub held_where : (complete : Option Extent) (read : Result Recorded ℕ) (before after : Answer) → IsRead SpellsSession text read → IsPlain before.text.items before.status → IsHeldWhere tell complete form read before after → IsDemanded complete (TellsLack tell form) IsPlain text after.text.items after.status
   held_where None read before after is_read is same = subst (λ (a : Answer). IsPlain a.text.items a.status) (sym same) is
   held_where (Some extent) read before after is_read is is_held = held_answer extent read before after is_read is is_held
 
   -- and where memory may have run out
-  pub held_all : (complete : Option Extent) (read : Result Recorded ℕ) (before : Answer) (held : Result Answer AllocError) → IsRead SpellsSession text read → IsPlain before.text.items before.status → IfOk held (λ after. IsHeldWhere complete form read before after) → IfOk held (λ a. IsDemanded complete form IsPlain text a.text.items a.status)
+  pub held_all : (complete : Option Extent) (read : Result Recorded ℕ) (before : Answer) (held : Result Answer AllocError) → IsRead SpellsSession text read → IsPlain before.text.items before.status → IfOk held (λ after. IsHeldWhere tell complete form read before after) → IfOk held (λ a. IsDemanded complete (TellsLack tell form) IsPlain text a.text.items a.status)
   held_all complete read before (Ok after) is_read is is_held = held_where complete read before after is_read is is_held
   held_all complete read before (Err error) is_read is is_held = tt
 
 -- the status of an answer that is held stays 0 or 1
-pub demanded_few : (complete : Option Extent) (form : LackForm) (IsPlain : List ℕ → ℕ → Type 0) (session text : List ℕ) (status : ℕ) → ((said : List ℕ) (n : ℕ) → IsPlain said n → n < 2) → IsDemanded complete form IsPlain session text status → status < 2
-demanded_few None form IsPlain session text status few h = few text status h
-demanded_few (Some extent) form IsPlain session text status few (inl h) = few text status h.is_plain
-demanded_few (Some extent) form IsPlain session text status few (inr h) = rw h.refused (omega arith)
+pub demanded_few : (complete : Option Extent) (IsLackTold : Recorded → Missing → List ℕ → Type 0) (IsPlain : List ℕ → ℕ → Type 0) (session text : List ℕ) (status : ℕ) → ((said : List ℕ) (n : ℕ) → IsPlain said n → n < 2) → IsDemanded complete IsLackTold IsPlain session text status → status < 2
+demanded_few None IsLackTold IsPlain session text status few h = few text status h
+demanded_few (Some extent) IsLackTold IsPlain session text status few (inl h) = few text status h.is_plain
+demanded_few (Some extent) IsLackTold IsPlain session text status few (inr h) = rw h.refused (omega arith)

@@ -1,5 +1,5 @@
 -- The status of an answer is 0 or 1.
-use Rattle.std.proofs.Common.{ℕ, ◌<◌, List, Option, arith}
+use Rattle.std.proofs.Common.{ℕ, ◌<◌, inl, inr, List, Option, arith}
 use Rattle.cert_check.specs.declared.verdict.Verdict.{Verdict}
 use Rattle.cert_check.specs.declared.verdict.Verdict.TheVariants as verdict
 use Rattle.audit_report.specs.declared.report.Report.{Report}
@@ -11,8 +11,11 @@ use Rattle.session_answers.specs.Judged.{IsJudgedTold, Judged, Refused, Reported
 use Rattle.completeness.specs.declared.missing.Extent.{Extent}
 use Rattle.command_words.specs.declared.asked.VerdictForm.{VerdictForm}
 use Rattle.session_answers.specs.declared.forms.Ask.{Ask}
-use Rattle.session_answers.specs.Forms.{Tells}
-use Rattle.session_answers.specs.Lacks.{lack_form}
+use Rattle.session_answers.specs.declared.forms.Story.{Story}
+use Rattle.session_answers.specs.Forms.{Tells, TellsStory}
+use Rattle.session_answers.specs.Lacks.{TellsLack, lack_form, story_lack}
+use Rattle.audit_report.specs.ToldLines.{line_by, own}
+use Rattle.judge_commands.specs.ByTables.{IsExplainedByTable}
 use Rattle.judge_commands.specs.Completed.{IsAnswered, IsChecked}
 use Rattle.judge_commands.proofs.Lacking.{demanded_few}
 use Rattle.judge_commands.specs.Replayed.{IsReplayAnswer, outcome_status}
@@ -53,11 +56,17 @@ verdict_told_few words texts text status h = rw h.is_status (verdict_few h.value
 -- so is that of an answer to what is asked
 pub answered_few : (ask : Ask) (session text : List ℕ) (status : ℕ) → IsAnswered ask session text status → status < 2
 answered_few ask session text status h =
-    demanded_few ask.complete (lack_form ask.form) (IsJudgedTold (Tells ask.form) session) session text status (judged_told_few (Tells ask.form) session) h
+    demanded_few ask.complete (TellsLack own (lack_form ask.form)) (IsJudgedTold (Tells ask.form) session) session text status (judged_told_few (Tells ask.form) session) h
+
+pub explained_few : (story : Story) (complete : Option Extent) (texts : List ℕ × List ℕ) (text : List ℕ) (status : ℕ) → IsExplainedByTable story complete texts text status → status < 2
+explained_few story complete texts text status (inl (table, spelled, h)) =
+    let tell = line_by table in
+    demanded_few complete (TellsLack tell (story_lack story)) (IsJudgedTold (TellsStory tell story) texts.0) texts.0 text status (judged_told_few (TellsStory tell story) texts.0) h
+explained_few story complete texts text status (inr h) = rw h.is_status (omega arith)
 
 pub checked_few : (form : VerdictForm) (complete : Option Extent) (texts : List ℕ × List ℕ) (text : List ℕ) (status : ℕ) → IsChecked form complete texts text status → status < 2
 checked_few form complete texts text status h =
-    demanded_few complete (verdict_lack form) (IsVerdictTold (verdict_text form) texts) texts.0 text status (verdict_told_few (verdict_text form) texts) h
+    demanded_few complete (TellsLack own (verdict_lack form)) (IsVerdictTold (verdict_text form) texts) texts.0 text status (verdict_told_few (verdict_text form) texts) h
 
 pub replay_few : (texts : List ℕ × List ℕ) (text : List ℕ) (status : ℕ) → IsReplayAnswer texts.0 texts.1 text status → status < 2
 replay_few texts text status h = rw h.is_status (outcome_few h.value)

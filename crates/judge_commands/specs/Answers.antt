@@ -17,6 +17,7 @@ use Rattle.session_answers.specs.Judged.{IsJudgedTold}
 use Rattle.session_answers.specs.Forms.{TellsWanted}
 use Rattle.session_answers.specs.declared.forms.Form.{Form}
 use Rattle.session_answers.specs.declared.forms.Form.TheVariants as form
+use Rattle.session_answers.specs.declared.forms.Story.TheVariants as story
 use Rattle.session_answers.specs.declared.forms.LackForm.{LackForm}
 use Rattle.session_answers.specs.declared.forms.LackForm.TheVariants as lack
 
@@ -62,5 +63,5 @@ IsAuditAnswer wanted = IsJudgedTold (TellsWanted wanted)
 
 -- how much is told beside the answer of a text that is refused: more where what happened is told in words
 abbrev pub how_much : Form → Telling
-how_much (form.Words topic) = Full
+how_much (form.Story (story.Words topic)) = Full
 how_much other = Short

@@ -14,7 +14,7 @@ ghost use Rattle.judge_commands.specs.inner.Reported.{SaysRefusal, SaysReport};
 use crate::completing::held;
 use crate::forms::telling_beside;
 use crate::noting::note_on;
-use audit_report::{Report, audit};
+use audit_report::{OwnLines, Report, audit};
 use command_texts::{Answer, Given, OnOne, REFUSED, Telling, given, status_where};
 use migration_types::Session;
 use page_facts::InThreads;
@@ -82,7 +82,14 @@ fn answered<R: Threads + Sync>(
 {
     session_texts_are_unambiguous();
     let answer = audit_read(rt, ask.form, alloc, session)?;
-    held(ask.form.of_lack(), ask.complete, alloc, session, answer)
+    held(
+        &OwnLines,
+        ask.form.of_lack(),
+        ask.complete,
+        alloc,
+        session,
+        answer,
+    )
 }
 
 /// `audit`, `certify` and `explain`: what is asked of a session.

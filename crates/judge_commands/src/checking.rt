@@ -15,7 +15,7 @@ use crate::completing::held;
 use crate::forms::{lack_beside, push_told};
 use crate::misfit_words::push_misfit;
 use crate::noting::note_on;
-use audit_report::{push_refused_certificate, push_refused_session, push_shape};
+use audit_report::{OwnLines, push_refused_certificate, push_refused_session, push_shape};
 use cert_check::Verdict;
 use cert_text::CertReader;
 use command_texts::{Answer, Fault, OnTwo, given, status_where};
@@ -85,7 +85,14 @@ fn checked<R: Threads + Sync>(
 {
     session_texts_are_unambiguous();
     let (answer, verdict) = judge_read(rt, form, alloc, session, cert)?;
-    let whole = held(lack_beside(form), complete, alloc, session, answer)?;
+    let whole = held(
+        &OwnLines,
+        lack_beside(form),
+        complete,
+        alloc,
+        session,
+        answer,
+    )?;
     Ok((whole, verdict))
 }
 

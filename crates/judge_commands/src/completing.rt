@@ -3,6 +3,7 @@
 ghost use Rattle.std.specs.Prelude.{IfOk};
 ghost use Rattle.judge_commands.specs.inner.Held.{IsHeld, IsHeldWhere};
 
+use audit_report::Lines;
 use command_texts::{Answer, REFUSED};
 use completeness::Extent;
 use migration_types::Session;
@@ -10,19 +11,20 @@ use session_answers::{LackForm, print_lack_of};
 use std::alloc::{AllocError, Global};
 
 /// An answer, held to a session.
-fn held_to(
+fn held_to<L: Lines>(
+    lines: &L,
     form: LackForm,
     extent: Extent,
     alloc: Global,
     session: &Session,
     answer: Answer,
 ) -> Result<Answer, AllocError>
-    ensures { IfOk result (λ held. IsHeld extent form (Ok session.now) answer held) }
+    ensures { IfOk result (λ held. IsHeld (L.tell lines.now) extent form (Ok session.now) answer held) }
 {
     if answer.status != 0 {
         return Ok(answer);
     }
-    match print_lack_of(alloc, session, extent, form) {
+    match print_lack_of(alloc, lines, session, extent, form) {
         Ok(Some(text)) => Ok(Answer {
             text,
             status: REFUSED,
@@ -33,21 +35,22 @@ fn held_to(
 }
 
 /// An answer, held to what was read of a session's text, where the session has to be complete to an extent. Where the answer says
-/// that all is well, and the session lacks something that is asked for, that is told instead.
-pub(crate) fn held(
+/// that all is well, and the session lacks something that is asked for, that is told instead, by these lines.
+pub(crate) fn held<L: Lines>(
+    lines: &L,
     form: LackForm,
     complete: Option<Extent>,
     alloc: Global,
     session: &Result<Session, u32>,
     answer: Answer,
 ) -> Result<Answer, AllocError>
-    ensures { IfOk result (λ held. IsHeldWhere complete form session.now answer held) }
+    ensures { IfOk result (λ held. IsHeldWhere (L.tell lines.now) complete form session.now answer held) }
 {
     let Some(extent) = complete else {
         return Ok(answer);
     };
     match session {
-        Ok(session) => held_to(form, extent, alloc, session, answer),
+        Ok(session) => held_to(lines, form, extent, alloc, session, answer),
         Err(_) => Ok(answer),
     }
 }

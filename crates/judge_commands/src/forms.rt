@@ -8,7 +8,7 @@ use cert_check::Verdict;
 use command_texts::Telling;
 use command_words::VerdictForm;
 use report_json::push_verdict as push_verdict_object;
-use session_answers::{Form, LackForm};
+use session_answers::{Form, LackForm, Story};
 use std::alloc::AllocError;
 
 /// Adds the text that tells a verdict in this form. An error: there is no memory for it.
@@ -40,11 +40,11 @@ pub(crate) fn telling_beside(form: Form) -> Telling
     ensures { result ≡ how_much form }
 {
     match form {
-        Form::Words(_) => Telling::Full,
+        Form::Story(Story::Words(_)) => Telling::Full,
         Form::Lines(_)
         | Form::AllFaults
         | Form::Object
         | Form::AllFaultsObject
-        | Form::StoryObject => Telling::Short,
+        | Form::Story(Story::Object) => Telling::Short,
     }
 }

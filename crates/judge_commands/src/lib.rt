@@ -4,6 +4,7 @@
 mod auditing;
 mod checking;
 mod completing;
+mod explaining;
 mod forms;
 mod misfit_entries;
 mod misfit_runs;
@@ -13,4 +14,5 @@ mod replaying;
 
 pub use auditing::{AuditCommand, report_status};
 pub use checking::{CheckCommand, push_verdict, verdict_status};
+pub use explaining::ExplainByTable;
 pub use replaying::ReplayCommand;

@@ -7,6 +7,7 @@ use Rattle.audit_report.specs.declared.report.Report.{Report}
 use Rattle.audit_report.specs.Reports.{IsReport}
 use Rattle.audit_report.specs.RefusalText.{refusal_text}
 use Rattle.audit_report.specs.ReportText.{first_line}
+use Rattle.audit_report.specs.ToldLines.{own}
 use Rattle.audit_report.specs.declared.report.Report.TheVariants as report
 use Rattle.completeness.specs.declared.missing.Extent.{Extent}
 use Rattle.completeness.specs.Complete.{IsComplete}
@@ -33,7 +34,7 @@ IsShownRefusal (Lack extent) line text = text ≡ refusal_text line
 
 -- the line that says what the session lacks first, of what this extent asks for, or nothing where it is complete
 abbrev pub IsLackText : Extent → Recorded → List ℕ → Type 0
-IsLackText extent s text = (IsComplete extent s × (text ≡ [])) ⊎ IsLack extent Line s text
+IsLackText extent s text = (IsComplete extent s × (text ≡ [])) ⊎ IsLack own extent Line s text
 
 -- this of a clean session, and of another the first line of its report
 abbrev pub IsLackByReport : Extent → Recorded → Report → List ℕ → Type 0

@@ -27,7 +27,7 @@ use crate::showing::{ShownAs, tell_shown};
 use crate::telling::tell_audit;
 use completeness::Extent;
 use judged_texts::{Wanted, check_texts_alone, replay_texts};
-use session_answers::Form;
+use session_answers::{Form, Story};
 use session_story::Topic;
 use std::alloc::Global;
 
@@ -136,7 +136,7 @@ pub extern "C" fn postcopy_missing_pages(
 /// `postcopy_certify` is.
 #[unsafe(no_mangle)]
 pub extern "C" fn postcopy_explain(alloc: Global, session: &[u8], room: &mut [u8]) -> PostcopyAnswer
-    ensures told { IsShownAnswer (ShownAs.Told (Form.Words Topic.Report)) session.now room.old room.new result }
+    ensures told { IsShownAnswer (ShownAs.Told (Form.Story (Story.Words Topic.Report))) session.now room.old room.new result }
     ensures one_session { result.kind ≢ SESSION_TEXT → result.kind ≢ NO_MEMORY → SpellsOneSession session.now }
     ensures safe { result.kind ≡ CLEAN → OfSpelled session.now IsSafe }
     ensures exactly { result.kind ≢ NO_MEMORY → OfSpelled session.now (IsSafeExactlyIf (result.kind ≡ CLEAN)) }
@@ -145,7 +145,7 @@ pub extern "C" fn postcopy_explain(alloc: Global, session: &[u8], room: &mut [u8
     tell_shown(
         alloc,
         session,
-        ShownAs::Told(Form::Words(Topic::Report)),
+        ShownAs::Told(Form::Story(Story::Words(Topic::Report))),
         room,
     )
 }
@@ -159,7 +159,7 @@ pub extern "C" fn postcopy_explain_page(
     page: u32,
     room: &mut [u8],
 ) -> PostcopyAnswer
-    ensures told { IsShownAnswer (ShownAs.Told (Form.Words (Topic.Page page))) session.now room.old room.new result }
+    ensures told { IsShownAnswer (ShownAs.Told (Form.Story (Story.Words (Topic.Page page)))) session.now room.old room.new result }
     ensures one_session { result.kind ≢ SESSION_TEXT → result.kind ≢ NO_MEMORY → SpellsOneSession session.now }
     ensures safe { result.kind ≡ CLEAN → OfSpelled session.now IsSafe }
     ensures exactly { result.kind ≢ NO_MEMORY → OfSpelled session.now (IsSafeExactlyIf (result.kind ≡ CLEAN)) }
@@ -168,7 +168,7 @@ pub extern "C" fn postcopy_explain_page(
     tell_shown(
         alloc,
         session,
-        ShownAs::Told(Form::Words(Topic::Page(page))),
+        ShownAs::Told(Form::Story(Story::Words(Topic::Page(page)))),
         room,
     )
 }
@@ -182,7 +182,7 @@ pub extern "C" fn postcopy_explain_line(
     line: u32,
     room: &mut [u8],
 ) -> PostcopyAnswer
-    ensures told { IsShownAnswer (ShownAs.Told (Form.Words (Topic.Line line))) session.now room.old room.new result }
+    ensures told { IsShownAnswer (ShownAs.Told (Form.Story (Story.Words (Topic.Line line)))) session.now room.old room.new result }
     ensures one_session { result.kind ≢ SESSION_TEXT → result.kind ≢ NO_MEMORY → SpellsOneSession session.now }
     ensures safe { result.kind ≡ CLEAN → OfSpelled session.now IsSafe }
     ensures exactly { result.kind ≢ NO_MEMORY → OfSpelled session.now (IsSafeExactlyIf (result.kind ≡ CLEAN)) }
@@ -191,7 +191,7 @@ pub extern "C" fn postcopy_explain_line(
     tell_shown(
         alloc,
         session,
-        ShownAs::Told(Form::Words(Topic::Line(line))),
+        ShownAs::Told(Form::Story(Story::Words(Topic::Line(line)))),
         room,
     )
 }

@@ -12,7 +12,7 @@ ghost use Rattle.postcopy_c.specs.Showings.{IsLackText, IsLackByReport, IsShownR
 use crate::answer::{PostcopyAnswer, audited_answer, out_of_memory};
 use crate::kinds::{CLEAN, FAULTY, NO_MEMORY, SESSION_TEXT};
 use crate::telling::put;
-use audit_report::{Report, audit_by, print_first_line, print_refused_session};
+use audit_report::{OwnLines, Report, audit_by, print_first_line, print_refused_session};
 use completeness::Extent;
 use judged_texts::Audited;
 use migration_types::Session;
@@ -48,7 +48,7 @@ pub struct Showing {
 fn lack_of(alloc: Global, session: &Session, extent: Extent) -> Result<Vec<u8>, AllocError>
     ensures { IfOk result (λ text. IsLackText extent session.now text.items) }
 {
-    match print_lack_of(alloc, session, extent, LackForm::Line)? {
+    match print_lack_of(alloc, &OwnLines, session, extent, LackForm::Line)? {
         Some(text) => Ok(text),
         None => Ok(Vec::new(alloc)),
     }

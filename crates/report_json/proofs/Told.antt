@@ -9,15 +9,15 @@ use Rattle.report_json.specs.declared.records.Role.{Role}
 use Rattle.report_json.specs.declared.records.ToldRecord.{ToldRecord}
 use Rattle.report_json.specs.RecordsText.{told}
 
-module _ (s : Recorded) (role : Role) (log : LogName) (n : ℕ) where
+module _ (tell : ℕ → ℕ) (s : Recorded) (role : Role) (log : LogName) (n : ℕ) where
   abbrev at_line : ℕ → ToldRecord
   at_line line = record { role = role; log = log; place = n; line = line }
 
   abbrev if_there : Bool → List ToldRecord
-  if_there b = cond b (record { role = role; log = log; place = n; line = line_of s (log, n) } ∷ []) []
+  if_there b = cond b (record { role = role; log = log; place = n; line = tell (line_of s (log, n)) } ∷ []) []
 
-  pub told_there : (line : ℕ) → IsAtLineOf s log line n → told s role log (Some n) ≡ record { role = role; log = log; place = n; line = line } ∷ []
-  told_there line at = ap if_there (lt-ltb n (log_length s log) at.is_there) ∙ ap (λ (l : ℕ). at_line l ∷ []) (sym at.is_line)
+  pub told_there : (line shown : ℕ) → IsAtLineOf s log line n → shown ≡ tell line → told tell s role log (Some n) ≡ record { role = role; log = log; place = n; line = shown } ∷ []
+  told_there line shown at same = ap if_there (lt-ltb n (log_length s log) at.is_there) ∙ (ap (λ (l : ℕ). at_line (tell l) ∷ []) (sym at.is_line) ∙ ap (λ (l : ℕ). at_line l ∷ []) (sym same))
 
-  pub told_past : log_length s log ≤ n → (old : List ToldRecord) → old ≡ old ++ told s role log (Some n)
+  pub told_past : log_length s log ≤ n → (old : List ToldRecord) → old ≡ old ++ told tell s role log (Some n)
   told_past past old = sym (ap (λ (t : List ToldRecord). old ++ t) (ap if_there (le-ltb n (log_length s log) past)) ∙ append-nil old)

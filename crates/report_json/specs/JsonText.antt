@@ -19,6 +19,7 @@ use Rattle.completeness.specs.declared.missing.Missing.{Missing}
 use Rattle.completeness.specs.declared.missing.Missing.TheVariants as missing
 use Rattle.audit_report.specs.declared.report.Report.{Report}
 use Rattle.audit_report.specs.declared.report.Report.TheVariants as report
+use Rattle.audit_report.specs.ToldLines.{own}
 
 -- a number under a name, as in ,"line":13
 unfoldable pub number : List ℕ → ℕ → List ℕ
@@ -74,27 +75,28 @@ unfoldable pub page_of : Option ℕ → List ℕ
 page_of None = []
 page_of (Some page) = number (codes "page") page
 
--- what is told of a fault of shape
-abbrev pub shape_told : ShapeFault → List ℕ
-shape_told fault = record_at fault.line fault.log fault.place ++ word (codes "reason") (shape_word fault.reason)
+-- what is told of a fault of shape, with its line told so
+abbrev pub shape_told : (ℕ → ℕ) → ShapeFault → List ℕ
+shape_told tell fault = record_at (tell fault.line) fault.log fault.place ++ word (codes "reason") (shape_word fault.reason)
 
 abbrev pub shape_object : ShapeFault → List ℕ
-shape_object fault = object (codes "shape") (shape_told fault)
+shape_object fault = object (codes "shape") (shape_told own fault)
 
 -- what is told of the fault of a record, with the runs of an order in which it shows
 unfoldable pub fault_told : Recorded → ℕ → PageFault → List Run → List ℕ
 fault_told s line fault order = record_at line fault.log fault.place ++ word (codes "reason") (page_word fault.reason) ++ page_of (page_at s (fault.log, fault.place)) ++ runs order
 
--- The object of a report, up to its end. A knot has the found order up to it, and a clean session the order of its certificate.
-unfoldable pub report_begun : Recorded → Report → List ℕ
-report_begun s (report.Clean cert) = begun (codes "clean") ++ runs cert.runs
-report_begun s (report.Shape fault) = begun (codes "shape") ++ shape_told fault
-report_begun s (report.Knot left found) = begun (codes "knot") ++ record_at left.line left.log left.place ++ runs found.runs
-report_begun s (report.Faulty line fault order many) = begun (codes "faulty") ++ fault_told s line fault order
+-- The object of a report, up to its end, with its line told so. A knot has the found order up to it, and a clean session the order
+-- of its certificate.
+unfoldable pub report_begun : (ℕ → ℕ) → Recorded → Report → List ℕ
+report_begun tell s (report.Clean cert) = begun (codes "clean") ++ runs cert.runs
+report_begun tell s (report.Shape fault) = begun (codes "shape") ++ shape_told tell fault
+report_begun tell s (report.Knot left found) = begun (codes "knot") ++ record_at (tell left.line) left.log left.place ++ runs found.runs
+report_begun tell s (report.Faulty line fault order many) = begun (codes "faulty") ++ fault_told s (tell line) fault order
 
 -- the object of a report
 abbrev pub report_object : Recorded → Report → List ℕ
-report_object s report = report_begun s report ++ codes "}\n"
+report_object s report = report_begun own s report ++ codes "}\n"
 
 -- a page with a fault, as in {"page":3,"line":14,"reason":"read"}
 unfoldable pub faulty_page : FaultyPage → List ℕ
@@ -109,7 +111,7 @@ pages_told (report.Faulty line fault order many) pages = listed (codes "pages") 
 
 -- the object of a report that tells these pages with a fault
 abbrev pub all_faults_object : Recorded → Report → List FaultyPage → List ℕ
-all_faults_object s report pages = report_begun s report ++ pages_told report pages ++ codes "}\n"
+all_faults_object s report pages = report_begun own s report ++ pages_told report pages ++ codes "}\n"
 
 -- the object of a verdict on a certificate
 abbrev pub verdict_object : Verdict → List ℕ
@@ -121,16 +123,16 @@ verdict_object (verdict.Runs line) = at_line (codes "runs") line
 verdict_object (verdict.Page line) = at_line (codes "page") line
 verdict_object verdict.Yes = object (codes "yes") []
 
--- what is told of what is missing from a session
-unfoldable pub missing_told : Recorded → Missing → List ℕ
-missing_told s missing.Halt = word (codes "missing") (codes "halt")
-missing_told s missing.Returned = word (codes "missing") (codes "returned")
-missing_told s missing.Resume = word (codes "missing") (codes "resume")
-missing_told s (missing.Page page) = word (codes "missing") (codes "page") ++ number (codes "page") page
-missing_told s missing.All = word (codes "missing") (codes "all")
-missing_told s missing.Done = word (codes "missing") (codes "done")
-missing_told s (missing.Taken n) = word (codes "missing") (codes "placement") ++ record_at (line_of s (Pager, n)) Pager n
+-- what is told of what is missing from a session, with a line told so
+unfoldable pub missing_told : (ℕ → ℕ) → Recorded → Missing → List ℕ
+missing_told tell s missing.Halt = word (codes "missing") (codes "halt")
+missing_told tell s missing.Returned = word (codes "missing") (codes "returned")
+missing_told tell s missing.Resume = word (codes "missing") (codes "resume")
+missing_told tell s (missing.Page page) = word (codes "missing") (codes "page") ++ number (codes "page") page
+missing_told tell s missing.All = word (codes "missing") (codes "all")
+missing_told tell s missing.Done = word (codes "missing") (codes "done")
+missing_told tell s (missing.Taken n) = word (codes "missing") (codes "placement") ++ record_at (tell (line_of s (Pager, n))) Pager n
 
 -- the object where this is missing from a session
-abbrev pub missing_object : Recorded → Missing → List ℕ
-missing_object s m = object (codes "incomplete") (missing_told s m)
+abbrev pub missing_object : (ℕ → ℕ) → Recorded → Missing → List ℕ
+missing_object tell s m = object (codes "incomplete") (missing_told tell s m)

@@ -38,41 +38,41 @@ role_word role.Waits = codes "waits"
 unfoldable pub told_record : ToldRecord → List ℕ
 told_record r = codes "{\"role\":\"" ++ role_word r.role ++ codes "\"" ++ word (codes "log") (log_word r.log) ++ number (codes "record") r.place ++ number (codes "line") r.line ++ codes "}"
 
--- a record of this number, if there is a number and the session has it
-abbrev pub told : Recorded → Role → LogName → Option ℕ → List ToldRecord
-told s role log None = []
-told s role log (Some n) = if nat_lt n (log_length s log) then record { role = role; log = log; place = n; line = line_of s (log, n) } ∷ [] else []
+-- a record of this number, with its line told so, if there is a number and the session has it
+abbrev pub told : (ℕ → ℕ) → Recorded → Role → LogName → Option ℕ → List ToldRecord
+told tell s role log None = []
+told tell s role log (Some n) = if nat_lt n (log_length s log) then record { role = role; log = log; place = n; line = tell (line_of s (log, n)) } ∷ [] else []
 
 -- how a page came to the target
-abbrev pub sent_records : Recorded → PageStory → Handover → List ToldRecord
-sent_records s page handover =
-    told s role.Changed Guest page.changed ++ told s role.Halt Guest handover.halt ++ told s role.Sent Source page.sent
-    ++ told s role.Delivered Link page.delivered ++ told s role.Delivered Lane page.by_lane ++ told s role.Taken Pager page.got
+abbrev pub sent_records : (ℕ → ℕ) → Recorded → PageStory → Handover → List ToldRecord
+sent_records tell s page handover =
+    told tell s role.Changed Guest page.changed ++ told tell s role.Halt Guest handover.halt ++ told tell s role.Sent Source page.sent
+    ++ told tell s role.Delivered Link page.delivered ++ told tell s role.Delivered Lane page.by_lane ++ told tell s role.Taken Pager page.got
 
 -- what became of it there
-abbrev pub later_records : Recorded → PageStory → List ToldRecord
-later_records s page =
-    told s role.Placed Pager page.found.placement ++ told s role.PlacedAgain Pager page.found.again
-    ++ told s role.Look Guest page.found.look ++ told s role.Touch Guest page.found.touch
+abbrev pub later_records : (ℕ → ℕ) → Recorded → PageStory → List ToldRecord
+later_records tell s page =
+    told tell s role.Placed Pager page.found.placement ++ told tell s role.PlacedAgain Pager page.found.again
+    ++ told tell s role.Look Guest page.found.look ++ told tell s role.Touch Guest page.found.touch
 
 -- the fault of a page, and the page's story
-abbrev pub fault_records : Recorded → FaultStory → List ToldRecord
-fault_records s f = told s role.Faulty f.fault.log (Some f.fault.place) ++ sent_records s f.page f.handover ++ later_records s f.page
+abbrev pub fault_records : (ℕ → ℕ) → Recorded → FaultStory → List ToldRecord
+fault_records tell s f = told tell s role.Faulty f.fault.log (Some f.fault.place) ++ sent_records tell s f.page f.handover ++ later_records tell s f.page
 
 -- the record that has not the right shape, and the first sending of its page, or the resume of its guest
-abbrev pub shape_records : Recorded → ShapeStory → List ToldRecord
-shape_records s t = told s role.Faulty t.fault.log (Some t.fault.place) ++ told s role.Sent Source t.sent ++ told s role.Resume Guest (resumed_by t)
+abbrev pub shape_records : (ℕ → ℕ) → Recorded → ShapeStory → List ToldRecord
+shape_records tell s t = told tell s role.Faulty t.fault.log (Some t.fault.place) ++ told tell s role.Sent Source t.sent ++ told tell s role.Resume Guest (resumed_by t)
 
 -- the records that wait for one another, each for the next
-abbrev pub waiting_records : Recorded → List Waiting → List ToldRecord
-waiting_records s waits = flat_map (λ w. told s role.Waits w.log (Some w.place)) waits
+abbrev pub waiting_records : (ℕ → ℕ) → Recorded → List Waiting → List ToldRecord
+waiting_records tell s waits = flat_map (λ w. told tell s role.Waits w.log (Some w.place)) waits
 
-abbrev pub records_of : Recorded → Explanation → List ToldRecord
-records_of s (story.Shape t) = shape_records s t
-records_of s (story.Knot knot) = waiting_records s knot.waits.items
-records_of s (story.Faulty f more) = fault_records s f
-records_of s (story.Clean counts) = []
+abbrev pub records_of : (ℕ → ℕ) → Recorded → Explanation → List ToldRecord
+records_of tell s (story.Shape t) = shape_records tell s t
+records_of tell s (story.Knot knot) = waiting_records tell s knot.waits.items
+records_of tell s (story.Faulty f more) = fault_records tell s f
+records_of tell s (story.Clean counts) = []
 
 -- the object of a report that tells the records of what happened
-abbrev pub explained_object : Recorded → Report → Explanation → List ℕ
-explained_object s report e = report_begun s report ++ listed (codes "records") told_record (records_of s e) ++ codes "}\n"
+abbrev pub explained_object : (ℕ → ℕ) → Recorded → Report → Explanation → List ℕ
+explained_object tell s report e = report_begun tell s report ++ listed (codes "records") told_record (records_of tell s e) ++ codes "}\n"

@@ -42,7 +42,7 @@ pub(crate) fn push_bare(out: &mut Vec<u8>, verdict: &[u8]) -> Result<(), AllocEr
 
 /// Adds a number under a name.
 #[tactic(auto, unfolding(crate::specs::JsonText::number))]
-pub(crate) fn push_number_under(out: &mut Vec<u8>, name: &[u8], n: u32) -> Result<(), AllocError>
+pub(crate) fn push_number_under(out: &mut Vec<u8>, name: &[u8], n: u64) -> Result<(), AllocError>
     ensures { OnOk result (out.new.items ≡ out.old.items ++ number name.now n) }
 {
     out.extend_from_slice(b",\"")?;
@@ -67,7 +67,7 @@ pub(crate) fn push_word_under(out: &mut Vec<u8>, name: &[u8], w: &[u8]) -> Resul
 #[tactic(auto, unfolding(crate::specs::JsonText::record_at))]
 pub(crate) fn push_record(
     out: &mut Vec<u8>,
-    line: u32,
+    line: u64,
     log: LogName,
     place: u32,
 ) -> Result<(), AllocError>
@@ -75,7 +75,7 @@ pub(crate) fn push_record(
 {
     push_number_under(out, b"line", line)?;
     push_word_under(out, b"log", log.word().as_bytes())?;
-    push_number_under(out, b"record", place)
+    push_number_under(out, b"record", u64::from(place))
 }
 
 /// Adds a page, where there is one.
@@ -84,7 +84,7 @@ pub(crate) fn push_page(out: &mut Vec<u8>, page: Option<PageNo>) -> Result<(), A
     ensures { OnOk result (out.new.items ≡ out.old.items ++ page_of page) }
 {
     match page {
-        Some(page) => push_number_under(out, b"page", page.number()),
+        Some(page) => push_number_under(out, b"page", u64::from(page.number())),
         None => Ok(()),
     }
 }

@@ -38,7 +38,7 @@ impl Item for FaultyPage {
     fn push(&self, out: &mut Vec<u8>) -> Result<(), AllocError> {
         out.extend_from_slice(b"{\"page\":")?;
         push_number(out, self.page.number())?;
-        push_number_under(out, b"line", self.line)?;
+        push_number_under(out, b"line", u64::from(self.line))?;
         push_word_under(out, b"reason", self.fault.reason.word())?;
         out.extend_from_slice(b"}")
     }

@@ -10,7 +10,7 @@ use crate::fields::{
 };
 use crate::lists::{push_list_under, push_runs};
 use crate::records::records_of;
-use audit_report::{Report, line_of_taken};
+use audit_report::{Lines, OwnLines, Report, line_of_taken};
 use cert_check::{ShapeFault, Verdict};
 use completeness::Missing;
 use faulty_pages::FaultyPage;
@@ -20,7 +20,7 @@ use session_story::{Explanation, page_at};
 use std::alloc::{AllocError, Global};
 
 /// Adds the object of a verdict at a line of a text.
-fn push_at_line(out: &mut Vec<u8>, verdict: &[u8], line: u32) -> Result<(), AllocError>
+fn push_at_line(out: &mut Vec<u8>, verdict: &[u8], line: u64) -> Result<(), AllocError>
     ensures { OnOk result (out.new.items ≡ out.old.items ++ at_line verdict.now line) }
 {
     begin(out, verdict)?;
@@ -28,19 +28,19 @@ fn push_at_line(out: &mut Vec<u8>, verdict: &[u8], line: u32) -> Result<(), Allo
     end(out)
 }
 
-/// Adds the object of a session's text that is refused at this line.
-pub fn push_refused(out: &mut Vec<u8>, line: u32) -> Result<(), AllocError>
-    ensures { OnOk result (out.new.items ≡ out.old.items ++ at_line (codes "session-text") line) }
+/// Adds the object of a session's text that is refused at this line, told by these lines.
+pub fn push_refused<L: Lines>(out: &mut Vec<u8>, lines: &L, line: u32) -> Result<(), AllocError>
+    ensures { OnOk result (out.new.items ≡ out.old.items ++ at_line (codes "session-text") (L.tell lines.now line)) }
 {
-    push_at_line(out, b"session-text", line)
+    push_at_line(out, b"session-text", lines.line(line))
 }
 
-/// Begins the object of a fault of shape.
-fn begin_shape(out: &mut Vec<u8>, fault: &ShapeFault) -> Result<(), AllocError>
-    ensures { OnOk result (out.new.items ≡ out.old.items ++ (begun (codes "shape") ++ shape_told fault.now)) }
+/// Begins the object of a fault of shape, told by these lines.
+fn begin_shape<L: Lines>(out: &mut Vec<u8>, lines: &L, fault: &ShapeFault) -> Result<(), AllocError>
+    ensures { OnOk result (out.new.items ≡ out.old.items ++ (begun (codes "shape") ++ shape_told (L.tell lines.now) fault.now)) }
 {
     begin(out, b"shape")?;
-    push_record(out, fault.line, fault.log, fault.place)?;
+    push_record(out, lines.line(fault.line), fault.log, fault.place)?;
     push_word_under(out, b"reason", fault.reason.word())
 }
 
@@ -48,7 +48,7 @@ fn begin_shape(out: &mut Vec<u8>, fault: &ShapeFault) -> Result<(), AllocError>
 fn push_shape(out: &mut Vec<u8>, fault: &ShapeFault) -> Result<(), AllocError>
     ensures { OnOk result (out.new.items ≡ out.old.items ++ shape_object fault.now) }
 {
-    begin_shape(out, fault)?;
+    begin_shape(out, &OwnLines, fault)?;
     end(out)
 }
 
@@ -57,7 +57,7 @@ fn push_shape(out: &mut Vec<u8>, fault: &ShapeFault) -> Result<(), AllocError>
 fn push_fault(
     out: &mut Vec<u8>,
     session: &Session,
-    line: u32,
+    line: u64,
     fault: &PageFault,
     order: &[Run],
 ) -> Result<(), AllocError>
@@ -69,20 +69,25 @@ fn push_fault(
     push_runs(out, order)
 }
 
-/// Begins the object of the report on a session.
+/// Begins the object of the report on a session, told by these lines.
 #[tactic(auto, unfolding(crate::specs::JsonText::report_begun))]
-fn begin_report(out: &mut Vec<u8>, session: &Session, report: &Report) -> Result<(), AllocError>
-    ensures { OnOk result (out.new.items ≡ out.old.items ++ report_begun session.now report.now) }
+fn begin_report<L: Lines>(
+    out: &mut Vec<u8>,
+    lines: &L,
+    session: &Session,
+    report: &Report,
+) -> Result<(), AllocError>
+    ensures { OnOk result (out.new.items ≡ out.old.items ++ report_begun (L.tell lines.now) session.now report.now) }
 {
     match report {
         Report::Clean(cert) => {
             begin(out, b"clean")?;
             push_runs(out, cert.runs())
         }
-        Report::Shape(fault) => begin_shape(out, fault),
+        Report::Shape(fault) => begin_shape(out, lines, fault),
         Report::Knot { left, found } => {
             begin(out, b"knot")?;
-            push_record(out, left.line, left.log, left.place)?;
+            push_record(out, lines.line(left.line), left.log, left.place)?;
             push_runs(out, found.runs.as_slice())
         }
         Report::Faulty {
@@ -92,7 +97,7 @@ fn begin_report(out: &mut Vec<u8>, session: &Session, report: &Report) -> Result
             ..
         } => {
             begin(out, b"faulty")?;
-            push_fault(out, session, *line, fault, order.as_slice())
+            push_fault(out, session, lines.line(*line), fault, order.as_slice())
         }
     }
 }
@@ -101,7 +106,7 @@ fn begin_report(out: &mut Vec<u8>, session: &Session, report: &Report) -> Result
 pub fn push_report(out: &mut Vec<u8>, session: &Session, report: &Report) -> Result<(), AllocError>
     ensures { OnOk result (out.new.items ≡ out.old.items ++ report_object session.now report.now) }
 {
-    begin_report(out, session, report)?;
+    begin_report(out, &OwnLines, session, report)?;
     end(out)
 }
 
@@ -126,26 +131,27 @@ pub fn push_all_faults(
 ) -> Result<(), AllocError>
     ensures { OnOk result (out.new.items ≡ out.old.items ++ all_faults_object session.now report.now pages.now) }
 {
-    begin_report(out, session, report)?;
+    begin_report(out, &OwnLines, session, report)?;
     push_pages(out, report, pages)?;
     end(out)
 }
 
 /// Adds the object of the report on a session that tells the records of what happened, each with its role: that of the report,
-/// with the records that its story names. Of a fault these are the faulty record and those of its page's story, of a fault of
+/// with the records that its story names, told by these lines. Of a fault these are the faulty record and those of its page's story, of a fault of
 /// shape the record and the first sending of its page, of a knot the records that wait for one another, in their order, and of
 /// a clean session none. An error: there is no memory for it.
-pub fn push_explained(
+pub fn push_explained<L: Lines>(
     alloc: Global,
     out: &mut Vec<u8>,
+    lines: &L,
     session: &Session,
     report: &Report,
     explanation: &Explanation,
 ) -> Result<(), AllocError>
-    ensures { OnOk result (out.new.items ≡ out.old.items ++ explained_object session.now report.now explanation.now) }
+    ensures { OnOk result (out.new.items ≡ out.old.items ++ explained_object (L.tell lines.now) session.now report.now explanation.now) }
 {
-    let records = records_of(alloc, session, explanation)?;
-    begin_report(out, session, report)?;
+    let records = records_of(alloc, session, lines, explanation)?;
+    begin_report(out, lines, session, report)?;
     push_list_under(out, b"records", &records)?;
     end(out)
 }
@@ -155,12 +161,12 @@ pub fn push_verdict(out: &mut Vec<u8>, verdict: Verdict) -> Result<(), AllocErro
     ensures { OnOk result (out.new.items ≡ out.old.items ++ verdict_object verdict) }
 {
     match verdict {
-        Verdict::SessionText(line) => push_at_line(out, b"session-text", line),
-        Verdict::CertText(line) => push_at_line(out, b"certificate-text", line),
+        Verdict::SessionText(line) => push_at_line(out, b"session-text", u64::from(line)),
+        Verdict::CertText(line) => push_at_line(out, b"certificate-text", u64::from(line)),
         Verdict::Shape(fault) => push_shape(out, &fault),
         Verdict::Pages => push_bare(out, b"pages"),
-        Verdict::Runs(line) => push_at_line(out, b"runs", line),
-        Verdict::Page(line) => push_at_line(out, b"page", line),
+        Verdict::Runs(line) => push_at_line(out, b"runs", u64::from(line)),
+        Verdict::Page(line) => push_at_line(out, b"page", u64::from(line)),
         Verdict::Yes => push_bare(out, b"yes"),
     }
 }
@@ -170,11 +176,11 @@ fn push_missing_page(out: &mut Vec<u8>, page: PageNo) -> Result<(), AllocError>
     ensures { OnOk result (out.new.items ≡ out.old.items ++ (word (codes "missing") (codes "page") ++ number (codes "page") page)) }
 {
     push_word_under(out, b"missing", b"page")?;
-    push_number_under(out, b"page", page.number())
+    push_number_under(out, b"page", u64::from(page.number()))
 }
 
 /// Adds that the placement of what the pager took by this record of it is missing.
-fn push_missing_placement(out: &mut Vec<u8>, line: u32, n: u32) -> Result<(), AllocError>
+fn push_missing_placement(out: &mut Vec<u8>, line: u64, n: u32) -> Result<(), AllocError>
     ensures { OnOk result (out.new.items ≡ out.old.items ++ (word (codes "missing") (codes "placement") ++ record_at line LogName.Pager n)) }
 {
     push_word_under(out, b"missing", b"placement")?;
@@ -183,9 +189,14 @@ fn push_missing_placement(out: &mut Vec<u8>, line: u32, n: u32) -> Result<(), Al
 
 /// Adds what is told of what is missing from a session.
 #[tactic(auto, unfolding(crate::specs::JsonText::missing_told))]
-fn push_lack(out: &mut Vec<u8>, session: &Session, missing: Missing) -> Result<(), AllocError>
+fn push_lack<L: Lines>(
+    out: &mut Vec<u8>,
+    lines: &L,
+    session: &Session,
+    missing: Missing,
+) -> Result<(), AllocError>
     requires { IsFirstMissing session.now missing }
-    ensures { OnOk result (out.new.items ≡ out.old.items ++ missing_told session.now missing) }
+    ensures { OnOk result (out.new.items ≡ out.old.items ++ missing_told (L.tell lines.now) session.now missing) }
 {
     match missing {
         Missing::Halt => push_word_under(out, b"missing", b"halt"),
@@ -194,20 +205,24 @@ fn push_lack(out: &mut Vec<u8>, session: &Session, missing: Missing) -> Result<(
         Missing::Page(page) => push_missing_page(out, page),
         Missing::All => push_word_under(out, b"missing", b"all"),
         Missing::Done => push_word_under(out, b"missing", b"done"),
-        Missing::Taken(n) => push_missing_placement(out, line_of_taken(session, n), n),
+        Missing::Taken(n) => {
+            let line = line_of_taken(session, n);
+            push_missing_placement(out, lines.line(line), n)
+        }
     }
 }
 
-/// Adds the object where this is missing from a session. An error: there is no memory for it.
-pub fn push_missing(
+/// Adds the object where this is missing from a session, told by these lines. An error: there is no memory for it.
+pub fn push_missing<L: Lines>(
     out: &mut Vec<u8>,
+    lines: &L,
     session: &Session,
     missing: Missing,
 ) -> Result<(), AllocError>
     requires { IsFirstMissing session.now missing }
-    ensures { OnOk result (out.new.items ≡ out.old.items ++ missing_object session.now missing) }
+    ensures { OnOk result (out.new.items ≡ out.old.items ++ missing_object (L.tell lines.now) session.now missing) }
 {
     begin(out, b"incomplete")?;
-    push_lack(out, session, missing)?;
+    push_lack(out, lines, session, missing)?;
     end(out)
 }

@@ -5,6 +5,7 @@ ghost use Rattle.report_json.specs.RecordsText.{fault_records, later_records, re
 
 use crate::fields::{push_number_under, push_word_under};
 use crate::lists::Item;
+use audit_report::Lines;
 use migration_types::{LogName, Session};
 use session_story::{
     Explanation, FaultStory, Handover, PageStory, ShapeStory, Waiting, line_at, resumed_by,
@@ -68,7 +69,8 @@ pub(crate) struct ToldRecord {
     pub role: Role,
     pub log: LogName,
     pub place: u32,
-    pub line: u32,
+    /// Its line, as it is told.
+    pub line: u64,
 }
 
 impl Item for ToldRecord {
@@ -80,28 +82,29 @@ impl Item for ToldRecord {
         out.extend_from_slice(self.role.word())?;
         out.extend_from_slice(b"\"")?;
         push_word_under(out, b"log", self.log.word().as_bytes())?;
-        push_number_under(out, b"record", self.place)?;
+        push_number_under(out, b"record", u64::from(self.place))?;
         push_number_under(out, b"line", self.line)?;
         out.extend_from_slice(b"}")
     }
 }
 
 /// Takes in the record of this number, where the session has it.
-fn take_at(
+fn take_at<L: Lines>(
     records: &mut Vec<ToldRecord>,
     session: &Session,
+    lines: &L,
     role: Role,
     log: LogName,
     place: u32,
 ) -> Result<(), AllocError>
-    ensures { OnOk result (records.new.items ≡ records.old.items ++ told session.now role log (Some place)) }
+    ensures { OnOk result (records.new.items ≡ records.old.items ++ told (L.tell lines.now) session.now role log (Some place)) }
 {
     match line_at(session, log, place) {
         Some(line) => records.push(ToldRecord {
             role,
             log,
             place,
-            line,
+            line: lines.line(line),
         })?,
         None => {}
     }
@@ -109,42 +112,60 @@ fn take_at(
 }
 
 /// Takes in the record of this number, if there is one.
-fn take(
+fn take<L: Lines>(
     records: &mut Vec<ToldRecord>,
     session: &Session,
+    lines: &L,
     role: Role,
     log: LogName,
     place: Option<u32>,
 ) -> Result<(), AllocError>
-    ensures { OnOk result (records.new.items ≡ records.old.items ++ told session.now role log place) }
+    ensures { OnOk result (records.new.items ≡ records.old.items ++ told (L.tell lines.now) session.now role log place) }
 {
     match place {
-        Some(place) => take_at(records, session, role, log, place),
+        Some(place) => take_at(records, session, lines, role, log, place),
         None => Ok(()),
     }
 }
 
 /// Takes in how a page came to the target.
-fn take_sent(
+fn take_sent<L: Lines>(
     records: &mut Vec<ToldRecord>,
     session: &Session,
+    lines: &L,
     page: &PageStory,
     handover: &Handover,
 ) -> Result<(), AllocError>
-    ensures { OnOk result (records.new.items ≡ records.old.items ++ sent_records session.now page.now handover.now) }
+    ensures { OnOk result (records.new.items ≡ records.old.items ++ sent_records (L.tell lines.now) session.now page.now handover.now) }
 {
     take(
         records,
         session,
+        lines,
         Role::Changed,
         LogName::Guest,
         page.changed,
     )?;
-    take(records, session, Role::Halt, LogName::Guest, handover.halt)?;
-    take(records, session, Role::Sent, LogName::Source, page.sent)?;
     take(
         records,
         session,
+        lines,
+        Role::Halt,
+        LogName::Guest,
+        handover.halt,
+    )?;
+    take(
+        records,
+        session,
+        lines,
+        Role::Sent,
+        LogName::Source,
+        page.sent,
+    )?;
+    take(
+        records,
+        session,
+        lines,
         Role::Delivered,
         LogName::Link,
         page.delivered,
@@ -152,25 +173,35 @@ fn take_sent(
     take(
         records,
         session,
+        lines,
         Role::Delivered,
         LogName::Lane,
         page.by_lane,
     )?;
-    take(records, session, Role::Taken, LogName::Pager, page.got)
+    take(
+        records,
+        session,
+        lines,
+        Role::Taken,
+        LogName::Pager,
+        page.got,
+    )
 }
 
 /// Takes in what became of a page at the target.
-fn take_later(
+fn take_later<L: Lines>(
     records: &mut Vec<ToldRecord>,
     session: &Session,
+    lines: &L,
     page: &PageStory,
 ) -> Result<(), AllocError>
-    ensures { OnOk result (records.new.items ≡ records.old.items ++ later_records session.now page.now) }
+    ensures { OnOk result (records.new.items ≡ records.old.items ++ later_records (L.tell lines.now) session.now page.now) }
 {
     let found = &page.found;
     take(
         records,
         session,
+        lines,
         Role::Placed,
         LogName::Pager,
         found.placement,
@@ -178,42 +209,81 @@ fn take_later(
     take(
         records,
         session,
+        lines,
         Role::PlacedAgain,
         LogName::Pager,
         found.again,
     )?;
-    take(records, session, Role::Look, LogName::Guest, found.look)?;
-    take(records, session, Role::Touch, LogName::Guest, found.touch)
-}
-
-/// Takes in the records of a fault and of its page.
-fn take_fault(
-    records: &mut Vec<ToldRecord>,
-    session: &Session,
-    story: &FaultStory,
-) -> Result<(), AllocError>
-    ensures { OnOk result (records.new.items ≡ records.old.items ++ fault_records session.now story.now) }
-{
-    let fault = &story.fault;
-    take(records, session, Role::Faulty, fault.log, Some(fault.place))?;
-    take_sent(records, session, &story.page, &story.handover)?;
-    take_later(records, session, &story.page)
-}
-
-/// Takes in the record that has not the right shape, and the first sending of its page, or the resume of its guest.
-fn take_shape(
-    records: &mut Vec<ToldRecord>,
-    session: &Session,
-    story: &ShapeStory,
-) -> Result<(), AllocError>
-    ensures { OnOk result (records.new.items ≡ records.old.items ++ shape_records session.now story.now) }
-{
-    let fault = &story.fault;
-    take(records, session, Role::Faulty, fault.log, Some(fault.place))?;
-    take(records, session, Role::Sent, LogName::Source, story.sent)?;
     take(
         records,
         session,
+        lines,
+        Role::Look,
+        LogName::Guest,
+        found.look,
+    )?;
+    take(
+        records,
+        session,
+        lines,
+        Role::Touch,
+        LogName::Guest,
+        found.touch,
+    )
+}
+
+/// Takes in the records of a fault and of its page.
+fn take_fault<L: Lines>(
+    records: &mut Vec<ToldRecord>,
+    session: &Session,
+    lines: &L,
+    story: &FaultStory,
+) -> Result<(), AllocError>
+    ensures { OnOk result (records.new.items ≡ records.old.items ++ fault_records (L.tell lines.now) session.now story.now) }
+{
+    let fault = &story.fault;
+    take(
+        records,
+        session,
+        lines,
+        Role::Faulty,
+        fault.log,
+        Some(fault.place),
+    )?;
+    take_sent(records, session, lines, &story.page, &story.handover)?;
+    take_later(records, session, lines, &story.page)
+}
+
+/// Takes in the record that has not the right shape, and the first sending of its page, or the resume of its guest.
+fn take_shape<L: Lines>(
+    records: &mut Vec<ToldRecord>,
+    session: &Session,
+    lines: &L,
+    story: &ShapeStory,
+) -> Result<(), AllocError>
+    ensures { OnOk result (records.new.items ≡ records.old.items ++ shape_records (L.tell lines.now) session.now story.now) }
+{
+    let fault = &story.fault;
+    take(
+        records,
+        session,
+        lines,
+        Role::Faulty,
+        fault.log,
+        Some(fault.place),
+    )?;
+    take(
+        records,
+        session,
+        lines,
+        Role::Sent,
+        LogName::Source,
+        story.sent,
+    )?;
+    take(
+        records,
+        session,
+        lines,
         Role::Resume,
         LogName::Guest,
         resumed_by(story),
@@ -221,32 +291,41 @@ fn take_shape(
 }
 
 /// Takes in the records that wait for one another.
-fn take_waits(
+fn take_waits<L: Lines>(
     records: &mut Vec<ToldRecord>,
     session: &Session,
+    lines: &L,
     waits: &[Waiting],
 ) -> Result<(), AllocError>
-    ensures { OnOk result (records.new.items ≡ records.old.items ++ waiting_records session.now waits.now) }
+    ensures { OnOk result (records.new.items ≡ records.old.items ++ waiting_records (L.tell lines.now) session.now waits.now) }
 {
     for waiting in waits {
-        take_at(records, session, Role::Waits, waiting.log, waiting.place)?;
+        take_at(
+            records,
+            session,
+            lines,
+            Role::Waits,
+            waiting.log,
+            waiting.place,
+        )?;
     }
     Ok(())
 }
 
 /// The records that the story of a session names. An error: there is no memory for them.
-pub(crate) fn records_of(
+pub(crate) fn records_of<L: Lines>(
     alloc: Global,
     session: &Session,
+    lines: &L,
     explanation: &Explanation,
 ) -> Result<Vec<ToldRecord>, AllocError>
-    ensures { IfOk result (λ records. records.items ≡ records_of session.now explanation.now) }
+    ensures { IfOk result (λ records. records.items ≡ records_of (L.tell lines.now) session.now explanation.now) }
 {
     let mut records = Vec::new(alloc);
     match explanation {
-        Explanation::Shape(story) => take_shape(&mut records, session, story)?,
-        Explanation::Knot(knot) => take_waits(&mut records, session, &knot.waits)?,
-        Explanation::Faulty { story, .. } => take_fault(&mut records, session, story)?,
+        Explanation::Shape(story) => take_shape(&mut records, session, lines, story)?,
+        Explanation::Knot(knot) => take_waits(&mut records, session, lines, &knot.waits)?,
+        Explanation::Faulty { story, .. } => take_fault(&mut records, session, lines, story)?,
         Explanation::Clean(_) => {}
     }
     Ok(records)

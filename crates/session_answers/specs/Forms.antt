@@ -6,17 +6,20 @@ use Rattle.faulty_pages.specs.FaultyPages.{AreFaultyPages}
 use Rattle.audit_report.specs.declared.report.Report.{Report}
 use Rattle.audit_report.specs.FaultyPagesText.{JudgesPages, all_faults_text}
 use Rattle.audit_report.specs.RefusalText.{refusal_text}
+use Rattle.audit_report.specs.ToldLines.{own}
 use Rattle.report_json.specs.JsonText.{all_faults_object, at_line, report_object}
 use Rattle.judged_texts.specs.AuditedText.{wanted_text}
 use Rattle.judged_texts.specs.declared.wanted.Wanted.{Wanted}
 use Rattle.report_json.specs.RecordsText.{explained_object}
 use Rattle.session_story.specs.Explained.{IsExplanation}
 use Rattle.session_story.specs.Told.{IsRefusedText, IsToldText}
-use Rattle.session_story.specs.declared.topics.Topic.{Topic}
 use Rattle.session_story.specs.declared.explaining.Explanation.{Explanation}
 use Rattle.session_answers.specs.Judged.{Judged, Refused, Reported}
 use Rattle.session_answers.specs.declared.forms.Form.{Form}
-use Rattle.session_answers.specs.declared.forms.Form.TheVariants.{Lines, AllFaults, Words, Object, AllFaultsObject, StoryObject}
+use Rattle.session_answers.specs.declared.forms.Form.TheVariants.{Lines, AllFaults, Object, AllFaultsObject}
+use Rattle.session_answers.specs.declared.forms.Form.TheVariants as form
+use Rattle.session_answers.specs.declared.forms.Story.{Story}
+use Rattle.session_answers.specs.declared.forms.Story.TheVariants as story
 
 -- in lines: what is wanted of the report
 abbrev pub TellsWanted : Wanted → Judged → List ℕ → Type 0
@@ -24,24 +27,25 @@ TellsWanted wanted (Refused line) text = text ≡ refusal_text line
 TellsWanted wanted (Reported s report) text = text ≡ wanted_text wanted report
 
 -- in an object of JSON
+abbrev pub TellsRefusalObject : ℕ → List ℕ → Type 0
+TellsRefusalObject line text = text ≡ at_line (codes "session-text") line
+
 abbrev pub TellsObject : Judged → List ℕ → Type 0
-TellsObject (Refused line) text = text ≡ at_line (codes "session-text") line
+TellsObject (Refused line) text = TellsRefusalObject line text
 TellsObject (Reported s report) text = text ≡ report_object s report
 
--- with what is told on this topic in words, after the first line
-abbrev pub TellsStory : Topic → Judged → List ℕ → Type 0
-TellsStory topic (Refused line) text = IsRefusedText line text
-TellsStory topic (Reported s report) text = IsToldText s report topic text
-
--- in an object, with the records of what happened
-pub record TellsRecords (s : Recorded) (report : Report) (text : List ℕ) : Type 0 where
+-- in an object, with the records of what happened, and its lines told so
+pub record TellsRecords (tell : ℕ → ℕ) (s : Recorded) (report : Report) (text : List ℕ) : Type 0 where
   pub explanation : Explanation
   pub is_explanation : IsExplanation s report explanation
-  pub is_text : text ≡ explained_object s report explanation
+  pub is_text : text ≡ explained_object tell s report explanation
 
-abbrev pub TellsStoryObject : Judged → List ℕ → Type 0
-TellsStoryObject (Refused line) text = text ≡ at_line (codes "session-text") line
-TellsStoryObject (Reported s report) text = TellsRecords s report text
+-- what happened, with its lines told so: on a topic in words, after the first line, or in an object
+abbrev pub TellsStory : (ℕ → ℕ) → Story → Judged → List ℕ → Type 0
+TellsStory tell (story.Words topic) (Refused line) text = IsRefusedText (tell line) text
+TellsStory tell (story.Words topic) (Reported s report) text = IsToldText tell s report topic text
+TellsStory tell story.Object (Refused line) text = TellsRefusalObject (tell line) text
+TellsStory tell story.Object (Reported s report) text = TellsRecords tell s report text
 
 -- the text that these words make of the pages with a fault, where the report judges the pages
 pub record TellsPages (words : List FaultyPage → List ℕ) (s : Recorded) (report : Report) (text : List ℕ) : Type 0 where
@@ -56,14 +60,13 @@ TellsAllFaults (Reported s report) text = TellsPages (all_faults_text report) s 
 
 -- and in an object
 abbrev pub TellsAllFaultsObject : Judged → List ℕ → Type 0
-TellsAllFaultsObject (Refused line) text = text ≡ at_line (codes "session-text") line
+TellsAllFaultsObject (Refused line) text = TellsRefusalObject line text
 TellsAllFaultsObject (Reported s report) text = TellsPages (all_faults_object s report) s report text
 
--- in this form
+-- in this form, with the lines of the session's own text
 abbrev pub Tells : Form → Judged → List ℕ → Type 0
 Tells (Lines wanted) = TellsWanted wanted
 Tells AllFaults = TellsAllFaults
-Tells (Words topic) = TellsStory topic
 Tells Object = TellsObject
 Tells AllFaultsObject = TellsAllFaultsObject
-Tells StoryObject = TellsStoryObject
+Tells (form.Story told) = TellsStory own told

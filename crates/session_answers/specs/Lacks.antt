@@ -9,33 +9,39 @@ use Rattle.report_json.specs.JsonText.{missing_object}
 use Rattle.session_story.specs.Told.{IsLackingText}
 use Rattle.session_answers.specs.declared.forms.Form.{Form}
 use Rattle.session_answers.specs.declared.forms.Form.TheVariants as form
+use Rattle.session_answers.specs.declared.forms.Story.{Story}
+use Rattle.session_answers.specs.declared.forms.Story.TheVariants as story
 use Rattle.session_answers.specs.declared.forms.LackForm.{LackForm}
 use Rattle.session_answers.specs.declared.forms.LackForm.TheVariants.{Line, Words, Object}
 
 -- a line, and an object
-abbrev pub line_of : Recorded → Missing → List ℕ
-line_of s m = missing_text s m
+abbrev pub line_of : (ℕ → ℕ) → Recorded → Missing → List ℕ
+line_of tell s m = missing_text tell s m
 
-abbrev pub object_of : Recorded → Missing → List ℕ
-object_of s m = missing_object s m
+abbrev pub object_of : (ℕ → ℕ) → Recorded → Missing → List ℕ
+object_of tell s m = missing_object tell s m
 
--- the ways to tell that a session lacks something: a line, the line with words after it, and an object
-abbrev pub TellsLack : LackForm → Recorded → Missing → List ℕ → Type 0
-TellsLack Line s m text = text ≡ line_of s m
-TellsLack Words s m text = IsLackingText s m text
-TellsLack Object s m text = text ≡ object_of s m
+-- the ways to tell that a session lacks something, with its lines told so: a line, the line with words after it, and an object
+abbrev pub TellsLack : (ℕ → ℕ) → LackForm → Recorded → Missing → List ℕ → Type 0
+TellsLack tell Line s m text = text ≡ line_of tell s m
+TellsLack tell Words s m text = IsLackingText tell s m text
+TellsLack tell Object s m text = text ≡ object_of tell s m
 
--- the way to tell it where a report is told in this form
+-- the way to tell it where it is told in this form what happened
+abbrev pub story_lack : Story → LackForm
+story_lack (story.Words topic) = Words
+story_lack story.Object = Object
+
+-- and where a report is told in this form
 abbrev pub lack_form : Form → LackForm
 lack_form (form.Lines wanted) = Line
 lack_form form.AllFaults = Line
-lack_form (form.Words topic) = Words
 lack_form form.Object = Object
 lack_form form.AllFaultsObject = Object
-lack_form form.StoryObject = Object
+lack_form (form.Story told) = story_lack told
 
 -- a text tells the first thing that is missing, of what this extent asks for
-pub record IsLack (extent : Extent) (form : LackForm) (s : Recorded) (text : List ℕ) : Type 0 where
+pub record IsLack (tell : ℕ → ℕ) (extent : Extent) (form : LackForm) (s : Recorded) (text : List ℕ) : Type 0 where
   pub lacking : Missing
   pub lacks : Lacks extent s lacking
-  pub says : TellsLack form s lacking text
+  pub says : TellsLack tell form s lacking text

@@ -1,11 +1,20 @@
 //! How a session is told.
 
 ghost use Rattle.std.specs.Prelude.{◌≡◌};
-ghost use Rattle.session_answers.specs.Lacks.{lack_form};
+ghost use Rattle.session_answers.specs.Lacks.{lack_form, story_lack};
 
 use completeness::Extent;
 use judged_texts::Wanted;
 use session_story::Topic;
+
+/// How it is told what happened in a session.
+#[derive(Clone, Copy)]
+pub enum Story {
+    /// In words after the first line of the report, of this topic.
+    Words(Topic),
+    /// In the object of the report, with the records of what happened, each with its role.
+    Object,
+}
 
 /// How the report on a session is told.
 #[derive(Clone, Copy)]
@@ -14,14 +23,12 @@ pub enum Form {
     Lines(Wanted),
     /// In lines, with each page that has a fault.
     AllFaults,
-    /// In words after its first line: what happened, of this topic.
-    Words(Topic),
     /// In an object of JSON.
     Object,
     /// In an object, with each page that has a fault.
     AllFaultsObject,
-    /// In an object, with the records of what happened, each with its role.
-    StoryObject,
+    /// With what happened.
+    Story(Story),
 }
 
 /// How it is told what a session lacks.
@@ -35,6 +42,18 @@ pub enum LackForm {
     Object,
 }
 
+impl Story {
+    /// How it is told in this form what a session lacks.
+    pub fn of_lack(self) -> LackForm
+        ensures { result ≡ story_lack self }
+    {
+        match self {
+            Story::Words(_) => LackForm::Words,
+            Story::Object => LackForm::Object,
+        }
+    }
+}
+
 impl Form {
     /// How it is told in this form what a session lacks.
     pub fn of_lack(self) -> LackForm
@@ -42,8 +61,8 @@ impl Form {
     {
         match self {
             Form::Lines(_) | Form::AllFaults => LackForm::Line,
-            Form::Words(_) => LackForm::Words,
-            Form::Object | Form::AllFaultsObject | Form::StoryObject => LackForm::Object,
+            Form::Object | Form::AllFaultsObject => LackForm::Object,
+            Form::Story(story) => story.of_lack(),
         }
     }
 }

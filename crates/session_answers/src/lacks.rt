@@ -5,63 +5,75 @@ ghost use Rattle.completeness.specs.Complete.{IsComplete, IsFirstMissing};
 ghost use Rattle.session_answers.specs.Lacks.{IsLack, TellsLack, object_of, line_of};
 
 use crate::forms::LackForm;
-use audit_report::push_missing;
+use audit_report::{Lines, push_missing};
 use completeness::{Extent, Missing, first_missing};
 use migration_types::Session;
 use report_json::push_missing as push_missing_object;
 use session_story::print_missing;
 use std::alloc::{AllocError, Global};
 
-/// The line that tells that a session lacks this.
-fn line_of(alloc: Global, session: &Session, missing: Missing) -> Result<Vec<u8>, AllocError>
-    requires { IsFirstMissing session.now missing }
-    ensures { IfOk result (λ text. text.items ≡ line_of session.now missing) }
-{
-    let mut text = Vec::new(alloc);
-    push_missing(&mut text, session, missing)?;
-    Ok(text)
-}
-
-/// The object that tells that a session lacks this.
-fn object_of(alloc: Global, session: &Session, missing: Missing) -> Result<Vec<u8>, AllocError>
-    requires { IsFirstMissing session.now missing }
-    ensures { IfOk result (λ text. text.items ≡ object_of session.now missing) }
-{
-    let mut text = Vec::new(alloc);
-    push_missing_object(&mut text, session, missing)?;
-    Ok(text)
-}
-
-/// The text that tells, in this form, that a session lacks this. An error: there is no memory for it.
-pub fn print_lack(
+/// The line that tells that a session lacks this, by these lines.
+fn line_of<L: Lines>(
     alloc: Global,
+    lines: &L,
+    session: &Session,
+    missing: Missing,
+) -> Result<Vec<u8>, AllocError>
+    requires { IsFirstMissing session.now missing }
+    ensures { IfOk result (λ text. text.items ≡ line_of (L.tell lines.now) session.now missing) }
+{
+    let mut text = Vec::new(alloc);
+    push_missing(&mut text, lines, session, missing)?;
+    Ok(text)
+}
+
+/// The object that tells that a session lacks this, by these lines.
+fn object_of<L: Lines>(
+    alloc: Global,
+    lines: &L,
+    session: &Session,
+    missing: Missing,
+) -> Result<Vec<u8>, AllocError>
+    requires { IsFirstMissing session.now missing }
+    ensures { IfOk result (λ text. text.items ≡ object_of (L.tell lines.now) session.now missing) }
+{
+    let mut text = Vec::new(alloc);
+    push_missing_object(&mut text, lines, session, missing)?;
+    Ok(text)
+}
+
+/// The text that tells, in this form and by these lines, that a session lacks this. An error: there is no memory for it.
+pub fn print_lack<L: Lines>(
+    alloc: Global,
+    lines: &L,
     session: &Session,
     missing: Missing,
     form: LackForm,
 ) -> Result<Vec<u8>, AllocError>
     requires { IsFirstMissing session.now missing }
-    ensures { IfOk result (λ text. TellsLack form session.now missing text.items) }
+    ensures { IfOk result (λ text. TellsLack (L.tell lines.now) form session.now missing text.items) }
 {
     match form {
-        LackForm::Line => line_of(alloc, session, missing),
-        LackForm::Words => print_missing(alloc, session, missing),
-        LackForm::Object => object_of(alloc, session, missing),
+        LackForm::Line => line_of(alloc, lines, session, missing),
+        LackForm::Words => print_missing(alloc, lines, session, missing),
+        LackForm::Object => object_of(alloc, lines, session, missing),
     }
 }
 
-/// The text that tells, in this form, what a session lacks first of what this extent asks for, if it lacks something. An error:
-/// there is no memory for it.
-pub fn print_lack_of(
+/// The text that tells, in this form and by these lines, what a session lacks first of what this extent asks for, if it lacks
+/// something. An error: there is no memory for it.
+pub fn print_lack_of<L: Lines>(
     alloc: Global,
+    lines: &L,
     session: &Session,
     extent: Extent,
     form: LackForm,
 ) -> Result<Option<Vec<u8>>, AllocError>
-    ensures { IfOk result (λ lack. MatchOption lack (IsComplete extent session.now) (λ text. IsLack extent form session.now text.items)) }
+    ensures { IfOk result (λ lack. MatchOption lack (IsComplete extent session.now) (λ text. IsLack (L.tell lines.now) extent form session.now text.items)) }
 {
     let Some(missing) = first_missing(alloc, session, extent)? else {
         return Ok(None);
     };
-    let text = print_lack(alloc, session, missing, form)?;
+    let text = print_lack(alloc, lines, session, missing, form)?;
     Ok(Some(text))
 }

@@ -4,7 +4,9 @@
 mod forms;
 mod lacks;
 mod reports;
+mod stories;
 
-pub use forms::{Ask, Form, LackForm};
+pub use forms::{Ask, Form, LackForm, Story};
 pub use lacks::{print_lack, print_lack_of};
 pub use reports::{print_refusal, print_told};
+pub use stories::{print_story, print_story_refusal};

@@ -5,16 +5,16 @@ ghost use Rattle.faulty_pages.specs.FaultyPages.{AreFaultyPages};
 ghost use Rattle.audit_report.specs.Reports.{IsCleanWith, IsReport, ReportFits};
 ghost use Rattle.audit_report.specs.FaultyPagesText.{JudgesPages};
 ghost use Rattle.session_answers.specs.Judged.{Refused, Reported};
-ghost use Rattle.session_answers.specs.Forms.{Tells, TellsAllFaults, TellsAllFaultsObject, TellsObject, TellsStoryObject};
+ghost use Rattle.session_answers.specs.Forms.{Tells, TellsAllFaults, TellsAllFaultsObject, TellsObject};
 
 use crate::forms::Form;
-use audit_report::{Report, print_all_faults, print_refused_session};
+use crate::stories::{object_of_refusal, print_story, print_story_refusal};
+use audit_report::{OwnLines, Report, print_all_faults, print_refused_session};
 use faulty_pages::{Faults, FaultyPage, clean_sessions_have_no_faulty_page, faulty_pages};
 use judged_texts::print_wanted;
 use migration_types::{Cert, Session};
 use page_facts::Judges;
-use report_json::{push_all_faults, push_explained, push_refused, push_report};
-use session_story::{explain, print_refused, print_topic};
+use report_json::{push_all_faults, push_report};
 use std::alloc::{AllocError, Global};
 
 /// No page: the session with this report is clean.
@@ -85,17 +85,6 @@ fn all_faults_object<J: Judges<Faults>>(
     Ok(object)
 }
 
-/// The object of the report with the records of what happened.
-fn story_object(alloc: Global, session: &Session, report: &Report) -> Result<Vec<u8>, AllocError>
-    requires { IsReport session.now report.now }
-    ensures { IfOk result (λ text. TellsStoryObject (Reported session.now report.now) text.items) }
-{
-    let explanation = explain(alloc, session, report)?;
-    let mut object = Vec::new(alloc);
-    push_explained(alloc, &mut object, session, report, &explanation)?;
-    Ok(object)
-}
-
 /// The text that tells the report on a session in this form. Who judges the pages is asked where each page with a fault is told,
 /// and the report has one. An error: there is no memory for it.
 pub fn print_told<J: Judges<Faults>>(
@@ -113,20 +102,10 @@ pub fn print_told<J: Judges<Faults>>(
     match form {
         Form::Lines(wanted) => print_wanted(alloc, report, wanted),
         Form::AllFaults => all_faults(judges, alloc, session, report),
-        Form::Words(topic) => print_topic(alloc, session, report, topic),
         Form::Object => object_of(alloc, session, report),
         Form::AllFaultsObject => all_faults_object(judges, alloc, session, report),
-        Form::StoryObject => story_object(alloc, session, report),
+        Form::Story(story) => print_story(alloc, &OwnLines, session, report, story),
     }
-}
-
-/// The object of a session's text that is refused at this line.
-fn refusal_object(alloc: Global, line: u32) -> Result<Vec<u8>, AllocError>
-    ensures { IfOk result (λ text. TellsObject (Refused line) text.items) }
-{
-    let mut object = Vec::new(alloc);
-    push_refused(&mut object, line)?;
-    Ok(object)
 }
 
 /// The text that tells in this form that a session's text is refused at this line. An error: there is no memory for it.
@@ -135,7 +114,7 @@ pub fn print_refusal(alloc: Global, line: u32, form: Form) -> Result<Vec<u8>, Al
 {
     match form {
         Form::Lines(_) | Form::AllFaults => print_refused_session(alloc, line),
-        Form::Words(_) => print_refused(alloc, line),
-        Form::Object | Form::AllFaultsObject | Form::StoryObject => refusal_object(alloc, line),
+        Form::Object | Form::AllFaultsObject => object_of_refusal(alloc, &OwnLines, line),
+        Form::Story(story) => print_story_refusal(alloc, &OwnLines, line, story),
     }
 }

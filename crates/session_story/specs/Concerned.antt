@@ -98,7 +98,7 @@ shape_concerned_for s shape.Phases story = named_in Guest (heeded story.handover
 shape_concerned_for s shape.Named story = named_by s (story.fault.log, story.fault.place)
 shape_concerned_for s shape.Start story = None
 shape_concerned_for s shape.SecondSend story = named_in Source story.sent
-shape_concerned_for s shape.Both story = named_in Guest story.handover.resume
+shape_concerned_for s shape.Both story = named_in Guest (resumed_by story)
 
 abbrev pub shape_concerned_by : Recorded → ShapeStory → Option Name
 shape_concerned_by s story = shape_concerned_for s story.fault.reason story

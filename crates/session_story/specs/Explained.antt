@@ -14,8 +14,7 @@ use Rattle.audit_model.specs.FirstFault.{IsFirstFault, IsFirstPageFault}
 use Rattle.audit_model.specs.Laws.{BreaksAt, UnplacedBefore}
 use Rattle.audit_model.specs.Mergings.{IsMerging}
 use Rattle.audit_model.specs.Shape.{IsRightShape, is_send_of, is_placement_of}
-use Rattle.faulty_pages.specs.declared.FaultyPage.{FaultyPage}
-use Rattle.faulty_pages.specs.FaultyPages.{AreFaultyPages}
+use Rattle.faulty_pages.specs.FaultyPages.{AreManyFaulty}
 use Rattle.page_facts.specs.declared.findings.Findings.{Findings}
 use Rattle.page_facts.specs.declared.page_fault.PageFault.{PageFault}
 use Rattle.page_facts.specs.Judged.{is_late_touch, releases_at}
@@ -157,7 +156,7 @@ pub record IsReportedStory (s : Recorded) (line : ℕ) (fault : PageFault) (f : 
 
 -- so many pages have a fault beside the one of the session's first
 abbrev pub AreMoreFaulty : Recorded → ℕ → Type 0
-AreMoreFaulty s more = (faulty : List FaultyPage) × AreFaultyPages s faulty × (length faulty ≡ more + 1)
+AreMoreFaulty s more = AreManyFaulty s (more + 1)
 
 -- the first record that has not the right shape, and what was of its kind before
 pub record IsShapeStory (s : Recorded) (fault : ShapeFault) (t : ShapeStory) : Type 0 where

@@ -3,7 +3,8 @@ use Rattle.std.specs.Prelude.{◌≡◌, ℕ, List, [], ◌∷◌, ◌++◌}
 use Rattle.text_lines.specs.Text.{ended}
 use Rattle.migration_types.specs.Sessions.{Recorded}
 use Rattle.audit_report.specs.declared.report.Report.{Report}
-use Rattle.audit_report.specs.ReportText.{first_line}
+use Rattle.audit_report.specs.ReportText.{first_line_by}
+use Rattle.audit_report.specs.ToldLines.{own}
 use Rattle.audit_report.specs.MissingText.{missing_text}
 use Rattle.audit_report.specs.RefusalText.{refusal_text}
 use Rattle.completeness.specs.declared.missing.Missing.{Missing}
@@ -22,22 +23,22 @@ pub record AreWordsOn (IsWritten : Sentence → List ℕ → Type 0) (s : Record
   pub is_told : IsTold s r topic told
   pub written : AreWritten IsWritten (told_in_full s r told) words
 
--- The text is the first line of the report, and then the words of what is told on this topic, each sentence on a line of
--- its own.
-pub record IsToldText (s : Recorded) (r : Report) (topic : Topic) (text : List ℕ) : Type 0 where
+-- The text is the first line of the report, with its line told so, and then the words of what is told on this topic, each sentence
+-- on a line of its own.
+pub record IsToldText (tell : ℕ → ℕ) (s : Recorded) (r : Report) (topic : Topic) (text : List ℕ) : Type 0 where
   pub words : List ℕ
   pub are_words : AreWordsOn (λ _. IsLine) s r topic words
-  pub text_is : text ≡ ended (first_line r ∷ []) ++ words
+  pub text_is : text ≡ ended (first_line_by tell r ∷ []) ++ words
 
 -- the text on the report
 abbrev pub IsExplainedText : Recorded → Report → List ℕ → Type 0
-IsExplainedText s r text = IsToldText s r topic.Report text
+IsExplainedText s r text = IsToldText own s r topic.Report text
 
--- the line that says what is missing, and then the words of what the session lacks
-pub record IsLackingText (s : Recorded) (m : Missing) (text : List ℕ) : Type 0 where
+-- the line that says what is missing, with its line told so, and then the words of what the session lacks
+pub record IsLackingText (tell : ℕ → ℕ) (s : Recorded) (m : Missing) (text : List ℕ) : Type 0 where
   pub words : List ℕ
   pub written : AreWritten (λ _. IsLine) (missing_told s m) words
-  pub text_is : text ≡ missing_text s m ++ words
+  pub text_is : text ≡ missing_text tell s m ++ words
 
 -- the line that says where a text is refused, and then a line on what that means
 pub record IsRefusedText (line : ℕ) (text : List ℕ) : Type 0 where

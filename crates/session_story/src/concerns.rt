@@ -94,7 +94,7 @@ fn shape_concerned_by(session: &Session, story: &ShapeStory) -> Option<Name>
         ShapeReason::Named => named_by(session, (fault.log, fault.place)),
         ShapeReason::Start => None,
         ShapeReason::SecondSend => named_in(LogName::Source, story.sent),
-        ShapeReason::Both => named_in(LogName::Guest, story.handover.resume),
+        ShapeReason::Both => named_in(LogName::Guest, resumed_by(story)),
     }
 }
 

@@ -19,7 +19,8 @@ mod shapes;
 use crate::concerns::Name;
 use crate::sentences::Sentence;
 use crate::waits::Waiting;
-use crate::writing::{Lines, OwnLines, Writer};
+use crate::writing::Writer;
+use audit_report::{Lines, OwnLines};
 use migration_types::{LogName, Session};
 use std::alloc::AllocError;
 
@@ -29,9 +30,9 @@ pub(crate) const NO_TEXT: &str =
 
 /// What puts sentences into English words.
 #[derive(Clone, Copy)]
-pub struct English<L> {
+pub struct English<'a, L> {
     /// How lines are told.
-    pub lines: L,
+    pub lines: &'a L,
 }
 
 /// The words that a session's records are told in, and how their lines are told.
@@ -41,65 +42,41 @@ struct Teller<'a, L> {
     lines: &'a L,
 }
 
-impl<L: Lines> English<L> {
+/// A part of a sentence.
+enum Part<'a> {
+    /// Where a record stands, as in "line 13 (guest 6)"; of one that is not there its log and its number alone.
+    Place(Name),
+    /// Where a record stands and what it says, as in "line 8 (guest 1): the guest is halted at the source", without contents.
+    Record(Name),
+    /// Which record one that waits has to come after, and, where that is not the next that waits but comes after it, the next.
+    Wait(&'a Waiting, &'a Waiting),
+}
+
+impl<L: Lines> English<'_, L> {
     /// What tells of a session's records.
     fn teller<'a>(&'a self, session: &'a Session) -> Teller<'a, L> {
         Teller {
             session,
-            lines: &self.lines,
+            lines: self.lines,
         }
     }
 
-    /// Adds where a record stands, as in "line 13 (guest 6)"; of one that is not there its log and its number alone. An
-    /// error: there is no memory for it.
-    pub fn push_place(
+    /// Adds the words of a part of a sentence. An error: there is no memory for them.
+    fn push_part(
         &self,
         out: &mut String,
         session: &Session,
-        log: LogName,
-        place: u32,
+        part: Part<'_>,
     ) -> Result<(), AllocError>
         ensures { OnOk result (IsBehind (string_bytes out.old) (string_bytes out.new)) }
     {
         let mut words = String::new(*out.allocator());
-        self.teller(session).push_place(&mut words, (log, place))?;
-        out.push_str(&words)
-    }
-
-    /// Adds where a record stands and what it says, as in "line 8 (guest 1): the guest is halted at the source". Contents
-    /// are left out. The words have no letter that XML escapes. An error: there is no memory for them.
-    pub fn push_record(
-        &self,
-        out: &mut String,
-        session: &Session,
-        log: LogName,
-        place: u32,
-    ) -> Result<(), AllocError>
-        ensures { OnOk result (IsBehind (string_bytes out.old) (string_bytes out.new)) }
-    {
-        let mut words = String::new(*out.allocator());
-        self.teller(session).push_record(&mut words, (log, place))?;
-        out.push_str(&words)
-    }
-
-    /// Adds which record one that waits has to come after, and, where that is not the next that waits but comes after it,
-    /// the next. An error: there is no memory for it.
-    pub fn push_wait(
-        &self,
-        out: &mut String,
-        session: &Session,
-        waiting: &Waiting,
-        next: &Waiting,
-    ) -> Result<(), AllocError>
-        ensures { OnOk result (IsBehind (string_bytes out.old) (string_bytes out.new)) }
-    {
-        let mut words = String::new(*out.allocator());
-        self.teller(session).push_wait(&mut words, waiting, next)?;
+        self.teller(session).push_part(&mut words, part)?;
         out.push_str(&words)
     }
 }
 
-impl<L: Lines> Writer for English<L> {
+impl<L: Lines> Writer for English<'_, L> {
     ghost use Rattle.session_story.specs.Writing.{IsLine};
 
     ghost is_written = { λ _ _ _. IsLine };
@@ -118,6 +95,15 @@ impl<L: Lines> Writer for English<L> {
 }
 
 impl<L: Lines> Teller<'_, L> {
+    /// Adds the words of a part of a sentence.
+    fn push_part(&self, out: &mut String, part: Part<'_>) -> Result<(), AllocError> {
+        match part {
+            Part::Place(name) => self.push_place(out, name),
+            Part::Record(name) => self.push_record(out, name),
+            Part::Wait(waiting, next) => self.push_wait(out, waiting, next),
+        }
+    }
+
     /// Adds the words of a sentence.
     fn push_words(&self, out: &mut String, sentence: &Sentence) -> Result<(), AllocError> {
         match *sentence {
@@ -128,8 +114,8 @@ impl<L: Lines> Teller<'_, L> {
             Sentence::NotThere => out.push_str(faults::NOT_THERE),
             Sentence::Unreached(place) => self.push_unreached(out, place),
             Sentence::FurthestLook(look) => self.push_furthest(out, look),
-            Sentence::LateForUse(look) => self.push_late(out, "use", look),
-            Sentence::LateForRelease(look) => self.push_late(out, "release", look),
+            Sentence::LateForUse(look) => self.push_late(out, faults::LATE_FOR_USE, look),
+            Sentence::LateForRelease(look) => self.push_late(out, faults::LATE_FOR_RELEASE, look),
             Sentence::ReleasedFirst(place) => self.push_released_first(out, place),
             Sentence::MayComeAfter(place) => self.push_may_come_after(out, place),
             Sentence::RightOrder => out.push_str(faults::RIGHT_ORDER),
@@ -211,6 +197,21 @@ impl<L: Lines> Teller<'_, L> {
         out.push_str(".")
     }
 
+    /// Adds words and the record of this number in a log, as a sentence, or where there is none the sentence that says so.
+    fn push_with_record_or(
+        &self,
+        out: &mut String,
+        words: &str,
+        none: &str,
+        log: LogName,
+        place: Option<u32>,
+    ) -> Result<(), AllocError> {
+        match place {
+            Some(place) => self.push_with_record(out, words, (log, place)),
+            None => out.push_str(none),
+        }
+    }
+
     /// Adds words and where a record stands, as a sentence.
     fn push_with_place(&self, out: &mut String, words: &str, name: Name) -> Result<(), AllocError> {
         out.push_str(words)?;
@@ -227,9 +228,10 @@ pub fn log_word(log: LogName) -> &'static str
 }
 
 /// What puts sentences into words by the lines of a session's own text.
-pub(crate) const BY_OWN_LINES: English<OwnLines> = English { lines: OwnLines };
+pub(crate) const BY_OWN_LINES: English<'static, OwnLines> = English { lines: &OwnLines };
 
-/// Adds where a record stands, as [`English::push_place`] does, by the lines of the session's own text.
+/// Adds where a record stands, as in "line 13 (guest 6)", by the lines of the session's own text; of one that is not there its
+/// log and its number alone. An error: there is no memory for it.
 pub fn push_place(
     out: &mut String,
     session: &Session,
@@ -238,10 +240,11 @@ pub fn push_place(
 ) -> Result<(), AllocError>
     ensures { OnOk result (IsBehind (string_bytes out.old) (string_bytes out.new)) }
 {
-    BY_OWN_LINES.push_place(out, session, log, place)
+    BY_OWN_LINES.push_part(out, session, Part::Place((log, place)))
 }
 
-/// Adds where a record stands and what it says, as [`English::push_record`] does, by the lines of the session's own text.
+/// Adds where a record stands and what it says, as in "line 8 (guest 1): the guest is halted at the source", by the lines of the
+/// session's own text. Contents are left out. The words have no letter that XML escapes. An error: there is no memory for them.
 pub fn push_record(
     out: &mut String,
     session: &Session,
@@ -250,10 +253,11 @@ pub fn push_record(
 ) -> Result<(), AllocError>
     ensures { OnOk result (IsBehind (string_bytes out.old) (string_bytes out.new)) }
 {
-    BY_OWN_LINES.push_record(out, session, log, place)
+    BY_OWN_LINES.push_part(out, session, Part::Record((log, place)))
 }
 
-/// Adds what a record waits for, as [`English::push_wait`] does, by the lines of the session's own text.
+/// Adds which record one that waits has to come after, by the lines of the session's own text, and, where that is not the next
+/// that waits but comes after it, the next. An error: there is no memory for it.
 pub fn push_wait(
     out: &mut String,
     session: &Session,
@@ -262,5 +266,5 @@ pub fn push_wait(
 ) -> Result<(), AllocError>
     ensures { OnOk result (IsBehind (string_bytes out.old) (string_bytes out.new)) }
 {
-    BY_OWN_LINES.push_wait(out, session, waiting, next)
+    BY_OWN_LINES.push_part(out, session, Part::Wait(waiting, next))
 }

@@ -44,4 +44,4 @@ pub use telling::{
 pub use topics::{LineTold, PageTold, Told, Topic, tell};
 pub use values::Held;
 pub use waits::{Knot, Waiting};
-pub use writing::{Lines, OwnLines, Writer};
+pub use writing::Writer;

@@ -7,12 +7,14 @@ ghost use Rattle.session_story.specs.Told.{AreWordsOn, IsExplainedText, IsLackin
 ghost use Rattle.session_story.specs.Sentences.{told_first};
 ghost use Rattle.session_story.specs.Writing.{Adds, AreWritten, IsLine};
 
-use crate::english::{BY_OWN_LINES, NO_TEXT};
+use crate::english::{BY_OWN_LINES, English, NO_TEXT};
 use crate::sentences::lacks::missing_told;
 use crate::sentences::topics::{told_first, told_in_full};
 use crate::topics::{Told, Topic, tell};
 use crate::writing::{Writer, push_sentences};
-use audit_report::{Report, print_first_line, print_refused_session, push_missing};
+use audit_report::{
+    Lines, OwnLines, Report, push_first_line_by, push_missing, push_refused_session_by,
+};
 use completeness::Missing;
 use migration_types::Session;
 use std::alloc::{AllocError, Global};
@@ -36,24 +38,27 @@ pub fn words_on<W: Writer>(
     Ok(words)
 }
 
-/// What is told of a session on a topic, in words, after the first line of the report on it. Each line ends with LF. Takes
-/// a few passes over each log, and as much memory as an audit does and one machine more, which is the only error.
-pub fn print_topic(
+/// What is told of a session on a topic, in words, after the first line of the report on it, told by these lines. Each line ends
+/// with LF. Takes a few passes over each log, and as much memory as an audit does and one machine more, which is the only error.
+pub fn print_topic<L: Lines>(
     alloc: Global,
+    lines: &L,
     session: &Session,
     report: &Report,
     topic: Topic,
 ) -> Result<Vec<u8>, AllocError>
     requires { IsReport session.now report.now }
-    ensures { IfOk result (λ text. IsToldText session.now report.now topic text.items) }
+    ensures { IfOk result (λ text. IsToldText (L.tell lines.now) session.now report.now topic text.items) }
 {
-    let words = words_on(alloc, &BY_OWN_LINES, session, report, topic)?;
-    let mut text = print_first_line(alloc, report)?;
+    let words = words_on(alloc, &English { lines }, session, report, topic)?;
+    let mut text = Vec::new(alloc);
+    push_first_line_by(&mut text, lines, report)?;
     text.extend_from_slice(words.as_bytes())?;
     Ok(text)
 }
 
-/// What happened in a session, in words, after the first line of the report on it: what [`print_topic`] has of the report.
+/// What happened in a session, in words, after the first line of the report on it: what [`print_topic`] has of the report, by the
+/// lines of the session's own text.
 pub fn print_explained(
     alloc: Global,
     session: &Session,
@@ -62,33 +67,36 @@ pub fn print_explained(
     requires { IsReport session.now report.now }
     ensures { IfOk result (λ text. IsExplainedText session.now report.now text.items) }
 {
-    print_topic(alloc, session, report, Topic::Report)
+    print_topic(alloc, &OwnLines, session, report, Topic::Report)
 }
 
-/// What a clean session lacks, in words, after the line that says it. Each line ends with LF. Takes a few passes over each log,
-/// and as much memory as an audit does, which is the only error.
-pub fn print_missing(
+/// What a clean session lacks, in words, after the line that says it, told by these lines. Each line ends with LF. Takes a few
+/// passes over each log, and as much memory as an audit does, which is the only error.
+pub fn print_missing<L: Lines>(
     alloc: Global,
+    lines: &L,
     session: &Session,
     missing: Missing,
 ) -> Result<Vec<u8>, AllocError>
     requires { IsFirstMissing session.now missing }
-    ensures { IfOk result (λ text. IsLackingText session.now missing text.items) }
+    ensures { IfOk result (λ text. IsLackingText (L.tell lines.now) session.now missing text.items) }
 {
     let sentences = missing_told(alloc, session, &missing)?;
     let mut words = String::new(alloc);
-    push_sentences(&BY_OWN_LINES, &mut words, session, &sentences)?;
+    push_sentences(&English { lines }, &mut words, session, &sentences)?;
     let mut text = Vec::new(alloc);
-    push_missing(&mut text, session, missing)?;
+    push_missing(&mut text, lines, session, missing)?;
     text.extend_from_slice(words.as_bytes())?;
     Ok(text)
 }
 
-/// That a text is refused at this line, as an audit tells it, and what that means. An error: there is no memory for it.
-pub fn print_refused(alloc: Global, line: u32) -> Result<Vec<u8>, AllocError>
-    ensures { IfOk result (λ text. IsRefusedText line text.items) }
+/// That a text is refused at this line, as an audit tells it, by these lines, and what that means. An error: there is no memory
+/// for it.
+pub fn print_refused<L: Lines>(alloc: Global, lines: &L, line: u32) -> Result<Vec<u8>, AllocError>
+    ensures { IfOk result (λ text. IsRefusedText (L.tell lines.now line) text.items) }
 {
-    let mut text = print_refused_session(alloc, line)?;
+    let mut text = Vec::new(alloc);
+    push_refused_session_by(&mut text, lines, line)?;
     text.extend_from_slice(NO_TEXT.as_bytes())?;
     text.extend_from_slice(b"\n")?;
     Ok(text)

@@ -1,4 +1,4 @@
-//! What puts sentences into words, and how the lines of a session are told in them.
+//! What puts sentences into words.
 
 ghost use Rattle.std.specs.Prelude.{◌≡◌, ℕ, List, OnOk, string_bytes};
 ghost use Rattle.migration_types.specs.Sessions.{Recorded};
@@ -7,22 +7,6 @@ ghost use Rattle.session_story.specs.Writing.{Adds, AreWritten};
 use crate::sentences::Sentence;
 use migration_types::Session;
 use std::alloc::AllocError;
-
-/// How the lines of a session's text are told.
-pub trait Lines {
-    /// The line that is told in place of this line of the session's text, which is counted from 1.
-    fn line(&self, line: u32) -> u64;
-}
-
-/// The lines that a session's own text has.
-#[derive(Clone, Copy)]
-pub struct OwnLines;
-
-impl Lines for OwnLines {
-    fn line(&self, line: u32) -> u64 {
-        line as u64
-    }
-}
 
 /// What puts sentences into words.
 pub trait Writer {

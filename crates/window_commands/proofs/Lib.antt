@@ -1,5 +1,2 @@
 pub mod Told
-pub mod Words
 pub mod Written
-pub mod ByTables
-pub mod Joined

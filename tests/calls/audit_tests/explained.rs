@@ -1,7 +1,7 @@
 //! The records that an object tells of what happened in a session, each with its role.
 
 use crate::texts::{HANDOVER, changed};
-use audit_report::audit;
+use audit_report::{OwnLines, audit};
 use report_json::push_explained;
 use session_log::read_session;
 use session_story::explain;
@@ -51,7 +51,14 @@ fn is_told<R: Threads + Sync>(rt: &R, alloc: Global, case: &Case) -> Result<bool
     let report = audit(rt, alloc, &session)?;
     let explanation = explain(alloc, &session, &report)?;
     let mut object = Vec::new(alloc);
-    push_explained(alloc, &mut object, &session, &report, &explanation)?;
+    push_explained(
+        alloc,
+        &mut object,
+        &OwnLines,
+        &session,
+        &report,
+        &explanation,
+    )?;
     Ok(object.as_slice().ends_with(case.records.as_bytes()))
 }
 

@@ -1,7 +1,7 @@
 //! What is told of a page and of a line, in words; what a picture is about; and which record stands at a line.
 
 use crate::texts::{HANDOVER, changed_session};
-use audit_report::{Report, audit};
+use audit_report::{OwnLines, Report, audit};
 use migration_types::{LogName, Session};
 use order_picture::{Picture, plan_on, print_picture_on};
 use session_story::{Topic, print_topic, record_on};
@@ -186,7 +186,7 @@ static CASES: [Case; 10] = [
 
 /// Whether this is told on a topic.
 fn is_told(alloc: Global, session: &Session, report: &Report, topic: Topic, told: &str) -> bool {
-    match print_topic(alloc, session, report, topic) {
+    match print_topic(alloc, &OwnLines, session, report, topic) {
         Ok(text) => text.as_slice() == told.as_bytes(),
         Err(_) => false,
     }

@@ -3,7 +3,7 @@
 use super::Teller;
 use crate::concerns::Name;
 use crate::values::Held;
-use crate::writing::Lines;
+use audit_report::Lines;
 use migration_types::LogName;
 use std::alloc::AllocError;
 
@@ -15,10 +15,7 @@ fn push_value(out: &mut String, value: u64) -> Result<(), AllocError> {
 impl<L: Lines> Teller<'_, L> {
     /// Adds since when a cell has its value.
     fn push_since(&self, out: &mut String, by: Option<u32>) -> Result<(), AllocError> {
-        match by {
-            Some(by) => self.push_with_record(out, "since ", (LogName::Guest, by)),
-            None => out.push_str("as at the start."),
-        }
+        self.push_with_record_or(out, "since ", "as at the start.", LogName::Guest, by)
     }
 
     /// Adds what one machine that never moved has in place of what a read gives.

@@ -2,8 +2,8 @@
 
 use super::Teller;
 use crate::concerns::Name;
-use crate::writing::Lines;
 use audit_model::PageReason;
+use audit_report::Lines;
 use migration_types::{LogName, PagerRec};
 use std::alloc::AllocError;
 
@@ -12,6 +12,11 @@ pub(super) const NEVER_PLACED: &str =
 
 pub(super) const NOT_THERE: &str =
     "The guest is at the target by then, and the page is never placed there.";
+
+pub(super) const LATE_FOR_USE: &str = "The first look that reaches it comes after the use: ";
+
+pub(super) const LATE_FOR_RELEASE: &str =
+    "The first look that reaches it comes after the release: ";
 
 pub(super) const RIGHT_ORDER: &str =
     "It would be right if the guest looked at this placement before the release, or if there were no placement: the pager skips a page that was released there first.";
@@ -80,33 +85,29 @@ impl<L: Lines> Teller<'_, L> {
         out: &mut String,
         look: Option<u32>,
     ) -> Result<(), AllocError> {
-        match look {
-            Some(look) => self.push_with_record(
-                out,
-                "Of the looks before it, this one reaches furthest: ",
-                (LogName::Guest, look),
-            ),
-            None => out.push_str("The guest looks at no placement before it."),
-        }
+        self.push_with_record_or(
+            out,
+            "Of the looks before it, this one reaches furthest: ",
+            "The guest looks at no placement before it.",
+            LogName::Guest,
+            look,
+        )
     }
 
-    /// Adds which look is the first that reaches a placement, and comes too late for this.
+    /// Adds which look is the first that reaches a placement, behind words for what it comes too late.
     pub(super) fn push_late(
         &self,
         out: &mut String,
-        than: &str,
+        words: &str,
         look: Option<u32>,
     ) -> Result<(), AllocError> {
-        match look {
-            Some(look) => {
-                write!(
-                    out,
-                    "The first look that reaches it comes after the {than}: "
-                )?;
-                self.push_with_record(out, "", (LogName::Guest, look))
-            }
-            None => out.push_str("No look reaches it at all."),
-        }
+        self.push_with_record_or(
+            out,
+            words,
+            "No look reaches it at all.",
+            LogName::Guest,
+            look,
+        )
     }
 
     /// Adds the release over which a page is placed.
@@ -145,14 +146,13 @@ impl<L: Lines> Teller<'_, L> {
         out: &mut String,
         place: Option<u32>,
     ) -> Result<(), AllocError> {
-        match place {
-            Some(place) => self.push_with_record(
-                out,
-                "Its last change before the halt is ",
-                (LogName::Guest, place),
-            ),
-            None => out.push_str("The guest neither writes nor releases it before the halt."),
-        }
+        self.push_with_record_or(
+            out,
+            "Its last change before the halt is ",
+            "The guest neither writes nor releases it before the halt.",
+            LogName::Guest,
+            place,
+        )
     }
 
     /// Adds the placement before a second one.

@@ -2,7 +2,7 @@
 
 use super::Teller;
 use crate::waits::Waiting;
-use crate::writing::Lines;
+use audit_report::Lines;
 use std::alloc::AllocError;
 
 pub(super) const NO_ORDER: &str =

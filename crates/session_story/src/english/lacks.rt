@@ -2,7 +2,7 @@
 
 use super::Teller;
 use crate::concerns::Name;
-use crate::writing::Lines;
+use audit_report::Lines;
 use migration_types::{LogName, PageNo};
 use std::alloc::AllocError;
 

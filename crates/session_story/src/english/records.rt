@@ -3,7 +3,7 @@
 use super::Teller;
 use crate::concerns::Name;
 use crate::lines::line_at;
-use crate::writing::Lines;
+use audit_report::Lines;
 use migration_types::{GuestRec, LaneRec, LinkRec, LogName, PagerRec, SourceRec};
 use std::alloc::AllocError;
 

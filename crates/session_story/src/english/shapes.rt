@@ -3,7 +3,7 @@
 use super::Teller;
 use crate::concerns::Name;
 use crate::pages::Handover;
-use crate::writing::Lines;
+use audit_report::Lines;
 use migration_types::{GuestRec, LaneRec, LinkRec, LogName, PagerRec, Session, SourceRec, Version};
 use std::alloc::AllocError;
 
@@ -202,14 +202,13 @@ impl<L: Lines> Teller<'_, L> {
         out: &mut String,
         place: Option<u32>,
     ) -> Result<(), AllocError> {
-        match place {
-            Some(place) => self.push_with_record(
-                out,
-                "Its first access there: ",
-                (LogName::Guest, place),
-            ),
-            None => out.push_str("It read and wrote nothing there."),
-        }
+        self.push_with_record_or(
+            out,
+            "Its first access there: ",
+            "It read and wrote nothing there.",
+            LogName::Guest,
+            place,
+        )
     }
 
     /// Adds the `send` before a second one.

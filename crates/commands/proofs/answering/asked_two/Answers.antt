@@ -10,4 +10,4 @@ pub returns-in-Steps-clause-told : goal.returns-in-Steps-clause-told
 returns-in-Steps-clause-told g c = rw c.in-Steps.is c.perform_two-in-Steps.ensures.told
 
 pub returns-in-Explain-clause-told : goal.returns-in-Explain-clause-told
-returns-in-Explain-clause-told g c = rw c.in-Explain.is (rw (c.explain_ask.ensures, c.lines_in.ensures) at c.perform_two-in-Explain.ensures.told)
+returns-in-Explain-clause-told g c = rw c.in-Explain.is (rw (c.story_form.ensures, c.extent_of-in-Explain.ensures) at c.perform_two-in-Explain.ensures.told)

@@ -4,7 +4,7 @@ use Rattle.report_json.proofs.Told.{told_past, told_there}
 use Rattle.report_json.proofs.records.take_at.Goals as goal
 
 pub returns-in_ok-push-in-Some : goal.returns-in_ok-push-in-Some
-returns-in_ok-push-in-Some c = c.in_ok-push-in-Some.ensures.items ∙ ap (λ (t : List ToldRecord). c.args.records.now.items ++ t) (sym (told_there c.args.session.now c.args.role c.args.log c.args.place c.in-Some.line c.in-Some.ensures))
+returns-in_ok-push-in-Some g c = c.in_ok-push-in-Some.ensures.items ∙ ap (λ (t : List ToldRecord). c.args.records.now.items ++ t) (sym (told_there (g.L.Lines.tell c.args.lines.now) c.args.session.now c.args.role c.args.log c.args.place c.in-Some.line c.line.result c.in-Some.ensures c.line.ensures))
 
 pub returns-in-None : goal.returns-in-None
-returns-in-None c = told_past c.args.session.now c.args.role c.args.log c.args.place c.in-None.ensures c.args.records.now.items
+returns-in-None g c = told_past (g.L.Lines.tell c.args.lines.now) c.args.session.now c.args.role c.args.log c.args.place c.in-None.ensures c.args.records.now.items

@@ -12,8 +12,8 @@ abbrev no_wait : Waiting
 no_wait = record { log = Guest; place = 0; sent_log = Guest; sent_place = 0 }
 
 pub loop-waiting-preserved : goal.loop-waiting-preserved
-loop-waiting-preserved c =
+loop-waiting-preserved g c =
     let waits = c.args.waits.now in
     let i = c.loop-waiting.waiting-index in
     let one = get_or waits i no_wait in
-    next_added (λ (w : Waiting). told c.args.session.now Waits w.log (Some w.place)) c.args.records.now.items c.loop-waiting.records.items c.take_at.new.records.items waits i one c.loop-waiting-test.true (get_or_default waits i no_wait one c.loop-waiting-test.true) c.loop-waiting.invariant c.in_ok-take_at.ensures
+    next_added (λ (w : Waiting). told (g.L.Lines.tell c.args.lines.now) c.args.session.now Waits w.log (Some w.place)) c.args.records.now.items c.loop-waiting.records.items c.take_at.new.records.items waits i one c.loop-waiting-test.true (get_or_default waits i no_wait one c.loop-waiting-test.true) c.loop-waiting.invariant c.in_ok-take_at.ensures

@@ -4,11 +4,13 @@ use Rattle.audit_report.specs.RefusalText.{refusal_text}
 use Rattle.session_story.proofs.telling.print_refused.Goals as goal
 
 pub returns : goal.returns
-returns c =
+returns g c =
     let words = c.as_bytes.result.now in
-    let told = c.in_ok-extend_from_slice.ensures.items ∙ ap (λ (t : List ℕ). t ++ words) c.in_ok-text.ensures in
+    let said = refusal_text (g.L.Lines.tell c.args.lines.now c.args.line) in
+    let first = c.in_ok-push_refused_session_by.ensures ∙ ap (λ (t : List ℕ). t ++ said) c.new-text.ensures.items in
+    let told = c.in_ok-extend_from_slice.ensures.items ∙ ap (λ (t : List ℕ). t ++ words) first in
     record {
       words = words ++ 10 ∷ [];
       is_line = (words, refl);
-      text_is = c.in_ok-extend_from_slice-2.ensures.items ∙ ap (λ (t : List ℕ). t ++ 10 ∷ []) told ∙ append_assoc (refusal_text c.args.line) words (10 ∷ []);
+      text_is = c.in_ok-extend_from_slice-2.ensures.items ∙ ap (λ (t : List ℕ). t ++ 10 ∷ []) told ∙ append_assoc said words (10 ∷ []);
     }

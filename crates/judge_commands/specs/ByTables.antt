@@ -1,0 +1,22 @@
+-- What is explained with each line told by a table.
+use Rattle.std.specs.Prelude.{◌≡◌, ℕ, ◌⊎◌, List, Option, codes}
+use Rattle.text_lines.specs.Text.{IsSpelling, IsRefusalLine}
+use Rattle.completeness.specs.declared.missing.Extent.{Extent}
+use Rattle.audit_report.specs.ToldLines.{line_by}
+use Rattle.command_texts.specs.Answers.{numbered}
+use Rattle.window_commands.specs.Tables.{SpellsTable}
+use Rattle.session_answers.specs.declared.forms.Story.{Story}
+use Rattle.judge_commands.specs.Completed.{IsExplained}
+
+-- the text of a table is refused at this line
+pub record IsTableRefused (table : List ℕ) (text : List ℕ) (status : ℕ) : Type 0 where
+  pub line : ℕ
+  pub is_line : IsRefusalLine SpellsTable table line
+  pub is_text : text ≡ numbered (codes "lines-text line ") line
+  pub is_status : status ≡ 1
+
+-- `explain` of the first of two texts, with its lines told by the table that the second spells, where that is one
+abbrev pub IsExplainedByTable : Story → Option Extent → List ℕ × List ℕ → List ℕ → ℕ → Type 0
+IsExplainedByTable story complete texts text status =
+    ((table : List ℕ) × IsSpelling SpellsTable table texts.1 × IsExplained (line_by table) story complete texts.0 text status)
+    ⊎ IsTableRefused texts.1 text status

@@ -1,0 +1,163 @@
+//! What happened in a session, with its lines told by a table.
+
+ghost use Rattle.std.specs.Prelude.{◌≡◌, ℕ, List, IfOk, ⊤};
+ghost use Rattle.std.specs.Thread.{IsSync};
+ghost use Rattle.text_lines.specs.Answer.{IsRead};
+ghost use Rattle.session_log.specs.Grammar.{SpellsSession};
+ghost use Rattle.session_answers.specs.Forms.{TellsStory};
+ghost use Rattle.session_answers.specs.Judged.{IsJudgedTold};
+ghost use Rattle.window_commands.specs.Tables.{SpellsTable};
+ghost use Rattle.judge_commands.specs.ByTables.{IsExplainedByTable};
+ghost use Rattle.judge_commands.specs.Completed.{IsExplained};
+ghost use Rattle.judge_commands.specs.Noted.{TellsNoUse};
+ghost use Rattle.judge_commands.specs.inner.Reported.{SaysRefusal, SaysReport};
+
+use crate::auditing::report_status;
+use crate::completing::held;
+use crate::noting::note_on;
+use audit_report::{Lines, audit};
+use command_texts::{Answer, Fault, Gathered, OnTwo, REFUSED, given_alone, refused};
+use completeness::Extent;
+use migration_types::{Seq, Session};
+use session_answers::{Story, print_story, print_story_refusal};
+use session_log::{SessionReader, session_texts_are_unambiguous};
+use std::alloc::{AllocError, Global};
+use std::thread::Threads;
+use window_commands::TableParts;
+
+/// What happened in a session, told in this form by these lines.
+fn told<R: Threads + Sync, L: Lines>(
+    rt: &R,
+    lines: &L,
+    story: Story,
+    alloc: Global,
+    session: &Session,
+) -> Result<Answer, AllocError>
+    ensures { IfOk result (SaysReport (TellsStory (L.tell lines.now) story) session.now) }
+{
+    let report = audit(rt, alloc, session)?;
+    let text = print_story(alloc, lines, session, &report, story)?;
+    let status = report_status(&report);
+    Ok(Answer { text, status })
+}
+
+/// The line at which a session's text is refused, told in this form by these lines.
+fn told_refused<L: Lines>(
+    lines: &L,
+    story: Story,
+    alloc: Global,
+    line: u32,
+) -> Result<Answer, AllocError>
+    ensures { IfOk result (SaysRefusal (TellsStory (L.tell lines.now) story) line) }
+{
+    let text = print_story_refusal(alloc, lines, line, story)?;
+    Ok(Answer {
+        text,
+        status: REFUSED,
+    })
+}
+
+/// What happened in a session, told in this form by these lines, by what was read of its text.
+fn told_read<R: Threads + Sync, L: Lines>(
+    rt: &R,
+    lines: &L,
+    story: Story,
+    alloc: Global,
+    session: &Result<Session, u32>,
+) -> Result<Answer, AllocError>
+    ensures { (text : List ℕ) → IsRead SpellsSession text session.now → IfOk result (λ answer. IsJudgedTold (TellsStory (L.tell lines.now) story) text answer.text.items answer.status) }
+{
+    match session {
+        Ok(session) => told(rt, lines, story, alloc, session),
+        Err(line) => told_refused(lines, story, alloc, *line),
+    }
+}
+
+/// The answer to what is asked of a session, told by these lines, by what was read of its text.
+fn explained<R: Threads + Sync, L: Lines>(
+    rt: &R,
+    lines: &L,
+    story: Story,
+    complete: Option<Extent>,
+    alloc: Global,
+    session: &Result<Session, u32>,
+) -> Result<Answer, AllocError>
+    ensures { (text : List ℕ) → IsRead SpellsSession text session.now → IfOk result (λ answer. IsExplained (L.tell lines.now) story complete text answer.text.items answer.status) }
+{
+    session_texts_are_unambiguous();
+    let answer = told_read(rt, lines, story, alloc, session)?;
+    held(lines, story.of_lack(), complete, alloc, session, answer)
+}
+
+/// The answer with each line told by a table, by what was read of the texts of a session and of the table.
+fn explained_by<R: Threads + Sync>(
+    rt: &R,
+    story: Story,
+    complete: Option<Extent>,
+    alloc: Global,
+    session: &Result<Session, u32>,
+    table: &Result<Seq<u64>, u32>,
+) -> Result<Answer, AllocError>
+    ensures { (first second : List ℕ) → IsRead SpellsSession first session.now → IsRead SpellsTable second table.now → IfOk result (λ answer. IsExplainedByTable story complete (first, second) answer.text.items answer.status) }
+{
+    match table {
+        Ok(table) => explained(rt, table, story, complete, alloc, session),
+        Err(line) => refused(alloc, b"lines-text line ", *line),
+    }
+}
+
+/// `explain` with a table: what happened in a session, with each line told by the table that the second text spells.
+#[derive(Clone, Copy)]
+pub struct ExplainByTable<'a, R> {
+    pub rt: &'a R,
+    /// How it is told.
+    pub story: Story,
+    /// How much of a migration the session has to tell of, where that is asked.
+    pub complete: Option<Extent>,
+}
+
+impl<R: Threads + Sync> OnTwo for ExplainByTable<'_, R> {
+    type First = SessionReader;
+
+    type Second = Gathered<TableParts>;
+
+    type Said = ();
+
+    ghost ready = { IsSync R.row };
+
+    ghost is_answer = { λ command. IsExplainedByTable command.story command.complete };
+
+    ghost is_said = { λ _ _ _. ⊤ };
+
+    ghost adds_more = { λ _ _ _ before after. after ≡ before };
+
+    ghost has_note = { λ _ texts. TellsNoUse texts.0 };
+
+    fn answer(
+        &self,
+        alloc: Global,
+        session: &Result<Session, u32>,
+        table: &Result<Seq<u64>, u32>,
+    ) -> Result<(Answer, ()), Fault<'static>> {
+        given_alone(explained_by(self.rt, self.story, self.complete, alloc, session, table))
+    }
+
+    fn push_more(
+        &self,
+        _out: &mut Vec<u8>,
+        _name: &[u8],
+        _session: &Result<Session, u32>,
+        _table: &Result<Seq<u64>, u32>,
+        _said: (),
+    ) -> Result<(), AllocError> {
+        Ok(())
+    }
+
+    fn note(
+        &self,
+        session: &Result<Session, u32>,
+        _table: &Result<Seq<u64>, u32>,
+    ) -> Option<&'static str> {
+        note_on(session)
+    }
+}
