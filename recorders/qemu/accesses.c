@@ -40,7 +40,6 @@
 #error "where QEMU's code keeps the processor's state is known for x86-64 alone"
 #endif
 
-#define CELLS 512UL
 #define BUFFERED 65536
 #define PROCESSORS 64
 #define GATES 256
@@ -165,12 +164,6 @@ static void settle(unsigned vcpu, uint32_t page)
 static bool is_in_window(uint64_t address)
 {
     return address >= base && address - base < pages * PAGE;
-}
-
-/* Whether only marks of an entry of a page table were raised. */
-static bool is_marked(uint64_t was, uint64_t is)
-{
-    return (was & 1) && !(was & ~is) && !((was ^ is) & ~0x60UL);
 }
 
 /* A change that nobody told, of those bytes of a cell that the access itself did not write. */

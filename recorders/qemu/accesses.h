@@ -1,5 +1,8 @@
 /* The records of the accesses of a guest, as they stand in a file: 16 bytes each. */
+#include <stdbool.h>
 #include <stdint.h>
+
+#define CELLS 512UL /* of a page, of 8 bytes each */
 
 enum kind {
     READ = 'r',   /* a load of a cell */
@@ -22,3 +25,9 @@ struct record {
     uint8_t kind, vcpu;
     uint16_t spare;
 };
+
+/* Whether of a cell only marks were raised, as a processor does in an entry of a page table: bits 5 and 6, where bit 0 is set. */
+static inline bool is_marked(uint64_t was, uint64_t is)
+{
+    return (was & 1) && !(was & ~is) && !((was ^ is) & ~0x60UL);
+}

@@ -23,7 +23,6 @@
  * told of it. A page that nobody placed is compared with what a machine that never moved would have.
  */
 #include <fcntl.h>
-#include <stdbool.h>
 #include <stdio.h>
 #include <stdlib.h>
 #include <string.h>
@@ -32,7 +31,6 @@
 #include <unistd.h>
 #include "accesses.h"
 
-#define CELLS 512UL
 #define PAGE 4096UL
 #define NONE 0xffffffffu
 #define MARKER 63 /* whose writes the marks of page tables are */
@@ -126,11 +124,6 @@ static void check(const struct record *record, const char *file, uint64_t number
         fprintf(stderr, "%s: record %lu is none\n", file, number);
         exit(2);
     }
-}
-
-static bool is_marked(uint64_t was, uint64_t is)
-{
-    return (was & 1) && !(was & ~is) && !((was ^ is) & ~0x60UL);
 }
 
 /* A cell whose recorded value is not what memory holds. */

@@ -13,11 +13,14 @@ import tempfile
 import judge
 import linux_cut
 import linux_session
+from convert import Recording
 from kinds import Plan
-from pack import unpack
+from pack import unpack, unpacked
 from stream import PAGE_BYTES
 from versions_test import QEMU, read
+from witness import pages_that_differ
 
+TOP = os.path.dirname(os.path.dirname(QEMU))
 RECORDINGS = f"{QEMU}/recordings/linux"
 BASE = 0x100000
 CELLS = 512
@@ -257,6 +260,17 @@ def of_recordings(tests):
             tests.wants(f"the verdict of {name}", verdict.line, wanted)
 
 
+def of_the_example(tests):
+    """The example is the kept recording's session; the words and the picture are the program's; and the witness finds the page too."""
+    example = f"{TOP}/examples/linux-lost-write"
+    with open(f"{example}/session", "rb") as file:
+        digest = hashlib.sha256(file.read()).hexdigest()
+    tests.wants("the session of examples/linux-lost-write", [digest], [wanted for name, wanted, _ in kept() if name == "lost-write"])
+    tests.wants("its picture", judge.ask(example, "draw", "session")[0] == read(f"{example}/picture.svg"), True)
+    lost = {name: pages_that_differ(Recording(unpacked(f"{RECORDINGS}/{name}.tar.xz").__getitem__))[0] for name, _, _ in kept()}
+    tests.wants("pages that differ from the source's memory at the halt", {name: pages for name, pages in lost.items() if pages}, {"lost-write": [0]})
+
+
 def of_a_cut(tests):
     """A recording of which some pages are cut has the session of their window."""
     with tempfile.TemporaryDirectory() as folder:
@@ -293,6 +307,7 @@ def run(tests):
         return
     of_one_by_hand(tests)
     of_recordings(tests)
+    of_the_example(tests)
     of_a_cut(tests)
     of_frames_that_are_missing(tests)
     of_facts(tests)
