@@ -166,14 +166,15 @@ static void source(uint64_t *machine, const uint64_t *halt)
     line("halt", 0, NULL);
 }
 
-/* What the target's memory holds by what was recorded, and which pages are in place. */
+/* What the target's memory holds by what was recorded, and which pages the pager put in place. */
 static uint64_t *there;
 static uint8_t *is_placed;
 
 static void put_in_place(const struct placement *placement, const uint8_t *contents, uint64_t length)
 {
     uint64_t *page = there + placement->page * CELLS;
-    is_placed[placement->page] = 1;
+    if (placement->record != NONE) /* or the page was there, and should have been forgotten */
+        is_placed[placement->page] = 1;
     if (placement->contents == NONE)
         memset(page, 0, PAGE);
     else if ((placement->contents + 1) * PAGE <= length)

@@ -212,6 +212,18 @@ def of_a_page_that_never_came(tests):
     tests.wants("and one of zeros", reason_of(kept).split()[0], "incomplete")
 
 
+def of_a_page_that_was_kept(tests):
+    """A page that the target was to forget, and that is there with what pre-copy sent; its newer contents never come, and nobody uses it."""
+    target = (TARGET[0], ("p", 63, 2, 2), *((kind, vcpu, where, {2: 3, 3: 3, 4: 4}.get(value, value) if kind in "sp" else value)
+                                            for kind, vcpu, where, value in without(TARGET[1:], TARGET[11], TARGET[14])))
+    have = UNPLACED.replace("uffd have 0 0\n", "uffd have 0 0\nuffd have 2 2\n")
+    log = LOG.replace("down 0 page post pc.ram {2} 2 2\n", "lost 0 page post pc.ram {2} 2 2\n")
+    old = {place(2, 0): 76}
+    told = {"target": target, "target_raw": have, "log": log}
+    tests.wants("an old page that nobody uses", reason_of(made(**told, placed=HALT.with_cells(old), end=END.with_cells(old))), "faulty read")
+    tests.wants("one that is as it should be", reason_of(made(**told)).split()[0], "incomplete")
+
+
 def of_the_self_test(tests):
     """No verdict where the recorder did not record all, or where the migration did not come to its end."""
     at_halt = "not judged: the source's memory at the halt is not what was recorded, in 1 cells: page 0 cell 100, recorded 0 and found 0x33"
@@ -314,4 +326,5 @@ def run(tests):
     of_a_page_that_is_given_up(tests)
     of_the_page_that_is_shown(tests)
     of_a_page_that_never_came(tests)
+    of_a_page_that_was_kept(tests)
     of_the_self_test(tests)
