@@ -151,7 +151,9 @@ class Recorders:
             for folder in (by_c, by_python):
                 if "lane 0" in text:
                     Log(folder, "lane").close()
-                self.tests.same("a session recorded anew", session_of([folder])[0].text(), text)
+                session, _ = session_of([folder])
+                session.is_large = text.startswith("postcopy-session 3")  # no log tells that a session is a window of a large one
+                self.tests.same("a session recorded anew", session.text(), text)
             for log in logs.values():
                 log.close()
 
