@@ -252,6 +252,7 @@ def tests_of_showing(browser, program):
     browser.wait_for(lambda: browser.run(f"return {focused}") == "31", "the focus is lost with the mark of a row")
     browser.press(KEYS["enter"])
     browser.wait_for(lambda: browser.run("return !document.getElementById('bar').hidden"), "a row is not marked again")
+    browser.wait_for(lambda: browser.run("return document.querySelector('#lines .marked')?.textContent === 'got 3'"), "a row that is marked anew marks no line")
     browser.press(KEYS["enter"])
     browser.wait_for(lambda: browser.run("return document.activeElement.textContent") == "got 3", "a row that is marked leads to no line")
     browser.press(KEYS["enter"])
