@@ -6,7 +6,8 @@ import re
 from page_text import TOP, headings, links, number_of, read, rows
 
 README_MOST = 6144
-GUARANTEES, REFERENCE, FORMATS, MAP = "docs/GUARANTEES.md", "docs/REFERENCE.md", "docs/FORMATS.md", "docs/MAP.md"
+GUARANTEES, REFERENCE, HOSTING, FORMATS, MAP = "docs/GUARANTEES.md", "docs/REFERENCE.md", "docs/HOSTING.md", "docs/FORMATS.md", "docs/MAP.md"
+DEFINITIONS = "docs/DEFINITIONS.md"
 ANSWERS = "docs/ANSWERS.md"
 MAN1, MAN5 = "share/man/man1/postcopy.1", "share/man/man5/postcopy.5"
 
@@ -34,7 +35,7 @@ UNUSED = ("is_miss", "goes_down", "link_named", "lane_named")
 
 # What a page has to say beside what would be untrue alone: the page, the line it is about, and what that line must have.
 ALSO = (
-    (REFERENCE, r"a page is covered if", r"released", "pages that the guest released at the target are covered too"),
+    (HOSTING, r"a page is covered if", r"released", "pages that the guest released at the target are covered too"),
     (REFERENCE, r"a record's receipt is", r"LaneRec::named", "the lane's records have receipts"),
     (REFERENCE, r"clause `told`: \*EndsAsked\*", r"\*takes\*.*version", "told is asked only where the command line takes the words"),
     *((REFERENCE, r"used by none of these laws", rf"\*{it}\*", "this rule is used by no law, too") for it in UNUSED),
@@ -134,10 +135,10 @@ def definition_files():
 
 def wrong_definitions(pages):
     """The list of trusted definitions."""
-    listed = pages[REFERENCE].partition("\n## Trusted definitions\n")[2]
+    listed = pages[DEFINITIONS]
     for it in sorted(definition_files()):
         if f"`{it}`" not in listed:
-            yield f"{REFERENCE}: the list of trusted definitions lacks {it}"
+            yield f"{DEFINITIONS}: the list of trusted definitions lacks {it}"
 
 
 def dependencies():

@@ -85,7 +85,7 @@ def wrong_italics(name, page, sources, terms):
         if IDENTIFIER.match(span):
             if span not in sources.definitions | sources.words:
                 yield f"{name}, line {line}: no file of definitions has {span}"
-        elif name in ("docs/GUARANTEES.md", "docs/REFERENCE.md") and span not in sources.definitions and span.lower() not in terms and span != "italics":
+        elif name in ("docs/GUARANTEES.md", "docs/REFERENCE.md", "docs/HOSTING.md") and span not in sources.definitions and span.lower() not in terms and span != "italics":
             yield f"{name}, line {line}: neither a definition nor a term of the glossary: {span}"
 
 
@@ -170,6 +170,6 @@ def wrong(pages, sources):
         found += wrong_clauses(name, page, sources)
         found += wrong_crates(name, page, sources)
         found += wrong_links(name, page, pages)
-    for name in ("docs/MAP.md", "docs/REFERENCE.md"):
+    for name in ("docs/MAP.md", "docs/CALLS.md"):
         found += missing_crates(name, pages[name], sources)
     return [*found, *missing_scripts(pages, sources)]
