@@ -5,7 +5,6 @@ import re
 
 from page_text import TOP, headings, links, number_of, read, rows
 
-README_MOST = 6144
 GUARANTEES, REFERENCE, HOSTING, FORMATS, MAP = "docs/GUARANTEES.md", "docs/REFERENCE.md", "docs/HOSTING.md", "docs/FORMATS.md", "docs/MAP.md"
 DEFINITIONS = "docs/DEFINITIONS.md"
 ANSWERS = "docs/ANSWERS.md"
@@ -223,9 +222,6 @@ def headline(text):
 
 def wrong_readme(pages):
     readme = pages["README.md"]
-    size = len(readme.encode())
-    if size > README_MOST:
-        yield f"README.md has {size} bytes, and may have {README_MOST}"
     if not re.search(r"!\[[^\]]+\]\(docs/[\w-]+\.svg\)", readme):
         yield "README.md has no picture"
     if not headline(readme) or headline(readme) != headline(pages[GUARANTEES]):

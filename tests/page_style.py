@@ -6,6 +6,10 @@ from page_text import numbered_lines, plain, prose, without_written
 # The most words that a paragraph, an item of a list or a cell of a table may have.
 LONGEST = 90
 
+# The most bytes of a page, which one sitting is to be enough for; and of one that has to be shorter.
+LARGEST = 51200
+LARGEST_OF = {"README.md": 6144, "docs/GUARANTEES.md": 25600}
+
 # Words that were thrown out, in every page, and what is said instead. What stands in backticks is not looked at.
 WORDS = {
     r"[Ww]ant of memory": "out of memory",
@@ -58,6 +62,12 @@ def long_paragraphs(name, page):
             yield f"{name}, line {number}: a paragraph of {len(words)} words, and {LONGEST} are the most"
 
 
+def large_page(name, page):
+    size, most = len(page.encode()), LARGEST_OF.get(name, LARGEST)
+    if size > most:
+        yield f"{name} has {size} bytes, and may have {most}"
+
+
 def wrong(pages):
     """All that is wrong with how the pages are written."""
-    return [it for name, page in pages.items() for it in (*wrong_words(name, page), *long_paragraphs(name, page))]
+    return [it for name, page in pages.items() for it in (*wrong_words(name, page), *long_paragraphs(name, page), *large_page(name, page))]

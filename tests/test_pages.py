@@ -110,9 +110,18 @@ PLANTED = {
 @pytest.mark.parametrize("planted, wrong", PLANTED.values(), ids=PLANTED.keys())
 def test_planted_style(planted, wrong):
     """A page that is right, and what is planted into it."""
-    found = page_style.wrong({"README.md": f"{read('README.md')}\n{planted}\n\nThe end.\n"})
-    line = read("README.md").count("\n") + 2
-    assert found == ([f"README.md, line {line}: {wrong}"] if wrong else [])
+    name = "docs/WEB.md"
+    found = page_style.wrong({name: f"{read(name)}\n{planted}\n\nThe end.\n"})
+    line = read(name).count("\n") + 2
+    assert found == ([f"{name}, line {line}: {wrong}"] if wrong else [])
+
+
+@pytest.mark.parametrize("name, most", [("README.md", 6144), ("docs/GUARANTEES.md", 25600), ("docs/FORMATS.md", 51200)])
+def test_size(name, most):
+    """A page of as many bytes as it may have, and one that has a byte more."""
+    right_page = "word\n\n" * (most // 6) + "x" * (most % 6)
+    assert page_style.wrong({name: right_page}) == []
+    assert page_style.wrong({name: f"{right_page}x"}) == [f"{name} has {most + 1} bytes, and may have {most}"]
 
 
 def test_written():
