@@ -74,5 +74,5 @@ if __name__ == "__main__":
     if len(sys.argv) > 1:
         sys.exit(__doc__)
     if not shutil.which("rt"):
-        sys.exit("tests/call_crates.py: there is no toolchain of Rattle here, whose command is rt")
+        sys.exit("tests/call_crates.py: the Rattle toolchain is not installed: there is no command rt")
     sys.exit(lay_out(listed()))

@@ -14,7 +14,7 @@ import pytest
 
 TOP = os.path.dirname(os.path.dirname(os.path.abspath(__file__)))
 sys.dont_write_bytecode = True
-sys.path[:0] = [f"{TOP}/tests/models", f"{TOP}/python"]
+sys.path[:0] = [f"{TOP}/tests/models", f"{TOP}/bindings/python"]
 
 
 def pytest_addoption(parser):
@@ -30,7 +30,7 @@ def pytest_collection_modifyitems(items):
     if not shutil.which("rt"):
         for item in items:
             if item.get_closest_marker("toolchain"):
-                item.add_marker(pytest.mark.skip(reason="there is no toolchain of Rattle here, whose command is rt"))
+                item.add_marker(pytest.mark.skip(reason="the Rattle toolchain is not installed: there is no command rt"))
 
 
 @pytest.hookimpl(tryfirst=True)
@@ -116,7 +116,7 @@ def refusing(cc):
     """The library that stands before the system's calls, counts them, and refuses some."""
     with tempfile.TemporaryDirectory(prefix="postcopy-tests-") as folder:
         made = f"{folder}/refusing.so"
-        subprocess.run([cc, "-std=c11", "-O2", "-shared", "-fPIC", "-o", made, f"{TOP}/c/tests/refusing.c"], check=True)
+        subprocess.run([cc, "-std=c11", "-O2", "-shared", "-fPIC", "-o", made, f"{TOP}/bindings/c/tests/refusing.c"], check=True)
         yield made
 
 

@@ -37,7 +37,7 @@ def measured(measuring, folder, sessions):
 
 
 def tests_of_claims(measuring, folder, count):
-    """`measuring` is c/tests/measuring.c, built over the library."""
+    """`measuring` is bindings/c/tests/measuring.c, built over the library."""
     with open(f"{TOP}/docs/EMBEDDING.md", encoding="utf-8") as file:
         page = file.read()
     stack, = re.findall(r"a call takes less than (\d+) KiB at any size", page)

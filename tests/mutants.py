@@ -6,13 +6,13 @@
     tests/mutants.py --check       whether each mutant can be applied, with no prover
 
 A mutant is a file NAME.edit: a line 'file: src/lib.rt', and then pairs of lines 'old: TEXT' and 'new: TEXT', where each
-old text stands in that file exactly once. Those in crates/CRATE/must-fail are tried by 'rt ci'. Those in mutants/CRATE are
-not: a crate's first mutant costs a proof of the whole crate. Try all of a crate, here, once its sources, its
-specifications or a library below it have changed.
+old text stands in that file exactly once. Those in crates/CRATE/must-fail are tried by 'rt ci'. Those in
+crates/CRATE/mutants are not: a crate's first mutant costs a proof of the whole crate. Try all of a crate, here, once its sources,
+its specifications or a library below it have changed.
 
-Those in mutants/planted no clause refuses: tests/planted.py shows that a test finds each. Here they are looked at by --check alone.
+Those in tests/planted no clause refuses: tests/planted.py shows that a test finds each. Here they are looked at by --check alone.
 
---few takes some of the others in mutants/. The commit's hash chooses which, so that over many commits each is
+--few takes some of those in mutants/. The commit's hash chooses which, so that over many commits each is
 likely to be tried. All that it takes are of one crate, whose whole proof is paid once. Run it after 'rt ci', whose libraries it uses.
 
 The tries are made in a copy, by 'rt must-fail', over the libraries that are proved already: all those that 'rt ci' left, or
@@ -58,7 +58,7 @@ def files_in(folder):
 
 def kept_back(crate):
     """The mutants that 'rt ci' does not try."""
-    return files_in(f"{TOP}/mutants/{crate}")
+    return files_in(f"{TOP}/crates/{crate}/mutants")
 
 
 def mutants(crate):
@@ -67,7 +67,7 @@ def mutants(crate):
 
 def require_rt():
     if not shutil.which("rt"):
-        stop("there is no toolchain of Rattle here, whose command is rt")
+        stop("the Rattle toolchain is not installed: there is no command rt")
 
 
 # Whether the mutants can be applied.
@@ -131,7 +131,7 @@ class Planted(NamedTuple):
 def planted():
     """The wrong bodies that no clause refuses, each with the test that finds it."""
     found = []
-    for file in files_in(f"{TOP}/mutants/planted"):
+    for file in files_in(f"{TOP}/tests/planted"):
         with open(file, encoding="utf-8") as it:
             said = dict(re.findall("^(crate|test): (.*)$", it.read(), re.M))
         found.append(Planted(os.path.basename(file).removesuffix(".edit"), file, said.get("crate", ""), said.get("test", "")))
@@ -148,12 +148,19 @@ def fault_of_planted(body):
     return fault_in(body.crate, body.file)
 
 
+def strays():
+    """The mutants in any other folder than those that are tried: of no crate, say."""
+    homes = {f"{TOP}/tests/planted", *(f"{TOP}/crates/{crate}/{folder}" for crate in crates() for folder in ("must-fail", "mutants"))}
+    for at, folders, names in os.walk(TOP):
+        folders[:] = sorted(it for it in folders if it not in (".git", "out"))
+        if at not in homes:
+            yield from (os.path.relpath(f"{at}/{it}", TOP) for it in sorted(names) if it.endswith(".edit"))
+
+
 def checked():
     """Whether each mutant and each planted body can be applied, and each crate has a mutant: how many of both there are, and what is wrong."""
     names, faults, count = crates(), [], 0
-    for name in files_in(f"{TOP}/mutants"):
-        if os.path.basename(name) not in (*names, "planted"):
-            faults.append(f"mutants/{os.path.basename(name)}: there is no such crate")
+    faults += [f"{it}: it is in no folder whose mutants are tried" for it in strays()]
     for crate in names:
         of_crate = mutants(crate)
         count += len(of_crate)
@@ -254,7 +261,7 @@ def try_few(count):
         found = kept_back(crate)
         groups += [(crate, found[at : at + count]) for at in range(0, len(found), count)]
     if not groups:
-        stop("there is no mutant in mutants/")
+        stop("no crate has a mutant in mutants/")
     crate, chosen = groups[number_of_commit() % len(groups)]
     is_well, is_proved = try_some(crate, chosen)
     if not is_well and not is_proved:

@@ -1,4 +1,4 @@
-# What zsh offers behind words that were typed: zsh -f offered.zsh FOLDER WORDS .., with the completions in FOLDER. For each of WORDS
+# What zsh offers after words that were typed: zsh -f offered.zsh FOLDER WORDS .., with the completions in FOLDER. For each of WORDS
 # what is offered stands one a line, and after it an empty line.
 #
 # A shell in a terminal of its own completes. Each word that a completion adds is told in a line, in place of being shown. The shell's

@@ -256,7 +256,7 @@ def wrong_answers(pages, sources):
     named = {span for _, cells, _ in rows(pages[ANSWERS]) for span in re.findall(r"^`([a-z-]+(?: [a-z]+)*)", cells[0])}
     for it in sorted({*found, *reasons} - named):
         yield f"{ANSWERS}: no row begins with the answer {it}"
-    kinds = re.findall(r"POSTCOPY_(?!REASON_|VERSION|H\b)(\w+) = (\d+)", read("c/postcopy.h"))
+    kinds = re.findall(r"POSTCOPY_(?!REASON_|ASKS_|VERSION|H\b)(\w+) = (\d+)", read("bindings/c/postcopy.h"))
     for kind, number in kinds:
         if f"| {number} | `{kind}` |" not in pages[ANSWERS]:
             yield f"{ANSWERS}: no row has the kind {number}, {kind}"
@@ -288,14 +288,14 @@ def wrong_silences(pages, sources):
 
 
 def wrong_licence():
-    for name in ("LICENSE", "python/pyproject.toml", MAN1, MAN5):
+    for name in ("LICENSE", "bindings/python/pyproject.toml", MAN1, MAN5):
         if "the Tingaro authors" not in read(name) or "MIT" not in read(name):
             yield f"{name} does not name the licence and the Tingaro authors"
 
 
 def wrong_installed(sources):
     """What installed files say of pages that are not installed with them."""
-    for name in sorted(it for it in sources.files if re.fullmatch(r"c/\w+\.h|python/postcopy/\w+\.py|share/man/man\d/.*", it)):
+    for name in sorted(it for it in sources.files if re.fullmatch(r"bindings/c/\w+\.h|bindings/python/postcopy/\w+\.py|share/man/man\d/.*", it)):
         text = re.sub(r"\\f[BIR]", "", read(name))
         for page in re.findall(r"docs/\w+\.md|README\.md", text):
             yield f"{name} names {page}, which is not installed"

@@ -66,7 +66,7 @@ class Sources:
     def mutants(self):
         """How many mutants there are that the prover refuses, in must-fail/ and in mutants/."""
         tried = [it for it in self.files if re.match(r"crates/\w+/must-fail/", it)]
-        others = [it for it in self.files if re.match(r"mutants/(?!planted/)\w+/", it)]
+        others = [it for it in self.files if re.match(r"crates/\w+/mutants/", it)]
         return len(tried), len(others)
 
     def folders_in(self, folder):

@@ -3,7 +3,7 @@
 
     tests/planted.py [NAME ..]      every such body, or these
 
-Each is a file mutants/planted/NAME.edit: a mutant with two lines more, 'crate: CRATE' and 'test: TEST', as pytest names a test. It has
+Each is a file tests/planted/NAME.edit: a mutant with two lines more, 'crate: CRATE' and 'test: TEST', as pytest names a test. It has
 to pass with the unchanged program, and to fail with the wrong body. It is given the program that was built, or, where it
 is one of the crates' calls, run in the copy of the sources.
 
@@ -25,7 +25,7 @@ TOP = os.path.dirname(os.path.dirname(os.path.realpath(__file__)))
 
 # The tests that make a program of their own of the crates, and so run in the copy, with what they need there.
 OF_CRATES = ("tests/test_calls.py", "tests/test_refused_calls.py")
-NEEDED = ("tests", "tools", "examples", "c")
+NEEDED = ("tests", "tools", "examples", "bindings/c")
 
 
 def copy_to(room, body):
@@ -85,7 +85,7 @@ def main(words):
     if any(it not in bodies for it in words):
         sys.exit(__doc__)
     if not shutil.which("rt"):
-        sys.exit("tests/planted.py: there is no toolchain of Rattle here, whose command is rt")
+        sys.exit("tests/planted.py: the Rattle toolchain is not installed: there is no command rt")
     chosen = [bodies[it] for it in words or bodies]
     found = sum(try_test(test, [it for it in chosen if it.test == test]) for test in sorted({it.test for it in chosen}))
     print(f"{found} of {len(chosen)} bodies found")

@@ -288,7 +288,7 @@ class Faults:
         for mode in ("forked", "leaving"):
             folder = self.folder()
             ran = subprocess.run([self.program, mode, folder], stdout=subprocess.PIPE, timeout=120)
-            self.tests.same(f"c/tests/recording.c {mode}", (ran.returncode, ran.stdout), (0, b""))
+            self.tests.same(f"bindings/c/tests/recording.c {mode}", (ran.returncode, ran.stdout), (0, b""))
             ends = sum("\nnext " in self.has(f"{folder}/{name}") for name in os.listdir(folder))
             self.tests.same(f"the ends of {mode} logs", ends, {"forked": 1, "leaving": 200}[mode])
         log, is_over = Log(self.folder(), "guest"), threading.Event()
@@ -351,7 +351,7 @@ class Faults:
                  "print(lost, log.error.errno)")
         for limit, last in ((100000, b"lost 27\n"), (8322 + 75, b"")):
             shutil.rmtree(folder, ignore_errors=True)
-            ran = subprocess.run([sys.executable, "-B", "-c", words, folder], stdout=subprocess.PIPE, preexec_fn=limited(limit), env={**os.environ, "PYTHONPATH": f"{TOP}/python"})
+            ran = subprocess.run([sys.executable, "-B", "-c", words, folder], stdout=subprocess.PIPE, preexec_fn=limited(limit), env={**os.environ, "PYTHONPATH": f"{TOP}/bindings/python"})
             lost, error = map(int, ran.stdout.split())
             with open(f"{folder}/{self.only(folder, 'machine')}", "rb") as file:
                 text = file.read()

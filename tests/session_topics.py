@@ -21,7 +21,7 @@ class Topic(NamedTuple):
 
     @property
     def line(self):
-        """The call, as c/tests/embedding.c takes it."""
+        """The call, as bindings/c/tests/embedding.c takes it."""
         return " ".join([self.call, self.session, *self._numbers])
 
     @property

@@ -80,9 +80,9 @@ def digest_of_sources(tree):
 
 
 def digest_of_page(tree):
-    names = read(f"{tree}/web/examples").decode().split()
-    files = ["VERSION", "c/postcopy.h", "tools/page", *(f"examples/{name}/{it}" for name in names for it in ("what", "session", "certificate"))]
-    files += [os.path.relpath(it, tree) for it in glob.glob(f"{tree}/web/*") if not it.endswith("_test.c")]
+    names = read(f"{tree}/bindings/web/examples").decode().split()
+    files = ["VERSION", "bindings/c/postcopy.h", "tools/page", *(f"examples/{name}/{it}" for name in names for it in ("what", "session", "certificate"))]
+    files += [os.path.relpath(it, tree) for it in glob.glob(f"{tree}/bindings/web/*") if not it.endswith("_test.c")]
     lines = [f"{sum_of(f'{tree}/{it}')}  {it}\n" for it in sorted(files, key=os.fsencode) if os.path.exists(f"{tree}/{it}")]
     return hashlib.sha256("".join([f"{digest_of_sources(tree)}\n", *lines]).encode()).hexdigest()
 
@@ -148,8 +148,8 @@ class Room:
         """Copies what the tests use of the repository, with a stand-in for the proof."""
         def unwanted(at, names):
             if at == TOP:
-                return [it for it in names if it in (".git", "bench", "docs", "mutants", "release", "rust", "shipped")]
-            return [it for it in names if it in ("out", "must-fail") or at == f"{TOP}/crates" and it not in CRATES]
+                return [it for it in names if it in (".git", "bench", "docs", "release", "shipped")]
+            return [it for it in names if it in ("out", "must-fail", "mutants") or at == f"{TOP}/crates" and it not in CRATES or at == f"{TOP}/bindings" and it == "rust"]
         shutil.copytree(TOP, self.tree, symlinks=True, ignore=unwanted)
         write(f"{self.tree}/tools/build", BUILD, 0o755)
 

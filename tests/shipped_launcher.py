@@ -2,6 +2,7 @@
 import glob
 import hashlib
 import os
+import pty
 import shutil
 import subprocess
 import sys
@@ -253,7 +254,7 @@ def tests_of_plants(room):
             same(f"what is installed of {name}", sum_of(f"{prefix}/{file}"), told[name])
     script = "import postcopy, sys; print(postcopy.check(*sys.argv[1:]))"
     example = [f"{room.tree}/examples/handover/{it}" for it in ("session", "certificate")]
-    same("Python, where others are in out/", run(sys.executable, "-B", "-c", script, *example, path=room.plain, PYTHONPATH=f"{copy}/python"), YES)
+    same("Python, where others are in out/", run(sys.executable, "-B", "-c", script, *example, path=room.plain, PYTHONPATH=f"{copy}/bindings/python"), YES)
     same("the library is put in place", run(f"{copy}/tools/library", path=room.plain), Ran(0, b"", b""))
     same("its bytes", [sum_of(f"{copy}/crates/postcopy_c/out/{it}") for it in LIBRARIES], [told[it] for it in LIBRARIES])
 
@@ -301,7 +302,34 @@ def tests_of_limits(room):
     words = [f"{copy}/postcopy", "certify", f"{copy}/examples/qemu-live/session"]
     for when in ("first", "second"):
         same(f"a file that may not grow, the {when} time", run("sh", "-c", 'ulimit -f 1; exec "$@" > "$0"', f"{room.folder}/limited", *words, path=room.plain),
-             Ran(3, b"", b"output\n"))
+             Ran(3, b"", b"output\nstandard output: the file would be too large\n"))
+
+
+def on_terminal(copy, room, at, *words, given):
+    """The status and the standard error of the launcher, whose standard input is a terminal at which this is typed."""
+    ours, theirs = pty.openpty()
+    try:
+        ran = subprocess.Popen([f"{copy}/postcopy", *words], stdin=theirs, stdout=subprocess.PIPE, stderr=subprocess.PIPE,
+                               env={"PATH": room.plain, "HOME": at})
+        os.write(ours, given)
+        errors = ran.communicate(timeout=60)[1]
+    finally:
+        os.close(ours)
+        os.close(theirs)
+    return ran.returncode, errors.decode()
+
+
+def tests_of_terminal(room):
+    """The launcher without words at a terminal: it says what the program waits for, and else nothing."""
+    copy = room.copy()
+    same("the first answer", check(copy, room), YES)
+    at = home(room, "home-at-terminal")
+    end = b"\x04"
+    status, errors = on_terminal(copy, room, at, given=end)
+    count(status == 1 and errors.startswith("postcopy: waiting for a session and its certificate"), f"it says what it waits for: {errors!r}")
+    status, errors = on_terminal(copy, room, at, "audit", f"{copy}/examples/handover/session", given=end)
+    same("with words it says nothing", (status, errors), (0, ""))
+    same("without a terminal it does not say it", b"waiting" in run(f"{copy}/postcopy", path=room.plain, given=b"").err, False)
 
 
 def tests_of_damage(room):
@@ -381,4 +409,4 @@ def tests_of_git(room):
 
 
 TESTS = (tests_of_answers, tests_of_places, tests_of_read_only, tests_of_forty, tests_of_changes, tests_of_builds, tests_of_plants,
-         tests_of_old_times, tests_of_limits, tests_of_damage, tests_of_mounts, tests_of_git)
+         tests_of_old_times, tests_of_limits, tests_of_terminal, tests_of_damage, tests_of_mounts, tests_of_git)

@@ -2,7 +2,7 @@
 migration, which cannot do with one, says what it lacks.
 
 The superuser has no limit on threads, so the program is run as another user then. What is judged is long enough that several threads
-would read and judge it. Calls that make a thread are counted by c/tests/refusing.c.
+would read and judge it. Calls that make a thread are counted by bindings/c/tests/refusing.c.
 """
 import os
 import resource

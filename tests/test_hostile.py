@@ -399,6 +399,11 @@ def read_in_order(words, names):
     return inputs * 4 if words.startswith("window ") else inputs
 
 
+def failed(name, why):
+    """What comes of a text that is not read."""
+    return Outcome(3, b"", f"file {name}\n{name}: {why}\n".encode())
+
+
 def refused_in_turn(case):
     """What is wrong with a command where each call fails in turn: for each try what went wrong, or None."""
     folder, words, put_in = case
@@ -416,7 +421,7 @@ def refused_in_turn(case):
         tries.append(None if is_well else f"{words} of {folder} with {refusing}: {found}, and refused {runner.counts[-1]}")
 
     def is_failed_output(found):
-        return found.status == 3 and plain.output.startswith(found.output) and found.errors == b"output\n"
+        return found.status == 3 and plain.output.startswith(found.output) and found.errors.startswith(b"output\nstandard output: ") and found.errors.count(b"\n") == 2
 
     def is_closed_output(found):
         return found.status == plain.status and plain.output.startswith(found.output) and found.errors == plain.errors
@@ -436,10 +441,12 @@ def refused_in_turn(case):
         same(f"memory {n} 9999999 memory", starved, *[untold] * is_told_beside)
     inputs = read_in_order(words, names)
     shared = inputs == ["-", "-"]
+    # (of a recording it is not told why)
+    not_whole = "the text was not read to its end" if words.startswith("window ") else None
     for n in range(1, reads + 1):
         # Each input is read until it ends: by two reads.
-        failed = Outcome(3, b"", f"file {inputs[0] if shared else inputs[(n - 1) // 2]}\n".encode())
-        same(f"read {n} {n} {errno.EIO}", failed)
+        name = inputs[0] if shared else inputs[(n - 1) // 2]
+        same(f"read {n} {n} {errno.EIO}", failed(name, not_whole or "input/output error"))
         same(f"read {n} {n} {errno.EINTR}", plain)
         same(f"read {n} {n} {errno.ENOMEM}", starved)
     if words.startswith("window ") and plain.status == 0:
@@ -448,9 +455,9 @@ def refused_in_turn(case):
         for n in range(3, reads + 1, 2):
             same(f"read {n} {n} none", changed)
     for n in range(1, opens + 1 if plain.status < 2 else 1):
-        failed = Outcome(3, b"", f"file {[it for it in inputs if it != '-'][n - 1]}\n".encode())
-        same(f"open {n} {n} {errno.EACCES}", failed)
-        same(f"open {n} {n} {errno.EMFILE}", failed)
+        name = [it for it in inputs if it != "-"][n - 1]
+        same(f"open {n} {n} {errno.EACCES}", failed(name, "permission denied"))
+        same(f"open {n} {n} {errno.EMFILE}", failed(name, "too many open files"))
         same(f"open {n} {n} {errno.ENOMEM}", starved)
     for n in range(1, writes + 1):
         same(f"write {n} {n} {errno.EINTR}", plain)
@@ -465,7 +472,7 @@ def refused_in_turn(case):
     if reads:
         same("read 1 9999999 short", plain)
         # (an interrupted read counts, so that it is not made for ever)
-        same(f"read 1 9999999 {errno.EINTR}", Outcome(3, b"", f"file {inputs[0]}\n".encode()))
+        same(f"read 1 9999999 {errno.EINTR}", failed(inputs[0], not_whole or "the text comes in too many pieces"))
     if writes:
         same("write 1 9999999 short", plain)
     return tries
@@ -575,26 +582,29 @@ def redirected(program, words, how):
 
 
 # Words, with the name of the input that is not there, no file, or a standard input that cannot be read.
+NO_FILE, FOLDER = "no such file or directory", "it is a directory"
+
+# Words of which a text is not read, the name that is told, and why, where it is not the standard input that fails.
 UNREAD = (
-    ("audit -", "-"),
-    ("check - certificate", "-"),
-    ("check session -", "-"),
-    ("steps - -", "-"),
-    ("", "-"),
-    ("certify missing", "missing"),
-    ("check session ''", ""),
-    ("audit .", "."),
-    ("check . certificate", "."),
-    ("check session .", "."),
-    ("replay session .", "."),
-    ("steps script .", "."),
-    ("window - 0 1", f"-\n-{NOT_THE_SAME.decode().strip()}"),
-    ("window . 0 1", "."),
-    ("window missing 0 1", "missing"),
-    ("explain --lines . session", "."),
-    ("audit session/x", "session/x"),
-    (f"audit {'x' * 5000}", "x" * 5000),
-    ("audit 'a b\nc'", '"a b\\u000ac"'),
+    ("audit -", "-", None),
+    ("check - certificate", "-", None),
+    ("check session -", "-", None),
+    ("steps - -", "-", None),
+    ("", "-", None),
+    ("certify missing", "missing", NO_FILE),
+    ("check session ''", "", NO_FILE),
+    ("audit .", ".", FOLDER),
+    ("check . certificate", ".", FOLDER),
+    ("check session .", ".", FOLDER),
+    ("replay session .", ".", FOLDER),
+    ("steps script .", ".", FOLDER),
+    ("window - 0 1", "-", NOT_THE_SAME.decode().strip().removeprefix(": ")),
+    ("window . 0 1", ".", FOLDER),
+    ("window missing 0 1", "missing", NO_FILE),
+    ("explain --lines . session", ".", FOLDER),
+    ("audit session/x", "session/x", "a part of its path is not a directory"),
+    (f"audit {'x' * 5000}", "x" * 5000, "its name is too long"),
+    ("audit 'a b\nc'", '"a b\\u000ac"', NO_FILE),
 )
 NO_COMMANDS = (
     "audit",
@@ -623,18 +633,22 @@ WRITING = (
 )
 
 
+# What is told of a stream that is closed, or open for the other way alone.
+CLOSED = "it is closed, or not open for this"
+
+
 def streams(program):
     """Words, redirections of a shell, and what has to come of them."""
     for words in WRITING:
-        for how in (">&-", "> /dev/full", "1< /dev/null"):
-            yield words, how, (3, b"", b"output\n")
+        for how, why in ((">&-", CLOSED), ("> /dev/full", "no space left on the device"), ("1< /dev/null", CLOSED)):
+            yield words, how, (3, b"", f"output\nstandard output: {why}\n".encode())
         for how in ("> /dev/full 2> /dev/full", "<&- >&- 2>&-"):
             yield words, how, (3, b"", b"")
         for how in ("<&-", "2>&-"):
             yield words, how, redirected(program, words, "")
-    for words, name in UNREAD:
-        for how in ("<&-", "< .", "0> /dev/null"):
-            yield words, how, (3, b"", f"file {name}\n".encode())
+    for words, name, cause in UNREAD:
+        for how, why in (("<&-", CLOSED), ("< .", FOLDER), ("0> /dev/null", CLOSED)):
+            yield words, how, (3, b"", f"file {name}\n{name}: {cause or why}\n".encode())
         for how in ("<&- 2>&-", "< . 2> /dev/full"):
             yield words, how, (3, b"", b"")
     for words in NO_COMMANDS:
@@ -815,7 +829,7 @@ def pool(program, room, refusing):
         yield made
 
 
-@pytest.mark.cases(15000)
+@pytest.mark.cases(13300)
 def test_refused(program, room, pool, is_all):
     """Each growth of memory, open, read and write is refused in turn."""
     for found in pool.map(refused_in_turn, [*SHOWN, *(larger_session(program, f"{room}/larger") if is_all else [])]):

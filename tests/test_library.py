@@ -1,7 +1,7 @@
 """Tests the library for C, the Python package over it, and what is installed.
 
 Every example of `check`, `replay`, `certify`, `audit`, `explain` and `draw` has to get the program's answer, and of the session
-of each example of `audit` so have all faults, pages and lines: from C, where each allocation fails in turn, the room is of each
+of each example of `audit` so have all faults, pages and lines, and all questions at once: from C, where each allocation fails in turn, the room is of each
 length, four threads call at once and the memory after texts and room may not be touched; and from Python. The header's numbers,
 its struct and its calls are compared with the crate's, and so are Python's and Rust's. Only the header's calls may be visible, and
 the man page has each of them. No call takes more of the stack and of memory than docs/EMBEDDING.md says. The examples for C, Python and Rust are built and run against an installation, and a test of sessions
@@ -25,9 +25,13 @@ from session_topics import topics_of
 TOP = os.path.dirname(os.path.dirname(os.path.abspath(__file__)))
 OUT = f"{TOP}/crates/postcopy_c/out"
 COMMANDS = {"check": 2, "replay": 2, "certify": 1, "audit": 1, "explain": 1, "draw": 1}
-C_TYPES = {"u32": "uint32_t", "usize": "size_t", "PostcopyAnswer": "postcopy_answer", "PostcopyRefusal": "postcopy_refusal"}
-# The kinds of texts that are asked why they are refused, as c/tests/embedding.c names them, and which text of a command each is.
+C_TYPES = {"u32": "uint32_t", "usize": "size_t", "PostcopyAnswer": "postcopy_answer", "PostcopyRefusal": "postcopy_refusal",
+           "PostcopyQuestion": "postcopy_question"}
+C_SLICES = {"&[u8]": "const uint8_t", "&mut [u8]": "uint8_t", "&[PostcopyQuestion]": "const postcopy_question", "&mut [usize]": "size_t"}
+# The kinds of texts that are asked why they are refused, as bindings/c/tests/embedding.c names them, and which text of a command each is.
 WHY = {"session": ("SESSION_TEXT", 1), "certificate": ("CERT_TEXT", 2), "order": ("RUNS_TEXT", 2)}
+# C asks all questions of one in so many of the sessions that are audited: it asks them with rooms of thousands of lengths.
+EVERY = 16
 STRICT = ["-std=c11", "-Wall", "-Wextra", "-Werror", "-O2"]
 WRAPPED = "-Wl,--wrap=malloc,--wrap=realloc,--wrap=free"
 
@@ -78,9 +82,13 @@ def of_crate():
     kinds = named(re.findall(r"^\w+ \(.*?\b(?:verdict|report|outcome)\.(\w+).* = numbers (\d+) ", table, re.M))
     kinds["NO_MEMORY"] = re.search(r"^no_memory = numbers (\d+) ", table, re.M)[1]
     kinds["READ"] = re.search(r"^read_number = (\d+)$", read("crates/postcopy_c/specs/Refusals.antt"), re.M)[1]
+    questions = read("crates/postcopy_c/specs/Questions.antt")
+    kinds["NO_QUESTION"] = re.search(r"^no_question = numbers (\d+) ", questions, re.M)[1]
+    asks = re.findall(r"^  pub (\w+) : question.asks ≡ (\d+) →", questions, re.M)
     kinds["INCOMPLETE"] = re.search(r" lacks : .* ≡ numbers (\d+) ", read("crates/postcopy_c/specs/Showings.antt"))[1]
     reasons = named(re.findall(r"^(?:shape|page)_number \w+\.(\w+) = (\d+)$", table, re.M))
-    fields = [fields_of(*it) for it in (("PostcopyAnswer", "answer"), ("PostcopyRefusal", "refusals"))]
+    structs = (("PostcopyAnswer", "answer"), ("PostcopyRefusal", "refusals"), ("PostcopyQuestion", "asking"))
+    fields = [fields_of(*it) for it in structs]
     calls = []
     exports = r'#\[unsafe\(no_mangle\)\]\npub extern "C" fn (\w+)\((.*?)\) -> (\w+)'
     for name, given, answer in re.findall(exports, read("crates/postcopy_c/src/lib.rt"), re.S):
@@ -89,10 +97,9 @@ def of_crate():
             if kind in C_TYPES:
                 words.append(f"{C_TYPES[kind]} {word}")
             elif kind != "Global":
-                is_room = {"&[u8]": False, "&mut [u8]": True}[kind]
-                words += [f"{'' if is_room else 'const '}uint8_t *{word}", f"size_t {word}_len"]
+                words += [f"{C_SLICES[kind]} *{word}", f"size_t {word}_len"]
         calls.append(f"{C_TYPES[answer]} {name}({', '.join(words) or 'void'});")
-    return numbers(kinds), numbers(reasons), fields, sorted(calls)
+    return numbers(kinds), numbers(reasons), fields, sorted(calls), numbers(named(asks))
 
 
 def fields_of(struct, module):
@@ -112,13 +119,15 @@ def numbers(found):
 
 def of_header():
     """The same of the header."""
-    text = re.sub(r"/\*.*?\*/", "", read("c/postcopy.h"), flags=re.S)
+    text = re.sub(r"/\*.*?\*/", "", read("bindings/c/postcopy.h"), flags=re.S)
     reasons = dict(re.findall(r"POSTCOPY_REASON_(\w+) = (\d+)", text))
-    kinds = dict(re.findall(r"POSTCOPY_(?!REASON_)(\w+) = (\d+)", text))
-    structs = [re.search(rf"typedef struct \{{([^}}]*)\}} {it};", text)[1] for it in ("postcopy_answer", "postcopy_refusal")]
+    asks = dict(re.findall(r"POSTCOPY_ASKS_(\w+) = (\d+)", text))
+    kinds = dict(re.findall(r"POSTCOPY_(?!REASON_|ASKS_)(\w+) = (\d+)", text))
+    names = ("postcopy_answer", "postcopy_refusal", "postcopy_question")
+    structs = [re.search(rf"typedef struct \{{([^}}]*)\}} {it};", text)[1] for it in names]
     fields = [[(name, kind) for kind, name in re.findall(r"(\w+) (\w+);", it)] for it in structs]
     calls = re.findall(r"^\w+ postcopy_\w+\([^)]*\);", text, re.M)
-    return numbers(kinds), numbers(reasons), fields, sorted(re.sub(r"\s+", " ", it) for it in calls)
+    return numbers(kinds), numbers(reasons), fields, sorted(re.sub(r"\s+", " ", it) for it in calls), numbers(asks)
 
 
 def of_man_page():
@@ -129,14 +138,15 @@ def of_man_page():
 
 def compare_languages(postcopy, program):
     crate, header = of_crate(), of_header()
-    for what, found, wanted in zip(("kinds", "reasons", "structs", "calls"), header, crate):
+    for what, found, wanted in zip(("kinds", "reasons", "structs", "calls", "questions"), header, crate):
         same(f"the header's {what}", found, wanted)
     same("Python's kinds", {it.name: it.value for it in postcopy.Kind}, crate[0])
+    same("Python's questions", {it.name: it.value for it in postcopy.Asks}, crate[4])
     same("Python's reasons", {it.name: it.value for it in postcopy.Reason}, crate[1])
     c_type = {"c_uint32": "uint32_t", "c_size_t": "size_t", "c_uint": "uint32_t", "c_ulong": "size_t"}
-    structs = [[(name, c_type[kind.__name__]) for name, kind in it._fields_] for it in (postcopy._Answer, postcopy._Refusal)]
+    structs = [[(name, c_type[kind.__name__]) for name, kind in it._fields_] for it in (postcopy._Answer, postcopy._Refusal, postcopy._Question)]
     same("Python's structs", structs, crate[2])
-    rust = re.search(r"struct Answer \{(.*?)\}", read("rust/src/main.rs"), re.S)[1]
+    rust = re.search(r"struct Answer \{(.*?)\}", read("bindings/rust/src/main.rs"), re.S)[1]
     same("Rust's struct", [(name, C_TYPES[kind]) for name, kind in re.findall(r"(\w+): (\w+),", rust)], crate[2][0])
     same("the calls of the man page", of_man_page(), sorted(it.replace(" ", "") for it in header[3]))
     version = run(program, "--version").decode().split()[1]
@@ -174,11 +184,12 @@ def examples(folder):
 def run_from_c(found, room):
     """The answers to the examples, and to empty texts, from C: each one's kind, line, reason and text."""
     test = f"{room}/embedding"
-    run("cc", *STRICT, f"-I{TOP}/c", "-o", test, f"{TOP}/c/tests/embedding.c", f"{OUT}/libpostcopy.a", WRAPPED, "-pthread")
+    run("cc", *STRICT, f"-I{TOP}/bindings/c", "-o", test, f"{TOP}/bindings/c/tests/embedding.c", f"{OUT}/libpostcopy.a", WRAPPED, "-pthread")
     lines = [" ".join(words) for _, words, _, _ in found] + list(EMPTY) + [f"{it} {name}" for it, name in asked(found)]
     lines += [it.line for it in topics(found)]
+    lines += [f"{command} {name} {number}" for name, number in several(found)[::EVERY] for command in ("answers", "unknown")]
     ran = subprocess.run([test], input="\n".join(lines).encode() + b"\n", stdout=subprocess.PIPE)
-    count(ran.returncode == 0, f"c/tests/embedding.c ended with status {ran.returncode}")
+    count(ran.returncode == 0, f"bindings/c/tests/embedding.c ended with status {ran.returncode}")
     said = ran.stdout
     while said:
         head, _, said = said.partition(b"\n")
@@ -197,6 +208,36 @@ def asked(found):
 def topics(found):
     """What is asked besides, of the session of each example of `audit`."""
     return [it for _, words, _, _ in found if words[0] == "audit" for it in topics_of(words[1])]
+
+
+def several(found):
+    """The sessions that are asked all questions at once, each with the number of a page and of a line."""
+    return [(words[1], place % 20) for place, (_, words, _, _) in enumerate(found) if words[0] == "audit"]
+
+
+def compare_several(postcopy, program, found, from_c):
+    """The answers to all questions at once, from C and from Python: those of the functions that take one, and the program's objects."""
+    same("the answers to several questions from C", len(from_c), 2 * len(several(found)[::EVERY]))
+    for place, (name, number) in enumerate(several(found)):
+        told = postcopy.answers(name, *[(it, number) if it.name.endswith(("_PAGE", "_LINE")) else it for it in postcopy.Asks])
+        singly = [getattr(postcopy, it)(name) for it in ("audit", "certify", "audit_all", "missing", "missing_pages", "explain")]
+        singly += [postcopy.explain(name, page=number), postcopy.explain(name, line=number), postcopy.draw(name), postcopy.draw(name, page=number)]
+        same(f"{name}, all questions about {number}", told[:-3], singly)
+        for answer, words in zip(told[-3:], (["audit"], ["audit", "--all"], ["explain"])):
+            ran = subprocess.run([program, *words, "--format", "json", name], stdin=subprocess.DEVNULL, stdout=subprocess.PIPE, stderr=subprocess.DEVNULL)
+            same(f"{name}, the object of {words} among all questions", answer.text, ran.stdout)
+        if place % EVERY == 0:
+            of_c, unknown_of_c = from_c[2 * place // EVERY : 2 * place // EVERY + 2]
+            texts = b"".join(it.text for it in told)
+            same(f"{name}, all questions from C", of_c, (told[0].kind, told[0].line or 0, told[0].reason or 0, texts))
+            same(f"{name}, one that is none from C", unknown_of_c, (postcopy.Kind.NO_QUESTION, 0, 0, b""))
+    same("no question", postcopy.answers(name), [])
+    for question in (0, 14, (postcopy.Asks.DRAW_PAGE, -1), (postcopy.Asks.EXPLAIN_LINE, 1 << 32)):
+        try:
+            postcopy.answers(name, question)
+            count(False, f"{question} is a question")
+        except ValueError:
+            count(True, "")
 
 
 def compare_topics(postcopy, program, found, from_c):
@@ -328,7 +369,7 @@ def compare_texts(postcopy):
     pages = "".join(f"page {page} none\n" for page in range(65536))
     wanted = f"postcopy-certificate 1\npages 65536\n{pages}runs 0\nend\n".encode()
     same("the certificate of the greatest machine", postcopy.certify(GREATEST).text == wanted, True)
-    said = run(sys.executable, "-B", "-c", SHORT_OF_MEMORY, env={**os.environ, "PYTHONPATH": f"{TOP}/python"}, input=GREATEST)
+    said = run(sys.executable, "-B", "-c", SHORT_OF_MEMORY, env={**os.environ, "PYTHONPATH": f"{TOP}/bindings/python"}, input=GREATEST)
     same("a call short of memory, and the next", said, b"OutOfMemory\nclean\n")
 
 
@@ -386,7 +427,7 @@ def tests_of_examples(postcopy, prefix, room):
     for how, more in (("static", []), ("shared", [f"-Wl,-rpath,{prefix}/lib"])):
         libs = [f"{prefix}/lib/libpostcopy.a"] if how == "static" else [*pkg_config(prefix, "Libs"), *more]
         for name in ("check", "audit"):
-            words = [*STRICT, *pkg_config(prefix, "Cflags"), "-o", f"{room}/{name}-{how}", f"{TOP}/c/examples/{name}.c"]
+            words = [*STRICT, *pkg_config(prefix, "Cflags"), "-o", f"{room}/{name}-{how}", f"{TOP}/bindings/c/examples/{name}.c"]
             run("cc", *words, *libs)
         programs[f"C, {how}"] = f"{room}/check-{how}"
         for folder in ("handover", "stale-page", "leading-zero", "wrong-shape"):
@@ -402,7 +443,7 @@ def tests_of_examples(postcopy, prefix, room):
         leave_out("the header in C++ (there is no c++)")
     if shutil.which("cargo"):
         # (a copy, since cargo writes beside what it builds)
-        shutil.copytree(f"{TOP}/rust", f"{room}/rust", ignore=shutil.ignore_patterns("target", "Cargo.lock"))
+        shutil.copytree(f"{TOP}/bindings/rust", f"{room}/rust", ignore=shutil.ignore_patterns("target", "Cargo.lock"))
         how = {"CARGO_TARGET_DIR": f"{room}/cargo", "POSTCOPY_LIB_DIR": f"{prefix}/lib", "CARGO_NET_OFFLINE": "true"}
         run("cargo", "build", "--quiet", "--release", cwd=f"{room}/rust", env={**os.environ, **how})
         programs["Rust"] = f"{room}/cargo/release/postcopy-example"
@@ -437,9 +478,9 @@ int main(void) {
     return !is_well;
 }
 """)
-    run("cc", *STRICT, f"-I{TOP}/c", "-o", f"{room}/page", f"{room}/page.c", f"{OUT}/libpostcopy.a")
+    run("cc", *STRICT, f"-I{TOP}/bindings/c", "-o", f"{room}/page", f"{room}/page.c", f"{OUT}/libpostcopy.a")
     same("the C of docs/EMBEDDING.md", subprocess.run([f"{room}/page"]).returncode, 0)
-    env = {**os.environ, "PYTHONPATH": f"{TOP}/python"}
+    env = {**os.environ, "PYTHONPATH": f"{TOP}/bindings/python"}
     said = run(sys.executable, "-B", "-c", shown["python"][0], cwd=f"{TOP}/examples/handover", env=env)
     same("the Python of docs/EMBEDDING.md", said, b"clean\nyes\n")
     session = "".join(shown["pycon"])
@@ -466,16 +507,16 @@ def tests_of_pytest(room, test, failure, env):
 
 def tests_of_wheel(room):
     """The example for Python, over a checkout and over the wheel."""
-    wheel = run(sys.executable, f"{TOP}/python/wheel_of_library.py", f"{room}/wheels").decode().strip()
+    wheel = run(sys.executable, f"{TOP}/bindings/python/wheel_of_library.py", f"{room}/wheels").decode().strip()
     run(sys.executable, "-c", "import sys, zipfile; zipfile.ZipFile(sys.argv[1]).extractall(sys.argv[2])", f"{room}/wheels/{wheel}", f"{room}/site")
     with zipfile.ZipFile(f"{room}/wheels/{wheel}") as made:
         names = made.namelist()
     record = read(f"{room}/site/{next(it for it in names if it.endswith('/RECORD'))}")
     same("the wheel's record", [it.split(",")[0] for it in record.splitlines()], names)
-    places = {"checkout": f"{TOP}/python", "wheel": f"{room}/site"}
+    places = {"checkout": f"{TOP}/bindings/python", "wheel": f"{room}/site"}
     if subprocess.run([sys.executable, "-m", "pip", "--version"], stdout=subprocess.DEVNULL, stderr=subprocess.DEVNULL).returncode == 0:
         words = ["-m", "pip", "install", "--quiet", "--no-index", "--no-deps", "--disable-pip-version-check"]
-        words += ["--target", f"{room}/installed", f"{TOP}/python"]
+        words += ["--target", f"{room}/installed", f"{TOP}/bindings/python"]
         run(sys.executable, *words, env={**os.environ, "PIP_ROOT_USER_ACTION": "ignore"})
         places["checkout, installed by pip"] = f"{room}/installed"
     else:
@@ -483,7 +524,7 @@ def tests_of_wheel(room):
     for name, place in places.items():
         env = {it: value for it, value in os.environ.items() if it != "POSTCOPY_LIBRARY"}
         for folder, status, wanted in (("handover", 0, "clean\nyes\n"), ("stale-page", 1, "faulty line 18 stale\n")):
-            words = [sys.executable, "-B", f"{TOP}/python/examples/check.py", f"{TOP}/examples/{folder}/session"]
+            words = [sys.executable, "-B", f"{TOP}/bindings/python/examples/check.py", f"{TOP}/examples/{folder}/session"]
             ran = subprocess.run(words, stdout=subprocess.PIPE, cwd=room, env={**env, "PYTHONPATH": place})
             same(f"the example for Python over a {name}, {folder}", (ran.stdout.decode(), ran.returncode), (wanted, status))
 
@@ -511,7 +552,7 @@ def prefix(library):
         yield installed(folder)
 
 
-@pytest.mark.cases(13)
+@pytest.mark.cases(15)
 def test_languages(postcopy, program):
     compare_languages(postcopy, program)
 
@@ -524,7 +565,9 @@ def test_from_c(postcopy, program, found, room):
     topics_at = refusals_at + len(asked(found))
     compare_answers(postcopy, found, from_c[:refusals_at])
     compare_refusals(postcopy, program, found, from_c[refusals_at:topics_at])
-    compare_topics(postcopy, program, found, from_c[topics_at:])
+    several_at = topics_at + len(topics(found))
+    compare_topics(postcopy, program, found, from_c[topics_at:several_at])
+    compare_several(postcopy, program, found, from_c[several_at:])
 
 
 @pytest.mark.cases(459)
@@ -546,7 +589,7 @@ def test_assertions(postcopy):
 @pytest.mark.cases(109)
 def test_claims(library, room):
     measuring = f"{room}/measuring"
-    run("cc", *STRICT, f"-I{TOP}/c", "-o", measuring, f"{TOP}/c/tests/measuring.c", f"{OUT}/libpostcopy.a", WRAPPED, "-pthread")
+    run("cc", *STRICT, f"-I{TOP}/bindings/c", "-o", measuring, f"{TOP}/bindings/c/tests/measuring.c", f"{OUT}/libpostcopy.a", WRAPPED, "-pthread")
     tests_of_claims(measuring, room, count)
 
 

@@ -152,12 +152,16 @@ def replayed(program, room):
             yield f"{what}, replay {' '.join(names)}", (ran.stdout, ran.stderr, ran.returncode), (wanted, told, 1)
 
 
+# What is told where the input's other end is closed with something unread in it.
+FAILED_INPUT = b"file -\n-: the connection was closed\n"
+
+
 def broken(program, room):
     """The same of inputs that fail, or of which a read is interrupted."""
     whole = session()
     write(room, "runs", merging())
     for count in BROKEN:
-        yield f"an input that fails after {count} bytes", failed_after(program, room, whole[:count]), (b"", b"file -\n", 3)
+        yield f"an input that fails after {count} bytes", failed_after(program, room, whole[:count]), (b"", FAILED_INPUT, 3)
     if not is_interrupted(room):
         leave_out("an input of which a read is interrupted, since none is interrupted here")
         return

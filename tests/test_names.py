@@ -81,7 +81,7 @@ def of_one(tests, name):
     tests.same(f"a refused session {told} here", (here.returncode, here.stderr.decode().startswith(f"{told}:7:5: found ")), (1, True))
     for words in (("audit",), ("explain",), ("draw",), ("steps", f"{TOP}/examples/lost-and-repeated/script")):
         gone = subprocess.run([tests.program, *words, f"{name}gone"], stdin=subprocess.DEVNULL, capture_output=True)
-        tests.same(f"{words[0]} of no file {told}", (gone.returncode, gone.stdout, gone.stderr.decode()), (3, b"", f"file {shown(f'{name}gone')}\n"))
+        tests.same(f"{words[0]} of no file {told}", (gone.returncode, gone.stdout, gone.stderr.decode()), (3, b"", f"file {shown(f'{name}gone')}\n{shown(f'{name}gone')}: no such file or directory\n"))
     tests.told(f"a certificate {told}", ("check", f"{TOP}/{MISFIT}/session", f"misfit/{name}"), 1, "page line 4\n", f"{shown(f'misfit/{name}')}:4: found ")
 
 

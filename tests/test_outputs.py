@@ -5,10 +5,11 @@ Over each folder of examples/ and tests/cases/, with a reader that is gone at th
 stand in scripts; and with answers that are longer than a pipe holds, whose reader takes some of them.
 """
 import os
+import select
 import subprocess
 
 import pytest
-from cases import right
+from cases import right, same
 
 TOP = os.path.dirname(os.path.dirname(os.path.realpath(__file__)))
 
@@ -107,8 +108,8 @@ def wrong_folder(program, folder):
         return f"{folder}: {gone} with no reader, and {plain} with one"
     with open("/dev/full", "wb") as full:
         found = ran(program, folder, full)
-    told = plain[1] if is_of_several(folder) else b""
-    wanted = (3, told + b"output\n") if plain[0] < 2 else plain
+    has_answer = plain[0] < 2 or is_of_several(folder)
+    wanted = (3, b"output\nstandard output: no space left on the device\n") if has_answer else plain
     return None if found == wanted else f"{folder}: {found} on a full disk, not {wanted}"
 
 
@@ -128,6 +129,21 @@ def wrong_taking(program, room, takes):
     errors = child.stderr.read()
     found = (child.wait(), len(taken), errors)
     return None if found == (0, takes, b"") else f"a reader that takes {takes} bytes: {found}"
+
+
+def answers_of_a_pipe(program, room):
+    """What comes of an audit of a session and a pipe, before the pipe has a text and after, and its status."""
+    os.mkfifo(f"{room}/pipe")
+    child = subprocess.Popen([program, "audit", "early", "none", "pipe"], cwd=room, stdin=subprocess.DEVNULL, stdout=subprocess.PIPE, stderr=subprocess.PIPE)
+    seen, _, _ = select.select([child.stdout], [], [], 60)
+    if not seen:
+        child.kill()
+        return (b"", *child.communicate(), child.returncode)
+    first = os.read(child.stdout.fileno(), 1000)
+    with open(f"{room}/pipe", "wb") as pipe:
+        pipe.write(LARGE)
+    rest, errors = child.communicate(timeout=60)
+    return first, rest, errors, child.returncode
 
 
 @pytest.fixture
@@ -150,3 +166,10 @@ def test_pipelines(program, texts):
         right(wrong_pipeline(program, texts, *pipeline))
     for takes in (0, 1, 70000):
         right(wrong_taking(program, texts, takes))
+
+
+@pytest.mark.cases(1)
+def test_one_by_one(program, texts):
+    """Of several sessions each is answered before the next is read, and one that is not there is told and left out."""
+    wanted = (b"early: faulty line 9 early\n", b"pipe: clean\n1 of 3 sessions are clean\n", b"file none\nnone: no such file or directory\n", 3)
+    same("an audit of a session, no session and a pipe", answers_of_a_pipe(program, texts), wanted)

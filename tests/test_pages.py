@@ -53,13 +53,13 @@ def run_commands(page, program):
     """Runs the commands of a page. Yields of each what is wrong, or None."""
     with tempfile.TemporaryDirectory() as work:
         os.symlink(program, f"{work}/postcopy")
-        for folder in ("c", "crates", "docs", "examples", "python", "recorders", "share", "tests", "tools"):
+        for folder in ("bindings", "crates", "docs", "examples", "recorders", "share", "tests", "tools"):
             if os.path.isdir(f"{TOP}/{folder}"):
                 os.symlink(f"{TOP}/{folder}", f"{work}/{folder}")
         for command, shown, script in commands_of(read(page)):
             if command.startswith(tuple(NOT_RUN)):
                 continue
-            file = re.fullmatch(r"(?:PYTHONPATH=python )?python3 (\w+\.py)", command)
+            file = re.fullmatch(r"(?:PYTHONPATH=bindings/python )?python3 (\w+\.py)", command)
             if file:
                 with open(f"{work}/{file[1]}", "w", encoding="utf-8") as opened:
                     opened.write(script)
@@ -90,7 +90,7 @@ def test_claims():
 
 
 def test_style():
-    for wrong in page_style.wrong({name: read(name) for name in (*names_of_pages(), "python/README.md")}):
+    for wrong in page_style.wrong({name: read(name) for name in (*names_of_pages(), "bindings/python/README.md")}):
         count(False, wrong)
 
 

@@ -112,7 +112,7 @@ class Recorders:
     def __init__(self, tests, room):
         self.tests, self.room = tests, room
         self.program = f"{room}/recording"
-        subprocess.run(["cc", *STRICT, "-o", self.program, f"{TOP}/c/tests/recording.c", f"{TOP}/c/postcopy_record.c"], check=True)
+        subprocess.run(["cc", *STRICT, "-o", self.program, f"{TOP}/bindings/c/tests/recording.c", f"{TOP}/bindings/c/postcopy_record.c"], check=True)
         self.made = 0
 
     def folder(self):
@@ -121,7 +121,7 @@ class Recorders:
 
     def run_c(self, *words, given=None, **more):
         ran = subprocess.run([self.program, *words], input=given, stdout=subprocess.PIPE, **more)
-        self.tests.same(f"c/tests/recording.c {words[0]}", ran.returncode, 0)
+        self.tests.same(f"bindings/c/tests/recording.c {words[0]}", ran.returncode, 0)
         return ran.stdout
 
     def run(self, known):
@@ -187,7 +187,7 @@ class Recorders:
             for _ in range(KILLS):
                 folder = self.folder()
                 os.makedirs(folder)
-                ran = subprocess.Popen([*start, folder, "3"], env={**os.environ, "PYTHONPATH": f"{TOP}/python"})
+                ran = subprocess.Popen([*start, folder, "3"], env={**os.environ, "PYTHONPATH": f"{TOP}/bindings/python"})
                 while not any(text.count(b"\n") > 10 for text in lines_of(folder).values()):
                     time.sleep(0.01)
                 time.sleep(chance.random() * 0.05)
@@ -245,7 +245,7 @@ class Recorders:
         words = ("import sys; from postcopy.recorder import LOST, Log; log, kept = Log(sys.argv[1], 'guest'), 0\n"
                  "while log.write(0, 0, 0, kept) == kept: kept += 1\n"
                  "print(kept, log.halt() == LOST, log.error.errno == 27)")
-        ran = subprocess.run([sys.executable, "-B", "-c", words, folder], stdout=subprocess.PIPE, preexec_fn=limit, env={**os.environ, "PYTHONPATH": f"{TOP}/python"})
+        ran = subprocess.run([sys.executable, "-B", "-c", words, folder], stdout=subprocess.PIPE, preexec_fn=limit, env={**os.environ, "PYTHONPATH": f"{TOP}/bindings/python"})
         kept, *said = ran.stdout.split()
         self.tests.same("a file that does not grow, in Python", said, [b"True", b"True"])
         self.of_full(folder, int(kept))
@@ -280,7 +280,7 @@ class Recorders:
         log.close()
         self.tests.same("a closed log", log.halt(), LOST)
         words = "import postcopy.recorded, postcopy.recorder, postcopy.records, postcopy.sessions"
-        env = {**os.environ, "PYTHONPATH": f"{TOP}/python", "POSTCOPY_LIBRARY": "/none"}
+        env = {**os.environ, "PYTHONPATH": f"{TOP}/bindings/python", "POSTCOPY_LIBRARY": "/none"}
         self.tests.same("the recorder with no library", subprocess.run([sys.executable, "-B", "-c", words], env=env).returncode, 0)
 
     def of_hashes(self):
@@ -295,13 +295,13 @@ class Recorders:
 
 
 class Migrations:
-    """The example c/examples/uffd.c."""
+    """The example bindings/c/examples/uffd.c."""
 
     def __init__(self, tests, room):
         self.tests, self.room, self.made = tests, room, 0
         self.program = f"{room}/uffd"
-        sources = [f"{TOP}/c/examples/uffd.c", f"{TOP}/c/examples/uffd_guest.c", f"{TOP}/c/postcopy_record.c"]
-        subprocess.run(["cc", *[it for it in STRICT if it != "-Wpedantic"], f"-I{TOP}/c", "-o", self.program, *sources], check=True)
+        sources = [f"{TOP}/bindings/c/examples/uffd.c", f"{TOP}/bindings/c/examples/uffd_guest.c", f"{TOP}/bindings/c/postcopy_record.c"]
+        subprocess.run(["cc", *[it for it in STRICT if it != "-Wpedantic"], f"-I{TOP}/bindings/c", "-o", self.program, *sources], check=True)
 
     def migrated(self, *words, kill=None):
         """A migration's status, its session, and what is said of it. Some of its processes may be killed meanwhile: so long

@@ -214,7 +214,7 @@ def test_skeleton(program, cc, room):
     page = read("docs/RECORDING.md")
     skeleton = re.search(r"```c\n(/\* smallest\.c: .*?)```", page, re.S)[1]
     assert skeleton.count("\n") <= 40
-    for folder in ("c", "python", "recorders"):
+    for folder in ("bindings", "recorders"):
         os.symlink(f"{TOP}/{folder}", f"{room}/{folder}")
     os.symlink(program, f"{room}/postcopy")
     (compiling, nothing, _), (judging, shown, _) = commands_of(page)[:2]
@@ -236,5 +236,5 @@ def test_skeleton(program, cc, room):
 def test_page(cc):
     """The further C that docs/RECORDING.md shows. Its other commands are run by test_pages.py."""
     shown, = re.findall(r"```c\n(static void place\(.*?)```", read("docs/RECORDING.md"), re.S)
-    words = [cc, "-std=c11", "-Wall", "-Wextra", "-Werror", "-Wno-unused-function", "-fsyntax-only", f"-I{TOP}/c", "-x", "c", "-"]
+    words = [cc, "-std=c11", "-Wall", "-Wextra", "-Werror", "-Wno-unused-function", "-fsyntax-only", f"-I{TOP}/bindings/c", "-x", "c", "-"]
     assert subprocess.run(words, input=PRELUDE + shown, encoding="ascii").returncode == 0

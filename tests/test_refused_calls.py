@@ -1,7 +1,7 @@
 """Refuses each growth of memory in turn to the library's calls, of which each is made again once it was refused.
 
 The calls are made by the program in tests/calls/refused_calls, over the texts of some examples, and their growths are refused by
-c/tests/refusing.c, which stands before the system's calls. Each growth is refused twice: with all later ones of its call, and
+bindings/c/tests/refusing.c, which stands before the system's calls. Each growth is refused twice: with all later ones of its call, and
 alone; of what threads judge, alone.
 Each time the call has to answer that there was no memory, and nothing else; what its contract says has to stay as it was; and
 once none is refused the call has to give its answer, on the value that the refusals left. Of a call that takes no memory

@@ -101,13 +101,13 @@ def test_version(prefix):
     number = "{:d}{:02d}{:02d}".format(*map(int, version.split(".")))
     library = ctypes.CDLL(f"{prefix}/lib/libpostcopy.so")
     package = "import postcopy; print(postcopy.__version__, postcopy.version())"
-    env = {**os.environ, "PYTHONPATH": f"{TOP}/python", "POSTCOPY_LIBRARY": f"{prefix}/lib/libpostcopy.so"}
+    env = {**os.environ, "PYTHONPATH": f"{TOP}/bindings/python", "POSTCOPY_LIBRARY": f"{prefix}/lib/libpostcopy.so"}
     told = {
         "the program": re.findall(r"^postcopy (.*)$", run(f"{prefix}/bin/postcopy", "--version"), re.M),
         "the words of the command line": re.findall(r'^const VERSION: &str = "(.*)";$', read("crates/command_words/src/building.rt"), re.M),
         "the package for Python, and its library": run(sys.executable, "-B", "-c", package, env=env).split(),
         "the pkg-config file": re.findall(r"^Version: (.*)$", read(f"{prefix}/lib/pkgconfig/postcopy.pc"), re.M),
-        "the example for Rust": re.findall(r'^version = "(.*)"$', read("rust/Cargo.toml"), re.M),
+        "the example for Rust": re.findall(r'^version = "(.*)"$', read("bindings/rust/Cargo.toml"), re.M),
         "the changelog": re.findall(r"^## (\d\S*) - \d{4}-\d\d-\d\d$", read("CHANGELOG.md"), re.M)[:1],
         "the page": re.findall(r'<p id="version">postcopy (.*)</p>', read(f"{prefix}/share/postcopy/postcopy.html")),
     }
@@ -115,7 +115,7 @@ def test_version(prefix):
         told[os.path.basename(page)] = re.findall(r'^\.TH \S+ [135] \d{4}-\d\d-\d\d "postcopy ([0-9.]+)" "', read(page), re.M)
     for place, found in told.items():
         same(f"the version that is told by {place}", set(found), {version})
-    same("the number of the library and of its header", [str(library.postcopy_version()), *re.findall(r"POSTCOPY_VERSION (\d+)", read("c/postcopy.h"))], [number] * 2)
+    same("the number of the library and of its header", [str(library.postcopy_version()), *re.findall(r"POSTCOPY_VERSION (\d+)", read("bindings/c/postcopy.h"))], [number] * 2)
     same("the soname", f"libpostcopy.so.{version.split('.')[0]}".encode() in read(f"{prefix}/lib/libpostcopy.so", "rb"), True)
 
 
@@ -168,7 +168,7 @@ def removed(prefix):
     open(f"{prefix}/new/share/mine", "w").close()
     said, status = ran(*remove, f"{prefix}/new")
     same("a removal around a file that somebody put there", (said, status, files_below(f"{prefix}/new")),
-         ("".join(f"tools/install: {it} stays, since it holds other files\n" for it in (f"{prefix}/new/share", f"{prefix}/new")), 0, ["share/mine"]))
+         ("".join(f"tools/install: kept {it}, which has other files\n" for it in (f"{prefix}/new/share", f"{prefix}/new")), 0, ["share/mine"]))
     for words in (("relative",), ("/a", "/b"), ("--uninstall", "/a", "/b"), ("--remove",)):
         same(f"tools/install {words}", ran(f"{TOP}/tools/install", *words)[1], 2)
 
@@ -312,11 +312,11 @@ def refusals(tree):
 
     with open(f"{tree}/more", "w") as file:
         file.write("more\n")
-    says("the tree differs from its commit")
+    says("there are uncommitted changes")
     os.remove(f"{tree}/more")
     git = ("git", "-C", tree, "-c", "user.name=T", "-c", "user.email=t@example.org", "commit", "-qam")
-    for name, old, new, why in (("VERSION", read("VERSION"), "9.9.9\n", "CHANGELOG.md says nothing of 9.9.9"),
-                                ("crates.txt", read("crates.txt"), read("crates.txt") + "\n", "of other sources than these")):
+    for name, old, new, why in (("VERSION", read("VERSION"), "9.9.9\n", "CHANGELOG.md has no section for 9.9.9"),
+                                ("crates.txt", read("crates.txt"), read("crates.txt") + "\n", "of other sources")):
         for text, message in ((new, "changed"), (old, "back")):
             with open(f"{tree}/{name}", "w") as file:
                 file.write(text)

@@ -20,7 +20,7 @@ SCRIPT = f"{TOP}/examples/migrated/script"
 # How a recording of one page begins.
 RECORDING = b"postcopy-session 1\npages 1\ncells 1\ninit 0\n"
 
-# Where c/tests/refusing.c tells how many calls there were.
+# Where bindings/c/tests/refusing.c tells how many calls there were.
 COUNTS = 99
 
 
@@ -138,7 +138,7 @@ def a_link(run):
         run.put("far/old", b"what was there\n")
     yield "the files behind links", sorted(os.listdir(f"{run.room}/far")), ["new", "old", "whole"]
     os.symlink("round", f"{run.room}/round")
-    yield "a link to itself", run(*steps_words("-o", "round")), (3, b"", b"output\n")
+    yield "a link to itself", run(*steps_words("-o", "round")), (3, b"", b"output\nround: its path has too many symbolic links\n")
 
 
 def two_writers(run):
@@ -185,7 +185,7 @@ def a_limit_on_files(run):
         signal.signal(signal.SIGXFSZ, signal.SIG_IGN)
         resource.setrlimit(resource.RLIMIT_FSIZE, (100, 100))
     run.put("old", b"as it was\n")
-    yield "a file that is too large", run(*steps_words("-o", "old"), preexec_fn=limit, restore_signals=False), (3, b"", b"output\n")
+    yield "a file that is too large", run(*steps_words("-o", "old"), preexec_fn=limit, restore_signals=False), (3, b"", b"output\nold: the file would be too large\n")
     yield "the file that stays", run.has("old"), b"as it was\n"
 
 
@@ -193,8 +193,9 @@ def lines_of_nothing(run):
     """Where the session goes nowhere, the file of its lines stays as it was."""
     run.put("recording", RECORDING + b"guest 0\nsource 0\nlink 0\npager 0\nend\n")
     run.put("lines", b"as it was\n")
-    for output in ("not-there/new", run.link("full")):
-        yield f"no session in {output}", run("window", "--lines", "lines", "-o", output, "recording", "0", "1"), (3, b"", b"output\n")
+    for output, why in (("not-there/new", "no such file or directory"), (run.link("full"), "no space left on the device")):
+        wanted = (3, b"", f"output\n{output}: {why}\n".encode())
+        yield f"no session in {output}", run("window", "--lines", "lines", "-o", output, "recording", "0", "1"), wanted
         yield f"the lines of no session in {output}", run.has("lines"), b"as it was\n"
 
 
@@ -209,7 +210,7 @@ def refused_memory(run):
             for name in names:
                 run.put(name, b"as it was\n")
             (status, output, errors), _ = run.refusing(f"memory {first} {last} memory", *words)
-            told = {0: b"", 3: b"output\n", 4: b"out of memory\n"}
+            told = {0: b"", 3: b"output\nstandard output: out of memory\n", 4: b"out of memory\n"}
             yield f"growths {first} to {last} of {words[0]}", (output, errors, [run.has(name) for name in names]), (b"", told.get(status), old if status else wanted)
             statuses.add(status)
         yield f"the statuses of {words[0]}", statuses >= {0, 4}, True
@@ -228,18 +229,20 @@ def a_refused_script(run):
 
 def no_text(run):
     run.put("kept", b"as it was\n")
-    yield "a script that is not there", run("migrate", "-o", "kept", "not-there"), (3, b"", b"file not-there\n")
+    yield "a script that is not there", run("migrate", "-o", "kept", "not-there"), (3, b"", b"file not-there\nnot-there: no such file or directory\n")
     yield "the file that stays where nothing was read", run.has("kept"), b"as it was\n"
 
 
 def no_place(run):
-    failed = (3, b"", b"output\n")
-    yield "a folder that is not there", run(*steps_words("-o", "not-there/new")), failed
+    def failed(name, why):
+        return (3, b"", f"output\n{name}: {why}\n".encode())
+
+    yield "a folder that is not there", run(*steps_words("-o", "not-there/new")), failed("not-there/new", "no such file or directory")
     os.mkdir(f"{run.room}/folder")
-    yield "a folder", run(*steps_words("-o", "folder")), failed
+    yield "a folder", run(*steps_words("-o", "folder")), failed("folder", "it is a directory")
     yield "the folder", os.listdir(f"{run.room}/folder"), []
-    yield "a full device", run(*steps_words("-o", run.link("full"))), failed
-    yield "no name", run(*steps_words("-o", "")), failed
+    yield "a full device", run(*steps_words("-o", run.link("full"))), failed("full", "no space left on the device")
+    yield "no name", run(*steps_words("-o", "")), failed("", "no such file or directory")
 
 
 def a_device(run):
@@ -260,10 +263,23 @@ def a_migration(run):
 
 
 def other_commands(run):
-    for words in (("audit", "-o", "new", "session"), ("check", "--output", "new", "session", "certificate")):
-        status, output, errors = run(*words)
-        yield f"{words}", (status, output, errors != b""), (2, b"", True)
-    yield "the file of other commands", run.has("new"), None
+    """A report goes to the file also where it is not that all is well; what is no certificate and no picture goes to standard output."""
+    clean, faulty = f"{TOP}/examples/handover", f"{TOP}/examples/early-access/session"
+    run.put("no-session", b"nothing\n")
+    for words in (("audit", f"{clean}/session"), ("audit", faulty), ("audit", f"{clean}/session", faulty), ("audit", "--format", "json", faulty), ("audit", "no-session"),
+                  ("explain", faulty), ("check", f"{clean}/session", f"{clean}/session"), ("replay", f"{clean}/session", "no-session"),
+                  ("certify", f"{clean}/session"), ("draw", f"{clean}/session")):
+        plain = run(*words)
+        yield f"{words} into a file", run(*words, "-o", "new"), (plain[0], b"", plain[2])
+        yield f"the file of {words}", run.has("new"), plain[1]
+        os.remove(f"{run.room}/new")
+    for words in (("certify", faulty), ("draw", "no-session")):
+        plain = run(*words)
+        yield f"{words} into no file", run(*words, "-o", "new"), plain
+        yield f"the status of {words}", plain[0], 1
+        yield f"no file of {words}", run.has("new"), None
+    yield "a session that is not there", run("audit", "-o", "new", "not-there"), (3, b"", b"file not-there\nnot-there: no such file or directory\n")
+    yield "no file of no session", run.has("new"), None
 
 
 ALL = (a_new_file, an_old_file, the_users_own, who_may_read, who_owns_it, a_link, two_writers, two_names, a_limit_on_files, lines_of_nothing, refused_memory,
@@ -271,7 +287,7 @@ ALL = (a_new_file, an_old_file, the_users_own, who_may_read, who_owns_it, a_link
 
 
 # How many cases each has at least.
-LEAST = {a_link: 14, two_writers: 62, two_names: 23, who_may_read: 21, the_users_own: 8, a_new_file: 11, refused_memory: 1294, a_device: 6}
+LEAST = {other_commands: 28, a_link: 14, two_writers: 62, two_names: 23, who_may_read: 21, the_users_own: 8, a_new_file: 11, refused_memory: 796, a_device: 6}
 
 
 @pytest.mark.parametrize("tested", [pytest.param(it, marks=pytest.mark.cases(LEAST.get(it, 1)), id=it.__name__) for it in ALL])

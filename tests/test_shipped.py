@@ -146,7 +146,7 @@ def tests_of_page(room):
     ask = lambda: run(f"{copy}/tools/ship", "--check", path=room.plain)
     first = digest()
     same("the digest of the page", first, digest_of_page(copy))
-    for it in ("web/page.js", "web/index.html", "web/examples", "c/postcopy.h", "tools/page", "examples/handover/certificate", SOURCE):
+    for it in ("bindings/web/page.js", "bindings/web/index.html", "bindings/web/examples", "bindings/c/postcopy.h", "tools/page", "examples/handover/certificate", SOURCE):
         held = read(f"{copy}/{it}")
         append(f"{copy}/{it}", b"\n")
         count(digest() != first, f"the digest of the page is of {it}")
@@ -154,9 +154,11 @@ def tests_of_page(room):
         ran = compare()
         same(f"a comparison with another {it}", (ran.status, b"the page is of other sources" in ran.out), (0, True))
         write(f"{copy}/{it}", held, 0o755)
-    for it in ("web/heap_test.c", "examples/handover/status", "README.md"):
+    for it in ("bindings/web/heap_test.c", "examples/handover/status", "README.md"):
         append(f"{copy}/{it}", b"\n")
         same(f"the digest of the page with another {it}", digest(), first)
+    same("a build of the page with no toolchain", run(sys.executable, f"{copy}/tools/page", "--build", path=room.plain),
+         Ran(1, b"", b"tools/page: the Rattle toolchain is not installed: there is no command rt\n"))
     append(f"{copy}/{PAGE}", b"x")
     ran = compare()
     same("a page that was built to other bytes", (ran.status, b"postcopy.html does not have the bytes" in ran.out), (1, True))
@@ -266,14 +268,14 @@ def tests_of_install(room):
             leave_out("the package for Python: no user but this one can run Python")
             return
         python = [interpreter, "-B"]
-        same("Python", run(*python, *script, *example, path=room.plain, user=NOBODY, PYTHONPATH=f"{copy}/python"), YES)
-        wheel = run(*python, f"{copy}/python/wheel_of_library.py", at, path=room.plain, user=NOBODY)
+        same("Python", run(*python, *script, *example, path=room.plain, user=NOBODY, PYTHONPATH=f"{copy}/bindings/python"), YES)
+        wheel = run(*python, f"{copy}/bindings/python/wheel_of_library.py", at, path=room.plain, user=NOBODY)
         same("a wheel", wheel.status, 0)
         with zipfile.ZipFile(f"{at}/{wheel.out.decode().strip()}") as made:
             same("the library in the wheel", hashlib.sha256(made.read("postcopy/libpostcopy.so")).hexdigest(), told["libpostcopy.so"])
     append(f"{copy}/{SOURCE}", b"// x\n")
     with read_only(copy):
-        ran = run(*python, f"{copy}/python/wheel_of_library.py", at, path=room.plain)
+        ran = run(*python, f"{copy}/bindings/python/wheel_of_library.py", at, path=room.plain)
         says("a wheel of other sources", ran, 1, "there is no shared library of these sources")
 
 
@@ -292,7 +294,7 @@ PARTS = {it.__name__.removeprefix("tests_of_"): it for it in (
     tests_of_ship, tests_of_digest, tests_of_check, tests_of_page, *shipped_launcher.TESTS, tests_of_comparison, tests_of_library, tests_of_install)}
 # How many cases each has at least.
 LEAST = {"ship": 29, "digest": 16, "check": 11, "page": 30, "answers": 37, "places": 53, "read_only": 22, "forty": 4, "changes": 19, "builds": 20,
-         "plants": 26, "old_times": 12, "limits": 2, "damage": 13, "mounts": 4, "git": 13, "comparison": 19, "library": 13, "install": 11}
+         "plants": 26, "old_times": 12, "limits": 2, "terminal": 4, "damage": 13, "mounts": 4, "git": 13, "comparison": 19, "library": 13, "install": 11}
 
 
 @pytest.mark.parametrize("part", [pytest.param(part, marks=pytest.mark.cases(LEAST.get(name, 1)), id=name) for name, part in PARTS.items()])

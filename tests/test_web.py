@@ -83,10 +83,10 @@ WAYS_OUT = (r"\b(?:fetch|XMLHttpRequest|WebSocket\w*|WebTransport|EventSource|RT
 
 
 def tests_in_c(room, name):
-    """Compiles a test of web/ and runs it with three seeds."""
+    """Compiles a test of bindings/web/ and runs it with three seeds."""
     test = f"{room}/{name}"
     words = ["-std=c11", "-Wall", "-Wextra", "-Werror", "-O1", "-g", "-fsanitize=address,undefined", "-fno-sanitize-recover=all"]
-    subprocess.run(["cc", *words, "-o", test, f"{TOP}/web/{name}.c"], check=True)
+    subprocess.run(["cc", *words, "-o", test, f"{TOP}/bindings/web/{name}.c"], check=True)
     for seed in (1, 2, 3):
         ran = subprocess.run([test, "100000", str(seed)], stdout=subprocess.PIPE, stderr=subprocess.STDOUT)
         same(f"{name}, seed {seed}: {ran.stdout.decode(errors='replace')}", ran.returncode, 0)
@@ -106,7 +106,7 @@ def linked(room, of=KNOWN, **parts):
 
 def postcopy_calls():
     """The calls of the header."""
-    return sorted(set(re.findall(r"^\w+ (postcopy_\w+)\(", read(f"{TOP}/c/postcopy.h", "r"), re.M)))
+    return sorted(set(re.findall(r"^\w+ (postcopy_\w+)\(", read(f"{TOP}/bindings/c/postcopy.h", "r"), re.M)))
 
 
 def tests_of_build(room):
@@ -437,13 +437,15 @@ def tests_of_text():
     data = json.loads(html.unescape(re.search(r'id="data">(.*?)</script>', page, re.S)[1]))
     for it in data:
         same(f"the example {it['name']}", it["session"].encode(), read(example(it["name"])[0]))
-    for name in glob.glob(f"{TOP}/web/*.js"):
+    for name in glob.glob(f"{TOP}/bindings/web/*.js"):
         same(f"the ways out of the page in {os.path.basename(name)}", re.findall(WAYS_OUT, read(name, "r"), re.M), [])
-    script = read(f"{TOP}/web/verdicts.js", "r")
+    script = read(f"{TOP}/bindings/web/verdicts.js", "r")
     shown = dict(re.findall(r"^  (\d+): \"(.*)\",$", script, re.M))
     same("the reasons that the page has words for", sorted(map(int, shown)), sorted(it.value for it in postcopy.Reason))
-    kinds = re.search(r"const KINDS = \[(.*?)\]", read(f"{TOP}/web/postcopy.js", "r"), re.S)[1]
+    kinds = re.search(r"const KINDS = \[(.*?)\]", read(f"{TOP}/bindings/web/postcopy.js", "r"), re.S)[1]
     same("the kinds by their numbers", re.findall(r'"(\w*)"', kinds), ["", *(it.name for it in sorted(postcopy.Kind))])
+    questions = re.search(r"const QUESTIONS = \[(.*?)\]", read(f"{TOP}/bindings/web/postcopy.js", "r"), re.S)[1]
+    same("the questions by their numbers", re.findall(r'"(\w*)"', questions), ["", *(it.name.lower() for it in sorted(postcopy.Asks) if not it.name.endswith("_OBJECT"))])
 
 
 @pytest.mark.cases(3)
@@ -458,7 +460,7 @@ def test_build(page, room):
     tests_of_build(room)
 
 
-@pytest.mark.cases(23)
+@pytest.mark.cases(24)
 def test_text(page):
     tests_of_text()
 

@@ -4,7 +4,7 @@ The model is window_model.py, which refuses nothing: the line at which a recordi
 recordings of made_recordings.py, each through several windows; texts with a change in some line, cut short, or with numbers at
 their limits; and recordings with more pages, and more records in a log, than a session has. Where a session has the right shape
 and an order, the window of all its pages has to be judged as it is. Where no record names what is not there,
-python/postcopy/sessions.py has to cut the same, and so has recorders/session of the files that recorders write. A recording of some
+bindings/python/postcopy/sessions.py has to cut the same, and so has recorders/session of the files that recorders write. A recording of some
 hundred megabytes is cut in memory of a small part of it.
 
 What `explain --lines` says has to be what `explain` says, with each number after the word `line` or `Line` told by the table.
@@ -149,7 +149,7 @@ def session_of_text(text):
 
 
 def cut_by_python(tests, rng, judged):
-    """python/postcopy cuts the same, window by window, where no record names what is not there."""
+    """bindings/python/postcopy cuts the same, window by window, where no record names what is not there."""
     for what, text in judged:
         session, pages = session_of_text(text), pages_of(text)
         size = rng.randint(1, pages)
@@ -208,8 +208,8 @@ def wrong_words(tests):
     both = ("-o", "kept", "--lines", "table")
     for words, wanted in (
         (("-", 0, 1), ("", f"file -\n-{NOT_THE_SAME}", 3)),
-        (("none", 0, 1), ("", "file none\n", 3)),
-        (("folder", 0, 1), ("", "file folder\n", 3)),
+        (("none", 0, 1), ("", "file none\nnone: no such file or directory\n", 3)),
+        (("folder", 0, 1), ("", "file folder\nfolder: it is a directory\n", 3)),
         (("recording", 4, 1), ("no-such-pages\n", "", 1)),
         (("recording", 0, 0), ("no-such-pages\n", "", 1)),
         (("cut", 0, 1), ("recording-text line 4\n", "", 1)),
@@ -224,8 +224,9 @@ def wrong_words(tests):
     tests.same("lines for a device", tests.run("window", "recording", 1, 2, "--lines", "/dev/null"), (told, "", 0))
     tests.same("a window into two files", tests.run("window", "recording", 1, 2, "-o", "kept", "--lines", "table"), ("", "", 0))
     tests.same("the two files", (tests.has("kept"), tests.has("table")), (told, lines_text(lines)))
-    for words in (("-o", "not-there/new"), ("--lines", "not-there/table"), ("-o", "folder"), ("--lines", "folder")):
-        tests.same(f"window {words}", tests.run("window", "recording", 1, 2, *words)[1:], ("output\n", 3))
+    for option, name, why in (("-o", "not-there/new", "no such file or directory"), ("--lines", "not-there/table", "no such file or directory"),
+                              ("-o", "folder", "it is a directory"), ("--lines", "folder", "it is a directory")):
+        tests.same(f"window {option} {name}", tests.run("window", "recording", 1, 2, option, name)[1:], (f"output\n{name}: {why}\n", 3))
     tests.same("what is left of files", [name for name in os.listdir(tests.room) if name.endswith(".part")], [])
 
 
@@ -268,8 +269,8 @@ def explained(tests, rng, whole):
     tests.put("table", "1\n2\n03\n")
     tests.same("a table and a session that are refused", tests.run("explain", "--lines", "table", "table")[::2], ("lines-text line 3\n", 1))
     explained_from_the_input(tests)
-    tests.same("a table that is not there", tests.run("explain", "--lines", "none", "session"), ("", "file none\n", 3))
-    tests.same("a session that is not there", tests.run("explain", "--lines", "table", "none"), ("", "file none\n", 3))
+    tests.same("a table that is not there", tests.run("explain", "--lines", "none", "session"), ("", "file none\nnone: no such file or directory\n", 3))
+    tests.same("a session that is not there", tests.run("explain", "--lines", "table", "none"), ("", "file none\nnone: no such file or directory\n", 3))
 
 
 def explained_from_the_input(tests):

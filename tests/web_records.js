@@ -2,7 +2,7 @@
 // is asked for besides the found one, as JSON, and pages; each line of the output is what was found.
 "use strict";
 const fs = require("fs");
-const { Records } = require("../web/records.js");
+const { Records } = require("../bindings/web/records.js");
 
 for (const line of fs.readFileSync(0, "utf8").split("\n")) {
   if (!line) continue;

@@ -66,7 +66,7 @@ def tests_of_windows(room, program):
     large, clean, knot = write(f"{room}/large", large_of("qemu-lost-write", 40_000)), write(f"{room}/clean", large_of("handover", 110_000)), write(f"{room}/knot", large_of("circle-of-receipts", 110_000))
     status, said, entries, _ = made(room, "--most", "1", "--windows", "2", "large", example("handover")[0], program=program)
     same("the status of a report with windows", status, 1)
-    same("what is said of it", said, f"postcopy-report: large has {os.path.getsize(large) / (1 << 20):.1f} MiB, and is not in the report whole\n")
+    same("what is said of it", said, f"postcopy-report: large has {os.path.getsize(large) / (1 << 20):.1f} MiB, so the report does not have all of it\n")
     faults = re.findall(r"^page (\d+) line (\d+) (\S+)$", words_of(program, "audit", "--all", large), re.M)
     first, second = sorted(((int(line), page, reason) for page, line, reason in faults))[:2]
     same("the entries of it", [it[0] for it in entries], [f"large, page {first[1]}", f"large, page {second[1]}", "large", example("handover")[0]])
@@ -90,7 +90,7 @@ def tests_of_refusals(room):
         ("a size that is none", ["--most", "0", session, "-o", "out.html"], 2, "1 or more"),
         ("a file that is not there", [session, "no\nthing", "-o", "out.html"], 3, '"no\\nthing": No such file'),
         ("a folder", [room, "-o", "out.html"], 3, "Is a directory"),
-        ("a page that is none", ["--page", session, session, "-o", "out.html"], 3, "is no page that takes sessions"),
+        ("a page that is none", ["--page", session, session, "-o", "out.html"], 3, "is not a page of postcopy for a report"),
         ("a place that is not there", [session, "-o", "no/out.html"], 3, "No such file"),
     ):
         write(f"{room}/out.html", "as it was")

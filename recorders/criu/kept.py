@@ -9,7 +9,7 @@ import os
 import sys
 
 HERE = os.path.dirname(os.path.abspath(__file__))
-sys.path[:0] = [HERE, f"{HERE}/../qemu", f"{HERE}/..", f"{HERE}/../../python"]
+sys.path[:0] = [HERE, f"{HERE}/../qemu", f"{HERE}/..", f"{HERE}/../../bindings/python"]
 from packing import pack, unpacked  # noqa: E402
 
 RECORDINGS = f"{HERE}/recordings"

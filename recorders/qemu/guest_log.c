@@ -198,7 +198,7 @@ static void target(uint64_t *machine, uint64_t ready)
         check(record, "target.accesses", number);
         if (record->kind == PLACED) {
             if (!record->value || record->value > placed || placements[record->value - 1].page != record->place)
-                fail("target.accesses tells of a placement that target.raw has not");
+                fail("target.accesses has a placement that target.raw does not have");
             put_in_place(placements + record->value - 1, contents, length);
         } else if (record->kind == RESUME) {
             if (!is_resumed)

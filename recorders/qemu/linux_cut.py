@@ -10,7 +10,7 @@ import struct
 import sys
 
 HERE = os.path.dirname(os.path.abspath(__file__))
-sys.path[:0] = [HERE, os.path.dirname(HERE), f"{HERE}/../../python"]
+sys.path[:0] = [HERE, os.path.dirname(HERE), f"{HERE}/../../bindings/python"]
 from dialect import Moments  # noqa: E402
 from kinds import plan_from_text  # noqa: E402
 from stream import PAGE, PAGE_BYTES, REQUEST, REQUEST_WITH_BLOCK, ZERO  # noqa: E402

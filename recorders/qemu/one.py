@@ -6,7 +6,7 @@ import os
 import sys
 
 HERE = os.path.dirname(os.path.realpath(__file__))
-sys.path[:0] = [HERE, f"{HERE}/..", f"{HERE}/../../python"]
+sys.path[:0] = [HERE, f"{HERE}/..", f"{HERE}/../../bindings/python"]
 import judge  # noqa: E402
 from kinds import plan_from_text  # noqa: E402
 from emulator import Emulator  # noqa: E402

@@ -1,4 +1,4 @@
--- What the source's book keeps.
+-- The invariant of the source's book.
 use Rattle.std.specs.Prelude.{◌≡◌, ℕ, ◌≤◌, Bool, true, false, List, length, Option, Some, slice_get}
 use Rattle.std.specs.List.{list_any}
 use Rattle.migration_types.specs.declared.records.SourceRec.{SourceRec}
@@ -11,8 +11,8 @@ use Rattle.balloon_ledger.specs.Released.{Marks, released, pages_below}
 use Rattle.bubbling.specs.Bubbling.{Bubbling, unsent as unsent_in}
 use Rattle.active_push.specs.SourcePart.{SourcePart, owes, unsent}
 
--- The log, the machine as the guest left it, the number of each page's `send`, the pages that are to be pushed, and the
--- released pages.
+-- The log, the machine as the guest left it, the number of each page's `send`, the pages to be pushed, and the released
+-- pages.
 pub record SourceKept : Type 0 where
   pub log : List SourceRec
   pub frames : Frames
@@ -23,7 +23,7 @@ pub record SourceKept : Type 0 where
   pub is_done : Bool
   pub released : List ℕ
 
--- what a book stands for in the events
+-- the part of the events that a book stands for
 abbrev pub part_of : SourceKept → SourcePart
 part_of b = record {
   geometry = b.frames.geometry;
@@ -36,13 +36,13 @@ part_of b = record {
   is_done = b.is_done;
 }
 
--- the page is owed, this is its contents, and the record of this number is its only `send`
+-- the page is owed, these are its contents, and the record of this number is its only `send`
 pub record IsOnlySend (b : SourcePart) (page number : ℕ) (contents : List ℕ) : Type 0 where
   pub owed : owes b page ≡ true
   pub contents_are : contents ≡ page_of b.geometry.cells b.memory page
   pub is_only : b.sent page ≡ Some number
 
--- a record says that the source was asked for something, or that it was told that all is placed
+-- whether a record says that the source was asked for something, or was told that all pages are placed
 abbrev pub is_ask : SourceRec → Bool
 is_ask (Ask up) = true
 is_ask _ = false
@@ -51,9 +51,9 @@ abbrev pub is_end : SourceRec → Bool
 is_end Done = true
 is_end _ = false
 
--- The log begins with the halt and the state and has room for each of its records. The pages that are sent are those
--- that have a `send`, each has one, and it carries what the frames have. The source was asked, and was told that all is
--- placed, just where the log says so.
+-- The log begins with the halt and the state, and has room for each of its records. The sent pages are those that have
+-- a `send`; each has one, and it carries what the frames have. The source was asked, and was told that all pages are
+-- placed, exactly when the log says so.
 pub record IsSourceLog (b : SourcePart) : Type 0 where
   pub some : 2 ≤ length b.log
   pub few : length b.log ≤ most_records
@@ -64,8 +64,8 @@ pub record IsSourceLog (b : SourcePart) : Type 0 where
   pub asked : b.was_asked ≡ list_any is_ask b.log
   pub done : b.is_done ≡ list_any is_end b.log
 
--- all is of one machine, the pages that are to be pushed are those that are not sent, and the list of the released pages is
--- the ledger's
+-- All parts are of one machine. The pages to be pushed are those that are not sent. The list of released pages is the
+-- ledger's.
 pub record IsSourceBook (b : SourceKept) : Type 0 where
   pub ledger : b.ledger.geometry ≡ b.frames.geometry
   pub bubbles : b.bubbles.geometry ≡ b.frames.geometry

@@ -12,8 +12,8 @@ use Rattle.bubbling.specs.Bubbling.{Ring, first_ring, in_turn, turned, faulted, 
 use Rattle.page_stream.specs.declared.Packet.{Packet}
 use Rattle.page_stream.specs.declared.Packet.TheVariants.{State as StatePacket, Page as PagePacket, Want as WantPacket, All as AllPacket}
 
--- The machine as the guest left it, the source's log, the number of each page's `send`, the pivots, and whether the
--- source was asked for anything, and told that all is there.
+-- The machine as the guest left it, the source's log, the number of each page's `send`, the pivots, whether the source
+-- was asked for anything, and whether it was told that all pages are placed.
 pub record SourcePart : Type 0 where
   pub geometry : Extent
   pub log : List SourceRec
@@ -36,7 +36,7 @@ silent b = record { book = b; packet = None }
 abbrev pub state_packet : ℕ → SourcePart → Packet
 state_packet number b = StatePacket number (pages_below b.geometry.pages b.ledger)
 
--- the book after the halt, at this record of the guest
+-- the book after the halt, which is this record of the guest
 abbrev pub halted_source : Extent → Memory → Pages → ℕ → ℕ → SourcePart
 halted_source geometry memory ledger most halt = record {
   geometry = geometry;
@@ -49,7 +49,7 @@ halted_source geometry memory ledger most halt = record {
   is_done = false;
 }
 
--- whether a page is owed: there is such a page, and it was not released at the halt
+-- whether a page is owed: the machine has it, and it was not released at the halt
 abbrev pub owes : SourcePart → ℕ → Bool
 owes b page = nat_lt page b.geometry.pages && not (b.ledger page)
 
@@ -57,7 +57,7 @@ owes b page = nat_lt page b.geometry.pages && not (b.ledger page)
 abbrev pub unsent : SourcePart → Pages
 unsent b page = owes b page && not (is_some (b.sent page))
 
--- whether one page goes before another: it is nearer to the pivot, or as near and of the greater number
+-- whether one page goes before another: it is nearer to the pivot, or as near with the greater number
 abbrev pub goes_before : ℕ → ℕ → ℕ → Bool
 goes_before pivot page other =
     nat_lt (distance pivot page) (distance pivot other) || ((distance pivot page == distance pivot other) && nat_lt other page)
@@ -82,7 +82,7 @@ sends page b = record {
   packet = Some (PagePacket (length b.log) page (page_of b.geometry.cells b.memory page));
 }
 
--- it is sent again, its `send` being this record
+-- a page is sent again, whose `send` is this record
 abbrev pub repeats : ℕ → ℕ → SourcePart → Offer
 repeats send page b = record {
   book = record b { log = b.log ++ Again send ∷ [] };

@@ -24,10 +24,10 @@ use std::marker::Model;
 /// The number of the record that sent the processor state.
 const STATE: u32 = 1;
 
-/// The machine as the guest left it, and the source's log of what it sends. The log begins with the halt and the state,
-/// and has at most 1,048,576 records. Each page is sent at most once by a `send`, which carries its contents, and no
-/// released page is; a page is still to be pushed where it is owed and not sent. Contracts see the book as the
-/// source's part of the events.
+/// The source's book: the machine as the guest left it, and the source's log of what it sends. The log begins with the
+/// halt and the state, and has at most 1,048,576 records. Each page is sent at most once by a `send`, which carries its
+/// contents, and no released page is sent. A page is still to be pushed if it is owed and not sent. Contracts see the
+/// book as the source's part of the events.
 #[derive(Drop)]
 pub struct SourceBook {
     alloc: Global,
@@ -39,7 +39,7 @@ pub struct SourceBook {
     bubbles: Bubbles,
     was_asked: bool,
     is_done: bool,
-    /// The released pages, as each packet with the processor state carries them.
+    /// The released pages, which each packet with the processor state carries.
     released: Shared<PageNo>,
 }
 
@@ -56,9 +56,9 @@ impl Model for SourceBook {
 impl SourceBook {
     ghost use Rattle.active_push.specs.Books.{part_of, is_end, IsSourceBook};
 
-    /// The book after the guest's halt, which is the guest's record of this number, and the packet with the processor
-    /// state and the released pages, which is to be offered. At most so many pivots, 1 to 16, are kept. Where memory is
-    /// refused, the frames and the ledger come back as they were.
+    /// Returns the book after the guest's halt, which is the guest's record of this number, and the packet with the
+    /// processor state and the released pages, which must be offered to the link. At most this many pivots, 1 to 16,
+    /// are kept. If memory runs out, the frames and the ledger come back as they were.
     pub fn halted(
         alloc: Global,
         store: Store,
@@ -95,10 +95,10 @@ impl SourceBook {
         Ok((book, packet))
     }
 
-    /// Sends the next page of bubbling: appends its `send`, and answers its packet, which is to be offered behind the
-    /// others. `None` where all owed pages are sent or the pager has them all, and then nothing changes. On an error
-    /// nothing changes; `LogFull` comes exactly where the log lacks room for the record, which is looked at before memory
-    /// is asked for.
+    /// Sends the next page of bubbling: appends its `send`, and returns its packet, which must be offered after the
+    /// others. Returns `None` if all owed pages are sent or the pager has them all, and then nothing changes. On an
+    /// error, nothing changes. The error is `LogFull` exactly when the log has no room for the record; this is checked
+    /// before memory is allocated.
     pub fn push(&mut self) -> Result<Option<Packet>, SourceFault>
         ensures ok { IfOk result (λ packet. record { book = part_of self.new; packet = packet } ≡ source_push (part_of self.old)) }
         ensures full { IsErrOf result SourceFault.LogFull → most_records < length (source_push (part_of self.old)).book.log }
@@ -128,7 +128,7 @@ impl SourceBook {
         Ok(Some(records::send(&mut self.log, &mut self.sent, page, contents)))
     }
 
-    /// Whether the log has room for what a push appends. Takes no memory.
+    /// Returns whether the log has room for what a push appends. Allocates no memory.
     pub fn look_to_push(&self) -> Result<(), SourceFault>
         ensures room { OnOk result (length (source_push (part_of self.now)).book.log ≤ most_records) }
         ensures full { OnErr result (most_records < length (source_push (part_of self.now)).book.log) }
@@ -139,12 +139,12 @@ impl SourceBook {
         look_for_room(&self.log, more)
     }
 
-    /// Takes a packet that the link's record of this number delivered up, and appends `ask`. A want of an owed page makes
-    /// the page a pivot and sends it: by a `send` for the first time, or by `again` of its `send`; its packet is to be
-    /// offered ahead of the others. A want of another page asks for nothing more. The first packet that says that all
-    /// is placed appends `done`, a later one nothing more. A packet of the source changes nothing. On an error nothing
-    /// changes; `LogFull` comes exactly where the log lacks room for the records, which is looked at before memory is
-    /// asked for.
+    /// Takes a packet that the link's record of this number delivered up, and appends `ask`. A want of an owed page
+    /// makes the page a pivot and sends it: by a `send` the first time, and then by `again` of its `send`. Its packet
+    /// must be offered ahead of the others. A want of another page sends nothing. The first packet that says that all
+    /// pages are placed appends `done`, and a later one nothing more. A packet of the source changes nothing. On an
+    /// error, nothing changes. The error is `LogFull` exactly when the log has no room for the records; this is checked
+    /// before memory is allocated.
     pub fn serve(
         &mut self,
         link_number: u32,
@@ -162,7 +162,7 @@ impl SourceBook {
         }
     }
 
-    /// Whether the log has room for what serving a packet appends, of which the link's record has this number. Takes no
+    /// Returns whether the log has room for what serving the packet with this record of the link appends. Allocates no
     /// memory.
     pub fn look_to_serve(&self, link_number: u32, packet: &Packet) -> Result<(), SourceFault>
         ensures room { OnOk result (length (source_serve link_number packet.now (part_of self.now)).book.log ≤ most_records) }
@@ -184,10 +184,10 @@ impl SourceBook {
         }
     }
 
-    /// While the source was asked for nothing, sends the processor state again: appends `again` of the state, and
-    /// answers its packet, which is to be offered behind the others. `None` afterwards, and then nothing changes. On an
-    /// error nothing changes; `LogFull` comes exactly where the log lacks room for the record, which is looked at before
-    /// memory is asked for.
+    /// If the source was not asked for anything yet, sends the processor state again: appends `again` of the state, and
+    /// returns its packet, which must be offered after the others. Later it returns `None`, and nothing changes. On an
+    /// error, nothing changes. The error is `LogFull` exactly when the log has no room for the record; this is checked
+    /// before memory is allocated.
     pub fn tick(&mut self) -> Result<Option<Packet>, SourceFault>
         ensures ok { IfOk result (λ packet. record { book = part_of self.new; packet = packet } ≡ source_tick (part_of self.old)) }
         ensures full { IsErrOf result SourceFault.LogFull → most_records < length (source_tick (part_of self.old)).book.log }
@@ -207,7 +207,7 @@ impl SourceBook {
         Ok(Some(Packet::State { number, released }))
     }
 
-    /// Whether the log has room for what a tick appends. Takes no memory.
+    /// Returns whether the log has room for what a tick appends. Allocates no memory.
     pub fn look_to_tick(&self) -> Result<(), SourceFault>
         ensures room { OnOk result (length (source_tick (part_of self.now)).book.log ≤ most_records) }
         ensures full { OnErr result (most_records < length (source_tick (part_of self.now)).book.log) }
@@ -258,7 +258,7 @@ impl SourceBook {
         Ok(Some(records::send(&mut self.log, &mut self.sent, page, contents)))
     }
 
-    /// Sends a wanted page again, its `send` being the record of this number.
+    /// Sends a wanted page again, whose `send` is the record of this number.
     fn send_again(
         &mut self,
         up: u32,
@@ -291,7 +291,7 @@ impl SourceBook {
         }))
     }
 
-    /// Takes the news that every owed page is placed.
+    /// Takes the packet that says that every owed page is placed.
     fn serve_all(&mut self, up: u32) -> Result<Option<Packet>, SourceFault>
         ensures ok { IfOk result (λ offered. record { book = part_of self.new; packet = offered } ≡ serves_all (asks up (part_of self.old))) }
         ensures full { IsErrOf result SourceFault.LogFull → most_records < length (serves_all (asks up (part_of self.old))).book.log }
@@ -311,7 +311,7 @@ impl SourceBook {
         Ok(None)
     }
 
-    /// Notes that the source was asked, and nothing more.
+    /// Notes that the source was asked, and nothing else.
     fn note_ask(&mut self, up: u32) -> Result<(), SourceFault>
         ensures ok { OnOk result (part_of self.new ≡ asks up (part_of self.old)) }
         ensures full { IsErrOf result SourceFault.LogFull → most_records < length self.old.log + 1 }
@@ -325,35 +325,35 @@ impl SourceBook {
         Ok(())
     }
 
-    /// Whether a page is owed: it is of the machine, and was not released at the halt.
+    /// Returns whether a page is owed: the machine has it, and it was not released at the halt.
     fn owes(&self, page: PageNo) -> bool
         ensures { result ≡ owes (part_of self.now) page }
     {
         page.number() < self.frames.geometry().pages() && !self.ledger.holds(page)
     }
 
-    /// Whether a push does nothing: all owed pages are sent, or the pager has them all.
+    /// Returns whether a push does nothing: all owed pages are sent, or the pager has them all.
     fn has_nothing_to_push(&self) -> bool
         ensures { MatchBool result (source_push (part_of self.now) ≡ silent (part_of self.now)) (HasNext (part_of self.now)) }
     {
         self.is_done || self.bubbles.left() == 0
     }
 
-    /// The source's log.
+    /// Returns the source's log.
     pub fn source_log(&self) -> &[SourceRec]
         ensures { result.now ≡ self.now.log }
     {
         &self.log
     }
 
-    /// Gives up the source's log.
+    /// Returns the source's log, and consumes the book.
     pub fn into_log(self) -> Vec<SourceRec>
         ensures { result.items ≡ self.log }
     {
         self.log
     }
 
-    /// The number of a page's `send`, or `None` where it was not sent.
+    /// Returns the number of a page's `send`, or `None` if it was not sent.
     pub fn sent(&self, page: PageNo) -> Option<u32>
         requires { page < self.now.frames.geometry.pages }
         ensures { result ≡ (part_of self.now).sent page }
@@ -361,7 +361,7 @@ impl SourceBook {
         self.sent.at(page)
     }
 
-    /// Whether the source was told that every owed page is placed, which is whether its log has a `done`.
+    /// Returns whether the source was told that every owed page is placed, so that its log has a `done`.
     pub fn is_done(&self) -> bool
         ensures told { result ≡ self.now.is_done }
         ensures log { result ≡ list_any is_end self.now.log }
@@ -370,16 +370,16 @@ impl SourceBook {
         self.is_done
     }
 
-    /// The machine's geometry.
+    /// Returns the machine's geometry.
     pub fn geometry(&self) -> Geometry
         ensures { result ≡ self.now.frames.geometry }
     {
         self.frames.geometry()
     }
 
-    /// Tells callers what every book keeps: its parts are of one machine; its log begins with the halt and the state,
+    /// States the invariant of every book. Its parts are of one machine. Its log begins with the halt and the state,
     /// has at most 1,048,576 records, and has one `send` of each page that is sent, which carries the page's contents,
-    /// and none of a released page; and the pages that are to be pushed are the owed ones that are not sent.
+    /// and none of a released page. The pages to be pushed are the owed ones that are not sent. Runs nothing.
     pub fn keeps_limits(&self)
         ensures { IsSourceBook self.now }
     {
@@ -387,19 +387,19 @@ impl SourceBook {
     }
 }
 
-/// What a book begins with, beside the machine.
+/// The parts that a book begins with, apart from the machine.
 #[derive(Drop)]
 struct Opening {
     log: Vec<SourceRec>,
     sent: Table<Option<u32>>,
     bubbles: Bubbles,
     released: Shared<PageNo>,
-    /// The same released pages, for the packet.
+    /// The released pages again, for the packet.
     packet: Shared<PageNo>,
 }
 
-/// The log with the halt and the state, no page sent, all that is owed to be pushed, and the released pages. An error:
-/// there is no memory for them.
+/// Returns the log with the halt and the state, no page sent, all that is owed to be pushed, and the released pages.
+/// Fails only if memory runs out.
 fn opened(
     alloc: Global,
     geometry: Geometry,

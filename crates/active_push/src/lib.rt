@@ -11,7 +11,7 @@ mod records;
 pub use book::SourceBook;
 pub use migration_events::EventFault as SourceFault;
 
-/// The page that is pushed is the next one of bubbling.
+/// A law: the page that is pushed is the next one of bubbling. Runs nothing.
 pub fn pushes_are_next()
     ensures { (pages pivot : ℕ) (set : Pages) → ((p : ℕ) → set p ≡ true → p < pages) → IsChoice pages pivot set }
 {}

@@ -11,7 +11,7 @@ use page_store::Table;
 use page_stream::Packet;
 use std::alloc::{AllocError, Global};
 
-/// Memory for so many records more.
+/// Makes room for this many more records.
 pub fn make_room(log: &mut Vec<SourceRec>, count: usize) -> Result<(), SourceFault>
     ensures items { log.new.items ≡ log.old.items }
     ensures room { OnOk result (vec_len log.new + count ≤ vec_capacity log.new) }
@@ -20,7 +20,8 @@ pub fn make_room(log: &mut Vec<SourceRec>, count: usize) -> Result<(), SourceFau
     log.reserve(count).map_err(|_| SourceFault::Memory)
 }
 
-/// Memory for the contents of a page that is not chosen yet. A single value needs none.
+/// Returns memory for the contents of a page that is not chosen yet. A single value needs none. Fails only if memory
+/// runs out.
 pub fn blank(alloc: Global, cells: usize) -> Result<Vec<u64>, AllocError>
     ensures { IfOk result (λ v. (cells ≡ 1) ⊎ (length v.items ≡ cells)) }
 {
@@ -30,7 +31,7 @@ pub fn blank(alloc: Global, cells: usize) -> Result<Vec<u64>, AllocError>
     vec![in alloc; 0; cells]
 }
 
-/// These values, in the memory that was made for them.
+/// Returns contents with these values, in memory that was allocated for them.
 pub fn filled(blank: Vec<u64>, values: &[u64]) -> Contents
     requires { (length values.now ≡ 1) ⊎ (length blank.items ≡ length values.now) }
     ensures { result ≡ values.now }
@@ -52,7 +53,7 @@ pub struct Copies {
     pub packet: Contents,
 }
 
-/// A page's contents twice. An error: there is no memory for it.
+/// Returns a page's contents twice. Fails only if memory runs out.
 pub fn copied_twice(alloc: Global, values: &[u64]) -> Result<Copies, AllocError>
     ensures record { IfOk result (λ c. c.record ≡ values.now) }
     ensures packet { IfOk result (λ c. c.packet ≡ values.now) }
@@ -62,8 +63,8 @@ pub fn copied_twice(alloc: Global, values: &[u64]) -> Result<Copies, AllocError>
     Ok(Copies { record, packet })
 }
 
-/// The contents that a record sends, once more, which are shared with it from then on; `None` where it is no `send`. The
-/// record stays as it was. An error: there is no memory to share them.
+/// Returns the contents that a record sends, which are shared with the record from then on, or `None` if it is not a
+/// `send`. The record stays as it was. Fails only if memory runs out.
 fn shared_of(alloc: Global, rec: &mut SourceRec) -> Result<Option<Contents>, AllocError>
     ensures same { rec.new ≡ rec.old }
     ensures ok { IfOk result (λ found. found ≡ contents_in rec.old) }
@@ -78,8 +79,8 @@ fn shared_of(alloc: Global, rec: &mut SourceRec) -> Result<Option<Contents>, All
     }
 }
 
-/// The contents of the `send` at this place once more, which are shared with it from then on; `None` where none stands
-/// there. An error: there is no memory to share them.
+/// Returns the contents of the `send` at this place, which are shared with it from then on, or `None` if there is no
+/// `send`. Fails only if memory runs out.
 pub fn sent_again(
     alloc: Global,
     log: &mut Vec<SourceRec>,
@@ -94,7 +95,7 @@ pub fn sent_again(
     }
 }
 
-/// Sends a page for the first time: its record, its number, and the packet.
+/// Sends a page for the first time: notes its record and its number, and returns the packet.
 pub fn send(
     log: &mut Vec<SourceRec>,
     sent: &mut Table<Option<u32>>,

@@ -15,7 +15,7 @@ use Rattle.migration_types.specs.Memory.{page_of}
 use Rattle.audit_model.specs.Flat.{flat, ReadsFlatAt, in_ledger, AtTarget, home, at_halt}
 use Rattle.audit_model.specs.Shape.{is_placement_of, delivery}
 
--- whether it is of a page that was released at the target, where it never came
+-- whether it is the entry of a page that was released at the target and never came
 abbrev pub is_fresh : Entry → Bool
 is_fresh (Fresh first) = true
 is_fresh _ = false
@@ -40,18 +40,19 @@ pub record IsLateTouch (s : Recorded) (page n : ℕ) : Type 0 where
   pub is_touch : is_touch_of page by ≡ true
   pub is_late : home s n ≡ AtTarget
 
--- what each entry needs: the page's reads are flat, and it is sent only where it is owed, with its content at the halt
+-- what each entry needs: the page's reads are flat, and the page is sent only if it is owed, with its contents at the
+-- halt
 pub record IsHonest (s : Recorded) (page : ℕ) : Type 0 where
   pub reads : ReadsFlatAt s page
   pub sends : (n : ℕ) (content : List ℕ) → slice_get s.source n ≡ Some (Send page content) → content ≡ page_of s.geometry.cells (flat s (at_halt s)) page
   pub owed : (n : ℕ) (content : List ℕ) → slice_get s.source n ≡ Some (Send page content) → in_ledger s (at_halt s) page ≡ false
 
--- pager record `place` is the one placement of the page
+-- pager record `place` is the only placement of the page
 abbrev pub IsOnlyPlacement : Recorded → ℕ → ℕ → Type 0
 IsOnlyPlacement s page place =
     (n : ℕ) (r : PagerRec) → slice_get s.pager n ≡ Some r → is_placement_of page r ≡ true → n ≡ place
 
--- the first touch after handover, with a look before it at the placement or at a later one
+-- the first touch after handover, and a look before it at the placement or a later one
 pub record IsFirstCovered (s : Recorded) (page place : ℕ) (first : First) : Type 0 where
   pub is_touch : IsLateTouch s page first.access
   pub is_first : (n : ℕ) → IsLateTouch s page n → first.access ≤ n
@@ -60,17 +61,17 @@ pub record IsFirstCovered (s : Recorded) (page place : ℕ) (first : First) : Ty
   pub covers : place ≤ placement
   pub is_earlier : first.see < first.access
 
--- the first touch after handover is covered by a look, or there is none
+-- a look covers the first touch after handover, or there is no such touch
 abbrev pub IsCovered : Recorded → ℕ → ℕ → Option First → Type 0
 IsCovered s page place None = (n : ℕ) → IsLateTouch s page n → ⊥
 IsCovered s page place (Some first) = IsFirstCovered s page place first
 
--- the page is not placed, and not touched after handover
+-- the page is neither placed nor touched after handover
 pub record IsNothing (s : Recorded) (page : ℕ) : Type 0 where
   pub unplaced : (n : ℕ) (r : PagerRec) → slice_get s.pager n ≡ Some r → is_placement_of page r ≡ false
   pub untouched : (n : ℕ) → IsLateTouch s page n → ⊥
 
--- the page is not placed, and the first touch of it after handover is this release
+-- the page is not placed, and its first touch after handover is this release
 pub record IsFresh (s : Recorded) (page first : ℕ) : Type 0 where
   pub unplaced : (n : ℕ) (r : PagerRec) → slice_get s.pager n ≡ Some r → is_placement_of page r ≡ false
   pub vcpu : ℕ
@@ -78,7 +79,7 @@ pub record IsFresh (s : Recorded) (page first : ℕ) : Type 0 where
   pub is_late : home s first ≡ AtTarget
   pub is_first : (n : ℕ) → IsLateTouch s page n → first ≤ n
 
--- the page is sent by one record of the source and placed by one of the pager, and nowhere else
+-- The page is sent only by this record of the source, and placed only by this record of the pager.
 pub record IsFromSource (s : Recorded) (page send place : ℕ) (first : Option First) : Type 0 where
   pub sent : List ℕ
   pub is_sent : slice_get s.source send ≡ Some (Send page sent)
@@ -92,14 +93,14 @@ pub record IsFromSource (s : Recorded) (page send place : ℕ) (first : Option F
   pub is_only : IsOnlyPlacement s page place
   pub is_covered : IsCovered s page place first
 
--- the page was released at the halt, and is placed as zeros by one record, and nowhere else
+-- the page was released at the halt, and is placed as zeros by this record alone
 pub record IsBalloon (s : Recorded) (page place : ℕ) (first : Option First) : Type 0 where
   pub is_zeroed : slice_get s.pager place ≡ Some (Zero page)
   pub is_only : IsOnlyPlacement s page place
   pub is_released : in_ledger s (at_halt s) page ≡ true
   pub is_covered : IsCovered s page place first
 
--- what the entry says of its page is so
+-- what the entry says about its page is true
 abbrev pub IsOf : Recorded → ℕ → Entry → Type 0
 IsOf s page Nothing = IsNothing s page
 IsOf s page (Fresh first) = IsFresh s page first
@@ -110,7 +111,7 @@ IsOf s page (Balloon place first) = IsBalloon s page place first
 abbrev pub IsRightEntry : Recorded → ℕ → Entry → Type 0
 IsRightEntry s page entry = IsHonest s page × IsOf s page entry
 
--- one right entry for each page, in order, and runs that spell a merging
+-- a right entry for each page, in order, and runs that spell a merging
 pub record IsRightCertificate (s : Recorded) (c : Certified) : Type 0 where
   pub pages : length c.entries ≡ s.geometry.pages
   pub entries : (page : ℕ) (entry : Entry) → slice_get c.entries page ≡ Some entry → IsRightEntry s page entry

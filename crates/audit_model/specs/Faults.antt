@@ -1,4 +1,4 @@
--- The faults of a page: a record and a reason.
+-- The faults of a page, each a record and a reason.
 use Rattle.std.specs.Prelude.{◌≡◌, ◌≢◌, ℕ, ◌≤◌, suc, Bool, true, false, Option, Some, None, slice_get}
 use Rattle.migration_types.specs.declared.records.LogName.TheVariants.{Guest, Source, Link, Lane, Pager}
 use Rattle.migration_types.specs.declared.records.GuestRec.{GuestRec}
@@ -25,14 +25,14 @@ looks_at s page _ = false
 abbrev pub has_looked : Recorded → ℕ → ℕ → Bool
 has_looked s page n = earlier (looks_at s page) s.guest n
 
--- an access after handover to a page that was not released there before, and that no look before it covers
+-- an access after handover to a page that was not released there before, with no look before it that covers the page
 pub record IsEarly (s : Recorded) (n : ℕ) (r : GuestRec) (page : ℕ) : Type 0 where
   pub is_access : is_access_of page r ≡ true
   pub is_late : home s n ≡ AtTarget
   pub is_kept : freed s n page ≡ false
   pub is_uncovered : has_looked s page n ≡ false
 
--- the first touch of the page after handover is a release that no look before it covers
+-- the first touch of the page after handover is a release, with no look before it that covers the page
 pub record IsOver (s : Recorded) (page : ℕ) : Type 0 where
   pub release : ℕ
   pub vcpu : ℕ
@@ -41,7 +41,7 @@ pub record IsOver (s : Recorded) (page : ℕ) : Type 0 where
   pub is_first : (n : ℕ) → IsLateTouch s page n → release ≤ n
   pub is_uncovered : has_looked s page release ≡ false
 
--- the guest's record n has a fault for this reason
+-- guest record n has a fault for this reason
 abbrev pub GuestFault : Recorded → PageReason → ℕ → GuestRec → Type 0
 GuestFault s WrongRead n (Read vcpu p c value) = value ≢ flat s n p c
 GuestFault s Early n r = (page : ℕ) × IsEarly s n r page
@@ -53,7 +53,7 @@ SourceFault s Given (Send p content) = in_ledger s (at_halt s) p ≡ true
 SourceFault s Stale (Send p content) = content ≢ page_of s.geometry.cells (flat s (at_halt s)) p
 SourceFault s _ _ = ⊥
 
--- the pager's record n has a fault for this reason
+-- pager record n has a fault for this reason
 abbrev pub PagerFault : Recorded → PageReason → ℕ → PagerRec → Type 0
 PagerFault s Twice n (Place p got content) = earlier (is_placement_of p) s.pager n ≡ true
 PagerFault s Twice n (Zero p) = earlier (is_placement_of p) s.pager n ≡ true
@@ -63,12 +63,12 @@ PagerFault s Over n (Place p got content) = (earlier (is_placement_of p) s.pager
 PagerFault s Over n (Zero p) = (earlier (is_placement_of p) s.pager n ≡ false) × IsOver s p
 PagerFault s _ n _ = ⊥
 
--- the record is there, and has a fault
+-- there is a record, and it has a fault
 abbrev pub if_fault : {A : Type 0} → (A → Type 0) → Option A → Type 0
 if_fault fault None = ⊥
 if_fault fault (Some x) = fault x
 
--- the record of this name has a fault for this reason
+-- the record with this name has a fault for this reason
 abbrev pub IsPageFault : Recorded → PageReason → Name → Type 0
 IsPageFault s reason (Guest, n) = if_fault (GuestFault s reason n) (slice_get s.guest n)
 IsPageFault s reason (Source, n) = if_fault (SourceFault s reason) (slice_get s.source n)

@@ -18,8 +18,8 @@ use Rattle.migration_types.specs.Rows.{Consists, field_name, row_of, source_cont
 use Rattle.migration_types.specs.Sessions.{Recorded, IsNumber, HasLog, HasSourceRec, log_length}
 use Rattle.audit_model.specs.Names.{if_there}
 
--- A field of a record is of a machine of this extent: its virtual processor, its page and its cell are there, its value
--- is one of 64 bits, and what it names is of a log that the version has.
+-- A field of a record is within a machine of this extent: its virtual processor, its page and its cell exist, its value
+-- has 64 bits, and what it names is of a log that the version has.
 abbrev pub FieldIsOf : Version → Extent → Field → Type 0
 FieldIsOf version e (Vcpu n) = n < vcpus
 FieldIsOf version e (Page n) = n < e.pages
@@ -28,7 +28,7 @@ FieldIsOf version e (Value n) = n < 2 ^ 64
 FieldIsOf version e (Number log n) = HasLog version log
 FieldIsOf version e (Handover log n) = HasLog version log
 
--- the contents that stand behind the record of this name, if it is there and has contents
+-- the contents of the record with this name, if it exists and has any
 abbrev pub contents_of : Recorded → Name → Option (List ℕ)
 contents_of s (Source, n) = if_there source_contents (slice_get s.source n)
 contents_of s (Pager, n) = if_there pager_contents (slice_get s.pager n)
@@ -36,9 +36,9 @@ contents_of s (Guest, n) = None
 contents_of s (Link, n) = None
 contents_of s (Lane, n) = None
 
--- A session of any size, each record of which fits its machine: the version has the record's log, the size has the
--- source's record, its fields are of the machine, and its contents have a value for each cell of a page. Nothing is said of how large the machine is, nor of
--- how many records there are.
+-- A session of any size in which each record fits the machine: the version has the record's log, the size has the
+-- source's record, its fields are within the machine, and its contents have one value for each cell of a page. Nothing
+-- limits the machine or the number of records.
 pub record Fits (s : Recorded) : Type 0 where
   pub init : AreInitPages s.geometry s.init
   pub logs : (name : Name) (row : Consists) → row_of s name ≡ Some row → HasLog s.version name.0
@@ -52,11 +52,11 @@ pub record FitsSize (s : Recorded) : Type 0 where
   pub extent : IsExtent s.geometry
   pub few : (log : LogName) → log_length s log ≤ (limits s.geometry.size).records
 
--- a field names no record of a number beyond the limit
+-- a field does not name a record with a number beyond the limit
 abbrev pub NamesInReach : Size → Field → Type 0
 NamesInReach size field = IfSome (field_name field) (λ named. IsNumber size named.1)
 
--- the limits of the size: of the machine and the logs, and of the numbers by which records are named
+-- the limits of the size: for the machine, the logs, and the numbers by which records are named
 pub record IsWithinLimits (s : Recorded) : Type 0 where
   pub size : FitsSize s
   pub numbers : (name : Name) (row : Consists) → row_of s name ≡ Some row → AllByRecursion (NamesInReach s.geometry.size) row.fields

@@ -7,17 +7,17 @@ use Rattle.migration_types.specs.Sessions.{Recorded}
 use Rattle.migration_types.specs.Receipts.{Name}
 use Rattle.audit_model.specs.Names.{log_length, receipt, same_log}
 
--- the places of one log that a list of names holds, in the list's order
+-- the places of one log in a list of names, in the list's order
 abbrev pub places_of : LogName → List Name → List ℕ
 places_of log [] = []
 places_of log (name ∷ names) = if same_log name.0 log then name.1 ∷ places_of log names else places_of log names
 
--- in this list of names, this name stands right after the earlier ones
+-- in this list of names, this name comes right after the earlier ones
 abbrev pub StandsAfter : List Name → List Name → Name → Type 0
 StandsAfter order earlier name = (later : List Name) × (order ≡ earlier ++ name ∷ later)
 
--- A list of names that holds each record exactly once and keeps each log's order, and in which each receipt
--- stands after the record that it names.
+-- A list of names with each record exactly once, which keeps the order of each log, and in which each receipt follows
+-- the record that it names.
 pub record IsMerging (s : Recorded) (order : List Name) : Type 0 where
   pub each_once_in_order : (log : LogName) → places_of log order ≡ range_with_len 0 (log_length s log)
   pub receipts_after : (earlier : List Name) (name sent : Name) → StandsAfter order earlier name → receipt s name ≡ Some sent → Contains earlier sent
@@ -33,16 +33,16 @@ Cursors = LogName → ℕ
 abbrev pub at_start : Cursors
 at_start log = 0
 
--- so many records more of this log were taken
+-- the cursors after this many more records of this log
 abbrev pub moved : Cursors → LogName → ℕ → Cursors
 moved c log count other = if same_log log other then c other + count else c other
 
--- the names of so many records of a log, from a place on
+-- the names of this many records of a log, from a place on
 abbrev pub run_names : LogName → ℕ → ℕ → List Name
 run_names log place zero = []
 run_names log place (suc count) = (log, place) ∷ run_names log (suc place) count
 
--- the list that takes, run after run, the next records of its log
+-- the names that the runs take, one run after the other, each from the next record of its log on
 abbrev pub spelled_from : Cursors → List Run → List Name
 spelled_from c [] = []
 spelled_from c (run ∷ runs) = run_names run.log (c run.log) run.count ++ spelled_from (moved c run.log run.count) runs

@@ -1,4 +1,4 @@
--- The right shape of a session: what each record needs so that it has none of the five faults of shape.
+-- The right shape of a session: what each record needs to have none of the five faults of shape.
 use Rattle.std.specs.Prelude.{◌≡◌, ℕ, zero, suc, Bool, true, false, not, ◌==◌, ◌&&◌, ◌||◌, nat_lt, List, length, Option, Some, None, is_some, slice_get}
 use Rattle.std.specs.List.{list_any}
 use Rattle.std.specs.Option.{option_map}
@@ -22,7 +22,7 @@ use Rattle.migration_types.specs.Receipts.{Name}
 use Rattle.audit_model.specs.Names.{if_there}
 use Rattle.audit_model.specs.Flat.{before}
 
--- whether there is a record that passes the test
+-- whether there is a record and it passes the test
 abbrev pub passes : {A : Type 0} → (A → Bool) → Option A → Bool
 passes test None = false
 passes test (Some x) = test x
@@ -47,7 +47,7 @@ abbrev pub is_miss : GuestRec → Bool
 is_miss (Miss vcpu p) = true
 is_miss _ = false
 
--- whether it is the processor state
+-- whether it sends the processor state
 abbrev pub is_state : SourceRec → Bool
 is_state State = true
 is_state _ = false
@@ -63,7 +63,7 @@ is_sending State = true
 is_sending (Send p content) = true
 is_sending _ = false
 
--- whether it is something that the link or the lane delivers down
+-- whether the link or the lane delivers it down
 abbrev pub goes_down : SourceRec → Bool
 goes_down State = true
 goes_down (Send p content) = true
@@ -96,7 +96,7 @@ abbrev pub is_want : PagerRec → Bool
 is_want (Want p) = true
 is_want _ = false
 
--- whether it is something that the link delivers up
+-- whether the link delivers it up
 abbrev pub goes_up : PagerRec → Bool
 goes_up (Want p) = true
 goes_up All = true
@@ -123,22 +123,22 @@ down_sending (Up asking) = None
 abbrev pub lane_sending : LaneRec → ℕ
 lane_sending (LaneDown sending) = sending
 
--- the source's record that was sent, of which the pager's record takes the delivery
+-- the source's record whose delivery the pager's record takes
 abbrev pub taken_sending : Recorded → PagerRec → Option ℕ
 taken_sending s (Got down) = if_there down_sending (slice_get s.link down)
 taken_sending s (Pull down) = option_map lane_sending (slice_get s.lane down)
 taken_sending s _ = None
 
--- the delivery of a `got` or a `pull`: the source's record that was sent
+-- the source's record whose delivery a `got` or a `pull` takes
 abbrev pub delivery : Recorded → ℕ → Option ℕ
 delivery s got = if_there (taken_sending s) (slice_get s.pager got)
 
--- whether a source record passes the test, or is an `again` of one that does
+-- whether a record of the source passes the test, or is an `again` of one that does
 abbrev pub is_or_repeats : Recorded → (SourceRec → Bool) → SourceRec → Bool
 is_or_repeats s test (Again sending) = passes test (slice_get s.source sending)
 is_or_repeats s test r = test r
 
--- whether the delivery of a `got` or a `pull` is one that passes the test, or an `again` of it
+-- whether a `got` or a `pull` takes the delivery of a record that passes the test, or of an `again` of one
 abbrev pub delivers : Recorded → (SourceRec → Bool) → ℕ → Bool
 delivers s test got = passes (λ sending. passes (is_or_repeats s test) (slice_get s.source sending)) (delivery s got)
 
@@ -146,12 +146,12 @@ delivers s test got = passes (λ sending. passes (is_or_repeats s test) (slice_g
 abbrev pub earlier : {A : Type 0} → (A → Bool) → List A → ℕ → Bool
 earlier test log n = before (λ x found. test x || found) false log n
 
--- whether a release's phase allows it: in the first version a page is released before the halt alone
+-- whether the phase allows a release: in the first version, only before the halt
 abbrev pub may_release : Version → Bool → Bool → Bool
 may_release One halted resumed = not halted && not resumed
 may_release Two halted resumed = not halted || resumed
 
--- whether the record's phase allows it, by the version and by whether there was a halt, and a resume
+-- whether the phase allows the record, given the version and whether there was a halt and a resume
 abbrev pub in_phase_by : Version → Bool → Bool → GuestRec → Bool
 in_phase_by version halted resumed Halt = not halted
 in_phase_by version halted resumed (Resume ready) = not resumed && halted
@@ -161,7 +161,7 @@ in_phase_by version halted resumed (Release vcpu p) = may_release version halted
 in_phase_by version halted resumed (Miss vcpu p) = resumed
 in_phase_by version halted resumed (See placement) = resumed
 
--- whether the phase of the guest's record n allows it
+-- whether the phase allows guest record n
 abbrev pub in_phase : Recorded → ℕ → GuestRec → Bool
 in_phase s n r = in_phase_by s.version (earlier is_halt s.guest n) (earlier is_resume s.guest n) r
 
@@ -171,7 +171,7 @@ guest_named s (Resume ready) = passes is_ready (slice_get s.pager ready)
 guest_named s (See placement) = passes is_placement (slice_get s.pager placement)
 guest_named s _ = true
 
--- whether the source's record n names a record of the kind that it must
+-- whether source record n names a record of the kind that it must
 abbrev pub source_named : Recorded → ℕ → SourceRec → Bool
 source_named s n (Halted halt) = passes is_halt (slice_get s.guest halt)
 source_named s n (Ask up) = passes is_up (slice_get s.link up)
@@ -187,7 +187,7 @@ link_named s (Up asking) = passes goes_up (slice_get s.pager asking)
 abbrev pub lane_named : Recorded → LaneRec → Bool
 lane_named s (LaneDown sending) = passes goes_down (slice_get s.source sending)
 
--- whether the pager's record n names a record of the kind that it must
+-- whether pager record n names a record of the kind that it must
 abbrev pub pager_named : Recorded → ℕ → PagerRec → Bool
 pager_named s n (Got down) = passes is_down (slice_get s.link down)
 pager_named s n (Pull down) = is_some (slice_get s.lane down)
@@ -197,7 +197,7 @@ pager_named s n (Skip got) = nat_lt got n && passes is_taking (slice_get s.pager
 pager_named s n (Place p got content) = nat_lt got n && delivers s (is_send_of p) got
 pager_named s n _ = true
 
--- The source's log begins with `halted` and the state, and has them nowhere else; it has `back` nowhere but at its end.
+-- The source's log begins with `halted` and the state, and has them nowhere else. It has `back` only at its end.
 abbrev pub source_start : Recorded → ℕ → SourceRec → Bool
 source_start s zero (Halted halt) = nat_lt 1 (length s.source)
 source_start s zero _ = false
@@ -208,7 +208,7 @@ source_start s (suc (suc n)) State = false
 source_start s (suc (suc n)) Back = length s.source == suc (suc (suc n))
 source_start s (suc (suc n)) _ = true
 
--- The pager's log begins with the state's `got` or `pull` and `ready`, and has `ready` nowhere else.
+-- The pager's log begins with the state's `got` or `pull` and then `ready`, and has `ready` nowhere else.
 abbrev pub pager_start : Recorded → ℕ → PagerRec → Bool
 pager_start s zero (Got down) = delivers s is_state 0
 pager_start s zero (Pull down) = delivers s is_state 0
@@ -218,22 +218,22 @@ pager_start s (suc zero) _ = false
 pager_start s (suc (suc n)) Ready = false
 pager_start s (suc (suc n)) _ = true
 
--- whether the source's record n is no second send of its page
+-- whether source record n is not a second send of its page
 abbrev pub is_first_send : Recorded → ℕ → SourceRec → Bool
 is_first_send s n (Send p content) = not (earlier (is_send_of p) s.source n)
 is_first_send s n _ = true
 
--- whether the source's record starts no guest again that was resumed at the target
+-- whether the source's record does not start a guest again that was resumed at the target
 abbrev pub is_alone : Recorded → SourceRec → Bool
 is_alone s Back = not (list_any is_resume s.guest)
 is_alone s _ = true
 
--- whether the record, if there is one, passes the test
+-- whether the record passes the test, if there is one
 abbrev pub keeps : {A : Type 0} → (A → Bool) → Option A → Bool
 keeps test None = true
 keeps test (Some x) = test x
 
--- whether the record of this name has no fault of this reason
+-- whether the record with this name has no fault of this reason
 abbrev pub is_right : Recorded → ShapeReason → Name → Bool
 is_right s Phases (Guest, n) = keeps (in_phase s n) (slice_get s.guest n)
 is_right s Named (Guest, n) = keeps (guest_named s) (slice_get s.guest n)

@@ -1,4 +1,4 @@
--- A merging as a walk of one cursor for each log, which is what a checker does with runs.
+-- A merging as a walk of one cursor for each log, as a checker of runs makes it.
 use Rattle.std.specs.Prelude.{◌≡◌, suc, ◌<◌, List, [], ◌∷◌, Some, if◌then◌else◌}
 use Rattle.migration_types.specs.declared.records.LogName.{LogName}
 use Rattle.migration_types.specs.Sessions.{Recorded}
@@ -6,13 +6,13 @@ use Rattle.migration_types.specs.Receipts.{Name}
 use Rattle.audit_model.specs.Names.{log_length, receipt, same_log}
 use Rattle.audit_model.specs.Mergings.{Cursors, at_start}
 
--- the record of this name is the next of its log, it is there, and what it is a receipt for was taken
+-- the record with this name is the next of its log, it exists, and the record that it is a receipt for was taken
 pub record MayFollow (s : Recorded) (c : Cursors) (name : Name) : Type 0 where
   pub is_next : name.1 ≡ c name.0
   pub is_there : name.1 < log_length s name.0
   pub sent_before : (sent : Name) → receipt s name ≡ Some sent → sent.1 < c sent.0
 
--- one record more of this log was taken
+-- the cursors after one more record of this log
 abbrev pub next : Cursors → LogName → Cursors
 next c log other = if same_log log other then suc (c other) else c other
 

@@ -1,4 +1,4 @@
--- A session seen through a window: the records of some pages alone, with pages and receipts numbered anew.
+-- A session seen through a window: only the records of some pages, with pages and receipts numbered anew.
 use Rattle.std.specs.Prelude.{◌≡◌, ℕ, zero, suc, ◌+◌, ◌-◌, ◌<◌, Bool, true, false, ◌&&◌, nat_lt, nat_le, max, List, [], ◌∷◌, length, map, Option, Some, None, slice_get, if◌then◌else◌}
 use Rattle.std.specs.List.{range_with_len}
 use Rattle.migration_types.specs.declared.pages.InitPage.{InitPage}
@@ -19,41 +19,41 @@ use Rattle.migration_types.specs.Sessions.{Recorded}
 use Rattle.audit_model.specs.Flat.{before}
 use Rattle.audit_model.specs.Shape.{passes, is_or_repeats}
 
--- the pages of a window, each by its number there; other pages have none
+-- the pages of a window, each with its number there; other pages have none
 abbrev pub Numbers : Type 0
 Numbers = ℕ → Option ℕ
 
--- the window of so many pages from one on
+-- the window of this many consecutive pages from one on
 abbrev pub numbers_from : ℕ → ℕ → Numbers
 numbers_from first count page = if nat_le first page && nat_lt page (first + count) then Some (page - first) else None
 
--- no two pages have one number
+-- no two pages have the same number
 abbrev pub IsNumbering : Numbers → Type 0
 IsNumbering number = (p r q : ℕ) → number p ≡ Some q → number r ≡ Some q → p ≡ r
 
--- so many pages, in their order: the numbers rise with the pages, and are below the count
+-- This many pages, in their order: the numbers rise with the pages, and are below the count.
 pub record IsWindow (number : Numbers) (count : ℕ) : Type 0 where
   pub rising : (p r q t : ℕ) → number p ≡ Some q → number r ≡ Some t → p < r → q < t
   pub below : (p q : ℕ) → number p ≡ Some q → q < count
 
--- whether a page with this number, or none, is of the window
+-- whether a page, if there is one, is in the window
 abbrev pub is_seen : Option ℕ → Bool
 is_seen None = false
 is_seen (Some q) = true
 
--- the page's number; nothing rests on that of a page outside
+-- the page's number; for a page outside, any number will do
 abbrev pub new_page : Option ℕ → ℕ
 new_page None = 0
 new_page (Some q) = q
 
--- what is kept of a log, by a mark for each record
+-- the records of a log that are kept, given a mark for each
 abbrev pub kept_in : {A : Type 0} → List Bool → List A → List A
 kept_in [] log = []
 kept_in (mark ∷ marks) [] = []
 kept_in (true ∷ marks) (x ∷ log) = x ∷ kept_in marks log
 kept_in (false ∷ marks) (x ∷ log) = kept_in marks log
 
--- one more, where there is a mark and it says to keep
+-- one more, if there is a mark and it says to keep the record
 abbrev pub tallied : Option Bool → ℕ → ℕ
 tallied None k = k
 tallied (Some true) k = suc k
@@ -64,9 +64,9 @@ abbrev pub rank : List Bool → ℕ → ℕ
 rank marks zero = 0
 rank marks (suc n) = tallied (slice_get marks n) (rank marks n)
 
--- What is kept: what is of no page, what tells a page of the window, and what names a record that is kept. It is said
--- from the bottom up: what is sent and asked for, its delivery, the taking of that, and what names such a taking. Looks
--- alone are kept by another rule.
+-- The kept records: those of no page, those of a page of the window, and those that name a kept record. They are
+-- defined in order: what is sent and asked for, its delivery, the taking of that, and what names such a taking. Only
+-- looks follow another rule.
 
 -- whether it sends the state or a page of the window
 abbrev pub keeps_sending : Numbers → SourceRec → Bool
@@ -74,7 +74,7 @@ keeps_sending number State = true
 keeps_sending number (Send p content) = is_seen (number p)
 keeps_sending number _ = false
 
--- whether it asks for a page of the window, or tells that all is placed
+-- whether it asks for a page of the window, or says that all pages are placed
 abbrev pub keeps_asking : Numbers → PagerRec → Bool
 keeps_asking number (Want p) = is_seen (number p)
 keeps_asking number All = true
@@ -91,7 +91,7 @@ keeps_placement number (Place p got content) = is_seen (number p)
 keeps_placement number (Zero p) = is_seen (number p)
 keeps_placement number _ = false
 
--- whether a delivery is of what is kept
+-- whether a delivery is of a kept record
 abbrev pub keeps_link : Recorded → Numbers → LinkRec → Bool
 keeps_link s number (Down sending) = passes (is_or_repeats s (keeps_sending number)) (slice_get s.source sending)
 keeps_link s number (Up asking) = passes (keeps_asking number) (slice_get s.pager asking)
@@ -99,7 +99,7 @@ keeps_link s number (Up asking) = passes (keeps_asking number) (slice_get s.page
 abbrev pub keeps_lane : Recorded → Numbers → LaneRec → Bool
 keeps_lane s number (LaneDown sending) = passes (is_or_repeats s (keeps_sending number)) (slice_get s.source sending)
 
--- whether it takes a delivery that is kept
+-- whether it takes a kept delivery
 abbrev pub keeps_taking : Recorded → Numbers → PagerRec → Bool
 keeps_taking s number (Got down) = passes (keeps_link s number) (slice_get s.link down)
 keeps_taking s number (Pull down) = passes (keeps_lane s number) (slice_get s.lane down)
@@ -128,16 +128,17 @@ keeps_pager s number (Zero p) = is_seen (number p)
 keeps_pager s number (Skip got) = passes (keeps_taking s number) (slice_get s.pager got)
 keeps_pager s number All = true
 
--- one more than the place of the newest record before n that passes, or 0
+-- one more than the place of the newest record before n that passes the test, or 0 if there is none
 abbrev pub newest : {A : Type 0} → (A → Bool) → List A → ℕ → ℕ
 newest test log zero = 0
 newest test log (suc n) = if passes test (slice_get log n) then suc n else newest test log n
 
--- how far a look at a placement reaches in the window: past the newest placement there that is no later, or 0
+-- how far a look at a placement reaches in the window: just past the newest placement there that is no later, or 0 if
+-- there is none
 abbrev pub reach : Recorded → Numbers → ℕ → ℕ
 reach s number placement = newest (keeps_placement number) s.pager (suc placement)
 
--- how far looks reach after a record of the guest, by how far they reached before it
+-- how far looks reach after a record of the guest, given how far they reached before it
 abbrev pub further : Recorded → Numbers → GuestRec → ℕ → ℕ
 further s number (See placement) far = max far (reach s number placement)
 further s number _ far = far
@@ -146,7 +147,7 @@ further s number _ far = far
 abbrev pub furthest : Recorded → Numbers → ℕ → ℕ
 furthest s number n = before (further s number) 0 s.guest n
 
--- whether guest record n is kept; a look is where it reaches further than each look before it
+-- whether guest record n is kept; a look is kept if it reaches further than each look before it
 abbrev pub keeps_guest : Recorded → Numbers → ℕ → GuestRec → Bool
 keeps_guest s number n (Read vcpu p c value) = is_seen (number p)
 keeps_guest s number n (Write vcpu p c value) = is_seen (number p)
@@ -164,11 +165,11 @@ marks s number Link = map (keeps_link s number) s.link
 marks s number Lane = map (keeps_lane s number) s.lane
 marks s number Pager = map (keeps_pager s number) s.pager
 
--- the number that a record of a log has in the window: how many before it are kept
+-- the number of a log's record in the window: how many before it are kept
 abbrev pub moved_to : Recorded → Numbers → LogName → ℕ → ℕ
 moved_to s number log n = rank (marks s number log) n
 
--- a record with its page and what it names numbered anew; a look names the newest placement of the window that it saw
+-- A record with its page and what it names numbered anew. A look names the newest placement of the window that it saw.
 abbrev pub new_guest : Recorded → Numbers → GuestRec → GuestRec
 new_guest s number (Read vcpu p c value) = Read vcpu (new_page (number p)) c value
 new_guest s number (Write vcpu p c value) = Write vcpu (new_page (number p)) c value
@@ -213,7 +214,7 @@ keeps_init number given = is_seen (number given.page)
 abbrev pub new_init : Numbers → InitPage → InitPage
 new_init number given = record { page = new_page (number given.page); cells = given.cells }
 
--- a session through a window of so many pages: what is kept, numbered anew
+-- a session through a window of this many pages: the kept records, numbered anew
 abbrev pub window : Numbers → ℕ → Recorded → Recorded
 window number count s = record {
   version = s.version;
@@ -226,15 +227,15 @@ window number count s = record {
   pager = map (new_pager s number) (kept_in (marks s number Pager) s.pager);
 }
 
--- what the record of this name is called in the window
+-- the name in the window of the record with this name
 abbrev pub new_name : Recorded → Numbers → Name → Name
 new_name s number name = (name.0, moved_to s number name.0 name.1)
 
--- a mark that keeps
+-- whether a mark says to keep the record
 abbrev pub is_marked : Option Bool → Bool
 is_marked None = false
 is_marked (Some mark) = mark
 
--- the record of this name is kept
+-- the record with this name is kept
 abbrev pub IsInWindow : Recorded → Numbers → Name → Type 0
 IsInWindow s number name = is_marked (slice_get (marks s number name.0) name.1) ≡ true

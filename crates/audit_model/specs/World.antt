@@ -1,4 +1,4 @@
--- The guest's memory while it moves: two machines, of which each record changes one; and what each record demands.
+-- The moving world: two machines, of which each record changes one; and what each record demands of them.
 use Rattle.std.specs.Prelude.{◌≡◌, ◌≢◌, ℕ, true, false, List, [], ◌∷◌, Option, Some, None, slice_get, if◌then◌else◌}
 use Rattle.migration_types.specs.declared.records.LogName.TheVariants.{Guest, Source, Link, Lane, Pager}
 use Rattle.migration_types.specs.declared.records.GuestRec.{GuestRec}
@@ -37,27 +37,28 @@ start s = record {
   ledger = no_page;
 }
 
--- a write where the guest is: it takes the page out of the ledger, or touches it at the target, where only a resident
--- page changes
+-- A write where the guest is. At the source it takes the page out of the ledger. At the target it touches the page, and
+-- only a resident page changes.
 abbrev pub write_at : Home → ℕ → ℕ → ℕ → World → World
 write_at AtSource p c value w = record w { source = with_cell p c value w.source; ledger = without_page p w.ledger }
 write_at Nowhere p c value w = w
 write_at AtTarget p c value w =
     record w { target = if w.resident p then with_cell p c value w.target else w.target; touched = with_page p w.touched }
 
--- a release where the guest is: zeros; in the ledger at the source, resident and touched at the target
+-- A release where the guest is, which leaves zeros. At the source it puts the page into the ledger. At the target it
+-- makes the page resident and touches it.
 abbrev pub release_at : Home → ℕ → World → World
 release_at AtSource p w = record w { source = with_zeros p w.source; ledger = with_page p w.ledger }
 release_at Nowhere p w = w
 release_at AtTarget p w =
     record w { target = with_zeros p w.target; resident = with_page p w.resident; touched = with_page p w.touched }
 
--- a read touches its page at the target
+-- a read, which at the target touches its page
 abbrev pub read_at : Home → ℕ → World → World
 read_at AtTarget p w = record w { touched = with_page p w.touched }
 read_at _ p w = w
 
--- what a record of the guest leaves, by where the guest is
+-- the world after a record of the guest, given where the guest is
 abbrev pub guest_step_at : Home → GuestRec → World → World
 guest_step_at h (Read vcpu p c value) w = read_at h p w
 guest_step_at h (Write vcpu p c value) w = write_at h p c value w
@@ -66,11 +67,12 @@ guest_step_at h Halt w = record w { home = Nowhere }
 guest_step_at h (Resume ready) w = record w { home = AtTarget }
 guest_step_at h _ w = w
 
--- what a record of the guest leaves
+-- the world after a record of the guest
 abbrev pub guest_step : GuestRec → World → World
 guest_step r w = guest_step_at w.home r w
 
--- a placement gives the page its contents at the target, or zeros, and makes it resident
+-- the world after a record of the pager: a placement gives the page its contents at the target, or zeros, and makes it
+-- resident
 abbrev pub pager_step : PagerRec → World → World
 pager_step (Place p got content) w =
     record w { target = with_content p content w.target; resident = with_page p w.resident; placed = with_page p w.placed }
@@ -78,7 +80,7 @@ pager_step (Zero p) w =
     record w { target = with_zeros p w.target; resident = with_page p w.resident; placed = with_page p w.placed }
 pager_step _ w = w
 
--- what the record of this name leaves; a record of the source, the link or the lane changes nothing
+-- the world after the record with this name; records of the source, the link and the lane change nothing
 abbrev pub step : Recorded → Name → World → World
 step s (Guest, n) w = changed guest_step (slice_get s.guest n) w
 step s (Source, n) w = w
@@ -86,12 +88,12 @@ step s (Link, n) w = w
 step s (Lane, n) w = w
 step s (Pager, n) w = changed pager_step (slice_get s.pager n) w
 
--- the world after these records, from a world
+-- the world after these records, starting from a world
 abbrev pub run_from : Recorded → World → List Name → World
 run_from s w [] = w
 run_from s w (name ∷ names) = run_from s (step s name w) names
 
--- the world after these records from the start
+-- the world after these records, starting from the start
 abbrev pub world_after : Recorded → List Name → World
 world_after s names = run_from s (start s) names
 
@@ -100,7 +102,7 @@ abbrev pub memory_at : Home → World → Memory
 memory_at AtSource w = w.source
 memory_at _ w = w.target
 
--- a read finds its page, and its value where the guest is and on the flat machine
+-- A read finds its page. Its value is that of the memory where the guest is, and that of the flat machine.
 pub record ReadDemand (s : Recorded) (n p c value : ℕ) (w : World) : Type 0 where
   pub is_somewhere : w.home ≢ Nowhere
   pub is_resident : w.home ≡ AtTarget → w.resident p ≡ true
@@ -112,19 +114,20 @@ pub record WriteDemand (p : ℕ) (w : World) : Type 0 where
   pub is_somewhere : w.home ≢ Nowhere
   pub is_resident : w.home ≡ AtTarget → w.resident p ≡ true
 
--- what is sent is an owed page of the source, which the guest has left
+-- what is sent is an owed page with the source's contents, after the guest has left
 pub record SendDemand (s : Recorded) (p : ℕ) (content : List ℕ) (w : World) : Type 0 where
   pub has_left : w.home ≢ AtSource
   pub is_the_page : content ≡ page_of s.geometry.cells w.source p
   pub is_owed : w.ledger p ≡ false
 
--- what is placed is the source's page, at most once, and before the guest touches it
+-- What is placed has the source's contents. The page is placed at most once, and before the guest touches it at the
+-- target.
 pub record PlaceDemand (s : Recorded) (p : ℕ) (content : List ℕ) (w : World) : Type 0 where
   pub is_new : w.placed p ≡ false
   pub is_untouched : w.touched p ≡ false
   pub is_the_page : content ≡ page_of s.geometry.cells w.source p
 
--- zeros are placed for a released page, at most once, and before the guest touches it
+-- Zeros are placed only for a released page, at most once, and before the guest touches it at the target.
 pub record ZeroDemand (p : ℕ) (w : World) : Type 0 where
   pub is_new : w.placed p ≡ false
   pub is_untouched : w.touched p ≡ false
@@ -152,7 +155,7 @@ abbrev pub if_record : {A : Type 0} → (A → World → Type 0) → Option A �
 if_record demand None w = Unit {0}
 if_record demand (Some x) w = demand x w
 
--- what the record of this name demands of the world before it
+-- what the record with this name demands of the world before it
 abbrev pub Demand : Recorded → Name → World → Type 0
 Demand s (Guest, n) w = if_record (guest_demand s n) (slice_get s.guest n) w
 Demand s (Source, n) w = if_record (source_demand s) (slice_get s.source n) w

@@ -1,4 +1,4 @@
--- The world before each record of a merging, which the cursors of what was taken decide.
+-- The world before each record of a merging, which is decided by how many records of each log were taken.
 use Rattle.std.specs.Prelude.{◌≡◌, ℕ, zero, suc, ◌<◌, ◌≤◌, Bool, true, false, ◌||◌, ◌==◌, List, ◌++◌, Some, slice_get}
 use Rattle.migration_types.specs.declared.records.LogName.{LogName}
 use Rattle.migration_types.specs.declared.records.LogName.TheVariants.{Guest, Pager}
@@ -13,18 +13,18 @@ use Rattle.audit_model.specs.Flat.{changed, flat, freed, in_ledger, Home, AtSour
 use Rattle.audit_model.specs.Shape.{is_placement_of, earlier}
 use Rattle.audit_model.specs.World.{World, world_after}
 
--- a consistent cut: with each receipt that was taken, the record that it names was taken
+-- a consistent cut: if a receipt was taken, the record that it names was taken too
 pub record IsConsistentCut (s : Recorded) (c : Cursors) : Type 0 where
   pub within : (log : LogName) → c log ≤ log_length s log
   pub sent_taken : (name sent : Name) → name.1 < c name.0 → receipt s name ≡ Some sent → sent.1 < c sent.0
 
--- the guest record up to which the source's memory has come: it stays at the halt
+-- the number of the guest record up to which the source's memory has come: it stays at the halt
 abbrev pub come_to : Home → ℕ → ℕ → ℕ
 come_to AtSource n halt = n
 come_to Nowhere n halt = halt
 come_to AtTarget n halt = halt
 
--- whether a page is touched after this record, by where the guest is
+-- whether a page is touched after this record, given where the guest is
 abbrev pub touch_after : Home → ℕ → GuestRec → Bool → Bool
 touch_after h page (Read vcpu p c value) old = marked_late h (p == page) old
 touch_after h page (Write vcpu p c value) old = marked_late h (p == page) old
@@ -58,13 +58,13 @@ pub record IsAt (s : Recorded) (c : Cursors) (w : World) : Type 0 where
   pub cut : IsConsistentCut s c
   pub world : IsWorld s (home s (c Guest)) (c Guest) (c Pager) w
 
--- at each point of each merging the cut is consistent, and its cursors decide the world
+-- at each point of each merging, the cut is consistent, and its cursors decide the world
 abbrev pub FollowsCursors : Recorded → Type 0
 FollowsCursors s =
     (order : List Name) → IsMerging s order → (past rest : List Name) → order ≡ past ++ rest →
     IsAt s (cursors_from at_start past) (world_after s past)
 
--- at each point of each merging the target's memory, on the pages that are resident, is the flat machine's
+-- at each point of each merging, the target's memory on the resident pages is the flat machine's
 abbrev pub TargetIsFlat : Recorded → Type 0
 TargetIsFlat s =
     (order : List Name) → IsMerging s order → (past rest : List Name) → order ≡ past ++ rest →

@@ -1,3 +1,3 @@
--- What serves proofs alone.
+-- Definitions that only proofs use.
 pub mod MergingTests
 pub mod PageFaultTests

@@ -1,4 +1,4 @@
-//! Where the guest is, as its log says.
+//! Where the guest is, according to its log.
 
 /// Where the guest is.
 #[derive(Clone, Copy, Debug, PartialEq, Eq)]

@@ -1,10 +1,10 @@
-//! What a session's records mean: mergings of its logs, the flat machine, the world that moves, right shape, right
-//! certificates and faults; and the laws on these.
+//! The meaning of a session's records: mergings of its logs, the flat machine, the moving world, the right shape, right
+//! certificates and faults; and the laws about these.
 //!
-//! The definitions are in `specs/`. A function of [`laws`] carries a law as its contract; a caller calls it to have the
-//! law at hand. The others answer what is asked of one record: of which kind it is, which page it sends or places, what
-//! it delivers, and whether it has the right shape: it stands in its phase and where its kind may, and names what it has
-//! to.
+//! The definitions are in `specs/`. A function of [`laws`] carries a law as its contract; a caller calls it to use the
+//! law. The other functions say something about one record: its kind, the page that it sends or places, what it
+//! delivers, and whether it has the right shape. It has that if its phase allows it, its kind is allowed at its place,
+//! and it names what it must.
 #![tactic(auto)]
 
 ghost use Rattle.std.specs.Prelude.{◌≡◌, slice_get, ◌==◌, suc, length};
@@ -24,35 +24,35 @@ pub use laws::{
 use migration_types::{GuestRec, LaneRec, LinkRec, PageNo, PagerRec, Session, SourceRec, Version};
 pub use reasons::{PageReason, ShapeReason};
 
-/// Whether it is a halt.
+/// Returns whether it is a halt.
 pub fn is_halt(rec: &GuestRec) -> bool
     ensures { result ≡ is_halt rec.now }
 {
     matches!(rec, GuestRec::Halt)
 }
 
-/// Whether it is a resume.
+/// Returns whether it is a resume.
 pub fn is_resume(rec: &GuestRec) -> bool
     ensures { result ≡ is_resume rec.now }
 {
     matches!(rec, GuestRec::Resume { .. })
 }
 
-/// Whether it is a miss.
+/// Returns whether it is a miss.
 pub fn is_miss(rec: &GuestRec) -> bool
     ensures { result ≡ is_miss rec.now }
 {
     matches!(rec, GuestRec::Miss { .. })
 }
 
-/// Whether it is the processor state.
+/// Returns whether it sends the processor state.
 pub fn is_state(rec: &SourceRec) -> bool
     ensures { result ≡ is_state rec.now }
 {
     matches!(rec, SourceRec::State)
 }
 
-/// Whether it sends the page.
+/// Returns whether it sends the page.
 pub fn is_send_of(rec: &SourceRec, page: PageNo) -> bool
     ensures { result ≡ is_send_of page rec.now }
 {
@@ -62,14 +62,14 @@ pub fn is_send_of(rec: &SourceRec, page: PageNo) -> bool
     }
 }
 
-/// Whether it is a first sending, which an `again` may repeat.
+/// Returns whether it is a first sending, which an `again` may repeat.
 pub fn is_sending(rec: &SourceRec) -> bool
     ensures { result ≡ is_sending rec.now }
 {
     matches!(rec, SourceRec::State | SourceRec::Send { .. })
 }
 
-/// Whether it is something that the link or the lane delivers down.
+/// Returns whether the link or the lane delivers it down.
 fn goes_down(rec: &SourceRec) -> bool
     ensures { result ≡ goes_down rec.now }
 {
@@ -79,56 +79,56 @@ fn goes_down(rec: &SourceRec) -> bool
     )
 }
 
-/// Whether it is a delivery down.
+/// Returns whether it is a delivery down.
 fn is_down(rec: &LinkRec) -> bool
     ensures { result ≡ is_down rec.now }
 {
     matches!(rec, LinkRec::Down { .. })
 }
 
-/// Whether it is a delivery up.
+/// Returns whether it is a delivery up.
 fn is_up(rec: &LinkRec) -> bool
     ensures { result ≡ is_up rec.now }
 {
     matches!(rec, LinkRec::Up { .. })
 }
 
-/// Whether it is the pager's readiness.
+/// Returns whether it says that the pager is ready.
 fn is_ready(rec: &PagerRec) -> bool
     ensures { result ≡ is_ready rec.now }
 {
     matches!(rec, PagerRec::Ready)
 }
 
-/// Whether it takes a delivery, of the link or of the lane.
+/// Returns whether it takes a delivery, of the link or of the lane.
 pub fn is_taking(rec: &PagerRec) -> bool
     ensures { result ≡ is_taking rec.now }
 {
     matches!(rec, PagerRec::Got { .. } | PagerRec::Pull { .. })
 }
 
-/// Whether it is a question for a page.
+/// Returns whether it asks for a page.
 fn is_want(rec: &PagerRec) -> bool
     ensures { result ≡ is_want rec.now }
 {
     matches!(rec, PagerRec::Want { .. })
 }
 
-/// Whether it is something that the link delivers up.
+/// Returns whether the link delivers it up.
 fn goes_up(rec: &PagerRec) -> bool
     ensures { result ≡ goes_up rec.now }
 {
     matches!(rec, PagerRec::Want { .. } | PagerRec::All)
 }
 
-/// Whether it is a placement of some page.
+/// Returns whether it is a placement of some page.
 pub fn is_placement(rec: &PagerRec) -> bool
     ensures { result ≡ is_placement rec.now }
 {
     matches!(rec, PagerRec::Place { .. } | PagerRec::Zero { .. })
 }
 
-/// Whether it is a placement of this page.
+/// Returns whether it is a placement of this page.
 pub fn is_placement_of(rec: &PagerRec, page: PageNo) -> bool
     ensures { result ≡ is_placement_of page rec.now }
 {
@@ -139,7 +139,7 @@ pub fn is_placement_of(rec: &PagerRec, page: PageNo) -> bool
     }
 }
 
-/// The source's record that was sent, of which a record of the pager takes the delivery.
+/// Returns the source's record whose delivery a record of the pager takes.
 fn taken_sending(session: &Session, rec: &PagerRec) -> Option<u32>
     ensures { result ≡ taken_sending session.now rec.now }
 {
@@ -155,14 +155,14 @@ fn taken_sending(session: &Session, rec: &PagerRec) -> Option<u32>
     }
 }
 
-/// The delivery of a `got` or a `pull`: the source's record that was sent.
+/// Returns the source's record whose delivery a `got` or a `pull` takes.
 pub fn delivery(session: &Session, got: u32) -> Option<u32>
     ensures { result ≡ delivery session.now got }
 {
     taken_sending(session, session.pager().get(got as usize)?)
 }
 
-/// Whether the delivery of a `got` or a `pull` is the processor state, or a repeat of it.
+/// Returns whether a `got` or a `pull` takes the processor state, or a repeat of it.
 fn delivers_state(session: &Session, got: u32) -> bool
     ensures { result ≡ delivers session.now is_state got }
 {
@@ -177,7 +177,7 @@ fn delivers_state(session: &Session, got: u32) -> bool
     }
 }
 
-/// Whether the source's record of this number is a `send` of the page, or a repeat of it.
+/// Returns whether the source's record of this number is a `send` of the page, or a repeat of it.
 pub fn sends(session: &Session, page: PageNo, sending: u32) -> bool
     ensures { result ≡ passes (is_or_repeats session.now (is_send_of page)) (slice_get session.now.source sending) }
 {
@@ -193,14 +193,14 @@ pub fn sends(session: &Session, page: PageNo, sending: u32) -> bool
     }
 }
 
-/// Whether the delivery of a `got` or a `pull` is a `send` of the page, or a repeat of it.
+/// Returns whether a `got` or a `pull` takes a `send` of the page, or a repeat of it.
 pub fn delivers_send(session: &Session, page: PageNo, got: u32) -> bool
     ensures { result ≡ delivers session.now (is_send_of page) got }
 {
     delivery(session, got).is_some_and(|sending| sends(session, page, sending))
 }
 
-/// Whether a release stands in a phase that allows it, by whether there was a halt and a resume before it.
+/// Returns whether the phase allows a release, given whether a halt and a resume came before it.
 fn may_release(version: Version, halted: bool, resumed: bool) -> bool
     ensures { result ≡ may_release version halted resumed }
 {
@@ -210,8 +210,8 @@ fn may_release(version: Version, halted: bool, resumed: bool) -> bool
     }
 }
 
-/// Whether a record of the guest stands in a phase that allows it in a session of this version, by whether there was a
-/// halt and a resume before it.
+/// Returns whether the phase allows a record of the guest in a session of this version, given whether a halt and a
+/// resume came before it.
 pub fn in_phase(version: Version, rec: &GuestRec, halted: bool, resumed: bool) -> bool
     ensures { result ≡ in_phase_by version halted resumed rec.now }
 {
@@ -224,7 +224,7 @@ pub fn in_phase(version: Version, rec: &GuestRec, halted: bool, resumed: bool) -
     }
 }
 
-/// Whether a record of the guest names a record of the right kind, if it names one.
+/// Returns whether a record of the guest names a record of the right kind, if it names one.
 pub fn guest_named(session: &Session, rec: &GuestRec) -> bool
     ensures { result ≡ guest_named session.now rec.now }
 {
@@ -238,7 +238,7 @@ pub fn guest_named(session: &Session, rec: &GuestRec) -> bool
     }
 }
 
-/// Whether the source's record of this place names a record of the right kind, if it names one.
+/// Returns whether the source's record at this place names a record of the right kind, if it names one.
 pub fn source_named(session: &Session, place: usize, rec: &SourceRec) -> bool
     ensures { result ≡ source_named session.now place rec.now }
 {
@@ -256,7 +256,7 @@ pub fn source_named(session: &Session, place: usize, rec: &SourceRec) -> bool
     }
 }
 
-/// Whether the source's record of this place may stand there.
+/// Returns whether the source's record is allowed at this place.
 pub fn source_start(session: &Session, place: usize, rec: &SourceRec) -> bool
     ensures { result ≡ source_start session.now place rec.now }
 {
@@ -271,22 +271,22 @@ pub fn source_start(session: &Session, place: usize, rec: &SourceRec) -> bool
     }
 }
 
-/// Whether a log ends with the record of this place.
+/// Returns whether a log ends with the record at this place.
 fn is_last(log: &[SourceRec], place: usize) -> bool
     ensures { result ≡ (length log.now == suc place) }
 {
     0 < log.len() && log.len() - 1 == place
 }
 
-/// Whether the guest was resumed. Takes a pass over its log.
+/// Returns whether the guest was resumed. Makes a pass over its log.
 pub fn has_resume(guest: &[GuestRec]) -> bool
     ensures { result ≡ list_any is_resume guest.now }
 {
     guest.iter().any(is_resume)
 }
 
-/// Whether a record of the source starts no guest again that was resumed at the target. Takes, at a `back`, a pass over
-/// the guest's log.
+/// Returns whether it does not start a guest again that was resumed at the target. At a `back`, makes a pass over the
+/// guest's log.
 pub fn is_alone(session: &Session, rec: &SourceRec) -> bool
     ensures { result ≡ is_alone session.now rec.now }
 {
@@ -296,7 +296,7 @@ pub fn is_alone(session: &Session, rec: &SourceRec) -> bool
     }
 }
 
-/// Whether the source's record of this place is there, and is something that goes down.
+/// Returns whether the source has a record at this place that goes down.
 fn sends_down(session: &Session, sending: u32) -> bool
     ensures { result ≡ passes goes_down (slice_get session.now.source sending) }
 {
@@ -306,7 +306,7 @@ fn sends_down(session: &Session, sending: u32) -> bool
         .is_some_and(goes_down)
 }
 
-/// Whether a record of the link names a record of the right kind.
+/// Returns whether a record of the link names a record of the right kind.
 pub fn link_named(session: &Session, rec: &LinkRec) -> bool
     ensures { result ≡ link_named session.now rec.now }
 {
@@ -316,7 +316,7 @@ pub fn link_named(session: &Session, rec: &LinkRec) -> bool
     }
 }
 
-/// Whether a record of the lane names a record of the right kind.
+/// Returns whether a record of the lane names a record of the right kind.
 pub fn lane_named(session: &Session, rec: &LaneRec) -> bool
     ensures { result ≡ lane_named session.now rec.now }
 {
@@ -325,7 +325,7 @@ pub fn lane_named(session: &Session, rec: &LaneRec) -> bool
     }
 }
 
-/// Whether the pager's record of this place names a record of the right kind, if it names one.
+/// Returns whether the pager's record at this place names a record of the right kind, if it names one.
 pub fn pager_named(session: &Session, place: usize, rec: &PagerRec) -> bool
     ensures { result ≡ pager_named session.now place rec.now }
 {
@@ -345,7 +345,7 @@ pub fn pager_named(session: &Session, place: usize, rec: &PagerRec) -> bool
     }
 }
 
-/// Whether the pager's record of this place may stand there.
+/// Returns whether the pager's record is allowed at this place.
 pub fn pager_start(session: &Session, place: usize, rec: &PagerRec) -> bool
     ensures { result ≡ pager_start session.now place rec.now }
 {

@@ -5,20 +5,21 @@ ghost use Rattle.audit_model.specs.declared.reasons.ShapeReason.{ShapeReason};
 ghost use Rattle.audit_model.specs.declared.reasons.PageReason.{PageReason};
 ghost use Rattle.audit_model.specs.Reasons.{shape_reasons, rank, shape_word, page_reasons, page_rank, page_word};
 
-/// Why a record is not of a session's right shape. Of several reasons the first counts.
+/// Why a record does not have the right shape. If there are several reasons, the first counts.
 #[derive(Clone, Copy, Debug, PartialEq, Eq)]
 pub enum ShapeReason {
-    /// It stands in the wrong phase: a second halt or resume, a resume before the halt, a read, a write or a release
+    /// It is in the wrong phase: a second halt or resume, a resume before the halt, a read, a write or a release
     /// between the two, a miss or a look before the resume, or, in the first version, a release after it.
     Phases,
-    /// It names no record of the kind that it has to name.
+    /// It does not name a record of the kind that it must name.
     Named,
     /// The source's log does not begin with its receipt for the halt and the processor state, or the pager's with the
-    /// state's arrival and its readiness; or one of these stands elsewhere, or the source's `back` before its log's end.
+    /// state's arrival and its readiness; or one of these is elsewhere, or the source's `back` comes before its log's
+    /// end.
     Start,
     /// It sends a page that was sent before.
     SecondSend,
-    /// It starts the guest again at the source, and the guest was resumed at the target.
+    /// It starts the guest again at the source, although the guest was resumed at the target.
     Both,
 }
 
@@ -32,7 +33,7 @@ impl ShapeReason {
         ShapeReason::Both,
     ];
 
-    /// The reasons, in their order.
+    /// Returns the reasons, in their order.
     pub fn all() -> [ShapeReason; 5]
         ensures list { result ≡ shape_reasons }
         ensures order { (reason : ShapeReason) → slice_get shape_reasons (rank reason) ≡ Some reason }
@@ -40,7 +41,7 @@ impl ShapeReason {
         ShapeReason::ALL
     }
 
-    /// The word of a reason in what is printed.
+    /// Returns the word of a reason in what is printed.
     pub fn word(self) -> &'static [u8]
         ensures { result.now ≡ shape_word self }
     {
@@ -54,10 +55,10 @@ impl ShapeReason {
     }
 }
 
-/// Why a record is a fault of its page. Of several reasons the first counts.
+/// Why a record is a fault of its page. If there are several reasons, the first counts.
 #[derive(Clone, Copy, Debug, PartialEq, Eq)]
 pub enum PageReason {
-    /// It reads another value than a machine that never moved would.
+    /// It reads another value than one machine that never moved would.
     Read,
     /// It reads or writes a page at the target that was not released there before, and no look before it covers the
     /// page's placement.
@@ -90,7 +91,7 @@ impl PageReason {
         PageReason::Over,
     ];
 
-    /// The reasons, in their order.
+    /// Returns the reasons, in their order.
     pub fn all() -> [PageReason; 8]
         ensures list { result ≡ page_reasons }
         ensures order { (reason : PageReason) → slice_get page_reasons (page_rank reason) ≡ Some reason }
@@ -98,7 +99,7 @@ impl PageReason {
         PageReason::ALL
     }
 
-    /// The word of a reason in what is printed.
+    /// Returns the word of a reason in what is printed.
     pub fn word(self) -> &'static [u8]
         ensures { result.now ≡ page_word self }
     {

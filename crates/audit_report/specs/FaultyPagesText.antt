@@ -1,4 +1,4 @@
--- The text of a report that tells each page with a fault.
+-- The text of a report that lists each page with a fault.
 use Rattle.std.specs.Prelude.{ℕ, List, [], ◌∷◌, ◌++◌, codes}
 use Rattle.std.specs.Fmt.{decimal}
 use Rattle.text_lines.specs.Text.{ended}
@@ -9,29 +9,29 @@ use Rattle.audit_report.specs.declared.report.Report.{Report}
 use Rattle.audit_report.specs.declared.report.Report.TheVariants.{Clean, Shape, Knot, Faulty}
 use Rattle.audit_report.specs.ReportText.{first_line}
 
--- as in "page 3 line 14 read"
+-- the line of a page with a fault, as in "page 3 line 14 read"
 abbrev pub faulty_page_line : FaultyPage → List ℕ
 faulty_page_line f = codes "page " ++ decimal f.page ++ codes " line " ++ decimal f.line ++ 32 ∷ page_word f.fault.reason
 
--- how many they are, as in "faulty-pages 2", and a line for each
+-- the number of pages with a fault, as in "faulty-pages 2", and a line for each
 abbrev pub faulty_pages_lines : List FaultyPage → List (List ℕ)
 faulty_pages_lines pages = counted (codes "faulty-pages ") faulty_page_line pages []
 
--- The report judges the pages: the session has the right shape, and its logs have a merging. Else a fault of a page means
--- nothing.
+-- The report judges the pages: the session has the right shape, and its logs have a merging. Otherwise a fault of a
+-- page means nothing.
 abbrev pub JudgesPages : Report → Type 0
 JudgesPages (Shape fault) = ⊥
 JudgesPages (Knot left found) = ⊥
 JudgesPages (Faulty line fault order many) = Unit {0}
 JudgesPages (Clean cert) = Unit {0}
 
--- what stands after the first line
+-- what follows the first line
 abbrev pub pages_after : Report → List FaultyPage → List (List ℕ)
 pages_after (Shape fault) pages = []
 pages_after (Knot left found) pages = []
 pages_after (Faulty line fault order many) pages = faulty_pages_lines pages
 pages_after (Clean cert) pages = faulty_pages_lines pages
 
--- the text of a report that tells these pages with a fault
+-- the text of a report that lists these pages with a fault
 abbrev pub all_faults_text : Report → List FaultyPage → List ℕ
 all_faults_text report pages = ended (first_line report ∷ pages_after report pages)

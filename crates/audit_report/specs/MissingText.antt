@@ -7,7 +7,8 @@ use Rattle.migration_types.specs.Sessions.{Recorded, line_of}
 use Rattle.completeness.specs.declared.missing.Missing.{Missing}
 use Rattle.completeness.specs.declared.missing.Missing.TheVariants as missing
 
--- as in "incomplete page 7"; of what was taken, the line at which the session's text has the record that took it, told so
+-- The line that says what is missing, as in "incomplete page 7". If it is a packet that was taken, the line of the
+-- record that took it, mapped by a function.
 abbrev pub missing_line : (ℕ → ℕ) → Recorded → Missing → List ℕ
 missing_line tell s missing.Halt = codes "incomplete halt"
 missing_line tell s missing.Returned = codes "incomplete returned"

@@ -11,33 +11,33 @@ use Rattle.audit_report.specs.declared.report.Report.{Report}
 use Rattle.audit_report.specs.declared.report.Report.TheVariants.{Clean, Shape, Knot, Faulty}
 use Rattle.audit_report.specs.ToldLines.{own}
 
--- what is said of a line, and its number
+-- words about a line, and its number
 abbrev pub at_line : List ℕ → ℕ → List ℕ
 at_line said line = said ++ decimal line
 
--- as in "shape line 30 named", with its line told so
+-- the line of a fault of shape, as in "shape line 30 named", with its line number mapped
 abbrev pub shape_line_by : (ℕ → ℕ) → ShapeFault → List ℕ
 shape_line_by tell fault = at_line (codes "shape line ") (tell fault.line) ++ 32 ∷ shape_word fault.reason
 
--- as in "knot line 10"
+-- the line of a knot, as in "knot line 10"
 abbrev pub knot_line : ℕ → List ℕ
 knot_line line = at_line (codes "knot line ") line
 
--- the first line of a report, with its line told so
+-- the first line of a report, with its line number mapped
 abbrev pub first_line_by : (ℕ → ℕ) → Report → List ℕ
 first_line_by tell (Shape fault) = shape_line_by tell fault
 first_line_by tell (Knot left found) = knot_line (tell left.line)
 first_line_by tell (Faulty line fault order many) = faulty_line (tell line) fault.reason
 first_line_by tell (Clean cert) = clean_line
 
--- both with the line of the session's own text
+-- both lines with the line numbers of the session's own text
 abbrev pub shape_line : ShapeFault → List ℕ
 shape_line fault = shape_line_by own fault
 
 abbrev pub first_line : Report → List ℕ
 first_line report = first_line_by own report
 
--- what stands behind it: the text of the order's runs, or of the certificate
+-- what follows the first line: the text of the order's runs, or of the certificate
 abbrev pub lines_behind : Report → List (List ℕ)
 lines_behind (Shape fault) = []
 lines_behind (Knot left found) = []

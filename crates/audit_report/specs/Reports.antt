@@ -1,4 +1,4 @@
--- Reports: what the audit of a session answers.
+-- Reports: the results of an audit of a session.
 use Rattle.std.specs.Prelude.{◌≡◌, ◌≢◌, ℕ, false, ◌⊎◌, List, Option, Some, None, slice_get}
 use Rattle.migration_types.specs.declared.records.LogName.TheVariants.{Guest, Pager}
 use Rattle.migration_types.specs.declared.records.GuestRec.{GuestRec}
@@ -34,12 +34,12 @@ used_by (Read vcpu page cell value) = Some page
 used_by (Write vcpu page cell value) = Some page
 used_by _ = None
 
--- the page that the record of this name reads or writes
+-- the page that the record with this name reads or writes
 abbrev pub page_used : Recorded → Name → Option ℕ
 page_used s (Guest, n) = if_there used_by (slice_get s.guest n)
 page_used s _ = None
 
--- the pager places the page nowhere
+-- the pager never places the page
 abbrev pub HasNoPlacement : Recorded → ℕ → Type 0
 HasNoPlacement s page = (n : ℕ) (r : PagerRec) → slice_get s.pager n ≡ Some r → is_placement_of page r ≡ false
 
@@ -50,12 +50,12 @@ pub record IsEarlyFor (s : Recorded) (reason : PageReason) (name : Name) (place 
   pub uses : page_used s name ≡ Some page
   pub is_first : IsFirstPlacement s page place
 
--- the fault is a placement over a release: pager record `place` itself
+-- the fault is a placement over a release, by pager record `place` itself
 pub record IsOverAt (reason : PageReason) (name : Name) (place : ℕ) : Type 0 where
   pub is_over : reason ≡ Over
   pub is_itself : name ≡ (Pager, place)
 
--- the fault is shown where pager record `place` is delayed
+-- delaying pager record `place` shows the fault
 abbrev pub IsShownWith : Recorded → PageReason → Name → ℕ → Type 0
 IsShownWith s reason name place = IsEarlyFor s reason name place ⊎ IsOverAt reason name place
 
@@ -64,15 +64,15 @@ pub record IsUndelayed (s : Recorded) (reason : PageReason) (name : Name) : Type
   pub unplaced : (page : ℕ) → reason ≡ Early → page_used s name ≡ Some page → HasNoPlacement s page
   pub is_not_over : reason ≢ Over
 
--- The order that is given with a fault: the found order, or, for an early access to a page that is placed, this order
--- with the page's first placement delayed, or, for a placement over a release, with this placement delayed.
+-- The order that shows a fault: the found order, or this order with a placement delayed. That is the first placement of
+-- its page for an early access to a page that is placed, and the faulty placement itself for one over a release.
 pub record IsOrderFor (s : Recorded) (reason : PageReason) (name : Name) (order : List Name) : Type 0 where
   pub found : List Name
   pub is_found : IsFound s found
   pub delayed : (place : ℕ) → IsShownWith s reason name place → IsDelayedOrder s found (Pager, place) order
   pub undelayed : IsUndelayed s reason name → order ≡ found
 
--- these runs spell the order given with a fault, which is a merging in which the demand at the faulty record fails
+-- these runs spell the order that shows the fault, which is a merging in which the demand at the faulty record fails
 pub record ShowsFault (s : Recorded) (reason : PageReason) (name : Name) (runs : List Run) : Type 0 where
   pub are_runs : AreRuns s.version s.geometry.size runs
   pub is_merging : IsMerging s (spelled runs)
@@ -92,8 +92,8 @@ pub record IsCleanWith (s : Recorded) (cert : Certified) : Type 0 where
   pub is_made : IsMade s cert.runs cert
   pub is_found : IsFound s (spelled cert.runs)
 
--- The first of these that applies: the session has not the right shape, its logs have no merging, a page has a fault,
--- the session is clean.
+-- The first of these that applies: the session does not have the right shape, its logs have no merging, a page has a
+-- fault, the session is clean.
 abbrev pub IsReport : Recorded → Report → Type 0
 IsReport s (Shape fault) = IsShapeFault s fault
 IsReport s (Knot left found) = IsRightShape s × IsTied s left found

@@ -29,18 +29,18 @@ use std::alloc::{AllocError, Global};
 use std::marker::Sync;
 use std::thread::Threads;
 
-/// What an audit takes of what is found of pages.
+/// What an audit takes from the findings about pages.
 #[derive(Drop)]
 pub struct Audited {
-    /// Their first fault.
+    /// The first fault of the pages.
     pub fault: Option<PageFault>,
-    /// How many of them have a fault.
+    /// How many of the pages have a fault.
     pub faulty: usize,
-    /// Their entries in a certificate; none where one has no right entry.
+    /// The pages' entries in a certificate, or `None` if one of them has no right entry.
     pub entries: Option<Vec<Entry>>,
 }
 
-/// What is the first fault of the pages, how many have one, and what are their entries?
+/// The question for the first fault of the pages, how many have a fault, and their entries.
 #[derive(Clone, Copy)]
 pub struct FaultAndEntries;
 
@@ -96,7 +96,7 @@ impl<R: Threads + Sync> Judges<FaultAndEntries> for InThreads<'_, R> {
     }
 }
 
-/// The report on a session with no fault, over the runs of its found order, with the entries of its pages.
+/// Returns the report on a session with no fault, over the runs of its found order, with the entries of its pages.
 fn clean(session: &Session, entries: Option<Vec<Entry>>, found: Seq<Run>) -> Report
     requires limits { IsSession session.now }
     requires shape { IsRightShape session.now }
@@ -112,7 +112,8 @@ fn clean(session: &Session, entries: Option<Vec<Entry>>, found: Seq<Run>) -> Rep
     }
 }
 
-/// The report on a session with this first fault, of which so many pages have one, and whose found order has these runs.
+/// Returns the report on a session with this first fault, whose found order has these runs, and of which this many
+/// pages have a fault.
 fn faulty(
     alloc: Global,
     session: &Session,
@@ -137,7 +138,8 @@ fn faulty(
     })
 }
 
-/// The report on a session of the right shape, over the runs of its found order, by what is taken of its pages.
+/// Returns the report on a session of the right shape, over the runs of its found order, given what was found about its
+/// pages.
 fn by_pages(
     alloc: Global,
     session: &Session,
@@ -160,7 +162,7 @@ fn by_pages(
     }
 }
 
-/// The report on a session.
+/// Returns the report on a session.
 fn report<J: Judges<FaultAndEntries>>(
     judges: &J,
     alloc: Global,
@@ -182,8 +184,8 @@ fn report<J: Judges<FaultAndEntries>>(
     by_pages(alloc, session, found, audited)
 }
 
-/// The report on a session that [`audit`] answers, whoever judges the pages. It promises what `audit` promises, and takes
-/// the memory that these judges take.
+/// Returns the report on a session that [`audit`] returns, whichever judges are used. It promises what `audit`
+/// promises, and allocates the memory that these judges do. Fails only if memory runs out.
 pub fn audit_by<J: Judges<FaultAndEntries>>(
     judges: &J,
     alloc: Global,
@@ -200,17 +202,17 @@ pub fn audit_by<J: Judges<FaultAndEntries>>(
     report(judges, alloc, session)
 }
 
-/// The report on a session: `Shape`, `Knot`, `Faulty` or `Clean`, the first that applies.
+/// Returns the report on a session: the first that applies of `Shape`, `Knot`, `Faulty` and `Clean`.
 ///
-/// A session of the right shape that has a merging is safe exactly where the report is `Clean`, which has a right
-/// certificate over the found order. `Faulty` has the fault of least line, and then of least reason, and the runs of a
-/// merging in which the demand of that record fails: of the found order, or of the order in which a placement comes as
-/// late as it can, with all that depends on it: for an early access to a page that is placed the page's first
-/// placement, and for a placement over a release this one.
+/// A session of the right shape that has a merging is safe exactly when the report is `Clean`, which has a right
+/// certificate over the found order. `Faulty` has the fault with the least line, and then the least reason, and the
+/// runs of a merging in which the demand of that record fails. This merging is the found order, or the delayed order,
+/// in which a placement and all that depends on it come as late as possible. For an early access to a page that is
+/// placed, that is the page's first placement. For a placement over a release, it is this placement.
 ///
-/// The pages are judged by threads side by side, for which alone the call waits; a small session is judged by the
-/// calling thread. Takes a few passes over the records and the runs. The only error is want of memory, for a few
-/// numbers for each page, the cells of all pages, and the runs.
+/// Threads side by side judge the pages, and the call waits only for them. The calling thread judges a small session
+/// alone. Makes a few passes over the records and the runs, and allocates memory for a few numbers for each page, the
+/// cells of all pages, and the runs. Fails only if memory runs out.
 pub fn audit<R: Threads + Sync>(
     rt: &R,
     alloc: Global,

@@ -11,9 +11,9 @@ ghost use Rattle.audit_report.specs.Dependence.{NeverBefore};
 use crate::cuts::cut_for;
 use migration_types::{LogName, Run, Session};
 
-/// Whether a record depends on another: it is that one, or comes later in the log of one that does, or is a receipt for
-/// one that does. Just then it stands before the other in no order. Takes one pass over the runs, which spell an order,
-/// and over the records, and no memory.
+/// Returns whether a record depends on another: it is that one, or comes later in the log of one that does, or is a
+/// receipt for one that does. A record comes before another in no order exactly when it depends on it. Makes one pass
+/// over the runs, which must spell an order, and over the records, and allocates no memory.
 pub fn depends_on(
     session: &Session,
     runs: &[Run],

@@ -1,4 +1,4 @@
-//! The text of a report that tells each page with a fault.
+//! The text of a report that lists each page with a fault.
 
 ghost use Rattle.std.specs.Prelude.{◌≡◌, [], ◌∷◌, ◌++◌, IfOk, OnOk};
 ghost use Rattle.text_lines.specs.Text.{ended};
@@ -12,7 +12,7 @@ use text_lines::{push_keyed, push_keyed_word, push_number};
 
 const FAULTY_PAGES: &[u8] = b"faulty-pages ";
 
-/// Adds the line of a page with a fault.
+/// Appends the line of a page with a fault.
 fn push_faulty_page(out: &mut Vec<u8>, faulty: &FaultyPage) -> Result<(), AllocError>
     ensures { OnOk result (out.new.items ≡ out.old.items ++ (faulty_page_line faulty.now ++ 10 ∷ [])) }
 {
@@ -21,7 +21,8 @@ fn push_faulty_page(out: &mut Vec<u8>, faulty: &FaultyPage) -> Result<(), AllocE
     push_keyed_word(out, b" line ", faulty.line, faulty.fault.reason.word())
 }
 
-/// Adds the lines of the pages with a fault: how many they are, and one for each. An error: there is no memory for them.
+/// Appends the lines of the pages with a fault: how many there are, and one line for each. Fails only if memory runs
+/// out.
 pub fn push_faulty_pages(out: &mut Vec<u8>, pages: &[FaultyPage]) -> Result<(), AllocError>
     ensures { OnOk result (out.new.items ≡ out.old.items ++ ended (faulty_pages_lines pages.now)) }
 {
@@ -32,7 +33,7 @@ pub fn push_faulty_pages(out: &mut Vec<u8>, pages: &[FaultyPage]) -> Result<(), 
     Ok(())
 }
 
-/// Adds what stands after the first line of a report that tells each page with a fault.
+/// Appends what follows the first line of a report that lists each page with a fault.
 fn push_pages_after(
     out: &mut Vec<u8>,
     report: &Report,
@@ -46,9 +47,9 @@ fn push_pages_after(
     }
 }
 
-/// The text of a report that tells each page with a fault: the report's first line, and after it the lines of these pages
-/// where it is clean or faulty. Of a session that has not the right shape, or no merging, no page is told. Each line ends with
-/// LF. An error: there is no memory for the text.
+/// Returns the text of a report that lists each page with a fault: the report's first line, and then the lines of these
+/// pages if the report is clean or faulty. No page is listed for a session that does not have the right shape, or has
+/// no merging. Each line ends with LF. Fails only if memory runs out.
 pub fn print_all_faults(
     alloc: Global,
     report: &Report,

@@ -11,7 +11,8 @@ use migration_types::{LogName, Session, line_of};
 use std::alloc::AllocError;
 use text_lines::{push_keyed, push_line};
 
-/// The line of the pager's record of this number, where it is what a session lacks first that nothing became of what that took.
+/// Returns the line of the pager's record of this number. The first thing that is missing from the session must be the
+/// `place` or the `skip` of the packet that this record took.
 pub fn line_of_taken(session: &Session, n: u32) -> u32
     requires { IsFirstMissing session.now (Missing.Taken n) }
     ensures { result ≡ line_of session.now (LogName.Pager, n) }
@@ -19,7 +20,8 @@ pub fn line_of_taken(session: &Session, n: u32) -> u32
     line_of(session, LogName::Pager, n)
 }
 
-/// Adds the line that says what is missing from a session, told by these lines. An error: there is no memory for it.
+/// Appends the line that says what is missing from a session, with its line numbers from `lines`. Fails only if memory
+/// runs out.
 pub fn push_missing<L: Lines>(
     out: &mut Vec<u8>,
     lines: &L,

@@ -1,7 +1,7 @@
-//! The audit of a recorded session: it is clean, with a right certificate; or it has a fault, and an order of its
-//! records in which the demand at the faulty line fails. And what is written of a judgement: the text of a report, with the
-//! pages that have a fault where these are wanted, the line of a text that is refused, and the line that says what a session
-//! lacks.
+//! The audit of a recorded session. Either it is clean, with a right certificate; or it has a fault, with an order of
+//! its records in which the demand at the faulty line fails. Also what is written about a judgement: the text of a
+//! report, with the pages that have a fault if these are wanted, the line at which a text is refused, and the line that
+//! says what a session lacks.
 #![tactic(auto)]
 
 mod auditing;

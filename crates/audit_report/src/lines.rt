@@ -1,23 +1,23 @@
-//! How the lines of a session's text are told.
+//! The line numbers that are printed for a session's text.
 
 ghost use Rattle.std.specs.Prelude.{◌≡◌};
 ghost use Rattle.audit_report.specs.ToldLines.{line_by};
 
 use migration_types::Seq;
 
-/// How the lines of a session's text are told.
+/// The line numbers that are printed for the lines of a session's text.
 pub trait Lines {
     ghost use Rattle.std.specs.Prelude.{ℕ};
 
-    /// The line that is told in place of a line.
+    /// The line number that is printed for a line.
     ghost tell: { Self → ℕ → ℕ };
 
-    /// The line that is told in place of this line of the session's text. Lines are counted from 1.
+    /// Returns the line number that is printed for this line of the session's text. Lines count from 1.
     fn line(&self, line: u32) -> u64
         ensures { result ≡ tell self.now line };
 }
 
-/// The lines that a session's own text has.
+/// The line numbers of the session's own text.
 #[derive(Clone, Copy)]
 pub struct OwnLines;
 
@@ -31,7 +31,7 @@ impl Lines for OwnLines {
     }
 }
 
-/// The line that a table has for a line, counted from 1; where it has none, the line itself.
+/// Returns the line that a table has for a line, counted from 1, or the line itself if the table has none.
 fn line_by(table: &[u64], line: u32) -> u64
     ensures { result ≡ line_by table.now line }
 {
@@ -44,8 +44,8 @@ fn line_by(table: &[u64], line: u32) -> u64
     }
 }
 
-/// The lines that a table has for those of a session's text, in the order of these. A line for which it has none is told as it
-/// stands.
+/// A table with a line number for each line of a session's text, in order. A line that is not in the table keeps its
+/// own number.
 impl Lines for Seq<u64> {
     ghost tell = { line_by };
 

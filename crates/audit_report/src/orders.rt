@@ -1,4 +1,4 @@
-//! The order that is given with a fault.
+//! The order that shows a fault.
 
 ghost use Rattle.std.specs.Prelude.{IfOk};
 ghost use Rattle.migration_types.specs.Sessions.{IsSession};
@@ -15,8 +15,9 @@ use migration_types::{LogName, Run, Seq, Session};
 use page_facts::PageFault;
 use std::alloc::{AllocError, Global};
 
-/// The runs of an order in which the demand at the faulty record fails: the found order, or this order with a placement
-/// delayed: for an early access to a page that is placed the page's first one, and for one over a release this one.
+/// Returns the runs of an order in which the demand at the faulty record fails: the found order, or this order with a
+/// placement delayed. That is the first placement of its page for an early access to a page that is placed, and the
+/// faulty one for a placement over a release.
 pub(crate) fn order_for(
     alloc: Global,
     session: &Session,

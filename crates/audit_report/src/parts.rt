@@ -14,7 +14,7 @@ use merge_runs::Taken;
 use migration_types::{LogName, Run, Seq, Session};
 use std::alloc::{AllocError, Global};
 
-/// Adds the next so many records of a log behind some runs, to the last of these where it is of that log.
+/// Appends the next `count` records of a log after some runs, to the last of these if it is of that log.
 fn add_part(runs: &mut Vec<Run>, log: LogName, count: u32) -> Result<(), AllocError>
     requires blocks { AreBlocks runs.old.items }
     requires room { ends runs.old.items log + count ≤ longest_log }
@@ -33,7 +33,7 @@ fn add_part(runs: &mut Vec<Run>, log: LogName, count: u32) -> Result<(), AllocEr
     Ok(())
 }
 
-/// How many of a run's records lie below the cut.
+/// Returns how many of a run's records lie below the cut.
 fn below_of(taken: &Taken, cut: &Taken, run: &Run) -> u32
     ensures { result ≡ min run.now.count (cursors_of cut.now run.now.log - cursors_of taken.now run.now.log) }
 {
@@ -41,7 +41,7 @@ fn below_of(taken: &Taken, cut: &Taken, run: &Run) -> u32
     below.min(run.count as usize) as u32
 }
 
-/// The part of the order below the cut.
+/// Returns the part of the order below the cut.
 fn below_parts(
     alloc: Global,
     session: &Session,
@@ -64,7 +64,7 @@ fn below_parts(
     Ok(parts)
 }
 
-/// Adds the part of the order above the cut behind the part below it.
+/// Appends the part of the order above the cut after the part below it.
 fn add_above(
     session: &Session,
     runs: &[Run],
@@ -87,8 +87,8 @@ fn add_above(
     Ok(())
 }
 
-/// The order with what is above a cut moved behind what is below it, in runs as long as they can be. Takes two passes
-/// over the runs, and memory for at most twice as many. An error: there is no memory for them.
+/// Returns the order with what is above a cut moved after what is below it, in runs as long as they can be. Makes two
+/// passes over the runs, and allocates memory for at most twice as many. Fails only if memory runs out.
 pub(crate) fn rearranged(
     alloc: Global,
     session: &Session,

@@ -1,4 +1,4 @@
-//! The placement that a fault has to be shown with.
+//! The placement that shows a fault if it is delayed.
 
 ghost use Rattle.std.specs.Prelude.{◌≡◌, MatchOption};
 ghost use Rattle.migration_types.specs.Sessions.{IsSession};
@@ -10,7 +10,7 @@ use audit_model::{PageReason, is_placement_of};
 use migration_types::{GuestRec, LogName, PageNo, Session};
 use page_facts::PageFault;
 
-/// The page that the record of this log and place reads or writes, if it is an access of the guest.
+/// Returns the page that the record at this place of a log reads or writes, if it is an access of the guest.
 fn page_used(session: &Session, log: LogName, place: u32) -> Option<PageNo>
     ensures { result ≡ page_used session.now (log, place) }
 {
@@ -24,7 +24,7 @@ fn page_used(session: &Session, log: LogName, place: u32) -> Option<PageNo>
     }
 }
 
-/// The pager's first placement of a page, by one pass over the pager's log. Takes no memory.
+/// Returns the pager's first placement of a page, by one pass over the pager's log. Allocates no memory.
 pub fn first_placement(session: &Session, page: PageNo) -> Option<u32>
     ensures { MatchOption result (HasNoPlacement session.now page) (IsFirstPlacement session.now page) }
 {
@@ -38,8 +38,8 @@ pub fn first_placement(session: &Session, page: PageNo) -> Option<u32>
     None
 }
 
-/// The placement that is delayed where a fault is shown: the first one of the page that an early access uses, or the
-/// faulty one itself where it is over a release; none where the fault is another one, or the page is not placed.
+/// Returns the placement that is delayed to show a fault: the first placement of the page of an early access, or a
+/// faulty placement over a release. Returns `None` if the fault is another one, or the page is not placed.
 pub(crate) fn placement_for(session: &Session, fault: &PageFault) -> Option<u32>
     requires limits { IsSession session.now }
     requires fault { IsPageFault session.now fault.now.reason (fault.now.log, fault.now.place) }

@@ -1,4 +1,4 @@
-//! The text of a report, and the line of a text that is refused.
+//! The text of a report, and the line that says where a text is refused.
 
 ghost use Rattle.std.specs.Prelude.{◌≡◌, [], ◌∷◌, ◌++◌, IfOk, OnOk};
 ghost use Rattle.text_lines.specs.Text.{ended};
@@ -21,7 +21,8 @@ const SHAPE: &[u8] = b"shape line ";
 
 const KNOT: &[u8] = b"knot line ";
 
-/// Adds the line that says where the text of a session is refused, told by these lines.
+/// Appends the line that says where the text of a session is refused, with its line number from `lines`. Fails only if
+/// memory runs out.
 pub fn push_refused_session_by<L: Lines>(
     out: &mut Vec<u8>,
     lines: &L,
@@ -32,14 +33,14 @@ pub fn push_refused_session_by<L: Lines>(
     push_keyed(out, SESSION_TEXT, lines.line(line))
 }
 
-/// Adds the line that says where the text of a session is refused.
+/// Appends the line that says where the text of a session is refused. Fails only if memory runs out.
 pub fn push_refused_session(out: &mut Vec<u8>, line: u32) -> Result<(), AllocError>
     ensures { OnOk result (out.new.items ≡ out.old.items ++ refusal_text line) }
 {
     push_refused_session_by(out, &OwnLines, line)
 }
 
-/// The line that says where the text of a session is refused. An error: there is no memory for it.
+/// Returns the line that says where the text of a session is refused. Fails only if memory runs out.
 pub fn print_refused_session(alloc: Global, line: u32) -> Result<Vec<u8>, AllocError>
     ensures { IfOk result (λ out. out.items ≡ refusal_text line) }
 {
@@ -48,14 +49,14 @@ pub fn print_refused_session(alloc: Global, line: u32) -> Result<Vec<u8>, AllocE
     Ok(out)
 }
 
-/// Adds the line that says where the text of a certificate is refused.
+/// Appends the line that says where the text of a certificate is refused. Fails only if memory runs out.
 pub fn push_refused_certificate(out: &mut Vec<u8>, line: u32) -> Result<(), AllocError>
     ensures { OnOk result (out.new.items ≡ out.old.items ++ certificate_refusal_text line) }
 {
     push_keyed(out, CERT_TEXT, line)
 }
 
-/// Adds the line of a fault of shape, told by these lines.
+/// Appends the line of a fault of shape, with its line number from `lines`.
 fn push_shape_by<L: Lines>(
     out: &mut Vec<u8>,
     lines: &L,
@@ -66,14 +67,14 @@ fn push_shape_by<L: Lines>(
     push_keyed_word(out, SHAPE, lines.line(fault.line), fault.reason.word())
 }
 
-/// Adds the line of a fault of shape.
+/// Appends the line of a fault of shape. Fails only if memory runs out.
 pub fn push_shape(out: &mut Vec<u8>, fault: &ShapeFault) -> Result<(), AllocError>
     ensures { OnOk result (out.new.items ≡ out.old.items ++ ended (shape_line fault.now ∷ [])) }
 {
     push_shape_by(out, &OwnLines, fault)
 }
 
-/// Adds the first line of a report, told by these lines.
+/// Appends the first line of a report, with its line number from `lines`. Fails only if memory runs out.
 pub fn push_first_line_by<L: Lines>(
     out: &mut Vec<u8>,
     lines: &L,
@@ -91,14 +92,14 @@ pub fn push_first_line_by<L: Lines>(
     }
 }
 
-/// Adds the first line of a report.
+/// Appends the first line of a report. Fails only if memory runs out.
 pub fn push_first_line(out: &mut Vec<u8>, report: &Report) -> Result<(), AllocError>
     ensures { OnOk result (out.new.items ≡ out.old.items ++ ended (first_line report.now ∷ [])) }
 {
     push_first_line_by(out, &OwnLines, report)
 }
 
-/// The first line of a report. An error: there is no memory for it.
+/// Returns the first line of a report. Fails only if memory runs out.
 pub fn print_first_line(alloc: Global, report: &Report) -> Result<Vec<u8>, AllocError>
     ensures { IfOk result (λ out. out.items ≡ ended (first_line report.now ∷ [])) }
 {
@@ -107,8 +108,8 @@ pub fn print_first_line(alloc: Global, report: &Report) -> Result<Vec<u8>, Alloc
     Ok(out)
 }
 
-/// Adds the text behind the first line: the certificate's where the report is clean, that of the order's runs where a page
-/// has a fault, and else none.
+/// Appends the text after the first line: the certificate's text if the report is clean, that of the order's runs if a
+/// page has a fault, and otherwise nothing.
 fn push_behind(out: &mut Vec<u8>, report: &Report) -> Result<(), AllocError>
     requires { ReportFits report.now }
     ensures { OnOk result (out.new.items ≡ out.old.items ++ ended (lines_behind report.now)) }
@@ -120,8 +121,8 @@ fn push_behind(out: &mut Vec<u8>, report: &Report) -> Result<(), AllocError>
     }
 }
 
-/// The text of a report: its first line, and behind it the certificate's text where it is clean, or the text of the
-/// order's runs where a page has a fault. Each line ends with LF. An error: there is no memory for the text.
+/// Returns the text of a report: its first line, and then the certificate's text if it is clean, or the text of the
+/// order's runs if a page has a fault. Each line ends with LF. Fails only if memory runs out.
 pub fn print_report(alloc: Global, report: &Report) -> Result<Vec<u8>, AllocError>
     requires { ReportFits report.now }
     ensures { IfOk result (λ out. out.items ≡ report_text report.now) }

@@ -5,15 +5,15 @@ use cert_maker::{FoundRuns, Left};
 use migration_types::{Cert, Run, Seq};
 use page_facts::PageFault;
 
-/// What the audit of a session answers. A line is one of the session's text, and lines count from 1.
+/// The report of an audit of a session. A line is one of the session's text, and lines count from 1.
 #[derive(Drop)]
 pub enum Report {
     /// The session is safe in each of its mergings: a right certificate, over the found order.
     Clean(Cert),
-    /// The session has not the right shape.
+    /// The session does not have the right shape.
     Shape(ShapeFault),
-    /// The session's logs have no merging: of the records that can never be taken the first that is next in its log, and
-    /// the found order, which goes up to them.
+    /// The session's logs have no merging. Of the records that can never be taken and are the next of their logs, this
+    /// is the first. The found order goes up to them.
     Knot {
         left: Left,
         found: FoundRuns,

@@ -17,7 +17,7 @@ released m page = nat_lt page m.geometry.pages && slice_index_or m.marks page fa
 abbrev pub pages_below : ℕ → Pages → List ℕ
 pages_below pages set = filter set (range_with_len 0 pages)
 
--- marks of the same geometry, which are those of this set
+-- marks of the same geometry, which now are those of this set
 pub record IsWith (before after : Marks) (set : Pages) : Type 0 where
   pub geometry : after.geometry ≡ before.geometry
   pub set_is : released after ≡ set

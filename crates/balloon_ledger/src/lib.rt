@@ -7,14 +7,14 @@ use migration_types::{Geometry, PageNo};
 use std::alloc::{AllocError, Global};
 use std::marker::Model;
 
-/// The pages of a machine that its guest released and has not written since. Only `new` and `released_list` take
-/// memory: a byte for each page of the machine, and three for each page of the list.
+/// The ledger: the pages of a machine that its guest released and has not written since. Only `new` and `released_list`
+/// allocate memory: a byte for each page of the machine, and three for each page of the list.
 #[derive(Drop)]
 pub struct Ledger {
     geometry: Geometry,
     /// A mark for each page, page 0 first.
     marks: Vec<bool>,
-    /// How many marks are not set.
+    /// How many pages are not marked.
     owed: u32,
 }
 
@@ -34,7 +34,7 @@ impl Ledger {
     ghost use Rattle.migration_types.specs.PageSets.{no_page, with_page, without_page, size_below, others};
     ghost use Rattle.balloon_ledger.specs.Released.{released, pages_below, IsWith};
 
-    /// The ledger of a machine that has released no page. An error: there is no memory for it.
+    /// Returns the ledger of a machine that has released no page. Fails only if memory runs out.
     pub fn new(alloc: Global, geometry: Geometry) -> Result<Ledger, AllocError>
         ensures geometry { IfOk result (λ l. l.geometry ≡ geometry) }
         ensures set { IfOk result (λ l. released l ≡ no_page) }
@@ -48,7 +48,7 @@ impl Ledger {
         })
     }
 
-    /// Puts a page in, also one that is in already. The other pages stay as they are.
+    /// Puts a page into the ledger, even if it is there already. The other pages stay as they are.
     pub fn release(&mut self, page: PageNo)
         requires { page < self.old.geometry.pages }
         ensures { IsWith self.old self.new (with_page page (released self.old)) }
@@ -60,7 +60,7 @@ impl Ledger {
         }
     }
 
-    /// Takes a page out, also one that is not in. The other pages stay as they are.
+    /// Takes a page out of the ledger, even if it is not there. The other pages stay as they are.
     pub fn wrote(&mut self, page: PageNo)
         requires { page < self.old.geometry.pages }
         ensures { IsWith self.old self.new (without_page page (released self.old)) }
@@ -72,7 +72,7 @@ impl Ledger {
         }
     }
 
-    /// Whether a page was released and not written since.
+    /// Returns whether a page was released and not written since.
     pub fn holds(&self, page: PageNo) -> bool
         requires { page < self.now.geometry.pages }
         ensures { result ≡ released self.now page }
@@ -80,15 +80,15 @@ impl Ledger {
         self.marks[page.index()]
     }
 
-    /// How many of the machine's pages are not in the ledger, 0 to all of them. The ledger counts along, so no page
-    /// is looked at.
+    /// Returns how many of the machine's pages are not in the ledger. The ledger keeps this count, so no page is looked
+    /// at.
     pub fn owed_count(&self) -> u32
         ensures { result ≡ size_below self.now.geometry.pages (others (released self.now)) }
     {
         self.owed
     }
 
-    /// The pages that are in the ledger, in rising order. An error: there is no memory for the list.
+    /// Returns the pages that are in the ledger, in rising order. Fails only if memory runs out.
     pub fn released_list(&self) -> Result<Vec<PageNo>, AllocError>
         ensures { IfOk result (λ v. v.items ≡ pages_below self.now.geometry.pages (released self.now)) }
     {
@@ -102,7 +102,7 @@ impl Ledger {
         Ok(list)
     }
 
-    /// The machine's geometry.
+    /// Returns the machine's geometry.
     pub fn geometry(&self) -> Geometry
         ensures { result ≡ self.now.geometry }
     {
@@ -110,7 +110,7 @@ impl Ledger {
     }
 }
 
-/// So many marks, none of them set.
+/// Returns this many marks, none of them set. Fails only if memory runs out.
 fn no_marks(alloc: Global, count: usize) -> Result<Vec<bool>, AllocError>
     ensures { IfOk result (λ v. v.items ≡ replicate count false) }
 {

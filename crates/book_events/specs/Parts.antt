@@ -28,15 +28,15 @@ receiving link pager a = record a { link = link; pager = pager }
 abbrev pub placing : PagerPart → TargetPart → BooksAfter → BooksAfter
 placing pager target a = record a { pager = pager; target = target }
 
--- in each migration with the old books the event makes the new ones of them, and leaves all else as it was
+-- in each migration with the old books, the event changes them to the new ones, and leaves all else as it was
 pub record IsMade (e : Event) (old new : BooksAfter → BooksAfter) : Type 0 where
   pub made : (a : BooksAfter) → away_event e (old a) ≡ new a
 
--- the event has no room in a log
+-- a log has no room for the event
 pub record IsFull (e : Event) (old : BooksAfter → BooksAfter) : Type 0 where
   pub full : (a : BooksAfter) → has_room (session_after (away_event e (old a))) ≡ false
 
--- the event has room in each log, where the logs were within their limit
+-- each log has room for the event, if the logs were within their limit
 pub record Fits (e : Event) (old : BooksAfter → BooksAfter) : Type 0 where
   pub fits : (a : BooksAfter) → has_room (session_after (old a)) ≡ true → has_room (session_after (away_event e (old a))) ≡ true
 
@@ -44,7 +44,7 @@ pub record Fits (e : Event) (old : BooksAfter → BooksAfter) : Type 0 where
 pub record IsSame (old new : BooksAfter → BooksAfter) : Type 0 where
   pub same : (a : BooksAfter) → new a ≡ old a
 
--- a line has gained a packet of this page, behind the others or before them
+-- a line has gained a packet of this page, after the others or before them
 pub record HasGained (page : ℕ) (old new : List Packet) : Type 0 where
   pub number : ℕ
   pub contents : List ℕ
@@ -63,16 +63,16 @@ pub record IsDone (old new : BooksAfter → BooksAfter) : Type 0 where
   pub changed : (a : BooksAfter) → new a ≢ old a
   pub no_page : (a : BooksAfter) (page : ℕ) → Gains page (old a).link (new a).link → ⊥
 
--- what is told of an event: that there was nothing to do only where nothing has changed, a page only where it was offered,
--- and that the event was made only where something has changed and no page was offered
+-- What the result of an event says: that there was nothing to do only if nothing has changed; a page only if it was
+-- offered; and that the event was carried out only if something has changed and no page was offered.
 abbrev pub Tells : Came → (BooksAfter → BooksAfter) → (BooksAfter → BooksAfter) → Type 0
 Tells Nothing old new = IsSame old new
 Tells Made old new = IsDone old new
 Tells (Offered page) old new = IsOffered page old new
 
--- what a call for an event comes to, of two books that stand in a migration so: the event is made, and what is told of it is
--- so; it is refused for want of room exactly where it has none in a log, and for want of memory only where it has; and on
--- an error nothing changes
+-- The result of a call for an event, on two books that are part of a migration. Either the event is carried out, and
+-- the result says what happened. Or it is refused: because a log is full exactly when a log has no room, and because
+-- memory ran out only if there is room. On an error, nothing changes.
 pub record ComesTo {A B : Type 0} (e : Event) (result : Result Came EventFault) (standing : A → B → BooksAfter → BooksAfter) (one one' : A) (other other' : B) : Type 0 where
   pub ok : OnOk result (IsMade e (standing one other) (standing one' other'))
   pub told : IfOk result (λ came. Tells came (standing one other) (standing one' other'))
@@ -80,15 +80,15 @@ pub record ComesTo {A B : Type 0} (e : Event) (result : Result Came EventFault) 
   pub memory : IsErrOf result Memory → Fits e (standing one other)
   pub err : OnErr result ((one' ≡ one) × (other' ≡ other))
 
--- what a look at the room for an event comes to, of two books that stand in a migration so: it is there in each log, or a
--- log has none
+-- The result of a look at the room for an event, on two books that are part of a migration: each log has room, or a log
+-- has none.
 pub record LooksFor {A B T : Type 0} (e : Event) (result : Result T EventFault) (standing : A → B → BooksAfter → BooksAfter) (one : A) (other : B) : Type 0 where
   pub room : OnOk result (Fits e (standing one other))
   pub full : OnErr result (IsFull e (standing one other))
   pub memory : IsErrOf result Memory → ⊥
 
--- Halt: the books of the source and the target that it makes of the guest's, and the state's packet is offered behind
--- what is under way
+-- Halt: the books of the source and the target that it makes from the guest's; the state's packet is offered after what
+-- is under way.
 pub record IsHalt (pivots : ℕ) (guest : GuestPart) (link new_link : LinkPart) (source : SourcePart) (target : TargetPart) : Type 0 where
   pub source_is : source ≡ halted_source guest.geometry guest.memory guest.ledger pivots (length guest.log)
   pub target_is : target ≡ halted_target guest.log

@@ -1,14 +1,14 @@
-//! What is told of an event.
+//! The results of events.
 
 use migration_types::PageNo;
 
-/// What an event came to.
+/// The result of an event.
 #[derive(Clone, Copy, Debug, PartialEq, Eq)]
 pub enum Came {
     /// There was nothing to do, and nothing has changed.
     Nothing,
-    /// It was made.
+    /// The event was carried out.
     Made,
-    /// It was made, and offered a packet of this page.
+    /// The event was carried out, and offered a packet of this page.
     Offered(PageNo),
 }

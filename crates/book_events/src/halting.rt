@@ -1,4 +1,4 @@
-//! The halt, which makes the source's and the target's books of the guest's.
+//! The halt, which makes the source's and the target's books from the guest's.
 
 ghost use Rattle.std.specs.Prelude.{◌≡◌, ◌<◌, ◌≤◌, length, IfOk, IfErr};
 ghost use Rattle.migration_types.specs.Limits.{most_records};
@@ -14,10 +14,10 @@ use link_book::LinkBook;
 use migration_events::EventFault;
 use target_side::{GuestBook, TargetBook};
 
-/// Halt, where each virtual processor is at its move: the guest's book parts into the source's, which keeps at most so
-/// many pivots, 1 to 16, and the target's, and the packet of the state is offered. `EventFault::LogFull` exactly where the
-/// guest's log has no room for the record, which is looked at before memory is asked for. On an error the guest's book
-/// comes back as it was, and nothing is offered.
+/// Carries out Halt, for which each virtual processor must be at its move. The guest's book splits into the source's,
+/// which keeps at most this many pivots, 1 to 16, and the target's, and the packet of the state is offered. The error
+/// is `EventFault::LogFull` exactly when the guest's log has no room for the record, which is checked before memory is
+/// allocated. On an error, the guest's book comes back as it was, and nothing is offered.
 pub fn halt(
     guest: GuestBook,
     link: &mut LinkBook,

@@ -1,5 +1,5 @@
-//! The events of a migration that concern two books or three, each on the books that it names and on no other: what the
-//! core does one after another, and threads do under the books' locks. And what the books have recorded.
+//! The events of a migration that concern two or three books, each on the books that it names and on no other. The core
+//! carries them out one after another, and threads do so under the books' locks. Also what the books have recorded.
 #![tactic(auto)]
 
 mod came;

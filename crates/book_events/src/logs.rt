@@ -1,4 +1,4 @@
-//! What was recorded: the logs of the books, lent, copied or given up.
+//! What was recorded: the logs of the books, lent, copied or taken from the books.
 
 ghost use Rattle.std.specs.Prelude.{◌≡◌, IfOk};
 ghost use Rattle.book_events.specs.Logs.{of_guest, lengths_of};
@@ -10,7 +10,7 @@ use std::alloc::{AllocError, Global};
 use std::marker::Model;
 use target_side::PagerBook;
 
-/// The logs of books that are lent.
+/// The logs of the books, lent.
 #[derive(Drop)]
 pub struct LentLogs<'a> {
     guest: &'a [GuestRec],
@@ -29,7 +29,7 @@ impl<'a> Model for LentLogs<'a> {
 }
 
 impl<'a> LentLogs<'a> {
-    /// What nobody but the guest has recorded.
+    /// Returns the logs if nobody but the guest has recorded anything.
     pub fn of_guest(guest: &'a [GuestRec]) -> LentLogs<'a>
         ensures { result ≡ of_guest guest.now }
     {
@@ -42,7 +42,7 @@ impl<'a> LentLogs<'a> {
         }
     }
 
-    /// What these books have recorded, beside the guest's log.
+    /// Returns the logs of these books, with the guest's log.
     pub fn of_books(
         guest: &'a [GuestRec],
         source: &'a SourceBook,
@@ -60,7 +60,7 @@ impl<'a> LentLogs<'a> {
         }
     }
 
-    /// How many records each has, in the order of the logs.
+    /// Returns how many records each log has, in the order of the logs.
     pub fn lengths(&self) -> [usize; LOG_COUNT]
         ensures { result ≡ lengths_of self.now }
     {
@@ -73,7 +73,7 @@ impl<'a> LentLogs<'a> {
         ]
     }
 
-    /// The same logs once more. An error: there is no memory for them.
+    /// Returns a copy of the logs. Fails only if memory runs out.
     pub fn copied(&self, alloc: Global) -> Result<Logs, AllocError>
         ensures { IfOk result (λ copy. copy ≡ self.now) }
     {
@@ -92,7 +92,7 @@ impl<'a> LentLogs<'a> {
     }
 }
 
-/// The log of a guest that is given up, where nobody else has recorded anything. Takes no memory.
+/// Returns the logs if nobody but the guest has recorded anything. Takes the guest's log. Allocates no memory.
 pub fn logs_of_guest(alloc: Global, guest: Vec<GuestRec>) -> Logs
     ensures { result ≡ of_guest guest.items }
 {
@@ -105,7 +105,7 @@ pub fn logs_of_guest(alloc: Global, guest: Vec<GuestRec>) -> Logs
     }
 }
 
-/// The logs of books that are given up, beside the guest's. Takes no memory.
+/// Returns the logs of these books, with the guest's log, and consumes the books. Allocates no memory.
 pub fn logs_of(guest: Vec<GuestRec>, source: SourceBook, link: LinkBook, pager: PagerBook) -> Logs
     ensures { result ≡ record { guest = guest.items; source = source.log; link = link.part.log; lane = link.part.lane_log; pager = pager.log } }
 {
@@ -119,14 +119,14 @@ pub fn logs_of(guest: Vec<GuestRec>, source: SourceBook, link: LinkBook, pager: 
     }
 }
 
-/// A record that is copied with memory of its own.
+/// A record that can be copied into memory of its own.
 trait Copied: Drop {
-    /// The same once more. An error: there is no memory for it.
+    /// Returns a copy. Fails only if memory runs out.
     fn copied(&self, alloc: Global) -> Result<Self, AllocError>
         ensures { IfOk result (λ copy. copy ≡ self.now) };
 }
 
-/// The same records once more. An error: there is no memory for them.
+/// Returns a copy of the records. Fails only if memory runs out.
 fn copies<T: Copied>(alloc: Global, items: &[T]) -> Result<Seq<T>, AllocError>
     ensures { IfOk result (λ copy. copy ≡ items.now) }
 {

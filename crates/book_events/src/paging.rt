@@ -14,8 +14,9 @@ use link_book::LinkBook;
 use migration_events::EventFault;
 use target_side::{PagerBook, TargetBook};
 
-/// PagerPop: the pager takes the oldest packet that has arrived, if there is one, which is one that the source of such
-/// a machine sends. `EventFault::LogFull` exactly where its log has no room for the records. On an error nothing changes.
+/// Carries out PagerPop: the pager takes the oldest packet that has arrived, if there is one; it must be one that the
+/// source of such a machine sends. The error is `EventFault::LogFull` exactly when the pager's log has no room for the
+/// records. On an error, nothing changes.
 #[tactic(auto, using(crate::proofs::Rooms::pop_fits))]
 pub fn pager_pop(link: &mut LinkBook, pager: &mut PagerBook) -> Result<Came, EventFault>
     requires { (x : Arrival) → slice_get link.old.part.down_arrivals 0 ≡ Some x → IsPacketOf pager.old.geometry x.packet }
@@ -30,7 +31,7 @@ pub fn pager_pop(link: &mut LinkBook, pager: &mut PagerBook) -> Result<Came, Eve
     Ok(Came::Made)
 }
 
-/// Whether each log has room for what taking the oldest packet from the link appends. Takes no memory.
+/// Returns whether each log has room for what taking the oldest packet from the link appends. Allocates no memory.
 #[tactic(auto, using(crate::proofs::Rooms::pop_fits))]
 pub fn look_to_pop(link: &LinkBook, pager: &PagerBook) -> Result<(), EventFault>
     ensures { LooksFor Event.PagerPop result receiving link.now.part (part_of pager.now) }
@@ -41,9 +42,9 @@ pub fn look_to_pop(link: &LinkBook, pager: &PagerBook) -> Result<(), EventFault>
     }
 }
 
-/// PagerPull: the pager takes the oldest packet that has arrived over the lane, if there is one, which is one that the
-/// source of such a machine sends. `EventFault::LogFull` exactly where its log has no room for the records. On an error
-/// nothing changes.
+/// Carries out PagerPull: the pager takes the oldest packet that has arrived over the lane, if there is one; it must be
+/// one that the source of such a machine sends. The error is `EventFault::LogFull` exactly when the pager's log has no
+/// room for the records. On an error, nothing changes.
 #[tactic(auto, using(crate::proofs::Rooms::pull_fits))]
 pub fn pager_pull(link: &mut LinkBook, pager: &mut PagerBook) -> Result<Came, EventFault>
     requires { (x : Arrival) → slice_get link.old.part.lane_arrivals 0 ≡ Some x → IsPacketOf pager.old.geometry x.packet }
@@ -58,7 +59,7 @@ pub fn pager_pull(link: &mut LinkBook, pager: &mut PagerBook) -> Result<Came, Ev
     Ok(Came::Made)
 }
 
-/// Whether each log has room for what taking the oldest packet from the lane appends. Takes no memory.
+/// Returns whether each log has room for what taking the oldest packet from the lane appends. Allocates no memory.
 #[tactic(auto, using(crate::proofs::Rooms::pull_fits))]
 pub fn look_to_pull(link: &LinkBook, pager: &PagerBook) -> Result<(), EventFault>
     ensures { LooksFor Event.PagerPull result receiving link.now.part (part_of pager.now) }
@@ -69,8 +70,8 @@ pub fn look_to_pull(link: &LinkBook, pager: &PagerBook) -> Result<(), EventFault
     }
 }
 
-/// PagerFlush: the pager offers the oldest packet that it has not offered, if there is one. The only error is want of
-/// memory, and then nothing changes.
+/// Carries out PagerFlush: the pager offers its oldest packet that is not offered yet, if there is one. Fails only if
+/// memory runs out, and then nothing changes.
 #[tactic(auto, using(crate::proofs::Rooms::flush_fits, crate::proofs::Done::up_done))]
 pub fn pager_flush(link: &mut LinkBook, pager: &mut PagerBook) -> Result<Came, EventFault>
     ensures comes { ComesTo Event.PagerFlush result receiving link.old.part link.new.part (part_of pager.old) (part_of pager.new) }
@@ -84,9 +85,9 @@ pub fn pager_flush(link: &mut LinkBook, pager: &mut PagerBook) -> Result<Came, E
     Ok(Came::Made)
 }
 
-/// PagerTick: once the state has come, the pager asks once more for a page that is neither placed nor settled, or says
-/// that all are. `EventFault::LogFull` exactly where its log has no room for the record, which is looked at before memory
-/// is asked for. On an error nothing changes.
+/// Carries out PagerTick: once the state has come, the pager asks again for a page that is neither placed nor
+/// cancelled, or says that there is none. The error is `EventFault::LogFull` exactly when the pager's log has no room
+/// for the record, which is checked before memory is allocated. On an error, nothing changes.
 #[tactic(auto, using(crate::proofs::Done::up_done))]
 pub fn pager_tick(link: &mut LinkBook, pager: &mut PagerBook) -> Result<Came, EventFault>
     ensures comes { ComesTo Event.PagerTick result receiving link.old.part link.new.part (part_of pager.old) (part_of pager.new) }
@@ -101,7 +102,7 @@ pub fn pager_tick(link: &mut LinkBook, pager: &mut PagerBook) -> Result<Came, Ev
     Ok(Came::Made)
 }
 
-/// Whether each log has room for what the pager's tick appends. Takes no memory.
+/// Returns whether each log has room for what the pager's tick appends. Allocates no memory.
 #[tactic(auto, using(crate::proofs::Rooms::pager_tick_fits))]
 pub fn look_to_pager_tick(link: &LinkBook, pager: &PagerBook) -> Result<(), EventFault>
     ensures { LooksFor Event.PagerTick result receiving link.now.part (part_of pager.now) }
@@ -110,10 +111,10 @@ pub fn look_to_pager_tick(link: &LinkBook, pager: &PagerBook) -> Result<(), Even
     pager.look_to_tick()
 }
 
-/// PagerFault: the pager settles the pages that the guest released at the target before they came, and learns of the
-/// oldest miss that it has not taken, if there is one and the state has come; where there is neither, there is nothing to
-/// do. The books are of one machine. `EventFault::LogFull` exactly where the pager's log has no room for the records. On
-/// an error nothing changes.
+/// Carries out PagerFault: the pager cancels the pages that the guest released at the target before they came, and
+/// learns of the oldest miss that it has not taken, if there is one and the state has come. If there is neither, there
+/// is nothing to do. The books must be of one machine. The error is `EventFault::LogFull` exactly when the pager's log
+/// has no room for the records. On an error, nothing changes.
 #[tactic(auto, using(crate::proofs::Rooms::fault_fits, crate::proofs::Rooms::fault_full, crate::proofs::Rooms::fault_nothing))]
 pub fn pager_fault(pager: &mut PagerBook, target: &mut TargetBook) -> Result<Came, EventFault>
     requires machine { geometry_of target.old ≡ pager.old.geometry }
@@ -127,8 +128,8 @@ pub fn pager_fault(pager: &mut PagerBook, target: &mut TargetBook) -> Result<Cam
     Ok(Came::Made)
 }
 
-/// Whether each log has room for what settling and learning of a miss append. The books are of one machine. Takes no
-/// memory.
+/// Returns whether each log has room for what cancelling pages and learning of a miss append. The books must be of one
+/// machine. Allocates no memory.
 #[tactic(auto, using(crate::proofs::Rooms::fault_fits, crate::proofs::Rooms::fault_full))]
 pub fn look_to_fault(pager: &PagerBook, target: &TargetBook) -> Result<(), EventFault>
     requires { geometry_of target.now ≡ pager.now.geometry }
@@ -137,10 +138,11 @@ pub fn look_to_fault(pager: &PagerBook, target: &TargetBook) -> Result<(), Event
     pager.look_to_fault(target)
 }
 
-/// PagerDeliver: the pager settles the pages that the guest released at the target before they came. Once the state has
-/// come it lets the guest resume, and from then on takes the oldest page that has come, if there is one, which it
-/// places, or drops where it is resident already. Where there is nothing of this, there is nothing to do. The books are
-/// of one machine. `EventFault::LogFull` exactly where a log has no room for the record. On an error nothing changes.
+/// Carries out PagerDeliver: the pager cancels the pages that the guest released at the target before they came. Once
+/// the state has come, it lets the guest resume. After that, it takes the oldest page that has come, if there is one,
+/// and places it, or drops it if it is resident already. If none of this applies, there is nothing to do. The books
+/// must be of one machine. The error is `EventFault::LogFull` exactly when a log has no room for the record. On an
+/// error, nothing changes.
 #[tactic(auto, using(crate::proofs::Rooms::deliver_fits, crate::proofs::Rooms::deliver_nothing))]
 pub fn pager_deliver(pager: &mut PagerBook, target: &mut TargetBook) -> Result<Came, EventFault>
     requires machine { geometry_of target.old ≡ pager.old.geometry }
@@ -154,7 +156,7 @@ pub fn pager_deliver(pager: &mut PagerBook, target: &mut TargetBook) -> Result<C
     Ok(Came::Made)
 }
 
-/// Whether each log has room for what a delivery appends. Takes no memory.
+/// Returns whether each log has room for what a delivery appends. Allocates no memory.
 #[tactic(auto, using(crate::proofs::Rooms::deliver_fits))]
 pub fn look_to_deliver(pager: &PagerBook, target: &TargetBook) -> Result<(), EventFault>
     ensures { LooksFor Event.PagerDeliver result placing (part_of pager.now) (target_of target.now) }
@@ -162,7 +164,7 @@ pub fn look_to_deliver(pager: &PagerBook, target: &TargetBook) -> Result<(), Eve
     pager.look_to_deliver(target)
 }
 
-/// Whether there is a page to settle, or a miss that the pager may take.
+/// Returns whether there is a page to cancel, or a miss that the pager may take.
 #[tactic(auto, using(crate::proofs::Branches::fault_none))]
 fn has_fault(pager: &PagerBook, target: &TargetBook) -> bool
     ensures some { result ≡ true → HasFault (part_of pager.now) (target_of target.now) }
@@ -171,7 +173,7 @@ fn has_fault(pager: &PagerBook, target: &TargetBook) -> bool
     !target.unsettled().is_empty() || learns(pager, target)
 }
 
-/// Whether there is a miss that the pager may take.
+/// Returns whether there is a miss that the pager may take.
 fn learns(pager: &PagerBook, target: &TargetBook) -> bool
     ensures some { result ≡ true → (is_some pager.now.released ≡ true) × (0 < length (target_of target.now).misses) }
     ensures none { result ≡ false → faults_by pager.now.released (target_of target.now).misses (part_of pager.now) (target_of target.now) ≡ record { pager = part_of pager.now; target = target_of target.now; woken = [] } }
@@ -179,7 +181,7 @@ fn learns(pager: &PagerBook, target: &TargetBook) -> bool
     pager.is_ready() && target.next_miss().is_some()
 }
 
-/// Whether there is a page to settle, or the pager has the state or a page to bring to the target.
+/// Returns whether there is a page to cancel, or the pager has the state or a page to bring to the target.
 #[tactic(auto, using(crate::proofs::Branches::delivery_none))]
 fn has_delivery(pager: &PagerBook, target: &TargetBook) -> bool
     ensures some { result ≡ true → HasDelivery (part_of pager.now) (target_of target.now) }
@@ -188,7 +190,7 @@ fn has_delivery(pager: &PagerBook, target: &TargetBook) -> bool
     !target.unsettled().is_empty() || brings(pager, target)
 }
 
-/// Whether the pager has the state or a page to bring to the target.
+/// Returns whether the pager has the state or a page to bring to the target.
 fn brings(pager: &PagerBook, target: &TargetBook) -> bool
     ensures some { result ≡ true → (is_some pager.now.released ≡ true) × (((target_of target.now).is_resumed ≡ false) ⊎ (0 < length pager.now.inbox)) }
     ensures none { result ≡ false → delivers_by pager.now.released (part_of pager.now) (target_of target.now) ≡ record { pager = part_of pager.now; target = target_of target.now; woken = [] } }

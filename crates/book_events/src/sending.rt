@@ -13,9 +13,9 @@ use link_book::LinkBook;
 use migration_events::EventFault;
 use page_stream::Packet;
 
-/// Push: the source sends the page that bubbling chooses, over the lane, if there is one, or else down the link, where
-/// fewer packets than the window are under way. `EventFault::LogFull` exactly where the source's log has no room for the
-/// record, which is looked at before memory is asked for. On an error nothing changes.
+/// Carries out Push: the source sends the page that bubbling chooses, over the lane, if there is one, or otherwise down
+/// the link, if fewer packets than the window are under way there. The error is `EventFault::LogFull` exactly when the
+/// source's log has no room for the record, which is checked before memory is allocated. On an error, nothing changes.
 #[tactic(auto, using(crate::proofs::Rooms::push_fits))]
 pub fn push(
     source: &mut SourceBook,
@@ -37,7 +37,7 @@ pub fn push(
     Ok(offer_pushed(link, packet, has_lane))
 }
 
-/// Whether each log has room for what a push appends. Takes no memory.
+/// Returns whether each log has room for what a push appends. Allocates no memory.
 #[tactic(auto, using(crate::proofs::Rooms::push_fits, crate::proofs::Rooms::no_push_fits))]
 pub fn look_to_push(
     source: &SourceBook,
@@ -53,7 +53,8 @@ pub fn look_to_push(
     source.look_to_push()
 }
 
-/// How many packets are under way where pages are pushed: over the lane, if there is one, or else down the link.
+/// Returns how many packets are under way on the channel of pushed pages: the lane, if there is one, or otherwise the
+/// link down.
 fn under_way(link: &LinkBook, has_lane: bool) -> usize
     ensures { result ≡ length (pushed_line has_lane link.now.part) }
 {
@@ -64,7 +65,7 @@ fn under_way(link: &LinkBook, has_lane: bool) -> usize
     }
 }
 
-/// Offers a packet behind the others of the lane, or behind those that are under way down.
+/// Offers a packet after the others of the lane, or after those that are under way down.
 #[tactic(auto, using(crate::proofs::Offers::pushed_is_offer))]
 fn offer_pushed(link: &mut LinkBook, packet: Packet, over_lane: bool) -> Came
     requires { IsTrue link.old.has_room }
@@ -80,9 +81,9 @@ fn offer_pushed(link: &mut LinkBook, packet: Packet, over_lane: bool) -> Came
     came
 }
 
-/// Serve: the source takes the oldest packet that has arrived, if there is one, and sends the page that it wants ahead
-/// of the others. `EventFault::LogFull` exactly where the source's log has no room for the records, which is looked at
-/// before memory is asked for. On an error nothing changes.
+/// Carries out Serve: the source takes the oldest packet that has arrived, if there is one, and sends the page that it
+/// wants ahead of the others. The error is `EventFault::LogFull` exactly when the source's log has no room for the
+/// records, which is checked before memory is allocated. On an error, nothing changes.
 pub fn serve(source: &mut SourceBook, link: &mut LinkBook) -> Result<Came, EventFault>
     ensures comes { ComesTo Event.Serve result sending (part_of source.old) (part_of source.new) link.old.part link.new.part }
     ensures machine { source.new.frames.geometry ≡ source.old.frames.geometry }
@@ -100,7 +101,7 @@ pub fn serve(source: &mut SourceBook, link: &mut LinkBook) -> Result<Came, Event
     }
 }
 
-/// Whether each log has room for what serving the oldest packet that has arrived appends. Takes no memory.
+/// Returns whether each log has room for what serving the oldest packet that has arrived appends. Allocates no memory.
 #[tactic(auto, using(crate::proofs::Rooms::serve_fits))]
 pub fn look_to_serve(source: &SourceBook, link: &LinkBook) -> Result<(), EventFault>
     ensures { LooksFor Event.Serve result sending (part_of source.now) link.now.part }
@@ -111,9 +112,9 @@ pub fn look_to_serve(source: &SourceBook, link: &LinkBook) -> Result<(), EventFa
     }
 }
 
-/// SourceTick: the source sends the state once more, as long as nobody asked it for anything. `EventFault::LogFull`
-/// exactly where its log has no room for the record, which is looked at before memory is asked for. On an error nothing
-/// changes.
+/// Carries out SourceTick: the source sends the state again, as long as nobody has asked it for anything. The error is
+/// `EventFault::LogFull` exactly when the source's log has no room for the record, which is checked before memory is
+/// allocated. On an error, nothing changes.
 pub fn source_tick(source: &mut SourceBook, link: &mut LinkBook) -> Result<Came, EventFault>
     ensures comes { ComesTo Event.SourceTick result sending (part_of source.old) (part_of source.new) link.old.part link.new.part }
     ensures machine { source.new.frames.geometry ≡ source.old.frames.geometry }
@@ -126,7 +127,7 @@ pub fn source_tick(source: &mut SourceBook, link: &mut LinkBook) -> Result<Came,
     Ok(offer(link, packet, false))
 }
 
-/// Whether each log has room for what the source's tick appends. Takes no memory.
+/// Returns whether each log has room for what the source's tick appends. Allocates no memory.
 #[tactic(auto, using(crate::proofs::Rooms::source_tick_fits))]
 pub fn look_to_source_tick(source: &SourceBook, link: &LinkBook) -> Result<(), EventFault>
     ensures { LooksFor Event.SourceTick result sending (part_of source.now) link.now.part }
@@ -135,7 +136,7 @@ pub fn look_to_source_tick(source: &SourceBook, link: &LinkBook) -> Result<(), E
     source.look_to_tick()
 }
 
-/// Offers a packet before the others that are under way down, or behind them.
+/// Offers a packet before the others that are under way down, or after them.
 #[tactic(auto, using(crate::proofs::Offers::down_is_offer))]
 fn offer(link: &mut LinkBook, packet: Packet, front: bool) -> Came
     requires { IsTrue link.old.has_room }
@@ -147,7 +148,7 @@ fn offer(link: &mut LinkBook, packet: Packet, front: bool) -> Came
     came
 }
 
-/// What offering a packet comes to.
+/// Returns the result of an event that offers a packet.
 fn carried(packet: &Packet) -> Came
     ensures { Carries result packet.now }
 {

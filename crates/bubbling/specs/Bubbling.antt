@@ -5,24 +5,24 @@ use Rattle.migration_types.specs.PageSets.{Pages, others}
 use Rattle.bubbling.specs.declared.edges.Edges.{Edges}
 use Rattle.bubbling.specs.Edges.{at_page, edges_in, IsOnEdge, IsOutward, IsReach, IsAtRest}
 
--- at most so many pivots are ever kept
+-- the greatest number of pivots
 abbrev pub most_pivots : ℕ
 most_pivots = 16
 
--- how many pivots are kept at most, the pivots, newest first, and the place of the one whose turn it is
+-- the greatest number of pivots to keep, the pivots, newest first, and the place of the one in turn
 pub record Ring : Type 0 where
   pub most : ℕ
   pub pivots : List ℕ
   pub turn : ℕ
 
--- the machine, the pivots, the edges of each, and for each page whether it is still to be pushed
+-- the machine, the pivots, the edges of each, and whether each page is still to be pushed
 pub record Bubbling : Type 0 where
   pub geometry : Extent
   pub ring : Ring
   pub edges : List Edges
   pub marks : List Bool
 
--- the pages that are marked; beyond the marks is none
+-- the pages that are marked; there is none beyond the marks
 abbrev pub marked : List Bool → Pages
 marked marks page = slice_index_or marks page false
 
@@ -50,23 +50,23 @@ pub record IsRing (r : Ring) : Type 0 where
 abbrev pub first_ring : ℕ → Ring
 first_ring most = record { most = most; pivots = 0 ∷ []; turn = 0 }
 
--- the page whose turn it is
+-- the page in turn
 abbrev pub in_turn : Ring → ℕ
 in_turn r = slice_index r.pivots r.turn
 
--- the turn goes to the next pivot, after the last to the first
+-- the turn goes to the next pivot, and after the last to the first
 abbrev pub turned : Ring → Ring
 turned r = record { most = r.most; pivots = r.pivots; turn = (r.turn + 1) % length r.pivots }
 
--- a page becomes the newest pivot, and it is in turn; of too many the oldest is dropped
+-- a page becomes the newest pivot, with the turn; if there are too many, the oldest is dropped
 abbrev pub faulted : ℕ → Ring → Ring
 faulted page r = record { most = r.most; pivots = take r.most (page ∷ r.pivots); turn = 0 }
 
--- how far apart two pages are
+-- the distance between two pages
 abbrev pub distance : ℕ → ℕ → ℕ
 distance a b = (a - b) + (b - a)
 
--- one page goes before another: it is nearer to the pivot, or as near and of the greater number
+-- one page goes before another: it is nearer to the pivot, or as near with the greater number
 abbrev pub GoesBefore : ℕ → ℕ → ℕ → Type 0
 GoesBefore pivot page other = (distance pivot page < distance pivot other) ⊎ ((distance pivot page ≡ distance pivot other) × (other < page))
 
@@ -82,7 +82,7 @@ pub record IsStart (e : Extent) (most : ℕ) (owed : Pages) (b : Bubbling) : Typ
   pub edges : b.edges ≡ at_page 0 ∷ []
   pub unsent_is : unsent b ≡ owed
 
--- these pivots and unsent pages, of the same machine
+-- these pivots and unsent pages, on the same machine
 pub record IsWith (before after : Bubbling) (ring : Ring) (pages : Pages) : Type 0 where
   pub geometry : after.geometry ≡ before.geometry
   pub ring_is : after.ring ≡ ring
@@ -92,15 +92,15 @@ pub record IsWith (before after : Bubbling) (ring : Ring) (pages : Pages) : Type
 abbrev pub edges_of : ℕ → Bubbling → Option Edges
 edges_of page b = edges_in page b.ring.pivots b.edges
 
--- each pivot is within its edges, and no page strictly between them is still to be pushed
+-- each pivot is within its edges, with no page to be pushed strictly between them
 abbrev pub AreEdges : Bubbling → Type 0
 AreEdges b = (pivot : ℕ) (e : Edges) → edges_of pivot b ≡ Some e → IsReach b.geometry.pages (unsent b) pivot e
 
--- no edge of a pivot that is kept moves inward
+-- no edge of a kept pivot moves inward
 abbrev pub NoneInward : Bubbling → Bubbling → Type 0
 NoneInward before after = (pivot : ℕ) (e f : Edges) → edges_of pivot before ≡ Some e → edges_of pivot after ≡ Some f → IsOutward e f
 
--- a pivot's edges moved outward past what was not to be pushed, and the page that is chosen is on one of them
+-- a pivot's edges moved outward past pages that were not to be pushed, and the chosen page is on one of them
 pub record HasMoved (before after : Bubbling) (pivot page : ℕ) : Type 0 where
   pub edges : Edges
   pub is : edges_of pivot after ≡ Some edges

@@ -1,13 +1,13 @@
--- The edges of pivots: pushing from a pivot has come to them on both sides.
+-- The edges of pivots: how far pushing has come on both sides of each.
 use Rattle.std.specs.Prelude.{◌≡◌, ℕ, ◌+◌, ◌-◌, ◌<◌, ◌≤◌, ◌==◌, ◌⊎◌, true, false, List, [], ◌∷◌, Option, Some, None, ℤ, pos, ◌-ℤ◌, if◌then◌else◌}
 use Rattle.migration_types.specs.PageSets.{Pages}
 use Rattle.bubbling.specs.declared.edges.Edges.{Edges}
 
--- both edges at a page, so that no page is strictly between them
+-- both edges at a page, so that there is no page strictly between them
 abbrev pub at_page : ℕ → Edges
 at_page page = record { first = page + 1; past = page }
 
--- the edges as numbers of pages, -1 before the first page
+-- the edges as numbers of pages, with -1 before the first page
 abbrev pub low_edge : Edges → ℤ
 low_edge e = pos e.first -ℤ pos 1
 
@@ -28,7 +28,7 @@ IsOnEdge page e = (page + 1 ≡ e.first) ⊎ (page ≡ e.past)
 abbrev pub IsOutward : Edges → Edges → Type 0
 IsOutward before after = (after.first ≤ before.first) × (before.past ≤ after.past)
 
--- a pivot is within its edges, which are of the machine, and no page strictly between them is of the set
+-- a pivot is within its edges, which are within the machine, and no page of the set is strictly between them
 pub record IsReach (pages : ℕ) (set : Pages) (pivot : ℕ) (e : Edges) : Type 0 where
   pub low : e.first ≤ pivot + 1
   pub high : pivot ≤ e.past
@@ -36,14 +36,14 @@ pub record IsReach (pages : ℕ) (set : Pages) (pivot : ℕ) (e : Edges) : Type 
   pub end : e.past ≤ pages
   pub none : (q : ℕ) → e.first ≤ q → q < e.past → set q ≡ false
 
--- the same of each pivot, which are as many as edges
+-- each pivot is within its edges, and there are as many edges as pivots
 abbrev pub AreReaches : ℕ → Pages → List ℕ → List Edges → Type 0
 AreReaches pages set [] [] = Unit
 AreReaches pages set [] (e ∷ es) = ⊥
 AreReaches pages set (pivot ∷ pivots) [] = ⊥
 AreReaches pages set (pivot ∷ pivots) (e ∷ es) = IsReach pages set pivot e × AreReaches pages set pivots es
 
--- each edge is a page of the set, or has left the machine
+-- each edge is a page of the set, or is out of the machine
 pub record IsAtRest (pages : ℕ) (set : Pages) (e : Edges) : Type 0 where
   pub low : 1 ≤ e.first → set (e.first - 1) ≡ true
   pub high : e.past < pages → set e.past ≡ true

@@ -1,4 +1,4 @@
-//! The edges of pivots, to which pushing has come on both sides.
+//! The edges of pivots: how far pushing has come on both sides of each.
 
 ghost use Rattle.std.specs.Prelude.{◌≡◌, ℕ, ◌+◌, ◌-◌, ◌<◌, ◌≤◌, nat_lt, true, false, [], ◌∷◌, length, take, slice_index_or, slice_set, if◌then◌else◌, IfSome, MatchOption};
 ghost use Rattle.migration_types.specs.Limits.{most_pages};
@@ -11,17 +11,17 @@ use crate::unsent::Unsent;
 use arrayvec::ArrayVec;
 use migration_types::PageNo;
 
-/// The two edges of a pivot. The pages strictly between them are those from `first` up to, and without, `past`.
+/// The two edges of a pivot. The pages strictly between them are those from `first` to just before `past`.
 #[derive(Clone, Copy, Default)]
 pub struct Edges {
-    /// The page after the low edge; 0 where the low edge is before page 0.
+    /// The page after the low edge, or 0 if the low edge is before page 0.
     pub first: u32,
-    /// The high edge; the page count where it is after the last page.
+    /// The high edge, or the page count if it is after the last page.
     pub past: u32,
 }
 
 impl Edges {
-    /// Both edges at a page.
+    /// Returns both edges at a page.
     pub fn at(page: PageNo) -> Edges
         ensures { result ≡ at_page page }
     {
@@ -32,7 +32,7 @@ impl Edges {
         }
     }
 
-    /// The edges moved outward, each to the next page that is to be pushed, or out of the machine.
+    /// Returns the edges moved outward, each to the next page that is still to be pushed, or out of the machine.
     pub fn moved(self, unsent: &mut Unsent) -> Edges
         requires start { self.first ≤ length unsent.old }
         requires end { self.past ≤ length unsent.old }
@@ -49,7 +49,7 @@ impl Edges {
         }
     }
 
-    /// The page nearest to the pivot, of two the greater, which is on an edge.
+    /// Returns the page on an edge that is nearest to the pivot, and of two the greater.
     pub fn nearest(self, pivot: PageNo, unsent: &Unsent) -> Option<PageNo>
         requires reach { IsReach (length unsent.now) (marked unsent.now) pivot self }
         requires rest { IsAtRest (length unsent.now) (marked unsent.now) self }
@@ -64,7 +64,7 @@ impl Edges {
         }
     }
 
-    /// The edges as numbers of pages, the low one -1 before page 0.
+    /// Returns the edges as numbers of pages. The low one is -1 if it is before page 0.
     pub fn told(self) -> (i32, i32)
         requires start { self.first ≤ most_pages }
         requires end { self.past ≤ most_pages }
@@ -73,7 +73,7 @@ impl Edges {
         (self.first as i32 - 1, self.past as i32)
     }
 
-    /// The page on the low edge.
+    /// Returns the page on the low edge.
     fn low(self) -> Option<PageNo>
         requires { self.first ≤ most_pages }
         ensures { MatchOption result (self.first ≡ 0) (λ q. q + 1 ≡ self.first) }
@@ -82,7 +82,7 @@ impl Edges {
         Some(PageNo::new(low))
     }
 
-    /// The page on the high edge, of so many pages.
+    /// Returns the page on the high edge, in a machine of this many pages.
     fn high(self, pages: u32) -> Option<PageNo>
         requires few { pages ≤ most_pages }
         requires end { self.past ≤ pages }
@@ -95,7 +95,7 @@ impl Edges {
     }
 }
 
-/// The edges of page 0 as the only pivot.
+/// Returns the edges of page 0, as the only pivot.
 pub fn first() -> ArrayVec<Edges, ROOM>
     ensures { result.items ≡ at_page 0 ∷ [] }
 {
@@ -104,7 +104,7 @@ pub fn first() -> ArrayVec<Edges, ROOM>
     edges
 }
 
-/// Puts the edges of a new pivot before the others. The last of a full list are dropped.
+/// Puts the edges of a new pivot before the others. Drops the last of a full list.
 pub fn add(edges: &mut ArrayVec<Edges, ROOM>, most: usize, page: PageNo)
     requires some { 1 ≤ most }
     requires few { most ≤ most_pivots }
@@ -114,7 +114,7 @@ pub fn add(edges: &mut ArrayVec<Edges, ROOM>, most: usize, page: PageNo)
     edges.insert(0, Edges::at(page));
 }
 
-/// The edges at a place.
+/// Returns the edges at a place.
 pub fn at(edges: &ArrayVec<Edges, ROOM>, place: usize) -> Edges
     requires { place < length edges.now.items }
     ensures { result ≡ slice_index_or edges.now.items place result }
@@ -122,7 +122,7 @@ pub fn at(edges: &ArrayVec<Edges, ROOM>, place: usize) -> Edges
     edges.as_slice()[place]
 }
 
-/// Puts edges in place of those at a place.
+/// Replaces the edges at a place.
 pub fn put(edges: &mut ArrayVec<Edges, ROOM>, place: usize, new: Edges)
     requires { place < length edges.old.items }
     ensures { edges.new.items ≡ slice_set edges.old.items place new }
@@ -130,7 +130,7 @@ pub fn put(edges: &mut ArrayVec<Edges, ROOM>, place: usize, new: Edges)
     edges.as_mut_slice()[place] = new;
 }
 
-/// The page nearer to the pivot, of two as near the high one.
+/// Returns the page nearer to the pivot, and of two as near the high one.
 fn nearer(pivot: PageNo, low: PageNo, high: PageNo) -> PageNo
     ensures { result ≡ (if nat_lt (distance pivot low) (distance pivot high) then low else high) }
 {
@@ -141,7 +141,7 @@ fn nearer(pivot: PageNo, low: PageNo, high: PageNo) -> PageNo
     }
 }
 
-/// How far apart two pages are.
+/// Returns the distance between two pages.
 fn apart(a: PageNo, b: PageNo) -> u32
     ensures { result ≡ distance a b }
 {

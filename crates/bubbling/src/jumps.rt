@@ -1,4 +1,4 @@
-//! Jumps over pages that were seen to be gone, so that no way past them is walked twice.
+//! Jumps over pages that are known to be gone, so that no stretch of them is walked twice.
 
 ghost use Rattle.std.specs.Prelude.{◌≡◌, ℕ, ◌<◌, ◌≤◌, true, false, length, slice_index, replicate, IfOk};
 ghost use Rattle.migration_types.specs.Limits.{most_pages};
@@ -7,7 +7,7 @@ ghost use Rattle.bubbling.specs.inner.Jumps.{page_at, AreJumps, IsGone};
 
 use std::alloc::{AllocError, Global};
 
-/// A way through all pages of a machine: page 0 first, or page 0 last.
+/// A way through all pages of a machine, from page 0 up or from the last page down.
 #[derive(Clone, Copy)]
 pub enum Way {
     Up,
@@ -15,7 +15,7 @@ pub enum Way {
 }
 
 impl Way {
-    /// The page at a place on the way.
+    /// Returns the page at a place on the way.
     fn page(self, pages: u32, place: u32) -> u32
         requires { place < pages }
         ensures { result ≡ page_at self pages place }
@@ -27,15 +27,15 @@ impl Way {
     }
 }
 
-/// For each place on a way, that no page from it on is known to be gone.
+/// Returns jumps for a way of this many places, with no page known to be gone. Fails only if memory runs out.
 pub fn none_known(alloc: Global, pages: usize) -> Result<Vec<u32>, AllocError>
     ensures { IfOk result (λ v. v.items ≡ replicate pages 0) }
 {
     vec![in alloc; 0; pages]
 }
 
-/// The first place from this one on whose page is marked, or the page count. What is passed is known from then on:
-/// `jumps` has for each place how many pages from it on are known to have no mark.
+/// Returns the first place from this one on whose page is marked, or the page count. The places passed are known from
+/// then on: `jumps` holds for each place how many pages from it on are known to have no mark.
 pub fn first_marked(jumps: &mut Vec<u32>, way: Way, marks: &[bool], from: u32) -> u32
     requires few { length marks.now ≤ most_pages }
     requires jumps { AreJumps way marks.now jumps.old.items }
@@ -58,8 +58,8 @@ pub fn first_marked(jumps: &mut Vec<u32>, way: Way, marks: &[bool], from: u32) -
     }
 }
 
-/// A place from this one on, all pages before which have no mark: this one alone where its page is marked, or there is
-/// no page.
+/// Returns a place from this one on such that no page before it has a mark. It is this place if its page is marked, or
+/// if there is no page.
 fn jump(jumps: &[u32], way: Way, marks: &[bool], place: u32) -> u32
     requires few { length marks.now ≤ most_pages }
     requires jumps { AreJumps way marks.now jumps.now }

@@ -1,4 +1,4 @@
-//! Which page a source pushes next: outward on both sides of pivot pages, of which each fault makes one.
+//! The order in which a source pushes pages: outward on both sides of pivots, which are the pages of recent faults.
 #![tactic(auto)]
 
 ghost use Rattle.std.specs.Prelude.{◌≡◌, ◌+◌, ◌<◌, ◌≤◌, IfOk, IfSome, MatchOption, Contains, ◌∷◌, length, take};
@@ -19,8 +19,8 @@ use std::alloc::{AllocError, Global};
 use std::marker::Model;
 use unsent::Unsent;
 
-/// The pages of one machine that are still to be pushed, and the pivots that pushing grows from, which take turns. Only
-/// the constructor takes memory.
+/// The pages of a machine that are still to be pushed, and the pivots that pushing starts from, which take turns. Only
+/// the constructor allocates memory.
 #[derive(Drop)]
 pub struct Bubbles {
     geometry: Geometry,
@@ -48,8 +48,8 @@ impl Bubbles {
     ghost use Rattle.bubbling.specs.Bubbling.{unsent, rest_of, in_turn, turned, faulted, IsNextPushed, IsRing, most_pivots, edges_of, AreEdges, NoneInward, HasMoved, IsStart, IsWith};
     ghost use Rattle.bubbling.specs.Edges.{at_page, low_edge, high_edge};
 
-    /// All pages of the machine that are not released are to be pushed. Page 0 is the only pivot; at most so many
-    /// pivots, 1 to 16, are ever kept.
+    /// Returns the state in which all pages of the machine that are not released are to be pushed. Page 0 is the only
+    /// pivot. At most this many pivots, 1 to 16, are ever kept. Fails only if memory runs out.
     pub fn new(
         alloc: Global,
         geometry: Geometry,
@@ -70,9 +70,9 @@ impl Bubbles {
         })
     }
 
-    /// The guest faulted at a page. A page that is no pivot becomes the newest one, with both edges at itself, and has
-    /// the turn; the oldest of a full list is dropped with its edges. The unsent pages and the other edges stay. At a
-    /// pivot nothing changes.
+    /// Takes note of a fault at a page. If the page is not a pivot, it becomes the newest one, with both edges at
+    /// itself, and has the turn; the oldest of a full list is dropped with its edges. The unsent pages and the other
+    /// edges stay. At a pivot, nothing changes.
     pub fn fault_at(&mut self, page: PageNo)
         requires { page < self.old.geometry.pages }
         ensures of_pivot { Contains self.old.ring.pivots page → self.new ≡ self.old }
@@ -86,10 +86,10 @@ impl Bubbles {
         }
     }
 
-    /// The unsent page nearest to the pivot in turn, of two the greater. It counts as sent from now on, and the turn
-    /// passes to the next pivot. The edges of the pivot that was in turn move outward past pages that are sent or not
-    /// owed, and the page is on one of them; the other edges stay. `None` where no page is unsent, and then nothing
-    /// changes.
+    /// Returns the unsent page nearest to the pivot in turn, and of two the greater. It counts as sent from now on, and
+    /// the turn passes to the next pivot. The edges of the pivot that was in turn move outward past pages that are sent
+    /// or not owed, and the page is on one of them; the other edges stay. Returns `None` if no page is unsent, and then
+    /// nothing changes.
     pub fn next(&mut self) -> Option<PageNo>
         ensures of_machine { IfSome result (λ q. q < self.old.geometry.pages) }
         ensures page { MatchOption result (unsent self.old ≡ no_page) (IsNextPushed (unsent self.old) (in_turn self.old.ring)) }
@@ -108,8 +108,8 @@ impl Bubbles {
         Some(nearest)
     }
 
-    /// Counts a page as sent that did not come from `next`. True where it was unsent. The pivots, their edges and the
-    /// turn stay.
+    /// Counts a page as sent that did not come from `next`. Returns whether it was unsent. The pivots, their edges and
+    /// the turn stay.
     pub fn mark_sent(&mut self, page: PageNo) -> bool
         requires { page < self.old.geometry.pages }
         ensures was_unsent { result ≡ unsent self.old page }
@@ -120,15 +120,15 @@ impl Bubbles {
         self.unsent.remove(page)
     }
 
-    /// How many pages are unsent.
+    /// Returns how many pages are unsent.
     pub fn left(&self) -> u32
         ensures { result ≡ size_below self.now.geometry.pages (unsent self.now) }
     {
         self.unsent.left()
     }
 
-    /// The low and the high edge of a pivot, from -1 to the page count: all pages strictly between them are sent or not
-    /// owed. `None` exactly where the page is no pivot.
+    /// Returns the low and the high edge of a pivot, from -1 to the page count. All pages strictly between them are
+    /// sent or not owed. Returns `None` exactly when the page is not a pivot.
     pub fn edges(&self, page: PageNo) -> Option<(i32, i32)>
         ensures edges { result ≡ option_map (λ e. (low_edge e, high_edge e)) (edges_of page self.now) }
         ensures kept { MatchOption result (¬ (Contains self.now.ring.pivots page)) (λ e. Contains self.now.ring.pivots page) }
@@ -139,16 +139,16 @@ impl Bubbles {
         Some(edges::at(&self.edges, place).told())
     }
 
-    /// The machine's geometry.
+    /// Returns the machine's geometry.
     pub fn geometry(&self) -> Geometry
         ensures { result ≡ self.now.geometry }
     {
         self.geometry
     }
 
-    /// Tells callers that the pivots are 1 to 16, all different, and that one of them is in turn; that each page of the
-    /// machine has a mark; and that each pivot is within its edges, which are within the machine, and no page strictly
-    /// between them is unsent.
+    /// States that the pivots are 1 to 16, all different, and that one of them is in turn; that each page of the
+    /// machine has a mark; and that each pivot is within its edges, which are within the machine, with no unsent page
+    /// strictly between them. Runs nothing.
     pub fn keeps_limits(&self)
         ensures ring { IsRing self.now.ring }
         ensures marks { length self.now.marks ≡ self.now.geometry.pages }

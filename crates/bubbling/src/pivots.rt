@@ -1,4 +1,4 @@
-//! The pages that pushing grows from, and whose turn it is.
+//! The pivots, which pushing starts from, and whose turn it is.
 
 ghost use Rattle.std.specs.Prelude.{◌≡◌, ◌<◌, ◌≤◌, MatchOption, Contains, length, slice_index};
 ghost use Rattle.bubbling.specs.Bubbling.{IsRing, most_pivots, first_ring, in_turn, turned, faulted};
@@ -7,7 +7,7 @@ use arrayvec::ArrayVec;
 use migration_types::PageNo;
 use std::marker::Model;
 
-/// At most so many pivots are kept.
+/// The greatest number of pivots.
 pub const MOST_PIVOTS: u32 = 16;
 
 /// The room for pivots.
@@ -32,7 +32,7 @@ impl Model for Pivots {
 }
 
 impl Pivots {
-    /// Page 0 alone, with room for so many pivots.
+    /// Returns page 0 as the only pivot, with room for this many.
     pub fn new(most: u32) -> Pivots
         requires some { 1 ≤ most }
         requires few { most ≤ most_pivots }
@@ -47,21 +47,21 @@ impl Pivots {
         }
     }
 
-    /// The pivot in turn.
+    /// Returns the pivot in turn.
     pub fn in_turn(&self) -> PageNo
         ensures { result ≡ in_turn self.now }
     {
         self.pages.as_slice()[self.turn]
     }
 
-    /// The place of the pivot in turn.
+    /// Returns the place of the pivot in turn.
     pub fn turn(&self) -> usize
         ensures { result ≡ self.now.turn }
     {
         self.turn
     }
 
-    /// How many pivots are kept at most.
+    /// Returns the greatest number of pivots that are kept.
     pub fn most(&self) -> usize
         ensures { result ≡ self.now.most }
     {
@@ -75,14 +75,14 @@ impl Pivots {
         self.turn = (self.turn + 1) % self.pages.len();
     }
 
-    /// Tells callers that there are 1 to 16 pivots, all different, and one of them in turn.
+    /// States that there are 1 to 16 pivots, all different, and one of them in turn. Runs nothing.
     pub fn keeps_limits(&self)
         ensures { IsRing self.now }
     {
         let _turn = self.turn;
     }
 
-    /// Makes a page the newest pivot, with the turn. The oldest of a full list is dropped.
+    /// Makes a page the newest pivot, with the turn. Drops the oldest of a full list.
     pub fn add(&mut self, page: PageNo)
         requires { ¬ (Contains self.old.pivots page) }
         ensures { self.new ≡ faulted page self.old }
@@ -92,7 +92,7 @@ impl Pivots {
         self.turn = 0;
     }
 
-    /// The place of a page among the pivots, the newest at 0. `None`: it is no pivot.
+    /// Returns the place of a page among the pivots, the newest at 0, or `None` if it is not a pivot.
     pub fn place(&self, page: PageNo) -> Option<usize>
         ensures { MatchOption result (¬ (Contains self.now.pivots page)) (λ j. (j < length self.now.pivots) × (slice_index self.now.pivots j ≡ page)) }
     {

@@ -18,9 +18,9 @@ use std::marker::Model;
 pub struct Unsent {
     marks: Vec<bool>,
     left: u32,
-    /// What is known of the way up through the machine.
+    /// What is known about the way up through the machine.
     up: Vec<u32>,
-    /// The same of the way down, of which the last page is the first.
+    /// What is known about the way down, which begins with the last page.
     down: Vec<u32>,
 }
 
@@ -40,7 +40,7 @@ impl Model for Unsent {
 }
 
 impl Unsent {
-    /// The pages of the machine that are not released.
+    /// Returns the pages of the machine that are not released. Fails only if memory runs out.
     pub fn from_ledger(
         alloc: Global,
         geometry: Geometry,
@@ -64,7 +64,7 @@ impl Unsent {
         })
     }
 
-    /// Takes a page out. Whether it was there.
+    /// Takes a page out. Returns whether it was there.
     pub fn remove(&mut self, page: PageNo) -> bool
         requires { page < length self.old }
         ensures was_there { result ≡ marked self.old page }
@@ -80,7 +80,7 @@ impl Unsent {
         was_there
     }
 
-    /// The first page from this one on that is there, or the page count.
+    /// Returns the first page from this one on that is still to be pushed, or the page count.
     pub fn first_from(&mut self, past: u32) -> u32
         requires { past ≤ length self.old }
         ensures same { self.new ≡ self.old }
@@ -92,7 +92,7 @@ impl Unsent {
         jumps::first_marked(&mut self.up, Way::Up, &self.marks, past)
     }
 
-    /// The page after the last one below this that is there, or 0.
+    /// Returns the page after the last one below this that is still to be pushed, or 0.
     pub fn end_below(&mut self, first: u32) -> u32
         requires { first ≤ length self.old }
         ensures same { self.new ≡ self.old }
@@ -104,14 +104,14 @@ impl Unsent {
         pages - jumps::first_marked(&mut self.down, Way::Down, &self.marks, pages - first)
     }
 
-    /// Tells callers that the machine has no more pages than the greatest has.
+    /// States that the machine has no more pages than the largest machine. Runs nothing.
     pub fn keeps_limits(&self)
         ensures { length self.now ≤ most_pages }
     {
         let _left = self.left;
     }
 
-    /// How many pages the machine has.
+    /// Returns how many pages the machine has.
     pub fn pages(&self) -> u32
         ensures pages { result ≡ length self.now }
         ensures few { length self.now ≤ most_pages }
@@ -119,7 +119,7 @@ impl Unsent {
         self.marks.len() as u32
     }
 
-    /// How many pages there are.
+    /// Returns how many pages are still to be pushed.
     pub fn left(&self) -> u32
         ensures { result ≡ size_below (length self.now) (marked self.now) }
     {
@@ -127,7 +127,7 @@ impl Unsent {
     }
 }
 
-/// So many pages without a mark.
+/// Returns this many marks, none of them set. Fails only if memory runs out.
 fn no_marks(alloc: Global, count: usize) -> Result<Vec<bool>, AllocError>
     ensures { IfOk result (λ v. v.items ≡ replicate count false) }
 {
@@ -146,7 +146,7 @@ fn mark_rest(marks: &mut Vec<bool>, ledger: &Ledger)
     }
 }
 
-/// How many pages are marked.
+/// Returns how many pages are marked.
 fn count(marks: &[bool]) -> u32
     requires { length marks.now ≤ most_pages }
     ensures { result ≡ size_below (length marks.now) (marked marks.now) }

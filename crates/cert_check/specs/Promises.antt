@@ -1,4 +1,4 @@
--- What a yes promises.
+-- What the verdict `yes` promises.
 use Rattle.migration_types.specs.Certs.{Certified}
 use Rattle.migration_types.specs.Sessions.{Recorded}
 use Rattle.audit_model.specs.Mergings.{HasMerging, spelled}
@@ -9,7 +9,7 @@ use Rattle.audit_model.specs.Laws.{FindsResident, ReadsFlat, PlacedOnce, PlacedU
 abbrev pub IsReplayedBy : Certified → Recorded → Type 0
 IsReplayedBy c s = IsSafeOrder s (spelled c.runs)
 
--- where the answer is yes, what is promised of the session that `Of` speaks of
+-- if the verdict is yes, what is promised about the session that `Of` speaks of
 pub record Promises (IsYes : Type 0) (Of : (Recorded → Type 0) → Type 0) (ReplaysClean : Recorded → Type 0) : Type 0 where
   pub safe : IsYes → Of IsSafe
   pub replays_clean : IsYes → Of ReplaysClean

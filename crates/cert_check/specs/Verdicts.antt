@@ -12,7 +12,7 @@ use Rattle.cert_check.specs.declared.verdict.ShapeFault.{ShapeFault}
 use Rattle.cert_check.specs.declared.verdict.Verdict.{Verdict}
 use Rattle.cert_check.specs.declared.verdict.Verdict.TheVariants.{SessionText, CertText, Shape, Pages, Runs, Page, Yes}
 
--- the shape's fault of least line, and then of least reason
+-- the fault of the shape with the least line, and then the least reason
 pub record IsShapeFault (s : Recorded) (fault : ShapeFault) : Type 0 where
   pub is_line : fault.line ≡ line_of s (fault.log, fault.place)
   pub is_first : IsFirstFault s fault.reason (fault.log, fault.place)
@@ -32,16 +32,16 @@ pub record IsFirstBadPage (s : Recorded) (entries : List Entry) (page : ℕ) : T
 abbrev pub entry_line : ℕ → ℕ
 entry_line page = page + 3
 
--- the line of a run in the text of a certificate of so many pages, and of `end` behind the last run
+-- the line of a run in the text of a certificate of this many pages, or the line of `end` after the last run
 abbrev pub run_line : ℕ → ℕ → ℕ
 run_line pages place = pages + 4 + place
 
--- the entries are as many as the session's pages
+-- there are as many entries as the session has pages
 abbrev pub SamePages : Recorded → Certified → Type 0
 SamePages s c = length c.entries ≡ s.geometry.pages
 
--- The first of these that applies: the session has not the right shape, the page counts differ, a run is bad, an entry
--- is not right, the certificate is right.
+-- The first of these that applies: the session does not have the right shape, the page counts differ, a run is bad, an
+-- entry is not right, the certificate is right.
 abbrev pub IsVerdict : Recorded → Certified → Verdict → Type 0
 IsVerdict s c (SessionText line) = ⊥
 IsVerdict s c (CertText line) = ⊥

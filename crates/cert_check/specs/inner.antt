@@ -1,4 +1,4 @@
--- What serves proofs alone.
+-- Definitions that only proofs use.
 pub mod FirstOfLog
 pub mod Phases
 pub mod Passes

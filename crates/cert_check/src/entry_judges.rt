@@ -1,5 +1,5 @@
-//! Who judges a session and a certificate that has an entry for each page: the calling thread alone, one thing after the
-//! other, or threads, the shape and the runs beside the pages.
+//! Judges of a session and a certificate with an entry for each page: the calling thread alone, one thing after the
+//! other; or threads, which judge the shape and the runs beside the pages.
 
 ghost use Rattle.std.specs.Prelude.{⊤, ◌≡◌, IfOk, MatchOption};
 ghost use Rattle.std.specs.Thread.{IsSync};
@@ -17,20 +17,20 @@ use std::alloc::{AllocError, Global};
 use std::marker::Sync;
 use std::thread::{Threads, join};
 
-/// Who judges a session and a certificate. What is answered is the same whoever does.
+/// Judges of a session and a certificate. All give the same verdict.
 pub trait EntryJudges {
-    // What lets them work.
+    // The condition for their work.
     ghost ready: { Type 0 } = { ⊤ };
 
-    /// The verdict on a session and a certificate that has an entry for each page. An error: there is no memory to judge
-    /// them.
+    /// Returns the verdict on a session and a certificate that has an entry for each page. Fails only if memory runs
+    /// out.
     fn judge(&self, alloc: Global, session: &Session, cert: &Cert) -> Result<Verdict, AllocError>
         requires ready { ready }
         requires pages { SamePages session.now cert.now }
         ensures { IfOk result (IsVerdict session.now cert.now) };
 }
 
-/// The verdict by the shape and the runs, where one of these is wrong.
+/// Returns the verdict about the shape and the runs, if one of these is wrong. Fails only if memory runs out.
 fn by_shape_and_runs(
     alloc: Global,
     session: &Session,
@@ -52,7 +52,7 @@ fn by_shape_and_runs(
     Ok(Some(Verdict::Runs(pages + BEFORE_RUNS + place as u32)))
 }
 
-/// The first page whose entry is not right. An error: there is no memory to judge the pages.
+/// Returns the first page whose entry is not right. Fails only if memory runs out.
 fn first_bad_page<J: JudgesEntries>(
     judges: &J,
     alloc: Global,
@@ -66,7 +66,7 @@ fn first_bad_page<J: JudgesEntries>(
     judges.first_wrong_entry(alloc, session, cert.entries())
 }
 
-/// The verdict by the entries, where the shape and the runs are right.
+/// Returns the verdict about the entries, given that the shape and the runs are right.
 fn by_entries(session: &Session, cert: &Cert, bad: Option<usize>) -> Verdict
     requires pages { SamePages session.now cert.now }
     requires right { IsRightShape session.now × IsMerging session.now (spelled cert.now.runs) }
@@ -81,7 +81,7 @@ fn by_entries(session: &Session, cert: &Cert, bad: Option<usize>) -> Verdict
     }
 }
 
-/// The verdict by all: what is wrong with the shape or the runs comes before the entries.
+/// Returns the verdict about everything: what is wrong with the shape or the runs comes before the entries.
 fn settled(session: &Session, cert: &Cert, first: Option<Verdict>, bad: Option<usize>) -> Verdict
     requires pages { SamePages session.now cert.now }
     requires first { MatchOption first (IsRightShape session.now × IsMerging session.now (spelled cert.now.runs)) (IsVerdict session.now cert.now) }
@@ -94,8 +94,8 @@ fn settled(session: &Session, cert: &Cert, first: Option<Verdict>, bad: Option<u
     }
 }
 
-/// The pages are judged as one range, where the shape and the runs are right. Takes one pass over each log and one more
-/// for the looks, and memory for the cells of all pages and some numbers for each.
+/// Judges the pages as one range, if the shape and the runs are right. Makes one pass over each log and one more for
+/// the looks, and allocates memory for the cells of all pages and some numbers for each.
 impl EntryJudges for Alone {
     fn judge(&self, alloc: Global, session: &Session, cert: &Cert) -> Result<Verdict, AllocError> {
         let first = by_shape_and_runs(alloc, session, cert)?;
@@ -107,7 +107,7 @@ impl EntryJudges for Alone {
     }
 }
 
-/// The shape and the runs are judged by one thread, and beside it the pages, each range of them by a thread.
+/// Judges the shape and the runs by one thread, and beside it the pages, each range of them by a thread.
 impl<R: Threads + Sync> EntryJudges for InThreads<'_, R> {
     ghost ready = { IsSync R.row };
 

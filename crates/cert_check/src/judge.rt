@@ -17,7 +17,7 @@ use std::alloc::{AllocError, Global};
 use std::marker::Sync;
 use std::thread::Threads;
 
-/// The verdict on a session and a certificate with another number of pages.
+/// Returns the verdict on a session and a certificate with another number of pages.
 fn of_other_pages(alloc: Global, session: &Session, _cert: &Cert) -> Result<Verdict, AllocError>
     requires { ¬ SamePages session.now _cert.now }
     ensures { IfOk result (IsVerdict session.now _cert.now) }
@@ -29,7 +29,7 @@ fn of_other_pages(alloc: Global, session: &Session, _cert: &Cert) -> Result<Verd
     }
 }
 
-/// The verdict on a session and a certificate, whatever it promises.
+/// Returns the verdict on a session and a certificate, without its promises. Fails only if memory runs out.
 fn verdict_by<J: EntryJudges>(
     judges: &J,
     alloc: Global,
@@ -45,8 +45,8 @@ fn verdict_by<J: EntryJudges>(
     judges.judge(alloc, session, cert)
 }
 
-/// The verdict on a session and its certificate that [`check`] answers, whoever judges the pages. It promises what
-/// `check` promises, and takes the memory that these judges take.
+/// Returns the verdict on a session and its certificate that [`check`] returns, whichever judges are used. It promises
+/// what `check` promises, and allocates the memory that these judges do. Fails only if memory runs out.
 pub fn check_by<J: EntryJudges>(
     judges: &J,
     alloc: Global,
@@ -62,15 +62,17 @@ pub fn check_by<J: EntryJudges>(
     verdict_by(judges, alloc, session, cert)
 }
 
-/// The verdict on a session and its certificate: `Shape`, `Pages`, `Runs`, `Page` or `Yes`, the first that applies.
+/// Returns the verdict on a session and its certificate: the first that applies of `Shape`, `Pages`, `Runs`, `Page` and
+/// `Yes`.
 ///
-/// On `Yes` the session's logs have a merging, and every merging is safe: a read or a write after handover finds its page
-/// resident, a read gives what one machine that never moved gives, a page is placed at most once, and over no later read,
-/// write or release, and a released page is never sent and comes back as zeros. So the merging that the certificate's
-/// runs spell has no record whose demand fails. Nothing is assumed of who made the certificate.
+/// On `Yes`, the session's logs have a merging, and every merging is safe. A read or a write after handover finds its
+/// page resident. A read gives what one machine that never moved gives. A page is placed at most once, and before any
+/// read, write or release of it at the target. A released page is never sent and comes back as zeros. So the merging
+/// that the certificate's runs spell has no record whose demand fails. Nothing is assumed about who made the
+/// certificate.
 ///
-/// Takes one pass over the runs and a few over the records, and memory for a few numbers for each page and for the cells
-/// of all pages. The only error: there is no memory for them.
+/// Makes one pass over the runs and a few over the records, and allocates memory for a few numbers for each page and
+/// for the cells of all pages. Fails only if memory runs out.
 pub fn check(alloc: Global, session: &Session, cert: &Cert) -> Result<Verdict, AllocError>
     ensures verdict { IfOk result (IsVerdict session.now cert.now) }
     ensures safe { result ≡ Ok Verdict.Yes → IsSafe session.now }
@@ -85,11 +87,12 @@ pub fn check(alloc: Global, session: &Session, cert: &Cert) -> Result<Verdict, A
     check_by(&Alone, alloc, session, cert)
 }
 
-/// The verdict that [`check`] answers, with the pages judged by threads side by side, however these share the pages among
-/// them. A small session is judged by the calling thread.
+/// Returns the verdict that [`check`] returns, with the pages judged by threads side by side, however these share the
+/// pages among them. The calling thread judges a small session alone.
 ///
-/// On `Yes` it promises what `check` promises. It takes a few numbers of memory more for each page. It waits for the
-/// threads that it starts, and for nobody else; where a thread cannot be made its part is judged by another.
+/// On `Yes`, it promises what `check` promises. It allocates memory for a few more numbers for each page. It waits only
+/// for the threads that it starts. If a thread cannot be started, another one judges its part. Fails only if memory
+/// runs out.
 pub fn check_par<R: Threads + Sync>(
     rt: &R,
     alloc: Global,

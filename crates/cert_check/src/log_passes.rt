@@ -1,7 +1,7 @@
 //! Passes over a log that stop at the first record with a reason.
 //!
-//! A judge of shapes and a judge of pages both go over one log after the other, keep a little of what they saw, and ask
-//! at each record why it is a fault. [`first_found`] is that pass; what varies is in [`Pass`].
+//! A judge of shapes and a judge of pages both go through one log after the other, keep a little state, and ask at each
+//! record why it is a fault. [`first_found`] is that pass. What differs is in [`Pass`].
 
 ghost use Rattle.std.specs.Prelude.{◌≡◌, ◌+◌, ◌<◌, ◌≤◌, ℕ, Option, MatchOption, IfSome};
 ghost use Rattle.migration_types.specs.Sessions.{IsSession, Recorded};
@@ -11,7 +11,7 @@ use migration_types::Session;
 
 /// How the records of a log are judged, one after the other.
 pub(crate) trait Pass {
-    /// What is kept from one record to the next.
+    /// The state that is kept from one record to the next.
     type State;
     /// Why a record is a fault.
     type Reason;
@@ -22,10 +22,10 @@ pub(crate) trait Pass {
     /// The reason of the record of this number.
     ghost reason: { Recorded → ℕ → Option Self.Reason };
 
-    /// What is kept before the record of this number.
+    /// The state before the record of this number.
     ghost IsAt: { Recorded → ℕ → Self.State → Type 0 };
 
-    /// Judges the record of this number. Where it is a fault, what is kept stays.
+    /// Judges the record of this number. If it is a fault, the state stays.
     fn judge(session: &Session, state: &mut Self::State, n: usize) -> Option<Self::Reason>
         requires limits { IsSession session.now }
         requires within { n < count session.now }
@@ -42,7 +42,7 @@ pub(crate) struct Found<R> {
     pub reason: R,
 }
 
-/// The first record from one place up to another that has a reason. Where there is one, what is kept is as before it.
+/// Returns the first record with a reason, between two places. If there is one, the state is as before it.
 pub(crate) fn first_found<P: Pass>(
     session: &Session,
     state: &mut P::State,

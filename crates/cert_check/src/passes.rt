@@ -41,7 +41,7 @@ struct LanePass;
 /// The pass over the pager's log.
 struct PagerPass;
 
-/// Why a guest record is not of the right shape.
+/// Returns why a guest record does not have the right shape, if so.
 fn guest_reason(session: &Session, rec: &GuestRec, phases: Phases) -> Option<ShapeReason>
     ensures { result ≡ first_reason (in_phase_by session.now.version phases.halted phases.resumed rec.now) (guest_named session.now rec.now) true true true }
 {
@@ -54,7 +54,7 @@ fn guest_reason(session: &Session, rec: &GuestRec, phases: Phases) -> Option<Sha
     None
 }
 
-/// The phases once this record is read too.
+/// Returns the phases after this record.
 fn phases_after(rec: &GuestRec, phases: Phases) -> Phases
     ensures { ArePhasesAfter rec.now phases result }
 {
@@ -85,7 +85,7 @@ impl Pass for GuestPass {
     }
 }
 
-/// Whether the page of a `send` is not marked.
+/// Returns whether the page of a `send` is not marked.
 fn is_unmarked(marks: &Table<bool>, rec: &SourceRec) -> bool
     requires { SourcePage (pages_of marks.now) rec.now }
     ensures { result ≡ is_unmarked (values marks.now) rec.now }
@@ -106,7 +106,7 @@ fn mark(marks: &mut Table<bool>, rec: &SourceRec)
     }
 }
 
-/// Why source record n is not of the right shape.
+/// Returns why source record n does not have the right shape, if so.
 fn source_reason(
     session: &Session,
     n: usize,
@@ -190,7 +190,7 @@ impl Pass for LanePass {
     }
 }
 
-/// Why pager record n is not of the right shape.
+/// Returns why pager record n does not have the right shape, if so.
 fn pager_reason(session: &Session, n: usize, rec: &PagerRec) -> Option<ShapeReason>
     ensures { result ≡ first_reason true (pager_named session.now n rec.now) (pager_start session.now n rec.now) true true }
 {
@@ -219,7 +219,7 @@ impl Pass for PagerPass {
     }
 }
 
-/// The first fault of the guest's log.
+/// Returns the first fault of the guest's log.
 fn guest_fault(session: &Session) -> Option<Found<ShapeReason>>
     requires { IsSession session.now }
     ensures { MatchOption result (IsRightLog session.now Guest) (λ f. IsFirstOfLog session.now Guest f.place f.reason) }
@@ -231,7 +231,7 @@ fn guest_fault(session: &Session) -> Option<Found<ShapeReason>>
     first_found::<GuestPass>(session, &mut phases, 0, session.guest().len())
 }
 
-/// The first fault of the source's log.
+/// Returns the first fault of the source's log.
 fn source_fault(alloc: Global, session: &Session) -> Result<Option<Found<ShapeReason>>, AllocError>
     requires { IsSession session.now }
     ensures { IfOk result (λ o. MatchOption o (IsRightLog session.now Source) (λ f. IsFirstOfLog session.now Source f.place f.reason)) }
@@ -241,7 +241,7 @@ fn source_fault(alloc: Global, session: &Session) -> Result<Option<Found<ShapeRe
     Ok(fault)
 }
 
-/// The first fault of a log.
+/// Returns the first fault of a log.
 pub(crate) fn fault_of(
     alloc: Global,
     session: &Session,

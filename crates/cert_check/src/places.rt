@@ -1,15 +1,15 @@
-//! Where a certificate's text has its entries and its runs.
+//! The lines of a certificate's text that have its entries and its runs.
 
 ghost use Rattle.std.specs.Prelude.{◌≡◌, ◌+◌, ◌<◌, MatchOption};
 ghost use Rattle.cert_check.specs.Verdicts.{entry_line, run_line};
 
-/// An entry's line is so many after its page's number.
+/// The line of an entry is its page's number plus this.
 pub(crate) const BEFORE_ENTRIES: u32 = 3;
 
-/// A run's line is so many after the number of pages and its place.
+/// The line of a run is the number of pages plus the run's place plus this.
 pub(crate) const BEFORE_RUNS: u32 = 4;
 
-/// The number of the page whose entry a certificate's text has at this line; none before the entries.
+/// Returns the number of the page whose entry is at this line of a certificate's text, or `None` before the entries.
 pub fn page_at(line: u32) -> Option<u32>
     ensures { MatchOption result (line < 3) (λ page. line ≡ entry_line page) }
 {
@@ -19,7 +19,8 @@ pub fn page_at(line: u32) -> Option<u32>
     Some(line - BEFORE_ENTRIES)
 }
 
-/// The place of the run that the text of a certificate of so many pages has at this line; none before the runs.
+/// Returns the place of the run that is at this line of the text of a certificate of this many pages, or `None` before
+/// the runs.
 pub fn run_at(pages: u32, line: u32) -> Option<u32>
     ensures { MatchOption result (line < pages + 4) (λ place. line ≡ run_line pages place) }
 {

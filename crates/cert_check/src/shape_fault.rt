@@ -13,7 +13,7 @@ use audit_model::ShapeReason;
 use migration_types::{LogName, Session, line_of, logs};
 use std::alloc::{AllocError, Global};
 
-/// The fault of a log as a fault of the session.
+/// Returns the fault of a log as a fault of the session.
 fn told(session: &Session, log: LogName, fault: Found<ShapeReason>) -> ShapeFault
     requires limits { IsSession session.now }
     requires first { IsFirstOfLog session.now log fault.place fault.reason }
@@ -31,8 +31,8 @@ fn told(session: &Session, log: LogName, fault: Found<ShapeReason>) -> ShapeFaul
     }
 }
 
-/// The fault of least line, and then of least reason, of a session's shape; none where the shape is right. Takes one
-/// pass over each log, and memory for a mark for each page. The only error is want of that memory.
+/// Returns the fault of a session's shape with the least line, and then the least reason, or `None` if the shape is
+/// right. Makes one pass over each log, and allocates memory for a mark for each page. Fails only if memory runs out.
 pub fn shape(alloc: Global, session: &Session) -> Result<Option<ShapeFault>, AllocError>
     ensures { IfOk result (λ fault. MatchOption fault (IsRightShape session.now) (IsShapeFault session.now)) }
 {

@@ -1,4 +1,4 @@
--- The answers of the maker.
+-- The results of the maker.
 use Rattle.std.specs.Prelude.{◌≡◌, ℕ, ◌≤◌, List, Option, Some, None, slice_get}
 use Rattle.migration_types.specs.declared.records.GuestRec.TheVariants.{See}
 use Rattle.migration_types.specs.declared.cert.Run.{Run}
@@ -35,7 +35,8 @@ pub record IsMadeEntry (s : Recorded) (page : ℕ) (entry : Entry) : Type 0 wher
 abbrev pub HasNoEntry : Recorded → ℕ → Type 0
 HasNoEntry s page = (entry : Entry) → IsRightEntry s page entry → ⊥
 
--- a right certificate with these runs, and with the earliest looks, of the session's size, and in the version of a session of the right shape
+-- a right certificate with these runs and with the earliest looks, of the session's size, and for a session of the
+-- right shape in its version
 pub record IsMade (s : Recorded) (runs : List Run) (cert : Certified) : Type 0 where
   pub is_right : IsRightCertificate s cert
   pub has_runs : cert.runs ≡ runs
@@ -43,7 +44,7 @@ pub record IsMade (s : Recorded) (runs : List Run) (cert : Certified) : Type 0 w
   pub has_version : IsRightShape s → cert.version ≡ s.version
   pub earliest : (page : ℕ) (entry : Entry) → slice_get cert.entries page ≡ Some entry → NamesEarliest s entry
 
--- no right certificate of any version and size has these runs, or memory was refused
+-- no right certificate of any version and size has these runs, or memory runs out
 abbrev pub IsRefused : Recorded → List Run → MakeFault → Type 0
 IsRefused s runs NoCertificate =
     (version : Version) (size : Size) (entries : List Entry) → IsRightCertificate s (record { version = version; size = size; entries = entries; runs = runs }) → ⊥

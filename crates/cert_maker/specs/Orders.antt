@@ -1,4 +1,4 @@
--- The answers of the search for an order.
+-- The results of the search for an order.
 use Rattle.std.specs.Prelude.{◌≡◌, ℕ, ◌<◌, ◌≤◌, List, Some}
 use Rattle.migration_types.specs.declared.records.LogName.{LogName}
 use Rattle.migration_types.specs.declared.cert.Run.{Run}
@@ -18,16 +18,16 @@ pub record AreFoundRuns (s : Recorded) (runs : List Run) : Type 0 where
   pub is_found : IsFound s (spelled runs)
   pub are_runs : AreRuns s.version s.geometry.size runs
 
--- the runs of the found order, as far as it goes, within the limits of a certificate's runs of the session's version and
--- size; and the cursors behind them
+-- the runs of the found order, as far as it goes, within the limits of a certificate's runs of the session's version
+-- and size; and the cursors after them
 pub record IsFoundFront (s : Recorded) (runs : List Run) (c : Cursors) : Type 0 where
   pub is_found_order : IsFoundOrder s (spelled runs)
   pub are_runs : AreRuns s.version s.geometry.size runs
   pub at : cursors_from at_start (spelled runs) ≡ c
   pub within : (log : LogName) → c log ≤ log_length s log
 
--- the first record that is left in a knot, with its line, where there is no merging; and the found order as far as it
--- goes, behind which this record is the next of its log
+-- The first record that a knot leaves, with its line; there is no merging. The found order goes as far as it can, and
+-- this record is the next of its log after it.
 pub record IsTied (s : Recorded) (left : Left) (found : FoundRuns) : Type 0 where
   pub is_knot : IsKnot s left.line
   pub is_line : left.line ≡ line_of s (left.log, left.place)
@@ -37,7 +37,7 @@ pub record IsTied (s : Recorded) (left : Left) (found : FoundRuns) : Type 0 wher
   pub is_first : first_left s (cursors_of found.taken) ≡ Some left.log
   pub is_next : left.place ≡ cursors_of found.taken left.log
 
--- the answer for a session
+-- the result for a session
 abbrev pub IsOrderOf : Recorded → Order → Type 0
 IsOrderOf s (Found runs) = AreFoundRuns s runs
 IsOrderOf s (Knot left found) = IsTied s left found

@@ -1,4 +1,4 @@
-//! The maker of certificates: an order of a session's records, and a certificate over an order.
+//! The maker of certificates, which finds an order of a session's records, and makes a certificate over an order.
 #![tactic(auto)]
 
 mod made_entries;

@@ -1,4 +1,4 @@
-//! The entries of a certificate, by the facts of the pages.
+//! The entries of a certificate, made from the facts of the pages.
 
 ghost use Rattle.std.specs.Prelude.{⊤, ◌≡◌, length, slice_get, MatchOption};
 ghost use Rattle.std.specs.List.{list_any};
@@ -15,7 +15,7 @@ use migration_types::{Entry, First, PageNo, PagerRec, Seq, Session, SourceRec, V
 use page_facts::{Findings, PageFacts, Question, facts_of, is_right_entry};
 use std::alloc::{AllocError, Global};
 
-/// The `send` whose contents came with a `got` of the pager, itself or by an `again`.
+/// Returns the `send` whose contents a `got` of the pager took, from the `send` itself or from an `again` of it.
 fn send_of(session: &Session, got: u32) -> Option<u32>
     ensures { result ≡ send_of session.now got }
 {
@@ -26,7 +26,7 @@ fn send_of(session: &Session, got: u32) -> Option<u32>
     }
 }
 
-/// A page's first touch with its first look, where the look is not missing.
+/// Returns a page's first touch with its first look, if there is a look.
 fn first_of(touch: Option<u32>, look: Option<u32>) -> Option<Option<First>>
     ensures { result ≡ first_of touch look }
 {
@@ -37,7 +37,7 @@ fn first_of(touch: Option<u32>, look: Option<u32>) -> Option<Option<First>>
     Some(Some(First { access: touch, see }))
 }
 
-/// The entry for this placement.
+/// Returns the entry for this placement.
 fn entry_at(session: &Session, place: u32, first: Option<First>) -> Option<Entry>
     ensures { result ≡ if_there (entry_at session.now place first) (slice_get session.now.pager place) }
 {
@@ -51,7 +51,7 @@ fn entry_at(session: &Session, place: u32, first: Option<First>) -> Option<Entry
     }
 }
 
-/// The entry of a page that is not placed.
+/// Returns the entry of a page that is not placed.
 fn unplaced_entry(facts: &PageFacts) -> Entry
     ensures { result ≡ unplaced_entry facts.now.touch facts.now.releases }
 {
@@ -61,7 +61,7 @@ fn unplaced_entry(facts: &PageFacts) -> Entry
     }
 }
 
-/// The one entry that can be right for a page with these facts and this first look.
+/// Returns the one entry that can be right for a page with these facts and this first look.
 fn entry_of(session: &Session, facts: &PageFacts, look: Option<u32>) -> Option<Entry>
     ensures { result ≡ entry_of session.now facts.now look }
 {
@@ -72,7 +72,7 @@ fn entry_of(session: &Session, facts: &PageFacts, look: Option<u32>) -> Option<E
     entry_at(session, place, first)
 }
 
-/// The right entry of a page with these facts, where it has one.
+/// Returns the right entry of a page with these facts, if there is one.
 fn entry_by_facts(
     session: &Session,
     page: PageNo,
@@ -90,8 +90,8 @@ fn entry_by_facts(
     if is_right { Some(entry) } else { None }
 }
 
-/// The right entry of a page by what is found of it, with the earliest look that serves; none where no entry of the page is
-/// right. Takes no memory.
+/// Returns the right entry of a page with these findings, with the earliest look that covers its placement, or `None`
+/// if no entry of the page is right. Allocates no memory.
 pub fn made_entry(session: &Session, findings: &Findings, page: PageNo) -> Option<Entry>
     requires { IsFindings session.now page findings.now }
     ensures { MatchOption result (HasNoEntry session.now page) (IsMadeEntry session.now page) }
@@ -100,8 +100,8 @@ pub fn made_entry(session: &Session, findings: &Findings, page: PageNo) -> Optio
     entry_by_facts(session, page, &facts, findings.look)
 }
 
-/// What are the right entries of the pages, page after page, each with the earliest look that serves? None where a page has no
-/// right entry.
+/// The question for the right entries of the pages, each with the earliest look that covers its placement. The answer
+/// is `None` if a page has no right entry.
 #[derive(Clone, Copy)]
 pub struct MadeEntries;
 
@@ -150,21 +150,21 @@ impl Question for MadeEntries {
     }
 }
 
-/// Whether it is of a fresh page.
+/// Returns whether it is the entry of a fresh page.
 fn is_fresh(entry: &Entry) -> bool
     ensures { result ≡ is_fresh entry.now }
 {
     matches!(entry, Entry::Fresh { .. })
 }
 
-/// Whether one of the pages is fresh.
+/// Returns whether one of the pages is fresh.
 fn has_fresh(entries: &[Entry]) -> bool
     ensures { result ≡ list_any is_fresh entries.now }
 {
     entries.iter().any(is_fresh)
 }
 
-/// The version of a certificate with these entries: the session's, or the second where a page is fresh.
+/// Returns the version of a certificate with these entries: the session's, or the second if a page is fresh.
 pub(crate) fn version_for(session: &Session, entries: &Seq<Entry>) -> Version
     ensures { result ≡ version_for session.now.version entries.now }
 {

@@ -1,4 +1,4 @@
-//! Certificates.
+//! Making certificates.
 
 ghost use Rattle.std.specs.Prelude.{MatchResult};
 ghost use Rattle.migration_types.specs.declared.version.Version.TheVariants.{Two};
@@ -18,19 +18,19 @@ use thiserror::Error;
 /// Why no certificate was made.
 #[derive(Clone, Copy, Debug, PartialEq, Eq, Error)]
 pub enum MakeFault {
-    /// There is no right certificate with these runs: they are no merging, or a page has no right entry.
+    /// There is no right certificate with these runs: they are not a merging, or a page has no right entry.
     #[error("no certificate")]
     NoCertificate,
-    /// Memory was refused.
+    /// Memory ran out.
     #[error("out of memory")]
     Memory,
 }
 
-/// The right certificate of a session with these runs, in the session's version and of its size. (A session of the first version that
-/// needs an entry of the second is not of the right shape, and its certificate is of the second.) Each entry with a
-/// placement and a first touch names the earliest look that covers the placement. Takes one pass over the runs and a
-/// few over the records, and memory for the entries, a few numbers for each page and the cells of all pages. On an error
-/// the runs are dropped.
+/// Returns the right certificate of a session with these runs, in the session's version and of its size. (A session of
+/// the first version that needs an entry of the second does not have the right shape, and its certificate is of the
+/// second.) Each entry with a placement and a first touch names the earliest look that covers the placement. Makes one
+/// pass over the runs and a few over the records, and allocates memory for the entries, a few numbers for each page and
+/// the cells of all pages. On an error, the runs are dropped.
 pub fn make(alloc: Global, session: &Session, runs: Seq<Run>) -> Result<Cert, MakeFault>
     requires { AreRuns Two session.now.geometry.size runs }
     ensures { MatchResult result (IsMade session.now runs) (IsRefused session.now runs) }
@@ -47,8 +47,8 @@ pub fn make(alloc: Global, session: &Session, runs: Seq<Run>) -> Result<Cert, Ma
     Ok(make_over(session, entries, runs))
 }
 
-/// The right certificate with these right entries of all pages, over the runs of a merging. Takes a look at each entry, and
-/// no memory.
+/// Returns the right certificate with these right entries of all pages, over the runs of a merging. Looks at each
+/// entry, and allocates no memory.
 pub fn make_over(session: &Session, entries: Vec<Entry>, runs: Seq<Run>) -> Cert
     requires runs { AreRuns Two session.now.geometry.size runs }
     requires merging { IsMerging session.now (spelled runs) }

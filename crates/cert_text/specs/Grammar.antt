@@ -12,7 +12,7 @@ use Rattle.migration_types.specs.declared.size.Size.TheVariants.{Small, Large}
 use Rattle.migration_types.specs.Certs.{Certified, IsCert}
 use Rattle.cert_text.specs.Runs.{runs_lines}
 
--- The first line. No certificate of the first version is of the large size.
+-- The first line. No certificate of the first version has the large size.
 abbrev pub header : Version → Size → List ℕ
 header One Small = codes "postcopy-certificate 1"
 header Two Small = codes "postcopy-certificate 2"
@@ -54,8 +54,8 @@ abbrev pub entry_lines : ℕ → List Entry → List (List ℕ)
 entry_lines page [] = []
 entry_lines page (entry ∷ entries) = entry_line page entry ∷ entry_lines (page + 1) entries
 
--- A certificate of four pages and one run of three records, line by line. Its first line ends in 1 where it is of the
--- first version, in which no page is fresh and no run is of the lane, and in 3 where it is of the large size:
+-- The lines of a certificate. This one has four pages and one run of three records. Its first line ends in 1 in the
+-- first version, which has no fresh page and no run of the lane, and in 3 for the large size:
 --   postcopy-certificate 2
 --   pages 4
 --   page 0 source 3 5 5 4

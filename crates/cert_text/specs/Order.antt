@@ -1,4 +1,4 @@
--- The texts that tell an order of a session's records. Numbers are in decimal, with no sign and no leading zero.
+-- The texts that give an order of a session's records. Numbers are in decimal, with no sign and no leading zero.
 use Rattle.std.specs.Prelude.{◌≡◌, ◌≤◌, ℕ, List, ◌∷◌, ◌++◌, codes}
 use Rattle.std.specs.Fmt.{decimal}
 use Rattle.migration_types.specs.declared.cert.Run.{Run}
@@ -28,15 +28,15 @@ IsLineNumber line = (1 ≤ line) × (line ≤ 4294967295)
 abbrev pub SpellsBelow : {V : Type 0} → List ℕ → (V → List (List ℕ) → Type 0) → V → List (List ℕ) → Type 0
 SpellsBelow line Spells v lines = (text : List (List ℕ)) × Spells v text × (lines ≡ line ∷ text)
 
--- these lines tell the order of these runs in a form
+-- these lines give the order of these runs in a form
 abbrev pub SpellsAs : Form → List Run → List (List ℕ) → Type 0
 SpellsAs Runs order lines = SpellsRuns order lines
 SpellsAs (Faulty line reason) order lines = IsLineNumber line × SpellsBelow (faulty_line line reason) SpellsRuns order lines
 SpellsAs Cert order lines = SpellsCertRuns order lines
 SpellsAs Clean order lines = SpellsBelow clean_line SpellsCertRuns order lines
 
--- These lines tell the order of these runs: as a text of runs, as a certificate, or as a report with one of them below its
--- first line. As a report on a session with a fault:
+-- These lines give the order of these runs: as a text of runs, as a certificate, or as a report with one of them below
+-- its first line. As a report on a session with a fault:
 --   faulty line 13 early
 --   postcopy-runs 1
 --   runs 2

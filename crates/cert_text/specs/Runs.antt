@@ -28,12 +28,12 @@ run_line run = codes "run " ++ run_text run
 abbrev pub runs_lines : List Run → List (List ℕ)
 runs_lines runs = counted runs_key run_line runs (closing ∷ [])
 
--- these lines tell these runs, which are within all limits of a version and a size
+-- these lines spell these runs, which are within all limits of a version and a size
 abbrev pub SpellsRunLines : Version → Size → List Run → List (List ℕ) → Type 0
 SpellsRunLines version size runs lines = AreRuns version size runs × (lines ≡ runs_lines runs)
 
--- These lines are the text of these runs, which are within the limits of the second version and of the large size: runs
--- have one text for sessions of both versions and of both sizes. A text of two runs, line by line:
+-- These lines are the text of these runs, which are within the limits of the second version and of the large size. Runs
+-- have the same text for sessions of both versions and of both sizes. A text of two runs:
 --   postcopy-runs 1
 --   runs 2
 --   run guest 3

@@ -1,4 +1,4 @@
-//! What came of a certificate, line by line.
+//! Reading a certificate, line by line.
 
 ghost use Rattle.std.specs.Prelude.{◌≡◌, ◌≢◌, ℕ, [], MatchOption, IfSome, IfNone};
 ghost use Rattle.migration_types.specs.declared.version.Version.{Version as Told};
@@ -19,21 +19,21 @@ use text_lines::{
     Alone, FaultKind, ItemCrew, Stages, StagesApart, StagesBack, Team, Wanted, is_line, read_some,
 };
 
-/// How the line with the number of pages begins.
+/// The beginning of the line with the number of pages.
 pub const PAGES_KEY: &[u8] = b"pages ";
 
-/// Which line is due.
+/// The kind of line that comes next.
 #[derive(Clone, Copy)]
 pub enum Stage {
     /// The header.
     Header,
     /// The number of pages.
     Pages,
-    /// A page's entry, or a line of the runs after the last.
+    /// A page's entry, or after the last a line of the runs.
     Entries,
 }
 
-/// What came of a certificate.
+/// What was read of a certificate.
 #[derive(Drop)]
 pub struct CertParts {
     pages: u32,
@@ -42,7 +42,7 @@ pub struct CertParts {
 }
 
 impl CertParts {
-    /// Takes as many of the first lines as are in plain form, and answers what follows them and how many they were.
+    /// Takes as many of the first lines as are in plain form, and returns what follows them and how many they were.
     fn lines_by<'a, C: ItemCrew<RunForm>>(
         &mut self,
         crew: &C,
@@ -67,7 +67,7 @@ impl CertParts {
         }
     }
 
-    /// The version, the size, the entries and the runs, where the lines so far are a certificate's.
+    /// Returns the version, the size, the entries and the runs, if the lines so far are a complete certificate.
     pub fn whole(self, stage: Stage) -> Option<(Version, Size, Vec<Entry>, Seq<Run>)>
         requires { LiveAt stage self }
         ensures found { IfSome result (λ parts. SpellsCert (record { version = parts.0; size = parts.1; entries = parts.2.items; runs = parts.3 }) (held_at stage self)) }
@@ -86,7 +86,7 @@ impl CertParts {
         }
     }
 
-    /// The next page's entry, or a line of the runs behind the last, which are counted at the line 2.
+    /// Expects the next page's entry, or after the last a line of the runs, which are counted from line 2.
     fn wanted_in_entries(&self) -> Wanted
         requires { LiveAt Stage.Entries self.now }
     {
@@ -102,7 +102,7 @@ impl CertParts {
     }
 }
 
-/// Which certificates have more pages than those of a size.
+/// Returns the words for the certificates that have more pages than those of a size.
 fn more_pages(size: Size) -> &'static str {
     match size {
         Size::Small => "postcopy-certificate 3 has up to 16777216",
@@ -110,7 +110,7 @@ fn more_pages(size: Size) -> &'static str {
     }
 }
 
-/// How the header is written.
+/// The forms of the header.
 const HEADER_FORMS: &[&str] = &[
     "postcopy-certificate 1",
     "postcopy-certificate 2",
@@ -236,7 +236,8 @@ impl StagesApart for CertParts {
     }
 }
 
-/// The first line of a certificate of this version and size. It is empty where the version has no such size.
+/// Returns the first line of a certificate of this version and size. It is empty if the version does not have this
+/// size.
 pub fn cert_header(version: Version, size: Size) -> &'static [u8]
     ensures { result.now ≡ header version size }
 {
@@ -248,7 +249,7 @@ pub fn cert_header(version: Version, size: Size) -> &'static [u8]
     }
 }
 
-/// The version and the size whose certificates have this first line.
+/// Returns the version and the size whose certificates have this first line.
 #[tactic(auto, using(crate::proofs::Laws::no_header))]
 fn version_of(line: &[u8]) -> Option<(Version, Size)>
     ensures { MatchOption result ((version : Told) (size : Limited) → HasSize version size → line.now ≢ header version size) (λ told. HasSize told.0 told.1 × (line.now ≡ header told.0 told.1)) }

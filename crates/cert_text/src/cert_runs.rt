@@ -1,4 +1,4 @@
-//! The runs of a certificate, of which no more is wanted, line by line.
+//! Reading only the runs of a certificate, line by line.
 
 ghost use Rattle.cert_text.specs.Grammar.{SpellsCertRuns};
 
@@ -8,7 +8,7 @@ use std::alloc::Global;
 use std::thread::Threads;
 use text_lines::{FaultKind, Stages, StagesApart, StagesBack, Wanted};
 
-/// What came of a certificate of which the runs alone are wanted.
+/// What was read of a certificate whose runs alone are wanted.
 #[derive(Drop)]
 pub struct CertRunsParts {
     cert: CertParts,

@@ -18,7 +18,7 @@ use text_lines::{
     push_then,
 };
 
-/// A number up to a limit at the front, and what follows the space after it.
+/// Returns the number at the front, at most `limit`, and what follows the space after it.
 #[inline(always)]
 fn limited_then(text: &[u8], limit: u32) -> Option<(u32, &[u8])>
     ensures found { IfSome result (λ found. (found.0 ≤ limit) × (text.now ≡ decimal found.0 ++ 32 ∷ found.1.now)) }
@@ -28,7 +28,7 @@ fn limited_then(text: &[u8], limit: u32) -> Option<(u32, &[u8])>
     Some((number as u32, rest))
 }
 
-/// A record's number at the front, and what follows the space after it.
+/// Returns a record's number at the front, and what follows the space after it.
 #[inline(always)]
 fn numbered_then(text: &[u8], size: Size) -> Option<(u32, &[u8])>
     ensures found { IfSome result (λ found. IsNumber size found.0 × (text.now ≡ decimal found.0 ++ 32 ∷ found.1.now)) }
@@ -41,7 +41,7 @@ fn numbered_then(text: &[u8], size: Size) -> Option<(u32, &[u8])>
     Some((number, rest))
 }
 
-/// A record's number at the front, and what follows. Nothing follows where the text is the number alone.
+/// Returns a record's number at the front, and what follows. Nothing follows if the text is the number alone.
 #[inline(always)]
 fn record_then(text: &[u8], size: Size) -> Option<(u32, &[u8])>
     ensures found { IfSome result (λ found. IsNumber size found.0 × (text.now ≡ decimal found.0 ++ found.1.now)) }
@@ -54,11 +54,11 @@ fn record_then(text: &[u8], size: Size) -> Option<(u32, &[u8])>
     Some((number as u32, rest))
 }
 
-/// Stands where a page was not read, written or released at the target.
+/// The text for a page that was not read, written or released at the target.
 const NO_FIRST: &[u8] = b"- -";
 
-/// A page's first use and the look before it at the front, and what follows. Nothing follows where the text
-/// is theirs alone.
+/// Returns a page's first use and the look before it at the front, and what follows. Nothing follows if the text is
+/// that alone.
 #[inline(always)]
 fn first_then(text: &[u8], size: Size) -> Option<(Option<First>, &[u8])>
     ensures found { IfSome result (λ found. FirstFits size found.0 × (text.now ≡ first_text found.0 ++ found.1.now)) }
@@ -72,8 +72,8 @@ fn first_then(text: &[u8], size: Size) -> Option<(Option<First>, &[u8])>
     Some((Some(First { access, see }), rest))
 }
 
-/// A page's placement, its first use and the look before it at the front, and what follows. Nothing follows
-/// where the text is theirs alone.
+/// Returns a page's placement, its first use and the look before it at the front, and what follows. Nothing follows if
+/// the text is that alone.
 #[inline(always)]
 fn placed_then(text: &[u8], size: Size) -> Option<(u32, Option<First>, &[u8])>
     ensures found { IfSome result (λ found. IsNumber size found.0 × FirstFits size found.1 × (text.now ≡ placed_text found.0 found.1 ++ found.2.now)) }
@@ -87,16 +87,16 @@ fn placed_then(text: &[u8], size: Size) -> Option<(u32, Option<First>, &[u8])>
 /// The entry of a page that was not placed, and not used at the target.
 const NONE: &[u8] = b"none";
 
-/// How the entry of a page begins that was not placed, and whose first use at the target released it.
+/// The beginning of the entry of a page that was not placed, and whose first use at the target released it.
 const FRESH_KEY: &[u8] = b"fresh ";
 
-/// How the entry of a page that was sent begins.
+/// The beginning of the entry of a page that was sent.
 const SOURCE_KEY: &[u8] = b"source ";
 
-/// How the entry of a page that was released at the halt begins.
+/// The beginning of the entry of a page that was released at the halt.
 const BALLOON_KEY: &[u8] = b"balloon ";
 
-/// What an entry says at the front, and what follows. Nothing follows where the text is an entry's alone.
+/// Returns what the entry at the front says, and what follows. Nothing follows if the text is that entry alone.
 #[inline(always)]
 fn said_then(text: &[u8], version: Version, size: Size) -> Option<(Entry, &[u8])>
     ensures found { IfSome result (λ found. EntryFits version size found.0 × (text.now ≡ entry_text found.0 ++ found.1.now)) }
@@ -121,10 +121,10 @@ fn said_then(text: &[u8], version: Version, size: Size) -> Option<(Entry, &[u8])
     Some((Entry::Fresh { first }, rest))
 }
 
-/// How the line of a page's entry begins.
+/// The beginning of the line of a page's entry.
 const PAGE_KEY: &[u8] = b"page ";
 
-/// The entry of this page at the front, and what follows. Nothing follows where the text is its line alone.
+/// Returns the entry of this page at the front, and what follows. Nothing follows if the text is that line alone.
 #[inline(always)]
 fn entry_then(text: &[u8], version: Version, size: Size, page: u32) -> Option<(Entry, &[u8])>
     ensures found { IfSome result (λ found. EntryFits version size found.0 × (text.now ≡ entry_line page found.0 ++ found.1.now)) }
@@ -137,7 +137,7 @@ fn entry_then(text: &[u8], version: Version, size: Size, page: u32) -> Option<(E
     said_then(rest, version, size)
 }
 
-/// The entry that the line spells, where it is the line of this page.
+/// Returns the entry that the line spells, if it is the line of this page.
 fn read_entry(line: &[u8], version: Version, size: Size, page: u32) -> Option<Entry>
     ensures { MatchOption result
         ((entry : Said) → EntryFits version size entry → line.now ≢ entry_line page entry)
@@ -150,7 +150,7 @@ fn read_entry(line: &[u8], version: Version, size: Size, page: u32) -> Option<En
     Some(entry)
 }
 
-/// How the entries of a version are written.
+/// Returns the forms of the entries of a version.
 fn entry_forms(version: Version) -> &'static [&'static str] {
     match version {
         Version::One => &[
@@ -171,12 +171,12 @@ fn entry_forms(version: Version) -> &'static [&'static str] {
     }
 }
 
-/// What may stand where the entry of this page does.
+/// Returns what is allowed at the entry of this page.
 pub fn wanted_entry(version: Version, page: u32) -> Wanted {
     Wanted::one("the entry of a page", entry_forms(version)).within(page, page)
 }
 
-/// Takes the line of the next page's entry, or says why it is none and leaves the entries as they were.
+/// Takes the line of the next page's entry. If it is not one, returns why and leaves the entries as they were.
 pub fn take_entry(
     entries: &mut Vec<Entry>,
     version: Version,
@@ -197,15 +197,15 @@ pub fn take_entry(
     }
 }
 
-/// Lets the last entry go, and answers whether there was one.
+/// Drops the last entry, and returns whether there was one.
 pub fn drop_entry(entries: &mut Vec<Entry>) -> bool
     ensures { LosesLast entries.old.items entries.new.items result }
 {
     entries.pop().is_some()
 }
 
-/// The entry of this page at the front of a text of whole lines, and what follows its line. It may answer `None` at any
-/// text.
+/// Returns the entry of this page at the front of a text of whole lines, and what follows its line. May return `None`
+/// for any text.
 #[inline(always)]
 fn front_entry(text: &[u8], version: Version, size: Size, page: u32) -> Option<(Entry, &[u8])>
     ensures { IfSome result (λ found. EntryFits version size found.0 × (text.now ≡ entry_line page found.0 ++ 10 ∷ found.1.now)) }
@@ -214,8 +214,8 @@ fn front_entry(text: &[u8], version: Version, size: Size, page: u32) -> Option<(
     Some((entry, after_end(rest)?))
 }
 
-/// Takes entries at the front of the bytes, those of the pages that follow, up to this number of them in all, and stops
-/// where it likes. Answers what follows, and how many they were.
+/// Takes entries at the front of the bytes, those of the next pages, until there are at most this many in all; it may
+/// stop after any entry. Returns what follows, and how many they were.
 pub fn take_entries<'a>(
     entries: &mut Vec<Entry>,
     version: Version,
@@ -242,7 +242,7 @@ pub fn take_entries<'a>(
     (rest, left)
 }
 
-/// Adds a page's first use, and the look before it.
+/// Appends a page's first use, and the look before it.
 fn push_first(out: &mut Vec<u8>, first: Option<First>) -> Result<(), AllocError>
     ensures { OnOk result (out.new.items ≡ out.old.items ++ first_text first) }
 {
@@ -255,7 +255,7 @@ fn push_first(out: &mut Vec<u8>, first: Option<First>) -> Result<(), AllocError>
     }
 }
 
-/// Adds a page's placement, its first use, and the look before it.
+/// Appends a page's placement, its first use, and the look before it.
 fn push_placed(out: &mut Vec<u8>, place: u32, first: Option<First>) -> Result<(), AllocError>
     ensures { OnOk result (out.new.items ≡ out.old.items ++ placed_text place first) }
 {
@@ -263,7 +263,7 @@ fn push_placed(out: &mut Vec<u8>, place: u32, first: Option<First>) -> Result<()
     push_first(out, first)
 }
 
-/// Adds what an entry says.
+/// Appends what an entry says.
 fn push_said(out: &mut Vec<u8>, entry: Entry) -> Result<(), AllocError>
     ensures { OnOk result (out.new.items ≡ out.old.items ++ entry_text entry) }
 {
@@ -285,7 +285,7 @@ fn push_said(out: &mut Vec<u8>, entry: Entry) -> Result<(), AllocError>
     }
 }
 
-/// Adds the line of a page's entry, without its line feed. An error: there is no memory for it.
+/// Appends the line of a page's entry, without its line feed. Fails only if memory runs out.
 pub fn push_entry_line(out: &mut Vec<u8>, page: u32, entry: Entry) -> Result<(), AllocError>
     ensures { OnOk result (out.new.items ≡ out.old.items ++ entry_line page entry) }
 {
@@ -294,7 +294,7 @@ pub fn push_entry_line(out: &mut Vec<u8>, page: u32, entry: Entry) -> Result<(),
     push_said(out, entry)
 }
 
-/// Adds the line of a page's entry.
+/// Appends the line of a page's entry.
 fn push_entry(out: &mut Vec<u8>, page: u32, entry: Entry) -> Result<(), AllocError>
     ensures { OnOk result (out.new.items ≡ out.old.items ++ (entry_line page entry ++ 10 ∷ [])) }
 {
@@ -302,7 +302,7 @@ fn push_entry(out: &mut Vec<u8>, page: u32, entry: Entry) -> Result<(), AllocErr
     end_line(out)
 }
 
-/// Adds the lines of the pages' entries, page 0 first.
+/// Appends the lines of the pages' entries, page 0 first. Fails only if memory runs out.
 pub fn push_entries(out: &mut Vec<u8>, entries: &[Entry]) -> Result<(), AllocError>
     requires { length entries.now ≤ most_pages }
     ensures { OnOk result (out.new.items ≡ out.old.items ++ ended (entry_lines 0 entries.now)) }

@@ -1,4 +1,4 @@
-//! The first lines of texts that tell an order.
+//! The first lines of texts that give an order.
 
 ghost use Rattle.std.specs.Prelude.{◌≡◌, ◌≢◌, ℕ, List, IfSome, IfNone, MatchOption, IsTrue, ◌↔◌, slice_index};
 ghost use Rattle.audit_model.specs.declared.reasons.PageReason.{PageReason as Reason};
@@ -18,13 +18,13 @@ use text_lines::{Wanted, after_key, is_line, number_then};
 /// The first line of the report on a clean session.
 pub const CLEAN: &[u8] = b"clean";
 
-/// How the first line of the report on a session with a fault begins.
+/// The beginning of the first line of the report on a session with a fault.
 pub const FAULTY: &[u8] = b"faulty line ";
 
-/// No line of a text has a greater number.
+/// The greatest number of a line.
 const LAST_LINE: u32 = 4_294_967_295;
 
-/// The reason whose word begins with this letter.
+/// Returns the reason whose word begins with this letter.
 fn reason_with_letter(first: u8) -> PageReason
     ensures { (reason : Reason) → first ≡ slice_index (page_word reason) 0 → result ≡ reason }
 {
@@ -40,7 +40,7 @@ fn reason_with_letter(first: u8) -> PageReason
     }
 }
 
-/// The reason with this word.
+/// Returns the reason with this word.
 fn reason_of(word: &[u8]) -> Option<PageReason>
     ensures { MatchOption result ((reason : Reason) → word.now ≢ page_word reason) (λ reason. word.now ≡ page_word reason) }
 {
@@ -54,7 +54,7 @@ fn reason_of(word: &[u8]) -> Option<PageReason>
     Some(reason)
 }
 
-/// The line and the reason of the fault that a first line tells.
+/// Returns the line and the reason of the fault that a first line names.
 fn fault_of(line: &[u8]) -> Option<(u32, PageReason)>
     ensures found { IfSome result (λ fault. IsLineNumber fault.0 × (line.now ≡ faulty_line fault.0 fault.1)) }
     ensures none { IfNone result ((n : ℕ) (reason : Reason) → IsLineNumber n → line.now ≢ faulty_line n reason) }
@@ -74,7 +74,7 @@ fn fault_of(line: &[u8]) -> Option<(u32, PageReason)>
     }
 }
 
-/// Whether a line is the first of a certificate.
+/// Returns whether a line is the first of a certificate.
 fn is_cert_header(line: &[u8]) -> bool
     ensures { IsTrue result ↔ IsCertHeader line.now }
 {
@@ -83,7 +83,7 @@ fn is_cert_header(line: &[u8]) -> bool
         || is_line(line, cert_header(Version::Two, Size::Large))
 }
 
-/// The form of the texts that begin with this line.
+/// Returns the form of the texts that begin with this line.
 pub(crate) fn form_of(line: &[u8]) -> Option<Form>
     ensures found { IfSome result (λ form. IsFirst form line.now) }
     ensures none { IfNone result ((form : Shape) → IsFirst form line.now → ⊥) }
@@ -103,7 +103,7 @@ pub(crate) fn form_of(line: &[u8]) -> Option<Form>
     }
 }
 
-/// The first lines of texts that tell an order.
+/// The forms of the first lines of texts that give an order.
 const FIRST_LINES: &[&str] = &[
     "postcopy-runs 1",
     "postcopy-certificate 1",
@@ -120,7 +120,7 @@ const FIRST_LINES: &[&str] = &[
     "faulty line N over",
 ];
 
-/// What may stand at the first line.
+/// Returns what is allowed at the first line.
 pub(crate) fn wanted_first() -> Wanted {
     Wanted::one(
         "the first line of a text of runs, of a certificate or of a report",

@@ -1,16 +1,16 @@
-//! The forms of a text that tells an order.
+//! The forms of a text that gives an order.
 
 ghost use Rattle.std.specs.Prelude.{◌≡◌};
 ghost use Rattle.cert_text.specs.inner.OrderHeld.{has_runs, has_front};
 
 use audit_model::PageReason;
 
-/// The form of a text that tells an order.
+/// The form of a text that gives an order.
 #[derive(Clone, Copy)]
 pub enum Form {
     /// A text of runs.
     Runs,
-    /// The report on a session with a fault: a text of runs below a line that tells the fault's line and its reason.
+    /// The report on a session with a fault: a text of runs below a line that gives the fault's line and its reason.
     Faulty { line: u32, reason: PageReason },
     /// A certificate.
     Cert,
@@ -19,7 +19,7 @@ pub enum Form {
 }
 
 impl Form {
-    /// Whether a text of runs tells the order, and not a certificate.
+    /// Returns whether the order is given by a text of runs, and not by a certificate.
     pub(crate) fn has_runs(&self) -> bool
         ensures { result ≡ has_runs self.now }
     {
@@ -31,7 +31,7 @@ impl Form {
         }
     }
 
-    /// Whether the first line of a report stands above what tells the order.
+    /// Returns whether the first line of a report comes before the text that gives the order.
     pub(crate) fn has_front(&self) -> bool
         ensures { result ≡ has_front self.now }
     {

@@ -1,6 +1,6 @@
-//! Texts of certificates and of runs: writing one, reading one, or telling the line at which an input stops being one. And
-//! texts that tell an order of a session's records, a text of runs, a certificate, or a report of an audit that has one of
-//! these: of each the order is read, as runs.
+//! Texts of certificates and of runs: writing one, reading one, or finding its refusal line. Also texts that give an
+//! order of a session's records: a text of runs, a certificate, or a report of an audit that contains one of these.
+//! From each, the order is read as runs.
 #![tactic(auto)]
 
 ghost use Rattle.std.specs.Prelude.{◌≡◌, ◌∷◌, ◌++◌, List, ℕ, IfOk, OnOk};
@@ -40,19 +40,19 @@ use runs::push_runs;
 pub use runs_text::RUNS_HEADER;
 use runs_text::RunsParts;
 
-/// Reads a certificate line by line.
+/// A reader of a certificate, line by line.
 pub type CertLines = Staged<CertParts>;
 
-/// Reads the text of a certificate that comes in pieces.
+/// A reader of the text of a certificate that comes in pieces.
 pub type CertReader = TextReader<CertLines>;
 
-/// Reads the runs of a certificate line by line.
+/// A reader of the runs of a certificate, line by line.
 pub type CertRuns = Staged<CertRunsParts>;
 
-/// Reads a text of runs line by line.
+/// A reader of a text of runs, line by line.
 pub type RunsText = Staged<RunsParts>;
 
-/// Reads a text of runs that comes in pieces.
+/// A reader of a text of runs that comes in pieces.
 pub type RunsReader = TextReader<RunsText>;
 
 /// A law: no certificate's text begins another, a text spells one certificate, and a certificate has one text.
@@ -60,34 +60,35 @@ pub fn cert_texts_are_unambiguous()
     ensures { IsUnambiguous SpellsCert }
 {}
 
-/// The certificate that the bytes spell: a header, an entry for each page in order, runs of 1 or more records, of which no
-/// two neighbours are of one log, and a closing line. An LF ends each line. The header tells the version and the size. Of
-/// the small size are 1 to 65,536 pages, and at most 5,242,880 runs of up to 1,048,576 records; of the large size, which the
-/// second version alone has, 1 to 16,777,216 pages, and at most 671,088,640 runs of up to 134,217,728 records. Where the
-/// version is the first, a fresh page's entry is no entry, a run of the lane is no run, and there are at most 4,194,304
-/// runs.
+/// Returns the certificate that the bytes spell: a header, an entry for each page in order, runs of 1 or more records
+/// with no two neighbours of one log, and a closing line. An LF ends each line. The header gives the version and the
+/// size. A certificate of the small size has 1 to 65,536 pages, and at most 5,242,880 runs of at most 1,048,576
+/// records. One of the large size, which only the second version has, has 1 to 16,777,216 pages, and at most
+/// 671,088,640 runs of at most 134,217,728 records. In the first version, there is no fresh page and no run of the
+/// lane, and there are at most 4,194,304 runs.
 ///
 /// Any other input is refused, at the line with which it stops being the beginning of such a text. Lines count from 1.
-/// Where memory is refused, the fault's line is 0.
+/// If memory runs out, the fault's line is 0.
 pub fn read_cert(alloc: Global, bytes: &[u8]) -> Result<Cert, TextFault>
     ensures { Reads SpellsCert bytes.now result }
 {
     read_whole::<CertLines>(alloc, bytes)
 }
 
-/// Most lines of pages that were not used have fewer bytes, and most of runs have no more.
+/// The room for a line: most lines of unused pages are shorter, and most lines of runs are no longer.
 const ENTRY_ROOM: usize = 24;
 
 const RUN_ROOM: usize = 8;
 
-/// How much room most certificates' texts need, so that a text does not grow, and move, while one is added.
+/// Returns how much room the text of most certificates needs, so that it does not grow and move while it is written.
 fn room_of(cert: &Cert) -> usize {
     let entries = cert.entries().len().saturating_mul(ENTRY_ROOM);
     let runs = cert.runs().len().saturating_mul(RUN_ROOM);
     entries.saturating_add(runs)
 }
 
-/// Adds the text of a certificate, in its version. An error: there is no memory for it; some of it may have been added.
+/// Appends the text of a certificate, in its version. Fails only if memory runs out; some of it may then have been
+/// appended.
 pub fn push_cert(out: &mut Vec<u8>, cert: &Cert) -> Result<(), AllocError>
     ensures { OnOk result (out.new.items ≡ out.old.items ++ ended (cert_lines cert.now)) }
 {
@@ -100,7 +101,7 @@ pub fn push_cert(out: &mut Vec<u8>, cert: &Cert) -> Result<(), AllocError>
     push_runs(out, cert.runs())
 }
 
-/// The text of a certificate, in its version, which `read_cert` reads back. An error: there is no memory for it.
+/// Returns the text of a certificate, in its version, which `read_cert` reads back. Fails only if memory runs out.
 pub fn write_cert(alloc: Global, cert: &Cert) -> Result<Vec<u8>, AllocError>
     ensures { IfOk result (λ out. IsSpelling SpellsCert cert.now out.items) }
 {
@@ -115,19 +116,19 @@ pub fn runs_texts_are_unambiguous()
     ensures { IsUnambiguous SpellsRuns }
 {}
 
-/// The runs that the bytes spell: a header, at most 671,088,640 runs of 1 to 134,217,728 records, of which no two
-/// neighbours are of one log, and a closing line. An LF ends each line. So it may tell the runs of a session of either
-/// size.
+/// Returns the runs that the bytes spell: a header, at most 671,088,640 runs of 1 to 134,217,728 records with no two
+/// neighbours of one log, and a closing line. An LF ends each line. So the text may give the runs of a session of
+/// either size.
 ///
 /// Any other input is refused, at the line with which it stops being the beginning of such a text. Lines count from 1.
-/// Where memory is refused, the fault's line is 0.
+/// If memory runs out, the fault's line is 0.
 pub fn read_runs(alloc: Global, bytes: &[u8]) -> Result<Seq<Run>, TextFault>
     ensures { Reads SpellsRuns bytes.now result }
 {
     read_whole::<RunsText>(alloc, bytes)
 }
 
-/// Adds the text of runs. An error: there is no memory for it; some of it may have been added.
+/// Appends the text of these runs. Fails only if memory runs out; some of it may then have been appended.
 pub fn push_runs_text(out: &mut Vec<u8>, runs: &[Run]) -> Result<(), AllocError>
     requires { AreRuns Two Large runs.now }
     ensures { OnOk result (out.new.items ≡ out.old.items ++ ended (runs_text_header ∷ runs_lines runs.now)) }
@@ -136,8 +137,8 @@ pub fn push_runs_text(out: &mut Vec<u8>, runs: &[Run]) -> Result<(), AllocError>
     push_runs(out, runs)
 }
 
-/// The text of runs within the limits of the second version and of the large size, which `read_runs` reads back. An error:
-/// there is no memory for it.
+/// Returns the text of these runs, which `read_runs` reads back. They must be within the limits of the second version
+/// and of the large size. Fails only if memory runs out.
 pub fn write_runs(alloc: Global, runs: &[Run]) -> Result<Vec<u8>, AllocError>
     requires { AreRuns Two Large runs.now }
     ensures { IfOk result (λ out. IsSpelling SpellsRuns runs.now out.items) }
@@ -147,25 +148,25 @@ pub fn write_runs(alloc: Global, runs: &[Run]) -> Result<Vec<u8>, AllocError>
     Ok(out)
 }
 
-/// Reads a text that tells an order line by line.
+/// A reader of a text that gives an order, line by line.
 pub type OrderText = Staged<OrderParts>;
 
-/// Reads a text that tells an order and comes in pieces.
+/// A reader of a text that gives an order and comes in pieces.
 pub type OrderReader = TextReader<OrderText>;
 
-/// A law: an order that a text tells is within the limits of runs of the second version and of the large size, whatever the
-/// text's form.
+/// A law: an order that a text gives is within the limits of runs of the second version and of the large size, whatever
+/// the text's form.
 #[tactic(auto, using(crate::proofs::Orders::keeps_limits))]
 pub fn orders_keep_limits()
     ensures { (runs : List Told) (lines : List (List ℕ)) → SpellsOrder runs lines → AreRuns Two Large runs }
 {}
 
-/// The order that the bytes tell: the runs of a text of runs or of a certificate, alone or below the first line of the report
-/// that an audit writes with it. That line is `clean` above a certificate, and above a text of runs it tells the line and
-/// the reason of a fault, as `faulty line 13 early`.
+/// Returns the order that the bytes give: the runs of a text of runs or of a certificate, alone or below the first line
+/// of the report in which an audit writes it. That line is `clean` above a certificate. Above a text of runs, it gives
+/// the line and the reason of a fault, as in `faulty line 13 early`.
 ///
 /// Any other input is refused, at the line with which it stops being the beginning of such a text. Lines count from 1.
-/// Where memory is refused, the fault's line is 0.
+/// If memory runs out, the fault's line is 0.
 pub fn read_order(alloc: Global, bytes: &[u8]) -> Result<Seq<Run>, TextFault>
     ensures { Reads SpellsOrder bytes.now result }
 {

@@ -1,4 +1,4 @@
-//! What came of a text that tells an order, line by line.
+//! Reading a text that gives an order, line by line.
 
 ghost use Rattle.std.specs.Prelude.{◌≡◌, ◌≢◌, ◌+◌, ◌^◌, ◌<◌, ℕ, List, [], ◌∷◌, ◌++◌, true, false, length, OnOk, OnErr, IfErr};
 ghost use Rattle.text_lines.specs.Text.{Begins, TakesLines};
@@ -16,7 +16,7 @@ use text_lines::{
     Alone, FaultKind, LineCrew, LineReader, Rewind, Stages, StagesApart, StagesBack, Team, Wanted,
 };
 
-/// What came of a text that tells an order. The stage tells whether its first line came, and with it the form.
+/// What was read of a text that gives an order. The stage says whether its first line was read, and with it the form.
 #[derive(Drop)]
 pub struct OrderParts {
     form: Form,
@@ -25,7 +25,7 @@ pub struct OrderParts {
 }
 
 impl OrderParts {
-    /// Takes the first line, which tells that the text is of a form.
+    /// Takes the first line, which says that the text has this form.
     fn first_of(&mut self, form: Form, line: &[u8]) -> Result<(), FaultKind>
         requires live { LiveAt false self.old }
         requires first { IsFirst form line.now }
@@ -74,7 +74,7 @@ impl OrderParts {
         self.cert.line(line)
     }
 
-    /// Takes as many lines after the first as the crew likes, and answers what follows them and how many they were.
+    /// Takes as many lines after the first as the pool likes, and returns what follows them and how many they were.
     fn lines_by<'a, C: LineCrew<RunsText> + LineCrew<CertRuns>>(
         &mut self,
         crew: &C,
@@ -95,7 +95,7 @@ impl OrderParts {
         crew.lines(&mut self.cert, bytes)
     }
 
-    /// How many lines of the runs' text or of the certificate came.
+    /// Returns how many lines of the runs' text or of the certificate were read.
     fn inner(&self) -> u32
         ensures count { result ≡ length (inner_at self.now) }
         ensures few { result + 1 < 2 ^ 32 }
@@ -109,7 +109,7 @@ impl OrderParts {
         }
     }
 
-    /// How many lines came, once the form is known.
+    /// Returns how many lines were read, once the form is known.
     fn came(&self) -> u32
         ensures { result ≡ length (held_at true self.now) }
     {
@@ -135,7 +135,7 @@ impl OrderParts {
     }
 }
 
-/// What may stand at a line of a text that has one line above it.
+/// Returns what is allowed at a line of a text below one other line.
 fn below(wanted: Wanted) -> Wanted {
     if wanted.counted_at == 0 {
         return wanted;

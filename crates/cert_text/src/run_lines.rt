@@ -1,4 +1,4 @@
-//! Reading runs line by line, as a part of a text.
+//! Reading runs line by line, as part of a text.
 
 ghost use Rattle.std.specs.Prelude.{◌≡◌, ◌≢◌, [], ◌∷◌, ◌++◌, ◌<◌, ◌^◌, ℕ, List, length, IfSome, IfNone, OnOk, OnErr, IfErr};
 ghost use Rattle.text_lines.specs.Text.{Begins, TakesLines};
@@ -11,18 +11,19 @@ use std::alloc::Global;
 use std::marker::Model;
 use text_lines::{CLOSING, Counted, FaultKind, ItemCrew, Wanted, is_line};
 
-/// Which line is due.
+/// The kind of line that comes next.
 #[derive(Clone, Copy)]
 pub enum RunStage {
     /// The number of runs.
     Count,
-    /// A run, or the closing line after the last.
+    /// A run, or after the last the closing line.
     Runs,
-    /// None.
+    /// No line.
     Done,
 }
 
-/// Reads the lines of runs of a version and a size: what they said so far. Contracts see the version, the size and the lines.
+/// A reader of the lines of runs of a version and a size: what they said so far. Contracts see the version, the size
+/// and the lines.
 #[derive(Drop)]
 pub struct RunLines {
     form: RunForm,
@@ -42,7 +43,7 @@ impl Model for RunLines {
 }
 
 impl RunLines {
-    /// No line came yet of the runs of a version and a size. Takes no memory.
+    /// Returns a reader that has read no line of the runs of a version and a size. Allocates no memory.
     pub fn new(alloc: Global, version: Version, size: Size) -> Self
         ensures { result ≡ record { version = version; size = size; lines = [] } }
     {
@@ -53,21 +54,21 @@ impl RunLines {
         }
     }
 
-    /// The version.
+    /// Returns the version.
     pub fn version(&self) -> Version
         ensures { result ≡ self.now.version }
     {
         self.form.version
     }
 
-    /// The size.
+    /// Returns the size.
     pub fn size(&self) -> Size
         ensures { result ≡ self.now.size }
     {
         self.form.size
     }
 
-    /// From now on of another version and size, where no line came yet.
+    /// Changes the version and the size. No line may have been read yet.
     pub fn set_version(&mut self, version: Version, size: Size)
         requires { self.old.lines ≡ [] }
         ensures { self.new ≡ record { version = version; size = size; lines = [] } }
@@ -76,7 +77,7 @@ impl RunLines {
         self.form.size = size;
     }
 
-    /// Takes the next line, or says why no lines of runs go on with it and stays as it was.
+    /// Takes the next line. If no lines of runs go on with it, returns why and stays as it was.
     pub fn line(&mut self, line: &[u8]) -> Result<(), FaultKind>
         ensures version { self.new.version ≡ self.old.version }
         ensures size { self.new.size ≡ self.old.size }
@@ -105,7 +106,8 @@ impl RunLines {
         }
     }
 
-    /// Takes as many of the first lines as are runs in plain form, and answers what follows them and how many they were.
+    /// Takes as many of the first lines as are runs in plain form, and returns what follows them and how many they
+    /// were.
     pub fn lines<'a, C: ItemCrew<RunForm>>(&mut self, crew: &C, bytes: &'a [u8]) -> (&'a [u8], u32)
         requires { C.IsReady crew.now }
         ensures version { self.new.version ≡ self.old.version }
@@ -132,7 +134,7 @@ impl RunLines {
         let _ = &self.stage;
     }
 
-    /// What may stand at the next line, where the number of runs stands at the line `at`.
+    /// Returns what is allowed at the next line, if the number of runs is at the line `at`.
     pub fn wanted(&self, at: u32) -> Wanted {
         match self.stage {
             RunStage::Count => wanted_run_count(self.form.version, self.form.size),
@@ -141,7 +143,7 @@ impl RunLines {
         }
     }
 
-    /// A run, or the closing line behind the last.
+    /// Expects a run, or after the last the closing line.
     fn wanted_in_list(&self) -> Wanted {
         if self.runs.is_whole() {
             Wanted::closing_line()
@@ -150,7 +152,7 @@ impl RunLines {
         }
     }
 
-    /// The runs, where the lines so far are theirs.
+    /// Returns the runs, if the lines so far are all of them.
     pub fn text(self) -> Option<Seq<Run>>
         ensures found { IfSome result (λ runs. SpellsRunLines self.version self.size runs self.lines) }
         ensures none { IfNone result ((runs : List Told) → SpellsRunLines self.version self.size runs self.lines → ⊥) }
@@ -161,7 +163,7 @@ impl RunLines {
         }
     }
 
-    /// How many lines came.
+    /// Returns how many lines came.
     pub fn count(&self) -> u32
         ensures { result ≡ length self.now.lines }
     {

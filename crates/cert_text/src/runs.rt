@@ -16,13 +16,13 @@ use text_lines::{
     front_number, push_counted, push_line, push_number, take_parts,
 };
 
-/// How the line with the number of runs begins.
+/// The beginning of the line with the number of runs.
 pub const RUNS_KEY: &[u8] = b"runs ";
 
-/// How the line of a run begins.
+/// The beginning of the line of a run.
 const RUN_KEY: &[u8] = b"run ";
 
-/// The log whose word begins with these letters.
+/// Returns the log whose word begins with these letters.
 #[inline(always)]
 fn log_with_letters(first: u8, second: u8) -> LogName
     ensures { (log : Log) → first ≡ slice_index (log_word log) 0 → second ≡ slice_index (log_word log) 1 → result ≡ log }
@@ -36,7 +36,7 @@ fn log_with_letters(first: u8, second: u8) -> LogName
     }
 }
 
-/// The log whose word stands at the front, and what follows the space after it.
+/// Returns the log whose word is at the front, and what follows the space after it.
 #[inline(always)]
 fn log_then(text: &[u8]) -> Option<(LogName, &[u8])>
     ensures found { IfSome result (λ found. text.now ≡ log_word found.0 ++ 32 ∷ found.1.now) }
@@ -50,7 +50,8 @@ fn log_then(text: &[u8]) -> Option<(LogName, &[u8])>
     Some((log, rest))
 }
 
-/// The run of a version and a size at the front, and what follows. Nothing follows where the text is its line alone.
+/// Returns the run of a version and a size at the front, and what follows. Nothing follows if the text is that line
+/// alone.
 #[inline(always)]
 fn run_then(text: &[u8], version: Version, size: Size) -> Option<(Run, &[u8])>
     ensures found { IfSome result (λ found. RunFits version size found.0 × (text.now ≡ run_line found.0 ++ found.1.now)) }
@@ -68,7 +69,7 @@ fn run_then(text: &[u8], version: Version, size: Size) -> Option<(Run, &[u8])>
     Some((Run { log, count }, rest))
 }
 
-/// How a run of the guest is written, and of each other log.
+/// The forms of a run of each log.
 const GUEST: &str = "run guest N";
 
 const SOURCE: &str = "run source N";
@@ -79,7 +80,7 @@ const LANE: &str = "run lane N";
 
 const PAGER: &str = "run pager N";
 
-/// How the runs of the first version are written behind one of this log.
+/// Returns the forms of the runs of the first version after a run of this log.
 fn first_forms(last: Option<LogName>) -> &'static [&'static str] {
     match last {
         None | Some(LogName::Lane) => &[GUEST, SOURCE, LINK, PAGER],
@@ -90,7 +91,7 @@ fn first_forms(last: Option<LogName>) -> &'static [&'static str] {
     }
 }
 
-/// How the runs of the second version are written behind one of this log.
+/// Returns the forms of the runs of the second version after a run of this log.
 fn second_forms(last: Option<LogName>) -> &'static [&'static str] {
     match last {
         None => &[GUEST, SOURCE, LINK, LANE, PAGER],
@@ -102,7 +103,7 @@ fn second_forms(last: Option<LogName>) -> &'static [&'static str] {
     }
 }
 
-/// What may stand behind these runs of a version and a size, where one more does.
+/// Returns what is allowed after these runs of a version and a size, if one more run may follow.
 pub fn wanted_run(version: Version, size: Size, before: &[Run]) -> Wanted {
     let last = match before.last() {
         Some(run) => Some(run.log),
@@ -117,12 +118,12 @@ pub fn wanted_run(version: Version, size: Size, before: &[Run]) -> Wanted {
         .under("two runs in a row take from different logs")
 }
 
-/// What may stand where the number of runs of a version and a size does.
+/// Returns what is allowed at the number of runs of a version and a size.
 pub fn wanted_run_count(version: Version, size: Size) -> Wanted {
     Wanted::one("the number of runs", &["runs N"]).within(0, most_runs(version, size))
 }
 
-/// Whether a run of this log may stand after these: the last of them is of another log.
+/// Returns whether a run of this log may follow these: the last of them must be of another log.
 #[inline(always)]
 fn may_follow(runs: &[Run], log: LogName) -> bool
     ensures { IsTrue result ↔ MayFollow runs.now log }
@@ -133,7 +134,7 @@ fn may_follow(runs: &[Run], log: LogName) -> bool
     }
 }
 
-/// The lines of runs that a version and a size may have, of which no two neighbours are of one log.
+/// The lines of runs that a version and a size allow, with no two neighbours of one log.
 #[derive(Clone, Copy)]
 pub struct RunForm {
     pub version: Version,
@@ -200,7 +201,7 @@ impl<'a, H: Threads + Sync> ItemCrew<RunForm> for Team<'a, H> {
     }
 }
 
-/// Adds the lines of runs: their number, a line for each, and the closing line.
+/// Appends the lines of runs: their number, a line for each, and the closing line. Fails only if memory runs out.
 pub fn push_runs(out: &mut Vec<u8>, runs: &[Run]) -> Result<(), AllocError>
     ensures { OnOk result (out.new.items ≡ out.old.items ++ ended (runs_lines runs.now)) }
 {

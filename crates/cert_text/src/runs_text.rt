@@ -1,4 +1,4 @@
-//! What came of a text of runs, line by line.
+//! Reading a text of runs, line by line.
 
 ghost use Rattle.cert_text.specs.Runs.{SpellsRuns};
 
@@ -11,8 +11,8 @@ use text_lines::{Alone, FaultKind, Stages, StagesApart, StagesBack, Team, Wanted
 /// The first line of a text of runs.
 pub const RUNS_HEADER: &[u8] = b"postcopy-runs 1";
 
-/// What came of the runs, which are those of the second version and of the large size. The stage tells whether the header
-/// came.
+/// What was read of the runs, which are those of the second version and of the large size. The stage says whether the
+/// header was read.
 #[derive(Drop)]
 pub struct RunsParts {
     runs: RunLines,

@@ -5,18 +5,17 @@ use Rattle.std.specs.Io.KnownBytes.{Appends, Keeps}
 use Rattle.std.proofs.KnownBytes.{Keeps-refl}
 use Rattle.command_texts.specs.declared.answer.Answer.{Answer}
 use Rattle.command_texts.specs.declared.answer.Fault.{Fault}
-use Rattle.command_texts.specs.declared.answer.Fault.TheVariants.{File, Changed, Link, Threads, Output, Memory}
-use Rattle.command_texts.specs.Answers.{IsHostFault, IsReadFault, IsRunStop, IsTextFault}
+use Rattle.command_texts.specs.declared.answer.Fault.TheVariants.{File, Link, Threads, Output, Memory}
+use Rattle.command_texts.specs.Answers.{IsHostFault, IsListStop, IsOutputFault, IsReadFault, IsRunStop, IsTextFault}
 use Rattle.command_texts.specs.Told.{Fails, IsLeft, Tells}
 use Rattle.command_texts.specs.Written.{AppendsFront, Streams}
 
 -- a fault at a text under one of some names is one at a text under one of more
 pub read_fault_in : (P Q : List ℕ → Type 0) → ((name : List ℕ) → P name → Q name) → (fault : Fault) → IsReadFault P fault → IsReadFault Q fault
-read_fault_in P Q more (File name) h = more name.now h
-read_fault_in P Q more (Changed name) h = more name.now h
+read_fault_in P Q more (File name why) h = more name.now h
 read_fault_in P Q more Link h = h
 read_fault_in P Q more Threads h = h
-read_fault_in P Q more Output h = h
+read_fault_in P Q more (Output name why) h = h
 read_fault_in P Q more Memory h = h
 
 pub read_faults_in : {V : Type 0} (P Q : List ℕ → Type 0) → ((name : List ℕ) → P name → Q name) → (r : Result V Fault) → IfErr r (IsReadFault P) → IfErr r (IsReadFault Q)
@@ -24,37 +23,60 @@ read_faults_in P Q more (Ok v) h = tt
 read_faults_in P Q more (Err fault) h = read_fault_in P Q more fault h
 
 pub text_fault : (P : List ℕ → Type 0) (fault : Fault) → IsReadFault P fault → IsTextFault P fault
-text_fault P (File name) h = h
-text_fault P (Changed name) h = h
+text_fault P (File name why) h = h
 text_fault P Link h = h
 text_fault P Threads h = h
-text_fault P Output h = tt
+text_fault P (Output name why) h = tt
 text_fault P Memory h = h
 
 pub host_fault : (P : List ℕ → Type 0) (fault : Fault) → IsReadFault P fault → IsHostFault P fault
-host_fault P (File name) h = h
-host_fault P (Changed name) h = h
+host_fault P (File name why) h = h
 host_fault P Link h = tt
 host_fault P Threads h = tt
-host_fault P Output h = tt
+host_fault P (Output name why) h = tt
 host_fault P Memory h = h
 
 pub stop_fault : (P : List ℕ → Type 0) (fault : Fault) → IsRunStop fault → IsHostFault P fault
-stop_fault P (File name) h = absurd h
-stop_fault P (Changed name) h = absurd h
+stop_fault P (File name why) h = absurd h
 stop_fault P Link h = tt
 stop_fault P Threads h = tt
-stop_fault P Output h = tt
+stop_fault P (Output name why) h = tt
 stop_fault P Memory h = tt
+
+-- a fault of the output is one of a command on texts
+pub output_fault : (P : List ℕ → Type 0) (fault : Fault) → IsOutputFault fault → IsTextFault P fault
+output_fault P (File name why) h = absurd h
+output_fault P Link h = absurd h
+output_fault P Threads h = absurd h
+output_fault P (Output name why) h = tt
+output_fault P Memory h = absurd h
+
+pub output_fault_of_host : (P : List ℕ → Type 0) (fault : Fault) → IsOutputFault fault → IsHostFault P fault
+output_fault_of_host P (File name why) h = absurd h
+output_fault_of_host P Link h = absurd h
+output_fault_of_host P Threads h = absurd h
+output_fault_of_host P (Output name why) h = tt
+output_fault_of_host P Memory h = absurd h
+
+-- and one that ends a list of answers
+pub output_stops : (fault : Fault) → IsOutputFault fault → IsListStop fault
+output_stops (File name why) h = absurd h
+output_stops Link h = absurd h
+output_stops Threads h = absurd h
+output_stops (Output name why) h = tt
+output_stops Memory h = absurd h
+
+pub outputs_stop : {V : Type 0} (r : Result V Fault) → IfErr r IsOutputFault → IfErr r IsListStop
+outputs_stop (Ok v) h = tt
+outputs_stop (Err fault) h = output_stops fault h
 
 module _ {T : Type 0} (IsFault : Fault → Type 0) (AreTexts : T → Type 0) (IsAnswerTo : T → List ℕ → ℕ → Type 0) where
   -- the output stays at a fault that is not its own
   left_alone : (IsName : List ℕ → Type 0) (old : Option (List ℕ)) (IsCut : Type 0) (fault : Fault) → IsReadFault IsName fault → IsLeft fault IsCut (Keeps old old)
-  left_alone IsName old IsCut (File name) h = Keeps-refl old
-  left_alone IsName old IsCut (Changed name) h = Keeps-refl old
+  left_alone IsName old IsCut (File name why) h = Keeps-refl old
   left_alone IsName old IsCut Link h = Keeps-refl old
   left_alone IsName old IsCut Threads h = Keeps-refl old
-  left_alone IsName old IsCut Output h = absurd h
+  left_alone IsName old IsCut (Output name why) h = absurd h
   left_alone IsName old IsCut Memory h = Keeps-refl old
 
   -- a text was not read whole
@@ -67,17 +89,20 @@ module _ {T : Type 0} (IsFault : Fault → Type 0) (AreTexts : T → Type 0) (Is
 
   -- there was no answer, since a run was not made to its end
   pub no_answer : (old : Streams) (fault : Fault) → IsFault fault → IsRunStop fault → Fails IsFault AreTexts IsAnswerTo old old fault
-  no_answer old (File name) is h = absurd h
-  no_answer old (Changed name) is h = absurd h
+  no_answer old (File name why) is h = absurd h
   no_answer old Link is h = record { is_fault = is; output = Keeps-refl old.0; errors = Keeps-refl old.1 }
   no_answer old Threads is h = record { is_fault = is; output = Keeps-refl old.0; errors = Keeps-refl old.1 }
-  no_answer old Output is h = absurd h
+  no_answer old (Output name why) is h = absurd h
   no_answer old Memory is h = record { is_fault = is; output = Keeps-refl old.0; errors = Keeps-refl old.1 }
 
   -- the output failed
-  pub not_written : (texts : T) (text : List ℕ) (status : ℕ) (old new : Option (List ℕ)) (errors : Option (List ℕ)) (fault : Fault) → fault ≡ Output → IsFault Output → AreTexts texts → IsAnswerTo texts text status → AppendsFront old new text → Fails IsFault AreTexts IsAnswerTo (old, errors) (new, errors) fault
-  not_written texts text status old new errors fault e is are is_answer front =
-      rw e record { is_fault = is; output = record { texts = texts; are_texts = are; text = text; status = status; is_answer = is_answer; written = front }; errors = Keeps-refl errors }
+  pub not_written : (texts : T) (text : List ℕ) (status : ℕ) (old new : Option (List ℕ)) (errors : Option (List ℕ)) (fault : Fault) → IsOutputFault fault → IsFault fault → AreTexts texts → IsAnswerTo texts text status → AppendsFront old new text → Fails IsFault AreTexts IsAnswerTo (old, errors) (new, errors) fault
+  not_written texts text status old new errors (File name why) o is are is_answer front = absurd o
+  not_written texts text status old new errors Link o is are is_answer front = absurd o
+  not_written texts text status old new errors Threads o is are is_answer front = absurd o
+  not_written texts text status old new errors (Output name why) o is are is_answer front =
+      record { is_fault = is; output = record { texts = texts; are_texts = are; text = text; status = status; is_answer = is_answer; written = front }; errors = Keeps-refl errors }
+  not_written texts text status old new errors Memory o is are is_answer front = absurd o
 
 -- the answer was written
 pub written_whole : {T : Type 0} (AreTexts : T → Type 0) (IsAnswerTo : T → List ℕ → ℕ → Type 0) (IsBeside : T → ℕ → Option (List ℕ) → Option (List ℕ) → Type 0) (texts : T) (answer : Answer) (status : ℕ) (old new : Streams) → status ≡ answer.status → AreTexts texts → IsAnswerTo texts answer.text.items answer.status → Appends old.0 new.0 answer.text.items → IsBeside texts status old.1 new.1 → Tells AreTexts IsAnswerTo IsBeside old new status

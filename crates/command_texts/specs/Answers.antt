@@ -2,61 +2,67 @@
 use Rattle.std.specs.Prelude.{◌≡◌, ℕ, List, [], ◌∷◌, ◌++◌, codes, ⊤}
 use Rattle.std.specs.Fmt.{decimal}
 use Rattle.command_texts.specs.declared.answer.Answer.{Answer}
-use Rattle.command_texts.specs.Shown.{shown}
+use Rattle.command_texts.specs.Shown.{line_on, shown}
 use Rattle.command_texts.specs.declared.answer.Fault.{Fault}
-use Rattle.command_texts.specs.declared.answer.Fault.TheVariants.{File, Changed, Link, Threads, Output, Memory}
+use Rattle.command_texts.specs.declared.answer.Fault.TheVariants.{File, Link, Threads, Output, Memory}
 
 -- 4 where there is no memory for it, and 3 for a text, a link, a thread or an output that failed
 abbrev pub fault_status : Fault → ℕ
-fault_status (File name) = 3
-fault_status (Changed name) = 3
+fault_status (File name why) = 3
 fault_status Link = 3
 fault_status Threads = 3
-fault_status Output = 3
+fault_status (Output name why) = 3
 fault_status Memory = 4
 
 -- the line of a text that was not read whole
 abbrev pub file_line : List ℕ → List ℕ
 file_line name = codes "file " ++ shown name ++ codes "\n"
 
--- why a text was not read, where it was not the same each time
-abbrev pub not_the_same : List ℕ
-not_the_same = codes ": it is read four times and has to be the same each time, as a pipe is not: name a file that stays\n"
+-- and behind it the words on why
+abbrev pub file_lines : List ℕ → List ℕ → List ℕ
+file_lines name why = file_line name ++ line_on name why
 
--- the lines of such a text
-abbrev pub changed_lines : List ℕ → List ℕ
-changed_lines name = file_line name ++ (shown name ++ not_the_same)
+-- the line of an output that was not written, and behind it the words on why
+abbrev pub output_lines : List ℕ → List ℕ → List ℕ
+output_lines name why = codes "output\n" ++ line_on name why
 
 -- the lines that tell a fault
 abbrev pub fault_line : Fault → List ℕ
-fault_line (File name) = file_line name.now
-fault_line (Changed name) = changed_lines name.now
+fault_line (File name why) = file_lines name.now why.now
 fault_line Link = codes "link\n"
 fault_line Threads = codes "threads\n"
-fault_line Output = codes "output\n"
+fault_line (Output name why) = output_lines name.now why.now
 fault_line Memory = codes "out of memory\n"
 
--- a text that was not read whole stands under such a name, or there was no memory
+-- a text was not read whole that stands under such a name, or there was no memory
 abbrev pub IsReadFault : (List ℕ → Type 0) → Fault → Type 0
-IsReadFault IsName (File name) = IsName name.now
-IsReadFault IsName (Changed name) = IsName name.now
+IsReadFault IsName (File name why) = IsName name.now
 IsReadFault IsName Link = ⊥
 IsReadFault IsName Threads = ⊥
-IsReadFault IsName Output = ⊥
+IsReadFault IsName (Output name why) = ⊥
 IsReadFault IsName Memory = ⊤
+
+-- an output was not written
+abbrev pub IsOutputFault : Fault → Type 0
+IsOutputFault (Output name why) = ⊤
+IsOutputFault other = ⊥
+
+-- a list of answers ends before its end: an output was not written, or there was no memory
+abbrev pub IsListStop : Fault → Type 0
+IsListStop Memory = ⊤
+IsListStop other = IsOutputFault other
 
 -- a fault of a command on texts under such names
 abbrev pub IsTextFault : (List ℕ → Type 0) → Fault → Type 0
-IsTextFault IsName Output = ⊤
+IsTextFault IsName (Output name why) = ⊤
 IsTextFault IsName other = IsReadFault IsName other
 
 -- a migration was not run to its end: its link failed, or there was no thread or no memory for it
 abbrev pub IsRunStop : Fault → Type 0
-IsRunStop (File name) = ⊥
-IsRunStop (Changed name) = ⊥
+IsRunStop (File name why) = ⊥
 IsRunStop Link = ⊤
 IsRunStop Threads = ⊤
-IsRunStop Output = ⊥
+IsRunStop (Output name why) = ⊥
 IsRunStop Memory = ⊤
 
 -- and of one that runs a migration

@@ -8,7 +8,7 @@ use Rattle.refusal_words.specs.Placed.{AddsPlaced, AddsPlacedFirst}
 use Rattle.command_texts.specs.declared.why.Telling.{Telling}
 use Rattle.command_texts.specs.declared.why.Telling.TheVariants.{Short, Full}
 use Rattle.command_texts.specs.declared.why.Why.{Why}
-use Rattle.command_texts.specs.Shown.{shown}
+use Rattle.command_texts.specs.Shown.{line_on, shown}
 use Rattle.command_texts.specs.Written.{MayTell}
 
 -- the line at which a text is refused, or none where it is a spelling
@@ -52,13 +52,12 @@ abbrev pub TellsWhy : Telling → Option Place → Option (List ℕ) → Option 
 TellsWhy telling None old new = Keeps old new
 TellsWhy telling (Some place) old new = MayTell (AreReasons telling place) old new
 
--- a note on a text, where there is one and all is well by the status: one line that begins with the text's name, as it is
--- shown
+-- a note on a text, where there is one and all is well by the status
 pub record IsNote (Has : Type 0) (name : List ℕ) (status : ℕ) (line : List ℕ) : Type 0 where
   pub has : Has
   pub is_well : status ≡ 0
   pub words : List ℕ
-  pub is_line : line ≡ shown name ++ codes ": " ++ words ++ 10 ∷ []
+  pub is_line : line ≡ line_on name words
 
 -- what is told beside the answer to a text under a name: why it is refused, and then a note
 pub record TellsWhyOf (IsRefused : List ℕ → Option ℕ → Type 0) (HasNote : List ℕ → Type 0) (telling : Telling) (name text : List ℕ) (status : ℕ) (old new : Option (List ℕ)) : Type 0 where

@@ -1,5 +1,5 @@
 -- The answers to several texts, one after the other.
-use Rattle.std.specs.Prelude.{◌≡◌, ◌⊎◌, ℕ, ◌+◌, Bool, List, [], ◌∷◌, ◌++◌, Option, Some, None, codes, length, map, ◌==◌, if◌then◌else◌}
+use Rattle.std.specs.Prelude.{◌≡◌, ◌⊎◌, ◌<◌, ℕ, ◌+◌, List, [], ◌∷◌, ◌++◌, Option, Some, None, IfSome, MatchOption, codes, length, map, take, ◌==◌, if◌then◌else◌, nat_lt}
 use Rattle.std.specs.Fmt.{decimal}
 use Rattle.std.specs.List.{AllByRecursion, concat}
 use Rattle.std.specs.Borrow.{Bor}
@@ -7,25 +7,34 @@ use Rattle.std.specs.Io.KnownBytes.{Appends, Keeps}
 use Rattle.command_texts.specs.declared.several.Listing.{Listing}
 use Rattle.command_texts.specs.declared.several.Listing.TheVariants.{Named, Objects}
 use Rattle.command_texts.specs.declared.why.Telling.TheVariants.{Short}
+use Rattle.command_texts.specs.declared.answer.Fault.{Fault}
+use Rattle.command_texts.specs.Answers.{IsListStop, file_lines}
 use Rattle.command_texts.specs.Reasons.{IsNote, TellsWhy, place_of}
 use Rattle.command_texts.specs.Shown.{quoted, shown}
 use Rattle.command_texts.specs.Told.{IsNamed}
-use Rattle.command_texts.specs.Written.{MayTell, Streams}
+use Rattle.command_texts.specs.Written.{AppendsFront, BothGain, Gains, MayTell, Streams}
 
--- a name, the text that stood under it, the answer to this text with its status, and the line at which it is refused, if it is
-pub record Entry : Type 0 where
-  pub name : List ℕ
+-- what was said of a text: the answer to it with its status, and the line at which it is refused, if it is
+pub record Said : Type 0 where
   pub text : List ℕ
-  pub said : List ℕ
+  pub answer : List ℕ
   pub status : ℕ
   pub line : Option ℕ
 
+-- a name, and what was said of the text under it, or that it was not read whole
+pub record Entry : Type 0 where
+  pub name : List ℕ
+  pub said : Option Said
+
 -- the text was read under its name, and this is the answer to it, and where it is refused; of what was read of the input no
 -- more is said
-pub record IsRight (files : List ℕ → Option (List ℕ)) (IsAnswer : List ℕ → List ℕ → ℕ → Type 0) (IsRefused : List ℕ → Option ℕ → Type 0) (e : Entry) : Type 0 where
-  pub is_named : IsNamed e.name files None e.text
-  pub is_answer : IsAnswer e.text e.said e.status
-  pub is_line : IsRefused e.text e.line
+pub record IsSaid (files : List ℕ → Option (List ℕ)) (IsAnswer : List ℕ → List ℕ → ℕ → Type 0) (IsRefused : List ℕ → Option ℕ → Type 0) (name : List ℕ) (s : Said) : Type 0 where
+  pub is_named : IsNamed name files None s.text
+  pub is_answer : IsAnswer s.text s.answer s.status
+  pub is_line : IsRefused s.text s.line
+
+abbrev pub IsRight : (List ℕ → Option (List ℕ)) → (List ℕ → List ℕ → ℕ → Type 0) → (List ℕ → Option ℕ → Type 0) → Entry → Type 0
+IsRight files IsAnswer IsRefused e = IfSome e.said (IsSaid files IsAnswer IsRefused e.name)
 
 -- how answers are listed: after their names, with these words after the counts at the end, or as objects with their names
 abbrev pub Style : Type 0
@@ -45,13 +54,34 @@ abbrev pub listed_as : Style → List ℕ → List ℕ → List ℕ
 listed_as (Some sum) name said = shown name ++ codes ": " ++ said
 listed_as None name said = in_object name said
 
+-- what the list has of an entry: nothing, where the text was not read
+abbrev pub listed_said : Style → List ℕ → Option Said → List ℕ
+listed_said style name None = []
+listed_said style name (Some s) = listed_as style name s.answer
+
 abbrev pub listed : Style → Entry → List ℕ
-listed style e = listed_as style e.name e.said
+listed style e = listed_said style e.name e.said
+
+-- the status of an answer, or that of a text that was not read
+abbrev pub said_status : Option Said → ℕ
+said_status None = 3
+said_status (Some s) = s.status
+
+abbrev pub entry_status : Entry → ℕ
+entry_status e = said_status e.said
 
 -- how many answers say that all is well
 abbrev pub well : List Entry → ℕ
 well [] = 0
-well (e ∷ es) = (if e.status == 0 then 1 else 0) + well es
+well (e ∷ es) = (if entry_status e == 0 then 1 else 0) + well es
+
+-- the greatest status, or 0 where there is none
+abbrev pub greater : ℕ → ℕ → ℕ
+greater a b = if nat_lt a b then b else a
+
+abbrev pub worst : List Entry → ℕ
+worst [] = 0
+worst (e ∷ es) = greater (entry_status e) (worst es)
 
 -- what ends the list: how many of how many are well, as in "2 of 3 sessions are clean", or nothing
 abbrev pub list_end : Style → ℕ → ℕ → List ℕ
@@ -67,49 +97,72 @@ abbrev pub names_of : List (Bor (List ℕ)) → List (List ℕ)
 names_of names = map (λ name. name.now) names
 
 -- why a text is refused is told, if it is, and then a note
-pub record TellsEntry (HasNote : List ℕ → Type 0) (e : Entry) (old new : Option (List ℕ)) : Type 0 where
+pub record TellsSaid (HasNote : List ℕ → Type 0) (name : List ℕ) (s : Said) (old new : Option (List ℕ)) : Type 0 where
   pub between : Option (List ℕ)
-  pub why : TellsWhy Short (place_of e.name e.line) old between
-  pub noted : MayTell (IsNote (HasNote e.text) e.name e.status) between new
+  pub why : TellsWhy Short (place_of name s.line) old between
+  pub noted : MayTell (IsNote (HasNote s.text) name s.status) between new
+
+-- that a text was not read is told, and why
+abbrev pub TellsUnread : List ℕ → Option (List ℕ) → Option (List ℕ) → Type 0
+TellsUnread name old new = (why : List ℕ) × AppendsFront old new (file_lines name why)
+
+abbrev pub TellsEntry : (List ℕ → Type 0) → Entry → Option (List ℕ) → Option (List ℕ) → Type 0
+TellsEntry HasNote e old new = MatchOption e.said (TellsUnread e.name old new) (λ s. TellsSaid HasNote e.name s old new)
 
 -- and so of each, one after the other
 abbrev pub TellsEach : (List ℕ → Type 0) → List Entry → Option (List ℕ) → Option (List ℕ) → Type 0
 TellsEach HasNote [] old new = Keeps old new
 TellsEach HasNote (e ∷ es) old new = (between : Option (List ℕ)) × TellsEntry HasNote e old between × TellsEach HasNote es between new
 
--- a list, and what the standard error has, as far as it is known
-abbrev pub Listed : Type 0
-Listed = List ℕ × Option (List ℕ)
-
--- the answer to the text under a name was added to a list, and this tells whether all is well by it
-pub record IsGathered (files : List ℕ → Option (List ℕ)) (IsAnswer : List ℕ → List ℕ → ℕ → Type 0) (IsRefused : List ℕ → Option ℕ → Type 0) (HasNote : List ℕ → Type 0) (style : Style) (name : List ℕ) (old new : Listed) (is_well : Bool) : Type 0 where
+-- the text under a name was dealt with, as one of a list, and this is its status
+pub record IsListed (files : List ℕ → Option (List ℕ)) (IsAnswer : List ℕ → List ℕ → ℕ → Type 0) (IsRefused : List ℕ → Option ℕ → Type 0) (HasNote : List ℕ → Type 0) (style : Style) (name : List ℕ) (old new : Streams) (status : ℕ) : Type 0 where
   pub entry : Entry
   pub is_name : entry.name ≡ name
   pub is_right : IsRight files IsAnswer IsRefused entry
-  pub added : new.0 ≡ old.0 ++ listed style entry
-  pub told : TellsEntry HasNote entry old.1 new.1
-  pub tells : is_well ≡ (entry.status == 0)
+  pub written : Appends old.0 new.0 (listed style entry)
+  pub beside : TellsEntry HasNote entry old.1 new.1
+  pub is_status : status ≡ entry_status entry
 
--- the answers to the texts under these names were added to a list, and by so many of them all is well
-pub record AreGathered (files : List ℕ → Option (List ℕ)) (IsAnswer : List ℕ → List ℕ → ℕ → Type 0) (IsRefused : List ℕ → Option ℕ → Type 0) (HasNote : List ℕ → Type 0) (style : Style) (names : List (List ℕ)) (old new : Listed) (count : ℕ) : Type 0 where
+-- the texts under these names were dealt with: each gave its answer or was not read; so many answers say that all is well, and
+-- this is the greatest status
+pub record AreListed (files : List ℕ → Option (List ℕ)) (IsAnswer : List ℕ → List ℕ → ℕ → Type 0) (IsRefused : List ℕ → Option ℕ → Type 0) (HasNote : List ℕ → Type 0) (style : Style) (names : List (List ℕ)) (old new : Streams) (count status : ℕ) : Type 0 where
   pub entries : List Entry
   pub are_names : map (λ e. e.name) entries ≡ names
   pub are_right : AllByRecursion (IsRight files IsAnswer IsRefused) entries
-  pub added : new.0 ≡ old.0 ++ concat (map (listed style) entries)
-  pub told : TellsEach HasNote entries old.1 new.1
-  pub tells : count ≡ well entries
+  pub written : Appends old.0 new.0 (concat (map (listed style) entries))
+  pub beside : TellsEach HasNote entries old.1 new.1
+  pub is_count : count ≡ well entries
+  pub is_status : status ≡ worst entries
 
--- the answers to the texts under these names were told, and beside them why texts are refused, with notes; the status is 0 where
--- each says that all is well
+-- the answers to the texts under these names were told, and how many say that all is well; beside them it was told why texts are
+-- refused, with notes, and which were not read; the status is the greatest
 pub record TellsSeveral (files : List ℕ → Option (List ℕ)) (IsAnswer : List ℕ → List ℕ → ℕ → Type 0) (IsRefused : List ℕ → Option ℕ → Type 0) (HasNote : List ℕ → Type 0) (style : Style) (names : List (List ℕ)) (old new : Streams) (status : ℕ) : Type 0 where
   pub entries : List Entry
   pub are_names : map (λ e. e.name) entries ≡ names
   pub are_right : AllByRecursion (IsRight files IsAnswer IsRefused) entries
   pub written : Appends old.0 new.0 (list_text style entries)
   pub beside : TellsEach HasNote entries old.1 new.1
-  pub is_status : status ≡ (if well entries == length entries then 0 else 1)
+  pub is_status : status ≡ worst entries
 
--- one of these names
-abbrev pub IsOneOf : List (List ℕ) → List ℕ → Type 0
-IsOneOf [] name = ⊥
-IsOneOf (n ∷ ns) name = (name ≡ n) ⊎ IsOneOf ns name
+-- the first of the names were dealt with, and then the output was not written, or there was no memory
+pub record StopsSeveral (files : List ℕ → Option (List ℕ)) (IsAnswer : List ℕ → List ℕ → ℕ → Type 0) (IsRefused : List ℕ → Option ℕ → Type 0) (HasNote : List ℕ → Type 0) (style : Style) (names : List (List ℕ)) (old new : Streams) (fault : Fault) : Type 0 where
+  pub is_stop : IsListStop fault
+  pub dealt : ℕ
+  pub count : ℕ
+  pub status : ℕ
+  pub between : Streams
+  pub listed : AreListed files IsAnswer IsRefused HasNote style (take dealt names) old between count status
+  pub gains : BothGain between new
+
+-- a status of a list: each text was read, or one was not
+abbrev pub IsListStatus : ℕ → Type 0
+IsListStatus status = (status < 2) ⊎ (status ≡ 3)
+
+-- of one text it was told that it was not read, and why
+pub record TellsOneUnread (old new : Option (List ℕ)) : Type 0 where
+  pub name : List ℕ
+  pub before : Option (List ℕ)
+  pub behind : Option (List ℕ)
+  pub gained : Gains old before
+  pub told : TellsUnread name before behind
+  pub more : Gains behind new

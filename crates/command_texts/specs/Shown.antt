@@ -43,3 +43,7 @@ is_plain name = are_printed (chars name) && not (begins_quoted name)
 -- a name as it is shown: between quotation marks, where it is not plain
 abbrev pub shown : List ℕ → List ℕ
 shown name = if is_plain name then name else quoted name
+
+-- a line of words on what stands under a name
+abbrev pub line_on : List ℕ → List ℕ → List ℕ
+line_on name words = shown name ++ (codes ": " ++ (words ++ codes "\n"))

@@ -64,7 +64,7 @@ pub record CutsShort {T : Type 0} (AreTexts : T → Type 0) (IsAnswerTo : T → 
 
 -- what a fault leaves of the output: where it is the output's own it was cut short, and at any other it stays
 abbrev pub IsLeft : Fault → Type 0 → Type 0 → Type 0
-IsLeft Output IsCut Stays = IsCut
+IsLeft (Output name why) IsCut Stays = IsCut
 IsLeft other IsCut Stays = Stays
 
 -- it came to such a fault, and nothing is told beside it

@@ -4,6 +4,7 @@ ghost use Rattle.std.specs.Prelude.{ℕ, List, ◌++◌, IfOk, OnOk};
 ghost use Rattle.std.specs.Thread.{IsSync};
 ghost use Rattle.command_texts.specs.inner.Takings.{Fills, TakesAll};
 
+use crate::causes::Cause;
 use crate::limits::Left;
 use crate::reading::{Filled, ReadFault, fill, zeroes};
 use crate::taking::Taker;
@@ -40,7 +41,7 @@ pub(crate) fn read_ahead<H: Threads + Sync, R: Read + Send, T: Taker>(
     for _ in 0..MOST_PIECES {
         let came = &piece[..filled.count];
         let Some(behind) = left.behind(came, filled.reads) else {
-            return Err(ReadFault::File);
+            return Err(ReadFault::File(Cause::TooLong));
         };
         left = behind;
         if filled.ended {
@@ -58,7 +59,7 @@ pub(crate) fn read_ahead<H: Threads + Sync, R: Read + Send, T: Taker>(
         )?;
         mem::swap(&mut piece, &mut next);
     }
-    Err(ReadFault::File)
+    Err(ReadFault::File(Cause::TooLong))
 }
 
 /// Gives a piece to a taker and fills the buffer for the next one, at once where more than one thread is asked for.

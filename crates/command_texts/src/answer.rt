@@ -3,11 +3,11 @@
 ghost use Rattle.std.specs.Prelude.{◌≡◌, [], ◌∷◌, Ok, IfOk, IfErr, if◌then◌else◌, true};
 ghost use Rattle.std.specs.Io.KnownBytes.{Appends};
 ghost use Rattle.text_lines.specs.Text.{ended};
-ghost use Rattle.command_texts.specs.Answers.{Says, changed_lines, fault_line, fault_status, file_line, numbered};
+ghost use Rattle.command_texts.specs.Answers.{IsOutputFault, Says, fault_line, fault_status, file_line, file_lines, numbered, output_lines};
 ghost use Rattle.command_texts.specs.Written.{AppendsFront};
 
-use crate::shown::write_shown;
-use crate::writing::write_whole;
+use crate::shown::{write_line_on, write_shown};
+use crate::writing::{write_or_why, write_whole};
 use std::alloc::{AllocError, Global};
 use std::io::Write;
 use text_lines::{push_keyed, push_line};
@@ -35,19 +35,20 @@ pub struct Answer {
     pub status: u8,
 }
 
+/// How the output is called in words.
+pub const STANDARD_OUTPUT: &str = "standard output";
+
 /// Why there is no answer.
 #[derive(Clone, Copy)]
 pub enum Fault<'a> {
-    /// The text under this name was not read whole.
-    File(&'a str),
-    /// The text under this name was not the same each time that it was read, as that of a pipe is not.
-    Changed(&'a str),
+    /// The text under this name was not read whole, for a reason that the words tell.
+    File(&'a str, &'static str),
     /// The link of a migration failed.
     Link,
     /// A thread of a migration could not be made.
     Threads,
-    /// The output was not written.
-    Output,
+    /// The output under this name was not written, for a reason that the words tell.
+    Output(&'a str, &'static str),
     /// Memory was refused.
     Memory,
 }
@@ -55,8 +56,8 @@ pub enum Fault<'a> {
 /// An answer, or the fault that there is none.
 pub type Given = Result<Answer, Fault<'static>>;
 
-// Tells of the text under this name that it failed, and whether all of that is written.
-fn tell_file<E: Write>(name: &str, errors: &mut E) -> bool
+// Writes the line of a text that failed, and tells whether all of it is written.
+fn write_file_line<E: Write>(name: &str, errors: &mut E) -> bool
     ensures front { AppendsFront (E.contents errors.old) (E.contents errors.new) (file_line name.now) }
     ensures whole { result ≡ true → Appends (E.contents errors.old) (E.contents errors.new) (file_line name.now) }
 {
@@ -69,36 +70,33 @@ fn tell_file<E: Write>(name: &str, errors: &mut E) -> bool
     write_whole(errors, b"\n")
 }
 
-/// Why a text is not the same each time that it is read.
-const NOT_THE_SAME: &[u8] =
-    b": it is read four times and has to be the same each time, as a pipe is not: name a file that stays\n";
-
-// Tells of the text under this name that it was not the same each time.
-fn tell_changed<E: Write>(name: &str, errors: &mut E)
-    ensures { AppendsFront (E.contents errors.old) (E.contents errors.new) (changed_lines name.now) }
+// Tells of the text under this name that it failed, and why.
+fn tell_file<E: Write>(name: &str, why: &str, errors: &mut E)
+    ensures { AppendsFront (E.contents errors.old) (E.contents errors.new) (file_lines name.now why.now) }
 {
-    if !tell_file(name, errors) {
-        return;
+    if write_file_line(name, errors) {
+        write_line_on(errors, name, why);
     }
-    if !write_shown(errors, name) {
-        return;
-    }
-    write_whole(errors, NOT_THE_SAME);
 }
 
-/// Tells a fault on a line of its own, below which there may be a word on why, and answers its status. Where that is not written
-/// the status is the same.
+// Tells of the output under this name that it failed, and why.
+fn tell_output<E: Write>(name: &str, why: &str, errors: &mut E)
+    ensures { AppendsFront (E.contents errors.old) (E.contents errors.new) (output_lines name.now why.now) }
+{
+    if write_whole(errors, b"output\n") {
+        write_line_on(errors, name, why);
+    }
+}
+
+/// Tells a fault on a line of its own, below which a second one tells why a text or an output failed, and answers its status. Where
+/// that is not written the status is the same. It takes no memory.
 pub fn tell<E: Write>(fault: Fault<'_>, errors: &mut E) -> u8
     ensures status { result ≡ fault_status fault.entry }
     ensures told { AppendsFront (E.contents errors.old) (E.contents errors.new) (fault_line fault.entry) }
 {
     match fault {
-        Fault::File(name) => {
-            tell_file(name, errors);
-            FAILED
-        }
-        Fault::Changed(name) => {
-            tell_changed(name, errors);
+        Fault::File(name, why) => {
+            tell_file(name, why, errors);
             FAILED
         }
         Fault::Link => {
@@ -109,8 +107,8 @@ pub fn tell<E: Write>(fault: Fault<'_>, errors: &mut E) -> u8
             write_whole(errors, b"threads\n");
             FAILED
         }
-        Fault::Output => {
-            write_whole(errors, b"output\n");
+        Fault::Output(name, why) => {
+            tell_output(name, why, errors);
             FAILED
         }
         Fault::Memory => {
@@ -177,12 +175,11 @@ pub fn status_where(well: bool) -> u8
 pub fn written<O: Write>(answer: &Answer, output: &mut O) -> Result<u8, Fault<'static>>
     ensures status { IfOk result (λ status. status ≡ answer.now.status) }
     ensures text { IfOk result (λ status. Appends (O.contents output.old) (O.contents output.new) answer.now.text.items) }
-    ensures fault { IfErr result (λ fault. fault ≡ Fault.Output) }
+    ensures fault { IfErr result IsOutputFault }
     ensures front { AppendsFront (O.contents output.old) (O.contents output.new) answer.now.text.items }
 {
-    if write_whole(output, answer.text.as_slice()) {
-        Ok(answer.status)
-    } else {
-        Err(Fault::Output)
+    match write_or_why(output, answer.text.as_slice()) {
+        Ok(()) => Ok(answer.status),
+        Err(cause) => Err(Fault::Output(STANDARD_OUTPUT, cause.words())),
     }
 }

@@ -20,7 +20,7 @@ fn fault_at(name: &str, fault: ReadFault) -> Fault<'_>
     ensures { IsReadFault (λ n. n ≡ name.entry.now) result }
 {
     match fault {
-        ReadFault::File => Fault::File(name),
+        ReadFault::File(cause) => Fault::File(name, cause.words()),
         ReadFault::Memory => Fault::Memory,
     }
 }

@@ -10,6 +10,7 @@ ghost use Rattle.command_texts.specs.Told.{AreNamed, Ends, IsNamed};
 ghost use Rattle.command_texts.specs.Written.{BothGain, MayTell};
 
 use crate::answer::{Answer, Fault, Given, written};
+use crate::console::Console;
 use crate::naming::{read_named, read_pair};
 use crate::noting::tell_note;
 use crate::reading::TextSource;
@@ -125,27 +126,24 @@ pub fn perform_one<
     I: Read + Send,
     O: Write,
     E: Write,
->(
-    rt: &R,
-    alloc: Global,
-    command: &C,
-    name: &'a str,
-    texts: &S,
-    input: &mut I,
-    output: &mut O,
-    errors: &mut E,
-) -> Result<u8, Fault<'a>>
+>(console: &mut Console<'_, R, S, I, O, E>, command: &C, name: &'a str) -> Result<u8, Fault<'a>>
     requires ready { C.ready }
     ensures few { IfOk result (λ status. status < 2) }
-    ensures told { Ends (IsTextFault (λ n. n ≡ name.entry.now)) (IsNamed name.entry.now (S.bytes_of texts.now) (I.remaining input.old)) (C.is_answer command.now) (TellsWhyOf C.Text.is_refused (C.has_note command.now) (C.how_much command.now) name.entry.now) (O.contents output.old, E.contents errors.old) (O.contents output.new, E.contents errors.new) result }
-    ensures gains { BothGain (O.contents output.old, E.contents errors.old) (O.contents output.new, E.contents errors.new) }
+    ensures told { Ends (IsTextFault (λ n. n ≡ name.entry.now)) (IsNamed name.entry.now (S.bytes_of console.old.texts.now) (I.remaining console.old.input)) (C.is_answer command.now) (TellsWhyOf C.Text.is_refused (C.has_note command.now) (C.how_much command.now) name.entry.now) (O.contents console.old.output, E.contents console.old.errors) (O.contents console.new.output, E.contents console.new.errors) result }
+    ensures gains { BothGain (O.contents console.old.output, E.contents console.old.errors) (O.contents console.new.output, E.contents console.new.errors) }
 {
-    let (found, why) = read_named::<C::Text, R, S, I>(rt, alloc, name, texts, input)?;
-    let answer = command.answer(alloc, &found)?;
-    let status = written(&answer, output)?;
-    tell_why(alloc, &why, command.telling(), errors);
+    let (found, why) = read_named::<C::Text, R, S, I>(
+        console.rt,
+        console.alloc,
+        name,
+        console.texts,
+        &mut console.input,
+    )?;
+    let answer = command.answer(console.alloc, &found)?;
+    let status = written(&answer, &mut console.output)?;
+    tell_why(console.alloc, &why, command.telling(), &mut console.errors);
     let note = command.note(&found);
-    tell_note(alloc, name, note, status, errors);
+    tell_note(name, note, status, &mut console.errors);
     mem::forget(found);
     mem::forget(answer);
     Ok(status)
@@ -202,30 +200,38 @@ pub fn perform_two<
     O: Write,
     E: Write,
 >(
-    rt: &R,
-    alloc: Global,
+    console: &mut Console<'_, R, S, I, O, E>,
     command: &C,
     first: &'a str,
     second: &'a str,
-    texts: &S,
-    input: &mut I,
-    output: &mut O,
-    errors: &mut E,
 ) -> Result<u8, Fault<'a>>
     requires ready { C.ready }
     ensures few { IfOk result (λ status. status < 2) }
-    ensures told { Ends (IsTextFault (λ n. (n ≡ first.entry.now) ⊎ (n ≡ second.entry.now))) (AreNamed first.entry.now second.entry.now (S.bytes_of texts.now) (I.remaining input.old)) (C.is_answer command.now) (TellsBeside C.First.is_refused C.Second.is_refused (C.adds_more command.now) (C.has_note command.now) first.entry.now second.entry.now) (O.contents output.old, E.contents errors.old) (O.contents output.new, E.contents errors.new) result }
-    ensures gains { BothGain (O.contents output.old, E.contents errors.old) (O.contents output.new, E.contents errors.new) }
+    ensures told { Ends (IsTextFault (λ n. (n ≡ first.entry.now) ⊎ (n ≡ second.entry.now))) (AreNamed first.entry.now second.entry.now (S.bytes_of console.old.texts.now) (I.remaining console.old.input)) (C.is_answer command.now) (TellsBeside C.First.is_refused C.Second.is_refused (C.adds_more command.now) (C.has_note command.now) first.entry.now second.entry.now) (O.contents console.old.output, E.contents console.old.errors) (O.contents console.new.output, E.contents console.new.errors) result }
+    ensures gains { BothGain (O.contents console.old.output, E.contents console.old.errors) (O.contents console.new.output, E.contents console.new.errors) }
 {
     let ((found, other), why) = read_pair::<C::First, C::Second, R, S, I>(
-        rt, alloc, first, second, texts, input,
+        console.rt,
+        console.alloc,
+        first,
+        second,
+        console.texts,
+        &mut console.input,
     )?;
-    let (answer, said) = command.answer(alloc, &found, &other)?;
-    let status = written(&answer, output)?;
-    tell_why(alloc, &why, Telling::Short, errors);
-    tell_more(alloc, command, second, &found, &other, said, errors);
+    let (answer, said) = command.answer(console.alloc, &found, &other)?;
+    let status = written(&answer, &mut console.output)?;
+    tell_why(console.alloc, &why, Telling::Short, &mut console.errors);
+    tell_more(
+        console.alloc,
+        command,
+        second,
+        &found,
+        &other,
+        said,
+        &mut console.errors,
+    );
     let note = command.note(&found, &other);
-    tell_note(alloc, first, note, status, errors);
+    tell_note(first, note, status, &mut console.errors);
     mem::forget((found, other));
     mem::forget(answer);
     Ok(status)

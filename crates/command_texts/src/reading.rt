@@ -6,6 +6,7 @@ ghost use Rattle.command_texts.specs.Told.{AreRead};
 ghost use Rattle.command_texts.specs.inner.Takings.{Fills, Takes, TakesAll};
 
 use crate::ahead::read_ahead;
+use crate::causes::{Cause, cause_of};
 use crate::limits::{Left, MOST_READS};
 use crate::taking::Taker;
 use std::alloc::{AllocError, Global};
@@ -36,7 +37,7 @@ pub trait TextSource {
 #[derive(Clone, Copy)]
 pub enum ReadFault {
     /// It was not opened or not read, or it is too long or takes too many reads.
-    File,
+    File(Cause),
     /// Memory was refused.
     Memory,
 }
@@ -133,7 +134,7 @@ pub(crate) fn fill<R: Read>(
             }
         }
     }
-    Err(ReadFault::File)
+    Err(ReadFault::File(Cause::TooManyReads))
 }
 
 /// Gives what a reader has left to a taker, within these limits, at first by this buffer. It stops with a fault once a limit
@@ -170,7 +171,7 @@ fn read_first<H: Threads + Sync, R: Read, T: Taker>(
         let filled = fill(reader, buffer, left.reads)?;
         let piece = &buffer[..filled.count];
         let Some(behind) = left.behind(piece, filled.reads) else {
-            return Err(ReadFault::File);
+            return Err(ReadFault::File(Cause::TooLong));
         };
         taker.take(rt, 1, piece)?;
         if filled.ended {
@@ -192,6 +193,6 @@ pub fn fault_of(error: &io::Error) -> ReadFault {
     if error.kind() == ErrorKind::OutOfMemory {
         ReadFault::Memory
     } else {
-        ReadFault::File
+        ReadFault::File(cause_of(error))
     }
 }

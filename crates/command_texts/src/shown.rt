@@ -3,7 +3,7 @@
 ghost use Rattle.std.specs.Prelude.{◌≡◌, ◌<◌, ◌++◌, OnOk, true};
 ghost use Rattle.std.specs.Io.KnownBytes.{Appends};
 ghost use Rattle.std.specs.Str.{chars};
-ghost use Rattle.command_texts.specs.Shown.{are_printed, begins_quoted, escaped, hex_digit, is_control, is_plain, quoted, shown};
+ghost use Rattle.command_texts.specs.Shown.{are_printed, begins_quoted, escaped, hex_digit, is_control, is_plain, line_on, quoted, shown};
 ghost use Rattle.command_texts.specs.Written.{AppendsFront};
 
 use crate::writing::write_whole;
@@ -109,6 +109,24 @@ pub fn write_shown<W: Write>(output: &mut W, name: &str) -> bool
     } else {
         write_quoted(output, name)
     }
+}
+
+/// Writes a line of words on what stands under a name, which begins with the name as it is shown, and tells whether all of it is
+/// written. It takes no memory.
+pub(crate) fn write_line_on<W: Write>(output: &mut W, name: &str, words: &str) -> bool
+    ensures front { AppendsFront (W.contents output.old) (W.contents output.new) (line_on name.now words.now) }
+    ensures whole { result ≡ true → Appends (W.contents output.old) (W.contents output.new) (line_on name.now words.now) }
+{
+    if !write_shown(output, name) {
+        return false;
+    }
+    if !write_whole(output, b": ") {
+        return false;
+    }
+    if !write_whole(output, words.as_bytes()) {
+        return false;
+    }
+    write_whole(output, b"\n")
 }
 
 /// Adds a name as it is shown.

@@ -1,33 +1,45 @@
 //! Writing bytes, of which a failure leaves the front.
 
-ghost use Rattle.std.specs.Prelude.{◌≡◌, true};
+ghost use Rattle.std.specs.Prelude.{◌≡◌, true, OnOk};
 ghost use Rattle.std.specs.Io.KnownBytes.{Appends};
 ghost use Rattle.command_texts.specs.Written.{AppendsFront};
 
+use crate::causes::{Cause, cause_of};
 use std::io::{ErrorKind, Write};
 
 /// The most writes that bytes may take.
 const MOST_WRITES: u64 = u64::MAX;
+
+/// Writes bytes. An error tells why not all of them are written. A write that was interrupted is made again.
+pub fn write_or_why<W: Write>(output: &mut W, bytes: &[u8]) -> Result<(), Cause>
+    ensures front { AppendsFront (W.contents output.old) (W.contents output.new) bytes.now }
+    ensures whole { OnOk result (Appends (W.contents output.old) (W.contents output.new) bytes.now) }
+{
+    let mut count = 0;
+    for _ in 0..MOST_WRITES {
+        if count >= bytes.len() {
+            return Ok(());
+        }
+        match output.write(&bytes[count..]) {
+            Ok(0) => return Err(Cause::NotTaken),
+            Ok(more) => count += more,
+            Err(error) => {
+                if error.kind() != ErrorKind::Interrupted {
+                    return Err(cause_of(&error));
+                }
+            }
+        }
+    }
+    Err(Cause::NotTaken)
+}
 
 /// Writes bytes, and tells whether all of them are written. A write that was interrupted is made again.
 pub fn write_whole<W: Write>(output: &mut W, bytes: &[u8]) -> bool
     ensures front { AppendsFront (W.contents output.old) (W.contents output.new) bytes.now }
     ensures whole { result ≡ true → Appends (W.contents output.old) (W.contents output.new) bytes.now }
 {
-    let mut count = 0;
-    for _ in 0..MOST_WRITES {
-        if count >= bytes.len() {
-            return true;
-        }
-        match output.write(&bytes[count..]) {
-            Ok(0) => return false,
-            Ok(more) => count += more,
-            Err(error) => {
-                if error.kind() != ErrorKind::Interrupted {
-                    return false;
-                }
-            }
-        }
+    match write_or_why(output, bytes) {
+        Ok(()) => true,
+        Err(_) => false,
     }
-    false
 }

@@ -1,31 +1,25 @@
 -- Words that ask for something do not clash.
-use Rattle.std.proofs.Common.{◌≡◌, Bool, true, false, List, None, Option, Some, codes, inr, refl, cond, is_some, option_and_then}
+use Rattle.std.proofs.Common.{◌≡◌, ◌≢◌, Bool, true, false, List, None, Option, Some, inl, inr, refl, cond, option_and_then}
 use Rattle.std.specs.Option.{option_map_or}
-use Rattle.std.specs.Str.{bytes_eq}
 use Rattle.clap.specs.Words.{Row, Text, subcommand_of}
 use Rattle.clap.specs.declared.error.kind.ErrorKind.{ErrorKind}
-use Rattle.clap.specs.declared.error.kind.ErrorKind.TheVariants.{OutOfMemory}
+use Rattle.clap.specs.declared.error.kind.ErrorKind.TheVariants.{ArgumentConflict, OutOfMemory}
 use Rattle.command_words.specs.declared.asked.Asked.{Asked}
 use Rattle.command_words.specs.declared.asked.Lists.{Lists}
-use Rattle.command_words.specs.Words.{IsRefusedFor, asked, asked_in, asked_of, clashes, clashing, postcopy_words, several_among, several_asked, several_found}
+use Rattle.command_words.specs.Words.{IsRefusedFor, asked, asked_in, asked_of, clashes, clashing, postcopy_words, several_asked, several_given, several_in}
 
 -- what is asked for unless something holds, does not hold where it is asked for
 unless : {X : Type 0} (b : Bool) (found : Option X) (x : X) → cond b None found ≡ Some x → b ≡ false
 unless true found x e = absurd cc
 unless false found x e = refl
 
-unless_both : {X : Type 0} (a is b : Bool) (found : Option X) (x : X) → cond a None (cond is (cond b None found) None) ≡ Some x → b ≡ false
-unless_both true is b found x e = absurd cc
-unless_both false true b found x e = unless b found x e
-unless_both false false b found x e = absurd cc
-
 found_alike : (found : Option (Text × List Row)) (job : Asked Text) → option_and_then asked_in found ≡ Some job → option_map_or (λ (given : Text × List Row). clashes given.1) found false ≡ false
 found_alike None job e = refl
 found_alike (Some given) job e = unless (clashes given.1) (asked_of given) job e
 
-several_alike : (found : Option (Text × List Row)) (several : Lists × List Text) → several_found found ≡ Some several → option_map_or (λ (given : Text × List Row). clashes given.1) found false ≡ false
+several_alike : (found : Option (Text × List Row)) (several : Lists × List Text) → option_and_then several_in found ≡ Some several → option_map_or (λ (given : Text × List Row). clashes given.1) found false ≡ false
 several_alike None several e = refl
-several_alike (Some given) several e = unless_both (is_some (asked_in given)) (bytes_eq given.0 (codes "audit")) (clashes given.1) (several_among given.1) several e
+several_alike (Some given) several e = unless (clashes given.1) (several_given given) several e
 
 -- words that ask for a command
 pub asked_alike : (words : List Text) (job : Asked Text) → asked words ≡ Some job → clashing words ≡ false
@@ -44,3 +38,9 @@ refused_for_memory false kind e = e
 pub starved_alone : (clash : Bool) (kind : ErrorKind) → clash ≡ false → IsRefusedFor clash kind → kind ≡ OutOfMemory
 starved_alone true kind e h = absurd cc
 starved_alone false kind e h = h
+
+-- words that the command line takes, and that are refused for something other than memory, clash
+pub refused_alone : (clash : Bool) (kind : ErrorKind) → kind ≢ OutOfMemory → IsRefusedFor clash kind → (clash ≡ true) × (kind ≡ ArgumentConflict)
+refused_alone true kind other (inl e) = (refl, e)
+refused_alone true kind other (inr e) = absurd (other e)
+refused_alone false kind other e = absurd (other e)

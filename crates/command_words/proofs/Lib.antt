@@ -3,4 +3,5 @@ pub mod Numbers
 pub mod Rows
 pub mod Unplaced
 pub mod Plain
+pub mod Bare
 pub mod Clashes

@@ -1,5 +1,5 @@
 -- The words of the command line.
-use Rattle.std.specs.Prelude.{◌≡◌, ◌≢◌, ℕ, [], ◌∷◌, ◌++◌, ◌⊎◌, Bool, List, Option, Some, None, true, codes, fold, find, map, option_and_then, option_map, unwrap_or, if◌then◌else◌, false, is_some, not, ◌&&◌, ◌||◌}
+use Rattle.std.specs.Prelude.{◌≡◌, ◌≢◌, ℕ, [], ◌∷◌, ◌++◌, ◌⊎◌, Bool, List, Option, Some, None, true, codes, fold, find, map, option_and_then, option_map, unwrap_or, if◌then◌else◌, false, is_some, not, ◌&&◌, ◌||◌, ◌==◌}
 use Rattle.std.specs.List.{AllByRecursion}
 use Rattle.std.specs.Option.{option_map_or}
 use Rattle.std.specs.Str.{bytes_eq}
@@ -41,6 +41,8 @@ use Rattle.command_words.specs.declared.asked.TwoTexts.{TwoTexts}
 use Rattle.command_words.specs.declared.asked.TwoTexts.TheVariants.{Check, Replay, Steps}
 use Rattle.command_words.specs.declared.asked.TwoTexts.TheVariants as two
 use Rattle.clap.specs.declared.builder.action.ArgAction.TheVariants.{Append, SetTrue}
+use Rattle.command_words.specs.declared.asked.AnswerKind.{AnswerKind}
+use Rattle.command_words.specs.declared.asked.AnswerKind.TheVariants.{Artifact, Report}
 use Rattle.command_words.specs.declared.asked.Targets.{Targets}
 use Rattle.command_words.specs.declared.building.Choices.{Choices}
 use Rattle.command_words.specs.Table.{carriers, carrier_name, carrier_named, format_name, format_named, formats, table}
@@ -124,7 +126,7 @@ with_one parser (Explain explains) app = with_format parser (with_lines (with_li
 abbrev pub with_two : ValueParser → TwoTexts → App → App
 with_two parser (Check checks) app = with_format parser (with_demand app)
 with_two parser Replay app = app
-with_two parser Steps app = with_output app
+with_two parser Steps app = app
 with_two parser (two.Explain explains) app = app
 
 -- a command with a further word, which may be there
@@ -132,17 +134,17 @@ abbrev pub with_further : App → Option Text → App
 with_further app None = app
 with_further app (Some word) = with_rule app (new_rule word)
 
--- a command with a word for each of its texts, and its options
+-- a command with a word for each of its texts, and its own options
 abbrev pub with_words : Choices → App → Asked Text → App
 with_words choices app (One task word) = with_one choices.formats task (with_rule app (text_word task word))
 with_words choices app (Two task first second) = with_two choices.formats task (with_rule (with_rule app (needed first)) (needed second))
-with_words choices app (Migrate carrier word) = with_output (with_rule (with_rule app (needed word)) (choice_rule (codes "link") choices.carriers (carrier_name carrier)))
+with_words choices app (Migrate carrier word) = with_rule (with_rule app (needed word)) (choice_rule (codes "link") choices.carriers (carrier_name carrier))
 with_words choices app (Draw topic word further) = with_page (with_further (with_rule app (needed word)) further)
-with_words choices app (Window pages word lines) = with_output (with_lines (with_rule (with_rule (with_rule app (needed word)) (count_rule (codes "FIRST"))) (count_rule (codes "COUNT"))))
+with_words choices app (Window pages word lines) = with_lines (with_rule (with_rule (with_rule app (needed word)) (count_rule (codes "FIRST"))) (count_rule (codes "COUNT")))
 
--- the command of a row of the table
+-- the command of a row of the table; each may have a file for its answer
 abbrev pub command_words : Choices → Text × Asked Text → App
-command_words choices row = with_words choices (new_app row.0) row.1
+command_words choices row = with_output (with_words choices (new_app row.0) row.1)
 
 -- `postcopy`, which has a version and wants a command
 abbrev pub program_words : App
@@ -356,9 +358,13 @@ faults_clash rows =
 abbrev pub clashes : List Row → Bool
 clashes rows = topics_clash rows || faults_clash rows
 
+-- what is told of a command and what it was given, where the options do not clash
+abbrev pub unclashed : {X : Type 0} → (Text × List Row → Option X) → Text × List Row → Option X
+unclashed tell given = if clashes given.1 then None else tell given
+
 -- what a command and what it was given ask for, where they do not clash
 abbrev pub asked_in : Text × List Row → Option (Asked Text)
-asked_in given = if clashes given.1 then None else asked_of given
+asked_in given = unclashed asked_of given
 
 -- what the words ask for
 abbrev pub asked : List Text → Option (Asked Text)
@@ -368,32 +374,34 @@ asked words = option_and_then asked_in (subcommand_of postcopy_words words)
 abbrev pub several_among : List Row → Option (Lists × List Text)
 several_among rows = option_map (λ names. (lists_in rows, names)) (sessions_in rows)
 
--- so where the options do not clash
-abbrev pub several_unclashed : List Row → Option (Lists × List Text)
-several_unclashed rows = if clashes rows then None else several_among rows
+-- the sessions that a command and what it was given ask to be audited, where they ask for nothing else
+abbrev pub several_given : Text × List Row → Option (Lists × List Text)
+several_given given = if is_some (asked_of given) then None else if bytes_eq given.0 (codes "audit") then several_among given.1 else None
 
+-- the same, where the options do not clash
 abbrev pub several_in : Text × List Row → Option (Lists × List Text)
-several_in given = if bytes_eq given.0 (codes "audit") then several_unclashed given.1 else None
+several_in given = unclashed several_given given
 
--- the sessions that are asked to be audited, where nothing else is asked for
-abbrev pub several_found : Option (Text × List Row) → Option (Lists × List Text)
-several_found given = if is_some (option_and_then asked_in given) then None else option_and_then several_in given
-
+-- the sessions that the words ask to be audited
 abbrev pub several_asked : List Text → Option (Lists × List Text)
-several_asked words = several_found (subcommand_of postcopy_words words)
+several_asked words = option_and_then several_in (subcommand_of postcopy_words words)
+
+-- whether options that mean nothing together were given to a command
+abbrev pub clash_in : Option (Text × List Row) → Bool
+clash_in given = option_map_or (λ given. clashes given.1) given false
 
 -- whether the words have options that mean nothing together
 abbrev pub clashing : List Text → Bool
-clashing words = option_map_or (λ given. clashes given.1) (subcommand_of postcopy_words words) false
+clashing words = clash_in (subcommand_of postcopy_words words)
 
 -- why words are refused that the command line takes: they clash, or there is no memory
 abbrev pub IsRefusedFor : Bool → ErrorKind → Type 0
 IsRefusedFor true kind = (kind ≡ ArgumentConflict) ⊎ (kind ≡ OutOfMemory)
 IsRefusedFor false kind = kind ≡ OutOfMemory
 
--- the file that the words name for the answer
-abbrev pub output_named : List Text → Option Text
-output_named words = option_and_then (λ given. first_of (codes "output") given.1) (subcommand_of postcopy_words words)
+-- the file that a command was given for its answer
+abbrev pub output_in : Option (Text × List Row) → Option Text
+output_in given = option_and_then (λ given. first_of (codes "output") given.1) given
 
 -- the file for the lines of a window, where one is asked for
 abbrev pub lines_file_of : Asked Text → Option Text
@@ -406,13 +414,43 @@ lines_file_of (Draw topic name further) = None
 abbrev pub lines_file : Option (Asked Text) → Option Text
 lines_file asked = option_and_then lines_file_of asked
 
--- the files that the words name for what is written: for the lines of a window, and for the answer
-abbrev pub targets_named : List Text → Option Text × Option Text
-targets_named words = (lines_file (asked words), output_named words)
+-- the files that are named for what is written: for the lines of a window, and for the answer
+abbrev pub targets_in : Option (Text × List Row) → Option Text × Option Text
+targets_in given = (lines_file (option_and_then asked_in given), output_in given)
 
--- the files that are named
+-- the files that the words name
+abbrev pub targets_named : List Text → Option Text × Option Text
+targets_named words = targets_in (subcommand_of postcopy_words words)
+
+-- the names of some files
 abbrev pub target_names : Targets → Option Text × Option Text
 target_names targets = (option_map (λ name. name.now) targets.lines, option_map (λ name. name.now) targets.output)
+
+-- what the answer of a command is: `certify` writes a certificate, `steps`, `migrate` and `window` a session, and `draw` a picture
+abbrev pub answer_of : Asked Text → AnswerKind
+answer_of (One Certify name) = Artifact
+answer_of (One (Audit audits) name) = Report
+answer_of (One (Explain explains) name) = Report
+answer_of (Two (Check checks) first second) = Report
+answer_of (Two Replay first second) = Report
+answer_of (Two Steps first second) = Artifact
+answer_of (Two (two.Explain explains) first second) = Report
+answer_of (Migrate carrier name) = Artifact
+answer_of (Draw topic name further) = Artifact
+answer_of (Window pages name lines) = Artifact
+
+-- and of what is asked for; where it is no command on named texts, it is a report
+abbrev pub answer_kind : Option (Asked Text) → AnswerKind
+answer_kind None = Report
+answer_kind (Some asked) = answer_of asked
+
+abbrev pub is_report : AnswerKind → Bool
+is_report Artifact = false
+is_report Report = true
+
+-- whether an answer with this status goes to its file: with 0 each does, with 1 a report, and above 1 none
+abbrev pub is_due : AnswerKind → ℕ → Bool
+is_due kind status = (status == 0) || ((status == 1) && is_report kind)
 
 -- a name that is no option: it is `-`, or does not begin with `-`
 abbrev pub IsPlainName : Text → Type 0

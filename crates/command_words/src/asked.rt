@@ -1,7 +1,8 @@
 //! What a command is asked with.
 
-ghost use Rattle.std.specs.Prelude.{◌≡◌};
+ghost use Rattle.std.specs.Prelude.{◌≡◌, None, if◌then◌else◌};
 ghost use Rattle.command_words.specs.Table.{carrier_name, format_name};
+ghost use Rattle.command_words.specs.Words.{is_due, target_names};
 
 /// What is asked of a session before all is well.
 #[derive(Clone, Copy)]
@@ -205,6 +206,15 @@ pub enum Wish<'a> {
     Several(Several<'a>),
 }
 
+/// What the answer of a command is.
+#[derive(Clone, Copy)]
+pub enum AnswerKind {
+    /// A certificate, a session or a picture. With status 1 there is none, and a line stands in its place.
+    Artifact,
+    /// A verdict or a report, with status 0 or 1.
+    Report,
+}
+
 /// The files that the words name for what is written.
 #[derive(Clone, Copy)]
 pub struct Targets<'a> {
@@ -212,4 +222,34 @@ pub struct Targets<'a> {
     pub lines: Option<&'a str>,
     /// For the answer.
     pub output: Option<&'a str>,
+    /// What the answer is.
+    pub answer: AnswerKind,
+}
+
+/// No file, for a report.
+pub const NO_TARGETS: Targets<'static> = Targets {
+    lines: None,
+    output: None,
+    answer: AnswerKind::Report,
+};
+
+impl<'a> Targets<'a> {
+    /// The files for an answer with this status, from 0 to 4. At 0 they are all; at 1 a report has its file and an artifact has
+    /// none; above 1 there is none.
+    pub fn at(self, status: u8) -> Targets<'a>
+        ensures { target_names result ≡ (if is_due self.entry.answer status then target_names self.entry else (None, None)) }
+    {
+        match (status, self.answer) {
+            (0, _) | (1, AnswerKind::Report) => self,
+            _ => NO_TARGETS,
+        }
+    }
+}
+
+/// What is found in words.
+#[derive(Drop)]
+pub struct Found<'a> {
+    /// What they ask for.
+    pub wish: Option<Wish<'a>>,
+    pub targets: Targets<'a>,
 }

@@ -1,8 +1,8 @@
 //! The command line that the table makes.
 
 ghost use Rattle.std.specs.Prelude.{◌≡◌, IfOk, false};
-ghost use Rattle.command_words.specs.Table.{further_name, row_of};
-ghost use Rattle.command_words.specs.Words.{choice_rule, command_words, flag_rule, line_words, needed, number_rule, program_words, with_all, with_complete, with_complete_pages, with_demand, with_format, with_further, with_line, with_lines, with_one, with_output, with_page, with_quiet, with_two, count_rule, text_word};
+ghost use Rattle.command_words.specs.Table.{further_name, row_of, word_names};
+ghost use Rattle.command_words.specs.Words.{choice_rule, command_words, flag_rule, line_words, needed, number_rule, program_words, with_all, with_complete, with_complete_pages, with_demand, with_format, with_further, with_line, with_lines, with_one, with_output, with_page, with_quiet, with_two, with_words, count_rule, text_word};
 ghost use Rattle.clap.specs.Words.{app_of, kind_of, rule_of, with_rule};
 ghost use Rattle.clap.specs.declared.builder.command.Command.TheViews.{out-Command as fields_of};
 
@@ -25,38 +25,37 @@ const MOST_PAGES: u64 = 9_223_372_036_854_775_807;
 const VERSION: &str = "1.0.0";
 
 const ABOUT: &str =
-    "Records migrations, and audits recorded sessions; with no command it does: check - -";
+    "Record post-copy migrations, and audit recorded sessions. Without a command, it runs: check - -";
 
 const AFTER_HELP: &str =
-    "A file named - is standard input. Where two are, they share it: the first text ends with its first line 'end'.
+    "The file name - means standard input. Two such files share it: the first text ends at its first line 'end'.
 
-Status:
-  0  all is well
-  1  another answer
-  2  words that are no command
-  3  a file, a link or an output that failed
+Exit status:
+  0  success
+  1  any other answer
+  2  usage error
+  3  a file, a link or an output failed
   4  out of memory";
 
 const COMPLETE_HELP: &str =
-    "All is well only where the session is of a whole migration, from the halt to the end";
+    "Succeed only if the session has a whole migration, from the halt to the end";
 
 const COMPLETE_PAGES_HELP: &str =
-    "All is well only where the guest was halted and resumed, and each owed page came or was released there; --complete asks for more";
+    "Succeed only if the guest was halted and resumed, and each owed page was placed or released at the target. --complete asks for more";
 
-const QUIET_HELP: &str = "Writes the first line of the answer alone";
+const QUIET_HELP: &str = "Write only the first line of the answer";
 
-const ALL_HELP: &str =
-    "Tells each page that has a fault, with its first one, and not only the first of all";
+const ALL_HELP: &str = "List each page that has a fault, with its first fault";
 
-const PAGE_HELP: &str = "Tells of this page, whether it has a fault or not";
+const PAGE_HELP: &str = "Show this page, whether it has a fault or not";
 
-const LINE_HELP: &str = "Tells of the record at this line of the session, and of its page";
+const LINE_HELP: &str = "Show the record at this line of the session, and its page";
 
 const LINES_HELP: &str =
-    "The file of which line of the recording each line of its window was: a window writes it, and explain tells these lines";
+    "File of the recording's line numbers, one for each line of its window: window writes it, explain reads it";
 
 const OUTPUT_HELP: &str =
-    "Writes the answer to this file, which is there complete or not at all; else to standard output";
+    "Write the answer to this file instead of standard output. The file gets all of it or stays as it was";
 
 /// An option that names one of several.
 #[derive(Clone, Copy)]
@@ -71,13 +70,13 @@ pub struct Choice {
 const LINK_CHOICE: Choice = Choice {
     option: LINK,
     value: "CARRIER",
-    help: "What carries the packets of the migration",
+    help: "Transport of the migration's packets",
 };
 
 const FORMAT_CHOICE: Choice = Choice {
     option: FORMAT,
     value: "FORM",
-    help: "How the answer is written: lines of text, or an object of JSON on one line",
+    help: "Format of the answer: lines of text, or a JSON object on one line",
 };
 
 /// The parsers of what options name.
@@ -366,18 +365,22 @@ fn with_two<'a>(
             let command = with_demand(alloc, command)?;
             with_format(alloc, command, formats)
         }
-        TwoTexts::Steps => with_output(alloc, command),
-        TwoTexts::Replay | TwoTexts::Explain(_) => Ok(command),
+        TwoTexts::Replay | TwoTexts::Steps | TwoTexts::Explain(_) => Ok(command),
     }
 }
 
-// The command of a row, where these parsers read what options name.
-fn command_of<'a>(alloc: Global, choices: Choices<'a>, row: &Row) -> Result<Command<'a>, AllocError>
-    ensures app { IfOk result (λ c. app_of c ≡ command_words choices.entry (row_of row.now)) }
+// The command with a word for each of its texts, and its own options, where these parsers read what options name.
+fn with_words<'a>(
+    alloc: Global,
+    command: Command<'a>,
+    choices: Choices<'a>,
+    asked: &Asked<Word>,
+) -> Result<Command<'a>, AllocError>
+    requires { (fields_of command).has_globals ≡ false }
+    ensures app { IfOk result (λ c. app_of c ≡ with_words choices.entry (app_of command.entry) (word_names asked.now)) }
     ensures local { IfOk result (λ c. (fields_of c).has_globals ≡ false) }
 {
-    let command = Command::new(alloc, row.name).about(row.about);
-    match &row.asked {
+    match asked {
         Asked::One(task, word) => {
             let command = with_text(alloc, command, *task, word)?;
             with_one(alloc, command, choices.formats, *task)
@@ -389,14 +392,13 @@ fn command_of<'a>(alloc: Global, choices: Choices<'a>, row: &Row) -> Result<Comm
         }
         Asked::Migrate(carrier, word) => {
             let command = with_word(alloc, command, word)?;
-            let command = with_choice(
+            with_choice(
                 alloc,
                 command,
                 &LINK_CHOICE,
                 choices.carriers,
                 carrier.name(),
-            )?;
-            with_output(alloc, command)
+            )
         }
         Asked::Draw(_, word, further) => {
             let command = with_word(alloc, command, word)?;
@@ -407,10 +409,19 @@ fn command_of<'a>(alloc: Global, choices: Choices<'a>, row: &Row) -> Result<Comm
             let command = with_word(alloc, command, word)?;
             let command = with_count(alloc, command, &FIRST)?;
             let command = with_count(alloc, command, &COUNT)?;
-            let command = with_lines(alloc, command)?;
-            with_output(alloc, command)
+            with_lines(alloc, command)
         }
     }
+}
+
+// The command of a row, where these parsers read what options name.
+fn command_of<'a>(alloc: Global, choices: Choices<'a>, row: &Row) -> Result<Command<'a>, AllocError>
+    ensures app { IfOk result (λ c. app_of c ≡ command_words choices.entry (row_of row.now)) }
+    ensures local { IfOk result (λ c. (fields_of c).has_globals ≡ false) }
+{
+    let command = Command::new(alloc, row.name).about(row.about);
+    let command = with_words(alloc, command, choices, &row.asked)?;
+    with_output(alloc, command)
 }
 
 // The program, with no command yet.

@@ -4,10 +4,11 @@
 mod asked;
 mod building;
 mod matching;
+mod reading;
 mod table;
 
 pub use asked::{
-    Asked, Audits, Carrier, Checks, Demand, Explains, Job, ListForm, Lists, OneText, Pages,
-    ReportForm, Several, StoryForm, Targets, Topic, TwoTexts, VerdictForm, Wish,
+    AnswerKind, Asked, Audits, Carrier, Checks, Demand, Explains, Job, ListForm, Lists, OneText,
+    Pages, ReportForm, Several, StoryForm, Targets, Topic, TwoTexts, VerdictForm, Wish,
 };
-pub use matching::{read_targets, read_words};
+pub use reading::{Reading, read_words};

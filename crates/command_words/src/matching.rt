@@ -1,15 +1,16 @@
 //! What words ask for.
 
-ghost use Rattle.std.specs.Prelude.{◌≡◌, IfOk, IfErr, codes, false, is_some, option_and_then, option_map, true, find};
-ghost use Rattle.std.specs.Option.{option_map_or};
+ghost use Rattle.std.specs.Prelude.{◌≡◌, IfOk, IfErr, Some, codes, false, is_some, option_and_then, option_map, true, find};
 ghost use Rattle.std.specs.Str.{bytes_eq};
 ghost use Rattle.command_words.specs.Table.{asked_names, further_name, job_of, several_names, several_of, word_names};
-ghost use Rattle.command_words.specs.Words.{IsRefusedFor, all_faults_form_in, asked, asked_in, asked_of, audits_in, carrier_in, checks_in, clashes, clashing, count_in, count_of, demand_in, explains_in, faults_clash, further_in, given_in, has, is_set, lines_file, list_form_in, lists_in, number_in, number_of, one_in, only_of, page_in, postcopy_words, report_form_in, sessions_in, several_among, several_asked, several_found, several_in, several_unclashed, short_form_in, story_form_in, target_names, targets_named, told_with, topic_in, topics_clash, two_in, verdict_form_in, wants_object, window_in, word_texts};
+ghost use Rattle.command_words.specs.Readings.{IsFoundIn};
+ghost use Rattle.command_words.specs.Words.{IsRefusedFor, all_faults_form_in, answer_kind, answer_of, asked_of, audits_in, carrier_in, checks_in, clash_in, clashes, clashing, count_in, count_of, demand_in, explains_in, faults_clash, further_in, given_in, has, is_set, lines_file, list_form_in, lists_in, number_in, number_of, one_in, only_of, page_in, postcopy_words, report_form_in, sessions_in, several_among, several_given, short_form_in, story_form_in, told_with, topic_in, topics_clash, two_in, verdict_form_in, wants_object, window_in, word_texts};
 ghost use Rattle.clap.specs.Words.{all_of, first_of, found_of, kind_of, rows_of, subcommand_of, subcommand_rows_of, takes};
 
 use crate::asked::{
-    Asked, Audits, Carrier, Checks, Demand, Explains, Format, Job, ListForm, Lists, OneText, Pages,
-    ReportForm, Several, StoryForm, Targets, Topic, TwoTexts, VerdictForm, Wish,
+    AnswerKind, Asked, Audits, Carrier, Checks, Demand, Explains, Format, Found, Job, ListForm,
+    Lists, NO_TARGETS, OneText, Pages, ReportForm, Several, StoryForm, Targets, Topic, TwoTexts,
+    VerdictForm, Wish,
 };
 use crate::building::{Choices, command_line, refused_for};
 use crate::table::{
@@ -24,12 +25,12 @@ use std::alloc::{AllocError, Global};
 const PAGE_WITH_LINE: &str = "the argument '--page <NUMBER>' cannot be used with '--line <NUMBER>'";
 
 const TOPIC_IN_OBJECT: &str =
-    "the arguments '--page <NUMBER>' and '--line <NUMBER>' cannot be used with '--format json', which is of the report";
+    "the arguments '--page <NUMBER>' and '--line <NUMBER>' cannot be used with '--format json', whose object is about the report";
 
 const ALL_IN_A_LINE: &str = "the argument '--all' cannot be used with '--quiet'";
 
 const ALL_OF_SEVERAL: &str =
-    "the argument '--all' cannot be used with several sessions in lines, of which each has one: '--format json' tells all";
+    "the argument '--all' cannot be used with several sessions, unless '--format json' is given";
 
 // What was given for a word or an option.
 fn name_given<'a>(id: &str, matches: &ArgMatches<'a>) -> Option<&'a str>
@@ -419,36 +420,6 @@ fn clash_of(matches: &ArgMatches<'_>) -> Option<&'static str>
     }
 }
 
-// Which options of the command that was found mean nothing together, if some do.
-fn clash_in(matches: &ArgMatches<'_>) -> Option<&'static str>
-    ensures { is_some result ≡ option_map_or (λ given. clashes given.1) (subcommand_rows_of matches.now) false }
-{
-    match matches.subcommand() {
-        Some((_, inner)) => clash_of(inner),
-        None => None,
-    }
-}
-
-// What the matches of the command of this name ask for, where their options do not clash.
-fn job_unclashed<'a>(name: &str, matches: &ArgMatches<'a>) -> Option<Job<'a>>
-    ensures { option_map asked_names result ≡ asked_in (name.now, rows_of (found_of matches.now)) }
-{
-    match clash_of(matches) {
-        Some(_) => None,
-        None => job_of(name, matches),
-    }
-}
-
-// What the matches ask for, if a command was found.
-fn job_in<'a>(matches: &ArgMatches<'a>) -> Option<Job<'a>>
-    ensures { option_map asked_names result ≡ option_and_then asked_in (subcommand_rows_of matches.now) }
-{
-    match matches.subcommand() {
-        Some((name, inner)) => job_unclashed(name, inner),
-        None => None,
-    }
-}
-
 // What the command line finds in the words.
 fn matches_in<'a>(alloc: Global, words: &'a [&'a str]) -> Result<ArgMatches<'a>, clap::Error>
     ensures ok { IfOk result (λ m. subcommand_rows_of m ≡ subcommand_of postcopy_words (word_texts words.entry.now)) }
@@ -466,7 +437,7 @@ fn matches_in<'a>(alloc: Global, words: &'a [&'a str]) -> Result<ArgMatches<'a>,
 }
 
 // What is asked of the sessions of an audit, if they are several.
-fn several_given<'a>(
+fn sessions_asked<'a>(
     alloc: Global,
     matches: &ArgMatches<'a>,
 ) -> Result<Option<Several<'a>>, AllocError>
@@ -483,91 +454,109 @@ fn several_given<'a>(
     }))
 }
 
-// What is asked of the sessions of an audit, if they are several and the options do not clash.
-fn several_unclashed<'a>(
+// What the matches of the command of this name ask for: a command on named texts, or else the audit of several sessions.
+fn wish_of<'a>(
     alloc: Global,
+    name: &str,
     matches: &ArgMatches<'a>,
-) -> Result<Option<Several<'a>>, AllocError>
-    ensures { IfOk result (λ r. option_map several_names r ≡ several_unclashed (rows_of (found_of matches.now))) }
+) -> Result<Option<Wish<'a>>, AllocError>
+    ensures job { IfOk result (λ r. option_and_then job_of r ≡ asked_of (name.now, rows_of (found_of matches.now))) }
+    ensures several { IfOk result (λ r. option_and_then several_of r ≡ several_given (name.now, rows_of (found_of matches.now))) }
 {
-    match clash_of(matches) {
-        Some(_) => Ok(None),
-        None => several_given(alloc, matches),
+    if let Some(job) = job_of(name, matches) {
+        return Ok(Some(Wish::Job(job)));
     }
-}
-
-// The sessions that the matches ask to audit, if they are several.
-fn several_in<'a>(
-    alloc: Global,
-    matches: &ArgMatches<'a>,
-) -> Result<Option<Several<'a>>, AllocError>
-    ensures { IfOk result (λ r. option_map several_names r ≡ option_and_then several_in (subcommand_rows_of matches.now)) }
-{
-    match matches.subcommand() {
-        Some(("audit", inner)) => several_unclashed(alloc, inner),
-        _ => Ok(None),
+    if name != "audit" {
+        return Ok(None);
     }
-}
-
-// What the matches ask for: a command, or else the audit of several sessions.
-fn wish_in<'a>(alloc: Global, matches: &ArgMatches<'a>) -> Result<Option<Wish<'a>>, AllocError>
-    ensures job { IfOk result (λ r. option_and_then job_of r ≡ option_and_then asked_in (subcommand_rows_of matches.now)) }
-    ensures several { IfOk result (λ r. option_and_then several_of r ≡ several_found (subcommand_rows_of matches.now)) }
-{
-    match job_in(matches) {
-        Some(job) => Ok(Some(Wish::Job(job))),
-        None => match several_in(alloc, matches)? {
-            Some(several) => Ok(Some(Wish::Several(several))),
-            None => Ok(None),
-        },
-    }
-}
-
-/// What the words ask for, of which the first is the program's own name. The error is clap's: it tells why the words are
-/// no command, that they have options which mean nothing together, or is the help or the version that was asked for, or that
-/// memory ran out.
-pub fn read_words<'a>(alloc: Global, words: &'a [&'a str]) -> Result<Option<Wish<'a>>, clap::Error>
-    ensures job { IfOk result (λ r. option_and_then job_of r ≡ asked (word_texts words.entry.now)) }
-    ensures several { IfOk result (λ r. option_and_then several_of r ≡ several_asked (word_texts words.entry.now)) }
-    ensures alike { IfOk result (λ _. clashing (word_texts words.entry.now) ≡ false) }
-    ensures err { IfErr result (λ e. takes postcopy_words (word_texts words.entry.now) ≡ true → IsRefusedFor (clashing (word_texts words.entry.now)) (kind_of e)) }
-{
-    let matches = matches_in(alloc, words)?;
-    if let Some(clash) = clash_in(&matches) {
-        return Err(refused_for(alloc, clash)?);
-    }
-    let wish = wish_in(alloc, &matches)?;
-    Ok(wish)
-}
-
-// The file that the matches name for the answer.
-fn output_in<'a>(matches: &ArgMatches<'a>) -> Option<&'a str>
-    ensures { option_map (λ name. name.now) result ≡ option_and_then (λ given. first_of (codes "output") given.1) (subcommand_rows_of matches.now) }
-{
-    match matches.subcommand() {
-        Some((_, inner)) => name_given(OUTPUT, inner),
-        None => None,
+    match sessions_asked(alloc, matches)? {
+        Some(several) => Ok(Some(Wish::Several(several))),
+        None => Ok(None),
     }
 }
 
 // The file for the lines of a window, where one is asked for.
-fn lines_file<'a>(job: &Option<Job<'a>>) -> Option<&'a str>
-    ensures { option_map (λ name. name.now) result ≡ lines_file (option_map asked_names job.now) }
+fn lines_file<'a>(wish: &Option<Wish<'a>>) -> Option<&'a str>
+    ensures { option_map (λ name. name.now) result ≡ lines_file (option_and_then job_of wish.now) }
 {
-    match job {
-        Some(Asked::Window(_, _, lines)) => *lines,
+    match wish {
+        Some(Wish::Job(Asked::Window(_, _, lines))) => *lines,
         _ => None,
     }
 }
 
-/// The files that the words name for what is written, as in `-o FILE` and `--lines FILE`. The error as for [`read_words`].
-pub fn read_targets<'a>(alloc: Global, words: &'a [&'a str]) -> Result<Targets<'a>, clap::Error>
-    ensures ok { IfOk result (λ targets. target_names targets ≡ targets_named (word_texts words.entry.now)) }
-    ensures err { IfErr result (λ e. takes postcopy_words (word_texts words.entry.now) ≡ true → kind_of e ≡ ErrorKind.OutOfMemory) }
+// What the answer of a command is.
+fn answer_of(job: &Job<'_>) -> AnswerKind
+    ensures { result ≡ answer_of (asked_names job.now) }
+{
+    match job {
+        Asked::One(OneText::Certify, _)
+        | Asked::Two(TwoTexts::Steps, _, _)
+        | Asked::Migrate(..)
+        | Asked::Draw(..)
+        | Asked::Window(..) => AnswerKind::Artifact,
+        Asked::One(OneText::Audit(_) | OneText::Explain(_), _)
+        | Asked::Two(TwoTexts::Check(_) | TwoTexts::Replay | TwoTexts::Explain(_), _, _) => {
+            AnswerKind::Report
+        }
+    }
+}
+
+// What the answer to a wish is.
+fn answer_kind(wish: &Option<Wish<'_>>) -> AnswerKind
+    ensures { result ≡ answer_kind (option_and_then job_of wish.now) }
+{
+    match wish {
+        Some(Wish::Job(job)) => answer_of(job),
+        Some(Wish::Several(_)) | None => AnswerKind::Report,
+    }
+}
+
+// What is found of the command of this name. The error: its options clash, or there is no memory.
+fn found_for<'a>(
+    alloc: Global,
+    name: &str,
+    matches: &ArgMatches<'a>,
+) -> Result<Found<'a>, clap::Error>
+    ensures ok { IfOk result (IsFoundIn (Some (name.now, rows_of (found_of matches.now)))) }
+    ensures err { IfErr result (λ e. IsRefusedFor (clashes (rows_of (found_of matches.now))) (kind_of e)) }
+{
+    if let Some(clash) = clash_of(matches) {
+        return Err(refused_for(alloc, clash)?);
+    }
+    let wish = wish_of(alloc, name, matches)?;
+    let targets = Targets {
+        lines: lines_file(&wish),
+        output: name_given(OUTPUT, matches),
+        answer: answer_kind(&wish),
+    };
+    Ok(Found { wish, targets })
+}
+
+/// Nothing is found.
+pub(crate) const NOTHING: Found<'static> = Found {
+    wish: None,
+    targets: NO_TARGETS,
+};
+
+// What is found in the matches. The error as for [`found_for`].
+fn found_in<'a>(alloc: Global, matches: &ArgMatches<'a>) -> Result<Found<'a>, clap::Error>
+    ensures ok { IfOk result (IsFoundIn (subcommand_rows_of matches.now)) }
+    ensures err { IfErr result (λ e. IsRefusedFor (clash_in (subcommand_rows_of matches.now)) (kind_of e)) }
+{
+    match matches.subcommand() {
+        Some((name, inner)) => found_for(alloc, name, inner),
+        None => Ok(NOTHING),
+    }
+}
+
+/// What is found in words, of which the first is the program's own name. The error is clap's: it tells why the words are no
+/// command, that they have options which mean nothing together, or is the help or the version that was asked for, or that
+/// memory ran out.
+pub(crate) fn find_in<'a>(alloc: Global, words: &'a [&'a str]) -> Result<Found<'a>, clap::Error>
+    ensures ok { IfOk result (IsFoundIn (subcommand_of postcopy_words (word_texts words.entry.now))) }
+    ensures err { IfErr result (λ e. takes postcopy_words (word_texts words.entry.now) ≡ true → IsRefusedFor (clashing (word_texts words.entry.now)) (kind_of e)) }
 {
     let matches = matches_in(alloc, words)?;
-    Ok(Targets {
-        lines: lines_file(&job_in(&matches)),
-        output: output_in(&matches),
-    })
+    found_in(alloc, &matches)
 }

@@ -29,44 +29,44 @@ pub struct Row {
 /// The word for a session.
 pub const SESSION: Word = Word {
     name: "SESSION",
-    help: "The session's file; - is standard input",
+    help: "Session file, or - for standard input",
 };
 
 const CERT: Word = Word {
     name: "CERT",
-    help: "The certificate's file; - is standard input",
+    help: "Certificate file, or - for standard input",
 };
 
 const RUNS: Word = Word {
     name: "RUNS",
-    help: "The file of a merging's runs; - is standard input",
+    help: "File of runs, or - for standard input",
 };
 
 const SCRIPT: Word = Word {
     name: "SCRIPT",
-    help: "The file of a guest's script; - is standard input",
+    help: "File of a guest script, or - for standard input",
 };
 
 const EVENTS: Word = Word {
     name: "EVENTS",
-    help: "The file of a list of events; - is standard input",
+    help: "File of events, or - for standard input",
 };
 
 const RECORDING: Word = Word {
     name: "RECORDING",
-    help: "The recording's file, of any size. It is read four times, so it cannot be -",
+    help: "Recording file, of any size. It is read four times, so it cannot be - or a pipe",
 };
 
 /// The word for the first page of a window.
 pub const FIRST: Word = Word {
     name: "FIRST",
-    help: "The first page",
+    help: "Number of the first page",
 };
 
 /// The word for how many pages a window has.
 pub const COUNT: Word = Word {
     name: "COUNT",
-    help: "How many pages",
+    help: "Number of pages",
 };
 
 /// The option that names what carries a migration.
@@ -156,22 +156,22 @@ pub fn carrier_named(name: &str) -> Option<Carrier>
 static COMMANDS: [Row; 9] = [
     Row {
         name: "check",
-        about: "Judges the certificate of a session, as in: postcopy check session cert",
+        about: "Judge the certificate of a session. Example: postcopy check session cert",
         asked: Asked::Two(TwoTexts::Check(PLAIN_CHECK), SESSION, CERT),
     },
     Row {
         name: "certify",
-        about: "Writes the certificate of a session, or the first line of its report, as in: postcopy certify session",
+        about: "Write the certificate of a clean session, or the first line of the report on another. Example: postcopy certify session",
         asked: Asked::One(OneText::Certify, SESSION),
     },
     Row {
         name: "audit",
-        about: "Writes the report on a session, or a line on each of several, as in: postcopy audit session",
+        about: "Write the report on a session, or a line on each of several. Example: postcopy audit session",
         asked: Asked::One(OneText::Audit(PLAIN_AUDIT), SESSION),
     },
     Row {
         name: "explain",
-        about: "Tells what happened in a session, with the records of its fault, as in: postcopy explain session",
+        about: "Explain what happened in a session, with the records of its fault. Example: postcopy explain session",
         asked: Asked::One(
             OneText::Explain(Explains {
                 demand: Demand::Safety,
@@ -182,27 +182,27 @@ static COMMANDS: [Row; 9] = [
     },
     Row {
         name: "replay",
-        about: "Replays a merging of a session along its runs, as in: postcopy replay session runs",
+        about: "Replay a session in the order of its runs. Example: postcopy replay session runs",
         asked: Asked::Two(TwoTexts::Replay, SESSION, RUNS),
     },
     Row {
         name: "steps",
-        about: "Writes the session that events record of a script, as in: postcopy steps script events",
+        about: "Write the session that events record from a guest script. Example: postcopy steps script events",
         asked: Asked::Two(TwoTexts::Steps, SCRIPT, EVENTS),
     },
     Row {
         name: "migrate",
-        about: "Migrates the guest of a script and writes its session and certificate, as in: postcopy migrate script | postcopy",
+        about: "Migrate the guest of a script, and write its session and certificate. Example: postcopy migrate script | postcopy",
         asked: Asked::Migrate(Carrier::Memory, SCRIPT),
     },
     Row {
         name: "draw",
-        about: "Writes a picture of a session's records, in the order of its report or along runs, as in: postcopy draw session > picture.svg",
+        about: "Draw the records of a session as SVG, in the order of its report or of runs. Example: postcopy draw session -o picture.svg",
         asked: Asked::Draw(Topic::Report, SESSION, Some(RUNS)),
     },
     Row {
         name: "window",
-        about: "Writes the session of some pages of a recording, as in: postcopy window recording 4096 1024 > session",
+        about: "Write the session of some pages of a recording. Example: postcopy window recording 4096 1024 -o session",
         asked: Asked::Window(NO_PAGES, RECORDING, None),
     },
 ];

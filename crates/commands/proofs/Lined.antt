@@ -1,9 +1,15 @@
--- Whether a file is named for a window's lines.
-use Rattle.std.proofs.Common.{Bool, Option, Some, None, option_map}
+-- The table of a window's lines.
+use Rattle.std.proofs.Common.{◌≡◌, ℕ, Bool, true, false, List, Option, Some, None, Result, Ok, MatchOption, option_map, refl}
 use Rattle.std.specs.Prelude.{is_some}
 use Rattle.std.specs.Borrow.{Bor}
+use Rattle.std.specs.Global.{Vec}
 use Rattle.clap.specs.Words.{Text}
+use Rattle.command_texts.specs.declared.answer.Fault.{Fault}
+use Rattle.command_words.specs.declared.asked.Asked.TheVariants.{Window}
+use Rattle.command_words.specs.declared.asked.Pages.{Pages}
+use Rattle.window_commands.specs.Windows.{HasWindowLines}
+use Rattle.commands.specs.Told.{HasLines, window_of}
 
-pub some_named : (P : Bool → Type 0) (lines : Option (Bor Text)) → P (is_some lines) → P (is_some (option_map (λ name. name.now) lines))
-some_named P None h = h
-some_named P (Some name) h = h
+pub window_lines : (pages : Pages) (name : Text) (file : Option (Bor Text)) (files : List ℕ → Option (List ℕ)) (old new : Option (List ℕ)) (before after : Option (Vec ℕ)) (done : Result ℕ Fault) → (is_some file ≡ true → done ≡ Ok 0 → MatchOption after ⊥ (λ table. HasWindowLines (window_of pages) name files old new table.items)) → (is_some file ≡ false → after ≡ before) → done ≡ Ok 0 → HasLines (Window pages name (option_map (λ n. n.now) file)) files old new before after
+window_lines pages name None files old new before after done lined unlined well = unlined refl
+window_lines pages name (Some n) files old new before after done lined unlined well = lined refl well

@@ -1,59 +1,133 @@
 -- What was done and settled.
-use Rattle.std.proofs.Common.{◌≡◌, ◌⊎◌, ℕ, ◌<◌, ◌≤◌, true, List, ◌∷◌, length, suc-le-suc, Result, Ok, Err, MatchResult, IfOk, arith, Option, Some, None, inl, inr, subst, refl}
+use Rattle.std.proofs.Common.{rules, ◌≡◌, ◌≢◌, ◌∙◌, ◌⊎◌, ℕ, ◌<◌, ◌≤◌, true, List, ◌∷◌, length, suc-le-suc, Result, Ok, Err, MatchResult, IfOk, arith, Option, Some, None, inl, inr, subst, refl, sym, ap}
 use Rattle.std.specs.Prelude.{IfErr, IfSome}
+use Rattle.std.specs.Borrow.{Bor}
 use Rattle.std.specs.Io.KnownBytes.{Keeps}
 use Rattle.std.proofs.KnownBytes.{Keeps-refl}
 use Rattle.clap.specs.Words.{Text}
 use Rattle.clap.specs.declared.error.kind.ErrorKind.{ErrorKind}
-use Rattle.command_words.specs.declared.asked.Asked.{Asked}
-use Rattle.command_words.specs.declared.asked.Asked.TheVariants.{One, Two, Migrate, Draw, Window}
-use Rattle.command_words.specs.declared.asked.Lists.{Lists}
+use Rattle.clap.specs.declared.error.kind.ErrorKind.TheVariants.{ArgumentConflict}
 use Rattle.command_texts.specs.declared.answer.Fault.{Fault}
-use Rattle.command_texts.specs.declared.answer.Fault.TheVariants.{Output, Memory}
-use Rattle.command_texts.specs.Answers.{IsTextFault, fault_line, fault_status}
-use Rattle.command_texts.specs.Several.{IsOneOf}
+use Rattle.command_texts.specs.declared.answer.Fault.TheVariants.{File, Link, Threads, Output, Memory}
+use Rattle.command_texts.specs.Answers.{IsOutputFault, fault_line, fault_status}
+use Rattle.command_texts.specs.Several.{IsListStatus, TellsOneUnread}
 use Rattle.command_texts.specs.Written.{AppendsFront, BothGain, Gains, Streams}
 use Rattle.command_texts.proofs.Fronts.{both_gain, front_gains, kept_gains, same_gains}
-use Rattle.command_words.specs.Words.{IsRefusedFor}
-use Rattle.commands.specs.Refused.{IsAsking, IsRefusalOf, IsStarved}
-use Rattle.commands.specs.Told.{EndsAsked, EndsSeveral, IsFaultTold, IsSettled, TellsSeveralAsked}
+use Rattle.commands.specs.Refused.{IsAsking, IsRefusalOf}
+use Rattle.commands.specs.Told.{IsFaultTold, IsSettled, IsSettledAs}
+
+-- no fault has the status 0
+pub no_fault : (fault : Fault) → 0 ≡ fault_status fault → ⊥
+no_fault (File name why) zero = absurd cc
+no_fault Link zero = absurd cc
+no_fault Threads zero = absurd cc
+no_fault (Output name why) zero = absurd cc
+no_fault Memory zero = absurd cc
+
+ok_same : (a b : ℕ) → ◌≡◌ {A = Result ℕ Fault} (Ok a) (Ok b) → a ≡ b
+ok_same a b e = cc
+
+-- the status of what was done, of which a fault is told
+abbrev pub IsTold : Result ℕ Fault → ℕ → Option (List ℕ) → Option (List ℕ) → Type 0
+IsTold done status errors new = MatchResult done (λ s. (status ≡ s) × (new ≡ errors)) (λ fault. (status ≡ fault_status fault) × AppendsFront errors new (fault_line fault))
 
 -- what was done is settled in a status
-pub settled : (EndsSo : Streams → Result ℕ Fault → Type 0) (done : Result ℕ Fault) (status : ℕ) (output errors new : Option (List ℕ)) → IfOk done (λ s. s < 2) → EndsSo (output, errors) done
-    → MatchResult done (λ s. (status ≡ s) × (new ≡ errors)) (λ fault. (status ≡ fault_status fault) × AppendsFront errors new (fault_line fault))
-    → IsSettled EndsSo (output, new) status
-settled EndsSo (Ok s) status output errors new few ends e = inl (rw e.0 few, rw (e.0, e.1) ends)
-settled EndsSo (Err fault) status output errors new few ends e = inr record { fault = fault; is_status = e.0; before = errors; ends = ends; told = e.1 }
+pub settled_as : (IsOwn : ℕ → Type 0) (EndsSo : Streams → Result ℕ Fault → Type 0) (done : Result ℕ Fault) (status : ℕ) (output errors new : Option (List ℕ)) → IfOk done IsOwn → EndsSo (output, errors) done
+    → IsTold done status errors new
+    → IsSettledAs IsOwn EndsSo (output, new) status
+settled_as IsOwn EndsSo (Ok s) status output errors new own ends e = inl (rw e.0 own, rw (e.0, e.1) ends)
+settled_as IsOwn EndsSo (Err fault) status output errors new own ends e = inr record { fault = fault; is_status = e.0; before = errors; ends = ends; told = e.1 }
 
--- a fault that was told behind what was gained
-pub told_after : (a b c : Option (List ℕ)) (status : ℕ) → Gains a b → IsFaultTold b c status → IsFaultTold a c status
-told_after a b c status gains h = record { fault = h.fault; is_status = h.is_status; before = h.before; gained = both_gain a b h.before gains h.gained; told = h.told }
+pub settled : (EndsSo : Streams → Result ℕ Fault → Type 0) (done : Result ℕ Fault) (status : ℕ) (output errors new : Option (List ℕ)) → IfOk done (λ s. s < 2) → EndsSo (output, errors) done → IsTold done status errors new → IsSettled EndsSo (output, new) status
+settled EndsSo done status output errors new few ends e = settled_as (λ s. s < 2) EndsSo done status output errors new few ends e
 
--- how the audits of several sessions end
-pub ends_several : (several : Lists × List Text) (files : List ℕ → Option (List ℕ)) (old new : Streams) (done : Result ℕ Fault) → IfOk done (TellsSeveralAsked several files old new) → IfErr done (IsTextFault (IsOneOf several.1)) → BothGain old new → EndsSeveral several files old new done
-ends_several several files old new (Ok s) told fault gains = told
-ends_several several files old new (Err f) told fault gains = record { is_fault = fault; gains = gains }
+-- ---- the status
 
--- where there is no memory nothing is done
-pub starved : (job : Asked Text) (files : List ℕ → Option (List ℕ)) (input : Option (List ℕ)) (old new : Streams) (status : ℕ) → IsStarved old new status → IsSettled (EndsAsked job files input old) new status
-starved (One task name) files input old new status h = inr record { fault = Memory; is_status = h.is_status; before = old.1; ends = record { is_fault = tt; output = h.output; errors = Keeps-refl old.1 }; told = h.errors }
-starved (Two task first second) files input old new status h = inr record { fault = Memory; is_status = h.is_status; before = old.1; ends = record { is_fault = tt; output = h.output; errors = Keeps-refl old.1 }; told = h.errors }
-starved (Migrate carrier name) files input old new status h = inr record { fault = Memory; is_status = h.is_status; before = old.1; ends = record { is_fault = tt; output = h.output; errors = Keeps-refl old.1 }; told = h.errors }
-starved (Draw topic name None) files input old new status h = inr record { fault = Memory; is_status = h.is_status; before = old.1; ends = record { is_fault = tt; output = h.output; errors = Keeps-refl old.1 }; told = h.errors }
-starved (Draw topic name (Some second)) files input old new status h = inr record { fault = Memory; is_status = h.is_status; before = old.1; ends = record { is_fault = tt; output = h.output; errors = Keeps-refl old.1 }; told = h.errors }
-starved (Window pages name lines) files input old new status h = inr record { fault = Memory; is_status = h.is_status; before = old.1; ends = record { is_fault = tt; output = h.output; errors = Keeps-refl old.1 }; told = h.errors }
+fault_known : (fault : Fault) → (fault_status fault ≢ 2) × (fault_status fault ≤ 4)
+fault_known (File name why) = (λ e. absurd (omega (arith, e)), omega arith)
+fault_known Link = (λ e. absurd (omega (arith, e)), omega arith)
+fault_known Threads = (λ e. absurd (omega (arith, e)), omega arith)
+fault_known (Output name why) = (λ e. absurd (omega (arith, e)), omega arith)
+fault_known Memory = (λ e. absurd (omega (arith, e)), omega arith)
 
-pub starved_several : (several : Lists × List Text) (files : List ℕ → Option (List ℕ)) (old new : Streams) (status : ℕ) → IsStarved old new status → IsSettled (EndsSeveral several files old) new status
-starved_several several files old new status h = inr record { fault = Memory; is_status = h.is_status; before = old.1; ends = record { is_fault = tt; gains = (kept_gains old.0 new.0 h.output, same_gains old.1) }; told = h.errors }
+few_known : (status : ℕ) → status < 2 → (status ≢ 2) × (status ≤ 4)
+few_known status few = (λ e. absurd (omega (arith, few, e)), omega (arith, few))
+
+pub known : (done : Result ℕ Fault) (status : ℕ) (errors new : Option (List ℕ)) → IfOk done (λ s. s < 2) → IsTold done status errors new → (status ≢ 2) × (status ≤ 4)
+known (Ok s) status errors new few e = rw e.0 (few_known s few)
+known (Err fault) status errors new few e = rw e.0 (fault_known fault)
+
+list_known : (status : ℕ) → IsListStatus status → (status ≢ 2) × (status ≤ 4)
+list_known status (inl few) = few_known status few
+list_known status (inr three) = (λ e. absurd (omega (arith, three, e)), omega (arith, three))
+
+pub known_list : (done : Result ℕ Fault) (status : ℕ) (errors new : Option (List ℕ)) → IfOk done IsListStatus → IsTold done status errors new → (status ≢ 2) × (status ≤ 4)
+known_list (Ok s) status errors new own e = rw e.0 (list_known s own)
+known_list (Err fault) status errors new own e = rw e.0 (fault_known fault)
+
+-- ---- faults that are told
+
+fault_there : (fault : Fault) (before behind : Option (List ℕ)) (a c : Option (List ℕ)) → Gains a before → AppendsFront before behind (fault_line fault) → Gains behind c → IsFaultTold a c (fault_status fault)
+fault_there fault before behind a c gained told more = record { fault = fault; is_status = refl; before = before; behind = behind; gained = gained; told = told; more = more }
+
+-- of a job, at a status above 2
+pub told_at_last : (done : Result ℕ Fault) (status : ℕ) (old errors new : Option (List ℕ)) → IfOk done (λ s. s < 2) → Gains old errors → IsTold done status errors new → 2 < status → IsFaultTold old new status
+told_at_last (Ok s) status old errors new few gained e lt = absurd (omega (arith, few, e.0, lt))
+told_at_last (Err fault) status old errors new few gained e lt = rw e.0 (fault_there fault errors new old new gained e.1 (same_gains new))
+
+-- of a list
+abbrev text_of : List ℕ → Bor (List ℕ)
+text_of bytes = record { ref_ptr = (0, 0); now = bytes }
+
+unread_told : (a b : Option (List ℕ)) → TellsOneUnread a b → IsFaultTold a b 3
+unread_told a b h = record { fault = File (text_of h.name) (text_of h.told.0); is_status = refl; before = h.before; behind = h.behind; gained = h.gained; told = h.told.1; more = h.more }
+
+list_fault : (status : ℕ) (a b : Option (List ℕ)) → IsListStatus status → (status ≡ 3 → TellsOneUnread a b) → 2 < status → IsFaultTold a b status
+list_fault status a b (inl few) unread lt = absurd (omega (arith, few, lt))
+list_fault status a b (inr three) unread lt = rw three (unread_told a b (unread three))
+
+pub told_of_list : (done : Result ℕ Fault) (status : ℕ) (old errors new : Option (List ℕ)) → IfOk done IsListStatus → IfOk done (λ s. s ≡ 3 → TellsOneUnread old errors) → Gains old errors → IsTold done status errors new → 2 < status → IsFaultTold old new status
+told_of_list (Ok s) status old errors new own unread gained e lt = rw (e.0, e.1) (list_fault s old errors own unread (rw (sym e.0) lt))
+told_of_list (Err fault) status old errors new own unread gained e lt = rw e.0 (fault_there fault errors new old new gained e.1 (same_gains new))
+
+-- ---- the table of lines
+
+-- a status of 0 is no fault's
+well_done : (done : Result ℕ Fault) (status : ℕ) (errors new : Option (List ℕ)) → IsTold done status errors new → status ≡ 0 → done ≡ Ok 0
+well_done (Ok s) status errors new e zero = ap Ok (sym e.0 ∙ zero)
+well_done (Err fault) status errors new e zero = absurd (no_fault fault (sym zero ∙ e.0))
+
+pub well_lines : (P : Type 0) (done : Result ℕ Fault) (status : ℕ) (errors new : Option (List ℕ)) → IsTold done status errors new → (done ≡ Ok 0 → P) → status ≡ 0 → P
+well_lines P done status errors new e h zero = h (well_done done status errors new e zero)
+
+pub kept_lines : (P : Type 0) (done : Result ℕ Fault) (status : ℕ) (errors new : Option (List ℕ)) → IsTold done status errors new → (done ≢ Ok 0 → P) → status ≢ 0 → P
+kept_lines P (Ok s) status errors new e h other = h (λ same. other (e.0 ∙ ok_same s 0 same))
+kept_lines P (Err fault) status errors new e h other = h (λ same. absurd cc)
 
 -- ---- words that are refused
 
+output_status : (fault : Fault) → IsOutputFault fault → 3 ≡ fault_status fault
+output_status (File name why) h = absurd h
+output_status Link h = absurd h
+output_status Threads h = absurd h
+output_status (Output name why) h = refl
+output_status Memory h = absurd h
+
+-- what was asked for is not shown, since the output failed
+pub unshown : (kind : ErrorKind) (old new : Streams) (status : ℕ) (name why : List ℕ) → IsAsking kind → Gains old.0 new.0 → status ≡ 3 → AppendsFront old.1 new.1 (fault_line (Output (text_of name) (text_of why))) → IsRefusalOf kind old new status
+unshown kind old new status name why asked gained is told = inr (inr (inl record {
+  asked = asked;
+  is_status = is;
+  output = gained;
+  fault = Output (text_of name) (text_of why);
+  is_fault = search rules;
+  errors = told;
+}))
+
 -- words that clash ask for no help and no version
-no_asking : (kind : ErrorKind) → IsAsking kind → IsRefusedFor true kind → ⊥
-no_asking kind (inl help) (inl clash) = absurd cc
-no_asking kind (inl help) (inr memory) = absurd cc
-no_asking kind (inr version) (inl clash) = absurd cc
-no_asking kind (inr version) (inr memory) = absurd cc
+no_asking : (kind : ErrorKind) → IsAsking kind → kind ≡ ArgumentConflict → ⊥
+no_asking kind (inl help) clash = absurd cc
+no_asking kind (inr version) clash = absurd cc
 
 module _ (kind : ErrorKind) (old new : Streams) (status : ℕ) where
   pub refusal_known : IsRefusalOf kind old new status → status ≤ 4
@@ -77,11 +151,11 @@ module _ (kind : ErrorKind) (old new : Streams) (status : ℕ) where
   pub refusal_fault : IsRefusalOf kind old new status → 2 < status → IsFaultTold old.1 new.1 status
   refusal_fault (inl h) lt = absurd (omega (arith, h.is_status))
   refusal_fault (inr (inl h)) lt = absurd (omega (arith, h.is_status))
-  refusal_fault (inr (inr (inl h))) lt = record { fault = Output; is_status = h.is_status; before = old.1; gained = same_gains old.1; told = h.errors }
-  refusal_fault (inr (inr (inr h))) lt = record { fault = Memory; is_status = h.is_status; before = old.1; gained = same_gains old.1; told = h.errors }
+  refusal_fault (inr (inr (inl h))) lt = record { fault = h.fault; is_status = h.is_status ∙ output_status h.fault h.is_fault; before = old.1; behind = new.1; gained = same_gains old.1; told = h.errors; more = same_gains new.1 }
+  refusal_fault (inr (inr (inr h))) lt = record { fault = Memory; is_status = h.is_status; before = old.1; behind = new.1; gained = same_gains old.1; told = h.errors; more = same_gains new.1 }
 
 -- words that clash are misuse, where there is memory for telling so
-pub refused_clash : (kind : ErrorKind) (old new : Streams) (status : ℕ) → IsRefusalOf kind old new status → IsRefusedFor true kind → (status ≡ 2) ⊎ (status ≡ 4)
+pub refused_clash : (kind : ErrorKind) (old new : Streams) (status : ℕ) → IsRefusalOf kind old new status → kind ≡ ArgumentConflict → (status ≡ 2) ⊎ (status ≡ 4)
 refused_clash kind old new status (inl h) why = inl h.is_status
 refused_clash kind old new status (inr (inl h)) why = absurd (no_asking kind h.asked why)
 refused_clash kind old new status (inr (inr (inl h))) why = absurd (no_asking kind h.asked why)
@@ -99,9 +173,3 @@ some_told found asked P e h = subst (λ (o : Option _). IfSome o P) e h
 pub if_some : {X : Type 0} (found : Option X) (P : X → Type 0) → ((x : X) → found ≡ Some x → P x) → IfSome found P
 if_some None P h = tt
 if_some (Some x) P h = h x refl
-
--- plain words of a command are two at least
-pub two_words : (words : List Text) (program name : Text) (names : List Text) → words ≡ program ∷ name ∷ names → length words ≤ 1 → ⊥
-two_words words program name names e le =
-    let some : length (program ∷ name ∷ names) ≤ 1 = subst (λ (ws : List Text). length ws ≤ 1) e le in
-    elim some [ suc-le-suc h ↦ elim h [ ] ]

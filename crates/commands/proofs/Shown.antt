@@ -15,8 +15,6 @@ use Rattle.cert_check.specs.declared.verdict.Verdict.{Verdict}
 use Rattle.cert_check.specs.declared.verdict.Verdict.TheVariants.{SessionText, CertText, Shape, Pages, Runs, Page, Yes}
 use Rattle.judged_texts.specs.Checked.{HeadlineHolds, IsTextVerdict}
 use Rattle.command_texts.specs.declared.answer.Fault.{Fault}
-use Rattle.command_texts.specs.declared.answer.Fault.TheVariants.{File, Changed, Link, Threads, Output, Memory}
-use Rattle.command_texts.specs.Answers.{fault_status}
 use Rattle.command_texts.specs.Told.{Ends}
 use Rattle.command_texts.specs.Written.{Streams}
 use Rattle.migration_types.specs.Sessions.{Recorded}
@@ -27,15 +25,7 @@ use Rattle.judge_commands.specs.Answers.{IsVerdictTold, verdict_lack, verdict_st
 use Rattle.judge_commands.specs.Completed.{IsChecked, IsDemanded}
 use Rattle.commands.specs.Shown.{AsksCheck, IsTakenAsCheck, ShowsHeadline}
 use Rattle.commands.specs.Told.{IsSettled, IsTwoAnswer, extent_of}
-
--- no fault has the status 0
-no_fault : (fault : Fault) → 0 ≡ fault_status fault → ⊥
-no_fault (File name) zero = absurd cc
-no_fault (Changed name) zero = absurd cc
-no_fault Link zero = absurd cc
-no_fault Threads zero = absurd cc
-no_fault Output zero = absurd cc
-no_fault Memory zero = absurd cc
+use Rattle.commands.proofs.Settled.{no_fault}
 
 -- the one verdict with the status 0 is yes
 yes_of : (session cert : List ℕ) (verdict : Verdict) → IsTextVerdict session cert verdict → 0 ≡ verdict_status verdict → IsTextVerdict session cert Yes

@@ -3,8 +3,9 @@ use Rattle.std.specs.Prelude.{◌≡◌, ◌≢◌, ◌⊎◌, ℕ}
 use Rattle.std.specs.Io.KnownBytes.{Keeps}
 use Rattle.clap.specs.declared.error.kind.ErrorKind.{ErrorKind}
 use Rattle.clap.specs.declared.error.kind.ErrorKind.TheVariants.{DisplayHelp, DisplayVersion}
-use Rattle.command_texts.specs.declared.answer.Fault.TheVariants.{Memory, Output}
-use Rattle.command_texts.specs.Answers.{fault_line}
+use Rattle.command_texts.specs.declared.answer.Fault.{Fault}
+use Rattle.command_texts.specs.declared.answer.Fault.TheVariants.{Memory}
+use Rattle.command_texts.specs.Answers.{IsOutputFault, fault_line}
 use Rattle.command_texts.specs.Written.{AppendsFront, Gains, Streams}
 
 -- the help or the version was asked for
@@ -31,7 +32,9 @@ pub record IsUnshown (kind : ErrorKind) (old new : Streams) (status : ℕ) : Typ
   pub asked : IsAsking kind
   pub is_status : status ≡ 3
   pub output : Gains old.0 new.0
-  pub errors : AppendsFront old.1 new.1 (fault_line Output)
+  pub fault : Fault
+  pub is_fault : IsOutputFault fault
+  pub errors : AppendsFront old.1 new.1 (fault_line fault)
 
 -- there was no memory, which the errors tell
 pub record IsStarved (old new : Streams) (status : ℕ) : Type 0 where

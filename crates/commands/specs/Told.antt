@@ -1,10 +1,11 @@
 -- What the program tells of the texts that the words name.
-use Rattle.std.specs.Prelude.{◌≡◌, ◌<◌, ◌⊎◌, ℕ, List, Option, Some, None, Result, Ok, Err, MatchResult, codes, is_some}
+use Rattle.std.specs.Prelude.{◌≡◌, ◌<◌, ◌⊎◌, ℕ, List, Option, Some, None, Result, Ok, Err, MatchOption, MatchResult, codes}
+use Rattle.std.specs.Global.{Vec}
 use Rattle.command_words.specs.declared.asked.Asked.{Asked}
 use Rattle.command_words.specs.declared.asked.Asked.TheVariants.{One, Two, Migrate, Draw, Window}
 use Rattle.command_words.specs.declared.asked.Pages.{Pages}
 use Rattle.window_cut.specs.declared.pages.Window.{Window as CutWindow}
-use Rattle.window_commands.specs.Windows.{EndsWindow}
+use Rattle.window_commands.specs.Windows.{EndsWindow, HasWindowLines}
 use Rattle.command_words.specs.declared.asked.Demand.{Demand}
 use Rattle.command_words.specs.declared.asked.Demand.TheVariants.{Safety}
 use Rattle.command_words.specs.declared.asked.Demand.TheVariants as demand
@@ -45,9 +46,9 @@ use Rattle.command_texts.specs.declared.answer.Fault.{Fault}
 use Rattle.command_texts.specs.declared.why.Telling.TheVariants.{Short}
 use Rattle.command_texts.specs.Answers.{IsHostFault, IsTextFault, fault_line, fault_status}
 use Rattle.command_texts.specs.Reasons.{IsRefusedAt, TellsBeside, TellsWhyOf}
-use Rattle.command_texts.specs.Several.{IsOneOf, Style, TellsSeveral}
+use Rattle.command_texts.specs.Several.{IsListStatus, StopsSeveral, Style, TellsSeveral}
 use Rattle.command_texts.specs.Told.{AreNamed, AreOfInput, Ends, IsNamed}
-use Rattle.command_texts.specs.Written.{AppendsFront, BothGain, Gains, Streams}
+use Rattle.command_texts.specs.Written.{AppendsFront, Gains, Streams}
 use Rattle.judge_commands.specs.Answers.{AddsMisfitOf, how_much}
 use Rattle.judge_commands.specs.ByTables.{IsExplainedByTable}
 use Rattle.judge_commands.specs.Completed.{IsAnswered, IsChecked}
@@ -164,7 +165,12 @@ EndsAsked (Draw topic name None) files input =
     Ends (IsFaultOf name) (IsNamed name files input) (IsDrawAnswer (told_topic topic)) (TellsWhyOf (IsRefusedAt SpellsSession) NoNote Short name)
 EndsAsked (Draw topic first (Some second)) files input =
     Ends (IsFaultOfTwo first second) (AreNamed first second files input) (IsDrawAlongAnswer (told_topic topic)) (TellsBeside (IsRefusedAt SpellsSession) (IsRefusedAt SpellsOrder) AddsNothing NoNote first second)
-EndsAsked (Window pages name lines) files input = EndsWindow (window_of pages) (is_some lines) name files
+EndsAsked (Window pages name lines) files input = EndsWindow (window_of pages) name files
+
+-- where the lines of a window are asked for, this is their table, and otherwise it stays
+abbrev pub HasLines : Asked (List ℕ) → (List ℕ → Option (List ℕ)) → Option (List ℕ) → Option (List ℕ) → Option (Vec ℕ) → Option (Vec ℕ) → Type 0
+HasLines (Window pages name (Some lines)) files old new before after = MatchOption after ⊥ (λ table. HasWindowLines (window_of pages) name files old new table.items)
+HasLines other files old new before after = after ≡ before
 
 -- something came to a fault, which the errors tell then, with its status
 pub record TellsFault (EndsSo : Streams → Result ℕ Fault → Type 0) (new : Streams) (status : ℕ) : Type 0 where
@@ -174,17 +180,27 @@ pub record TellsFault (EndsSo : Streams → Result ℕ Fault → Type 0) (new : 
   pub ends : EndsSo (new.0, before) (Err fault)
   pub told : AppendsFront before new.1 (fault_line fault)
 
--- the status of something that ends so: its own, which is 0 or 1, or that of a fault
-abbrev pub IsSettled : (Streams → Result ℕ Fault → Type 0) → Streams → ℕ → Type 0
-IsSettled EndsSo new status = ((status < 2) × EndsSo new (Ok status)) ⊎ TellsFault EndsSo new status
+-- the status of something that ends so: its own, which is one of these, or that of a fault
+abbrev pub IsSettledAs : (ℕ → Type 0) → (Streams → Result ℕ Fault → Type 0) → Streams → ℕ → Type 0
+IsSettledAs IsOwn EndsSo new status = (IsOwn status × EndsSo new (Ok status)) ⊎ TellsFault EndsSo new status
 
--- at a status above 2 the errors tell a fault that has it, behind what they told before
+-- its own is 0 or 1
+abbrev pub IsSettled : (Streams → Result ℕ Fault → Type 0) → Streams → ℕ → Type 0
+IsSettled = IsSettledAs (λ status. status < 2)
+
+-- that of a list is 3 where a text was not read
+abbrev pub IsSettledList : (Streams → Result ℕ Fault → Type 0) → Streams → ℕ → Type 0
+IsSettledList = IsSettledAs IsListStatus
+
+-- at a status above 2 the errors tell a fault that has it
 pub record IsFaultTold (old new : Option (List ℕ)) (status : ℕ) : Type 0 where
   pub fault : Fault
   pub is_status : status ≡ fault_status fault
   pub before : Option (List ℕ)
+  pub behind : Option (List ℕ)
   pub gained : Gains old before
-  pub told : AppendsFront before new (fault_line fault)
+  pub told : AppendsFront before behind (fault_line fault)
+  pub more : Gains behind new
 
 -- where there are no words: the answer of `check` to the two texts of the input
 abbrev pub EndsBare : Option (List ℕ) → Streams → Streams → Result ℕ Fault → Type 0
@@ -196,14 +212,9 @@ list_style list.FirstLines = Some (codes " sessions are clean\n")
 list_style list.Objects = None
 list_style list.AllFaultsObjects = None
 
--- the audits of the sessions under these names were told, as this is asked
-abbrev pub TellsSeveralAsked : Lists × List (List ℕ) → (List ℕ → Option (List ℕ)) → Streams → Streams → ℕ → Type 0
-TellsSeveralAsked several files = TellsSeveral files (IsAnswered (list_ask several.0)) (IsRefusedAt SpellsSession) TellsNoUse (list_style several.0.form) several.1
-
--- or it came to a fault, and the errors may tell why texts before it are refused
-pub record FailsSeveral (names : List (List ℕ)) (old new : Streams) (fault : Fault) : Type 0 where
-  pub is_fault : IsTextFault (IsOneOf names) fault
-  pub gains : BothGain old new
-
+-- the audits of the sessions under these names were told, as this is asked, or the list ended before
 abbrev pub EndsSeveral : Lists × List (List ℕ) → (List ℕ → Option (List ℕ)) → Streams → Streams → Result ℕ Fault → Type 0
-EndsSeveral several files old new done = MatchResult done (TellsSeveralAsked several files old new) (FailsSeveral several.1 old new)
+EndsSeveral several files old new done =
+    MatchResult done
+    (TellsSeveral files (IsAnswered (list_ask several.0)) (IsRefusedAt SpellsSession) TellsNoUse (list_style several.0.form) several.1 old new)
+    (StopsSeveral files (IsAnswered (list_ask several.0)) (IsRefusedAt SpellsSession) TellsNoUse (list_style several.0.form) several.1 old new)

@@ -1,6 +1,6 @@
 //! Who answers to what is asked: an arm for each command.
 
-ghost use Rattle.std.specs.Prelude.{◌≡◌, ◌⊎◌, ◌<◌, IfOk, is_some};
+ghost use Rattle.std.specs.Prelude.{◌≡◌, ◌≢◌, ◌⊎◌, ◌<◌, Ok, true, false, IfOk, MatchOption};
 ghost use Rattle.guest_script.specs.Scripts.{SpellsScript};
 ghost use Rattle.command_words.specs.Table.{asked_names};
 ghost use Rattle.command_texts.specs.declared.why.Telling.TheVariants.{Short};
@@ -9,20 +9,20 @@ ghost use Rattle.command_texts.specs.Reasons.{IsRefusedAt, TellsWhyOf};
 ghost use Rattle.command_texts.specs.Told.{AreNamed, Ends, IsNamed};
 ghost use Rattle.command_texts.specs.Written.{BothGain};
 ghost use Rattle.host_commands.specs.Migrations.{IsMigrateAnswer};
-ghost use Rattle.window_commands.specs.Windows.{EndsWindow};
-ghost use Rattle.commands.specs.Told.{EndsAsked, IsBesideOne, IsBesideTwo, IsOneAnswer, IsTwoAnswer, NoNote, window_of};
+ghost use Rattle.window_commands.specs.Windows.{EndsWindow, HasWindowLines};
+ghost use Rattle.commands.specs.Told.{EndsAsked, HasLines, IsBesideOne, IsBesideTwo, IsOneAnswer, IsTwoAnswer, NoNote, window_of};
 
 use crate::drawing::{DrawAlongCommand, DrawCommand};
 use crate::judging::{ask_of, extent_of, story_form};
 use crate::topics::told_topic;
 use command_texts::{
-    Fault, Gathered, Telling, TextSource, perform_one, perform_two, read_named, tell_why, written,
+    Console, Fault, Gathered, Telling, TextSource, perform_one, perform_two, read_named, tell_why,
+    written,
 };
 use command_words::{Asked, Carrier, Job, OneText, Pages, Topic, TwoTexts};
 use guest_script::ScriptParts;
 use host_commands::{StepsCommand, migrate_read};
 use judge_commands::{AuditCommand, CheckCommand, ExplainByTable, ReplayCommand};
-use std::alloc::Global;
 use std::io::{Read, Write};
 use std::net::{Net, TcpListener, TcpStream};
 use std::sync::Wait;
@@ -32,84 +32,50 @@ use window_cut::Window;
 
 // Does a command on the text under a name.
 fn asked_one<'a, R: Threads + Sync, S: TextSource, I: Read + Send, O: Write, E: Write>(
-    rt: &R,
-    alloc: Global,
+    console: &mut Console<'_, R, S, I, O, E>,
     task: OneText,
     name: &'a str,
-    texts: &S,
-    input: &mut I,
-    output: &mut O,
-    errors: &mut E,
 ) -> Result<u8, Fault<'a>>
     ensures few { IfOk result (λ status. status < 2) }
-    ensures told { Ends (IsTextFault (λ n. n ≡ name.entry.now)) (IsNamed name.entry.now (S.bytes_of texts.now) (I.remaining input.old)) (IsOneAnswer task) (IsBesideOne task name.entry.now) (O.contents output.old, E.contents errors.old) (O.contents output.new, E.contents errors.new) result }
-    ensures gains { BothGain (O.contents output.old, E.contents errors.old) (O.contents output.new, E.contents errors.new) }
+    ensures told { Ends (IsTextFault (λ n. n ≡ name.entry.now)) (IsNamed name.entry.now (S.bytes_of console.old.texts.now) (I.remaining console.old.input)) (IsOneAnswer task) (IsBesideOne task name.entry.now) (O.contents console.old.output, E.contents console.old.errors) (O.contents console.new.output, E.contents console.new.errors) result }
+    ensures gains { BothGain (O.contents console.old.output, E.contents console.old.errors) (O.contents console.new.output, E.contents console.new.errors) }
 {
     let command = AuditCommand {
-        rt,
+        rt: console.rt,
         ask: ask_of(task),
     };
-    perform_one(rt, alloc, &command, name, texts, input, output, errors)
+    perform_one(console, &command, name)
 }
 
 // Does a command on the texts under two names, read in this order.
 fn asked_two<'a, R: Threads + Sync, S: TextSource, I: Read + Send, O: Write, E: Write>(
-    rt: &R,
-    alloc: Global,
+    console: &mut Console<'_, R, S, I, O, E>,
     task: TwoTexts,
     first: &'a str,
     second: &'a str,
-    texts: &S,
-    input: &mut I,
-    output: &mut O,
-    errors: &mut E,
 ) -> Result<u8, Fault<'a>>
     ensures few { IfOk result (λ status. status < 2) }
-    ensures told { Ends (IsTextFault (λ n. (n ≡ first.entry.now) ⊎ (n ≡ second.entry.now))) (AreNamed first.entry.now second.entry.now (S.bytes_of texts.now) (I.remaining input.old)) (IsTwoAnswer task) (IsBesideTwo task first.entry.now second.entry.now) (O.contents output.old, E.contents errors.old) (O.contents output.new, E.contents errors.new) result }
-    ensures gains { BothGain (O.contents output.old, E.contents errors.old) (O.contents output.new, E.contents errors.new) }
+    ensures told { Ends (IsTextFault (λ n. (n ≡ first.entry.now) ⊎ (n ≡ second.entry.now))) (AreNamed first.entry.now second.entry.now (S.bytes_of console.old.texts.now) (I.remaining console.old.input)) (IsTwoAnswer task) (IsBesideTwo task first.entry.now second.entry.now) (O.contents console.old.output, E.contents console.old.errors) (O.contents console.new.output, E.contents console.new.errors) result }
+    ensures gains { BothGain (O.contents console.old.output, E.contents console.old.errors) (O.contents console.new.output, E.contents console.new.errors) }
 {
     match task {
         TwoTexts::Check(checks) => {
             let command = CheckCommand {
-                rt,
+                rt: console.rt,
                 form: checks.form,
                 complete: extent_of(checks.demand),
             };
-            perform_two(
-                rt, alloc, &command, first, second, texts, input, output, errors,
-            )
+            perform_two(console, &command, first, second)
         }
-        TwoTexts::Replay => perform_two(
-            rt,
-            alloc,
-            &ReplayCommand,
-            first,
-            second,
-            texts,
-            input,
-            output,
-            errors,
-        ),
-        TwoTexts::Steps => perform_two(
-            rt,
-            alloc,
-            &StepsCommand,
-            first,
-            second,
-            texts,
-            input,
-            output,
-            errors,
-        ),
+        TwoTexts::Replay => perform_two(console, &ReplayCommand, first, second),
+        TwoTexts::Steps => perform_two(console, &StepsCommand, first, second),
         TwoTexts::Explain(explains) => {
             let command = ExplainByTable {
-                rt,
+                rt: console.rt,
                 story: story_form(explains.form),
                 complete: extent_of(explains.demand),
             };
-            perform_two(
-                rt, alloc, &command, first, second, texts, input, output, errors,
-            )
+            perform_two(console, &command, first, second)
         }
     }
 }
@@ -123,93 +89,69 @@ fn asked_migrate<
     O: Write,
     E: Write,
 >(
-    rt: &R,
-    alloc: Global,
+    console: &mut Console<'_, R, S, I, O, E>,
     carrier: Carrier,
     name: &'a str,
-    texts: &S,
-    input: &mut I,
-    output: &mut O,
-    errors: &mut E,
 ) -> Result<u8, Fault<'a>>
     ensures few { IfOk result (λ status. status < 2) }
-    ensures told { Ends (IsHostFault (λ n. n ≡ name.entry.now)) (IsNamed name.entry.now (S.bytes_of texts.now) (I.remaining input.old)) IsMigrateAnswer (TellsWhyOf (IsRefusedAt SpellsScript) NoNote Short name.entry.now) (O.contents output.old, E.contents errors.old) (O.contents output.new, E.contents errors.new) result }
-    ensures gains { BothGain (O.contents output.old, E.contents errors.old) (O.contents output.new, E.contents errors.new) }
+    ensures told { Ends (IsHostFault (λ n. n ≡ name.entry.now)) (IsNamed name.entry.now (S.bytes_of console.old.texts.now) (I.remaining console.old.input)) IsMigrateAnswer (TellsWhyOf (IsRefusedAt SpellsScript) NoNote Short name.entry.now) (O.contents console.old.output, E.contents console.old.errors) (O.contents console.new.output, E.contents console.new.errors) result }
+    ensures gains { BothGain (O.contents console.old.output, E.contents console.old.errors) (O.contents console.new.output, E.contents console.new.errors) }
 {
     let (script, why) = read_named::<Gathered<ScriptParts>, R, S, I>(
-        rt, alloc, name, texts, input,
+        console.rt,
+        console.alloc,
+        name,
+        console.texts,
+        &mut console.input,
     )?;
-    let answer = migrate_read(rt, alloc, carrier, &script)?;
-    let status = written(&answer, output)?;
-    tell_why(alloc, &why, Telling::Short, errors);
+    let answer = migrate_read(console.rt, console.alloc, carrier, &script)?;
+    let status = written(&answer, &mut console.output)?;
+    tell_why(console.alloc, &why, Telling::Short, &mut console.errors);
     Ok(status)
 }
 
 // Draws the session under a name, along the runs under a further one where there is one.
 fn asked_draw<'a, R: Threads + Sync, S: TextSource, I: Read + Send, O: Write, E: Write>(
-    rt: &R,
-    alloc: Global,
+    console: &mut Console<'_, R, S, I, O, E>,
     asked: Topic,
     name: &'a str,
     further: Option<&'a str>,
-    texts: &S,
-    input: &mut I,
-    output: &mut O,
-    errors: &mut E,
 ) -> Result<u8, Fault<'a>>
     ensures few { IfOk result (λ status. status < 2) }
-    ensures told { EndsAsked (asked_names (Asked.Draw asked name.entry further.entry)) (S.bytes_of texts.now) (I.remaining input.old) (O.contents output.old, E.contents errors.old) (O.contents output.new, E.contents errors.new) result }
-    ensures gains { BothGain (O.contents output.old, E.contents errors.old) (O.contents output.new, E.contents errors.new) }
+    ensures told { EndsAsked (asked_names (Asked.Draw asked name.entry further.entry)) (S.bytes_of console.old.texts.now) (I.remaining console.old.input) (O.contents console.old.output, E.contents console.old.errors) (O.contents console.new.output, E.contents console.new.errors) result }
+    ensures gains { BothGain (O.contents console.old.output, E.contents console.old.errors) (O.contents console.new.output, E.contents console.new.errors) }
 {
     let topic = told_topic(asked);
+    let rt = console.rt;
     match further {
-        None => perform_one(
-            rt,
-            alloc,
-            &DrawCommand { rt, topic },
-            name,
-            texts,
-            input,
-            output,
-            errors,
-        ),
-        Some(second) => perform_two(
-            rt,
-            alloc,
-            &DrawAlongCommand { rt, topic },
-            name,
-            second,
-            texts,
-            input,
-            output,
-            errors,
-        ),
+        None => perform_one(console, &DrawCommand { rt, topic }, name),
+        Some(second) => perform_two(console, &DrawAlongCommand { rt, topic }, name, second),
     }
 }
 
-// Cuts the window of these pages out of the recording under a name, with its lines where a file is named for them.
-fn asked_window<'a, S: TextSource, O: Write, E: Write>(
-    alloc: Global,
+// Cuts the window of these pages out of the recording under a name, with the table of its lines where a file is named for it.
+fn asked_window<'a, R, S: TextSource, I, O: Write, E: Write>(
+    console: &mut Console<'_, R, S, I, O, E>,
     pages: Pages,
     name: &'a str,
-    lines: Option<&'a str>,
-    texts: &S,
-    output: &mut O,
-    errors: &E,
+    lined: bool,
+    lines: &mut Option<Vec<u8>>,
 ) -> Result<u8, Fault<'a>>
     ensures few { IfOk result (λ status. status < 2) }
-    ensures told { EndsWindow (window_of pages) (is_some lines.entry) name.entry.now (S.bytes_of texts.now) (O.contents output.old, E.contents errors.now) (O.contents output.new, E.contents errors.now) result }
-    ensures gains { BothGain (O.contents output.old, E.contents errors.now) (O.contents output.new, E.contents errors.now) }
+    ensures told { EndsWindow (window_of pages) name.entry.now (S.bytes_of console.old.texts.now) (O.contents console.old.output, E.contents console.old.errors) (O.contents console.new.output, E.contents console.new.errors) result }
+    ensures lines { lined ≡ true → result ≡ Ok 0 → MatchOption lines.new ⊥ (λ table. HasWindowLines (window_of pages) name.entry.now (S.bytes_of console.old.texts.now) (O.contents console.old.output) (O.contents console.new.output) table.items) }
+    ensures unlined { lined ≡ false → lines.new ≡ lines.old }
+    ensures kept { result ≢ Ok 0 → lines.new ≡ lines.old }
+    ensures gains { BothGain (O.contents console.old.output, E.contents console.old.errors) (O.contents console.new.output, E.contents console.new.errors) }
 {
     let window = Window {
         first: pages.first,
         count: pages.count,
     };
-    let _ = errors;
-    perform_window(alloc, window, lines.is_some(), name, texts, output)
+    perform_window(console, window, lined, name, lines)
 }
 
-/// Does what the words ask for.
+/// Does what the words ask for. Where a window is written, and its lines are asked for, their table is put into `lines`.
 pub fn perform<
     'a,
     R: Threads + Wait + Sync + Net<Listener = TcpListener, Stream = TcpStream>,
@@ -218,31 +160,23 @@ pub fn perform<
     O: Write,
     E: Write,
 >(
-    rt: &R,
-    alloc: Global,
+    console: &mut Console<'_, R, S, I, O, E>,
     job: Job<'a>,
-    texts: &S,
-    input: &mut I,
-    output: &mut O,
-    errors: &mut E,
+    lines: &mut Option<Vec<u8>>,
 ) -> Result<u8, Fault<'a>>
     ensures few { IfOk result (λ status. status < 2) }
-    ensures told { EndsAsked (asked_names job.entry) (S.bytes_of texts.now) (I.remaining input.old) (O.contents output.old, E.contents errors.old) (O.contents output.new, E.contents errors.new) result }
-    ensures gains { BothGain (O.contents output.old, E.contents errors.old) (O.contents output.new, E.contents errors.new) }
+    ensures told { EndsAsked (asked_names job.entry) (S.bytes_of console.old.texts.now) (I.remaining console.old.input) (O.contents console.old.output, E.contents console.old.errors) (O.contents console.new.output, E.contents console.new.errors) result }
+    ensures lines { result ≡ Ok 0 → HasLines (asked_names job.entry) (S.bytes_of console.old.texts.now) (O.contents console.old.output) (O.contents console.new.output) lines.old lines.new }
+    ensures kept { result ≢ Ok 0 → lines.new ≡ lines.old }
+    ensures gains { BothGain (O.contents console.old.output, E.contents console.old.errors) (O.contents console.new.output, E.contents console.new.errors) }
 {
     match job {
-        Asked::One(task, name) => asked_one(rt, alloc, task, name, texts, input, output, errors),
-        Asked::Two(task, first, second) => {
-            asked_two(rt, alloc, task, first, second, texts, input, output, errors)
-        }
-        Asked::Migrate(carrier, name) => {
-            asked_migrate(rt, alloc, carrier, name, texts, input, output, errors)
-        }
-        Asked::Draw(topic, name, further) => asked_draw(
-            rt, alloc, topic, name, further, texts, input, output, errors,
-        ),
-        Asked::Window(pages, name, lines) => {
-            asked_window(alloc, pages, name, lines, texts, output, errors)
+        Asked::One(task, name) => asked_one(console, task, name),
+        Asked::Two(task, first, second) => asked_two(console, task, first, second),
+        Asked::Migrate(carrier, name) => asked_migrate(console, carrier, name),
+        Asked::Draw(topic, name, further) => asked_draw(console, topic, name, further),
+        Asked::Window(pages, name, file) => {
+            asked_window(console, pages, name, file.is_some(), lines)
         }
     }
 }

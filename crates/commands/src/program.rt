@@ -4,19 +4,21 @@ ghost use Rattle.std.specs.Prelude.{◌≡◌, ◌≢◌, ◌<◌, ◌≤◌, �
 ghost use Rattle.std.specs.Io.KnownBytes.{Keeps};
 ghost use Rattle.clap.specs.Words.{kind_of, takes};
 ghost use Rattle.command_words.specs.Table.{job_of, several_of};
-ghost use Rattle.command_words.specs.Words.{IsPlain, asked, asked_by, clashing, postcopy_words, several_asked, target_names, targets_named, word_texts};
+ghost use Rattle.command_words.specs.Words.{IsPlain, asked, asked_by, clashing, postcopy_words, several_asked};
 ghost use Rattle.command_texts.specs.Answers.{fault_line, fault_status};
 ghost use Rattle.command_texts.specs.Told.{AreNamed, AreOfInput};
 ghost use Rattle.command_texts.specs.Written.{AppendsFront, BothGain, Gains};
-ghost use Rattle.commands.specs.Refused.{IsRefusalOf, IsStarved};
+ghost use Rattle.commands.specs.Refused.{IsRefusalOf};
 ghost use Rattle.commands.specs.Shown.{AsksCheck, ShowsHeadline};
-ghost use Rattle.commands.specs.Told.{EndsAsked, EndsBare, EndsSeveral, IsFaultTold, IsSettled};
+ghost use Rattle.commands.specs.Told.{EndsAsked, EndsBare, EndsSeveral, HasLines, IsFaultTold, IsSettled, IsSettledList};
 
 use crate::answering::perform;
 use crate::several::asked_several;
-use clap::error::ErrorKind;
-use command_texts::{ACCEPTED, Fault, TextSource, USAGE, perform_two, tell, write_whole};
-use command_words::{Targets, VerdictForm, Wish, read_targets, read_words};
+use command_texts::{
+    ACCEPTED, Console, Fault, STANDARD_OUTPUT, TextSource, USAGE, perform_two, tell, write_or_why,
+    write_whole,
+};
+use command_words::{Reading, VerdictForm, Wish};
 use judge_commands::CheckCommand;
 use judged_texts::headline_holds_at_yes;
 use std::alloc::{AllocError, Global};
@@ -27,41 +29,24 @@ use std::thread::Threads;
 
 // Judges the two texts of the input.
 fn check_input<R: Threads + Sync, S: TextSource, I: Read + Send, O: Write, E: Write>(
-    rt: &R,
-    alloc: Global,
-    texts: &S,
-    input: &mut I,
-    output: &mut O,
-    errors: &mut E,
+    console: &mut Console<'_, R, S, I, O, E>,
 ) -> Result<u8, Fault<'static>>
     ensures few { IfOk result (λ status. status < 2) }
-    ensures told { EndsBare (I.remaining input.old) (O.contents output.old, E.contents errors.old) (O.contents output.new, E.contents errors.new) result }
-    ensures gains { BothGain (O.contents output.old, E.contents errors.old) (O.contents output.new, E.contents errors.new) }
+    ensures told { EndsBare (I.remaining console.old.input) (O.contents console.old.output, E.contents console.old.errors) (O.contents console.new.output, E.contents console.new.errors) result }
+    ensures gains { BothGain (O.contents console.old.output, E.contents console.old.errors) (O.contents console.new.output, E.contents console.new.errors) }
 {
-    perform_two(
-        rt,
-        alloc,
-        &CheckCommand {
-            rt,
-            form: VerdictForm::Line,
-            complete: None,
-        },
-        "-",
-        "-",
-        texts,
-        input,
-        output,
-        errors,
-    )
+    let command = CheckCommand {
+        rt: console.rt,
+        form: VerdictForm::Line,
+        complete: None,
+    };
+    perform_two(console, &command, "-", "-")
 }
 
-// The status of a job, whose fault is told.
+// The status of what was done, whose fault is told.
 fn settle<E: Write>(done: Result<u8, Fault<'_>>, errors: &mut E) -> u8
-    requires { IfOk done (λ status. status < 2) }
     ensures settled { MatchResult done.entry (λ status. (result ≡ status) × (E.contents errors.new ≡ E.contents errors.old)) (λ fault. (result ≡ fault_status fault) × AppendsFront (E.contents errors.old) (E.contents errors.new) (fault_line fault)) }
-    ensures known { (result ≢ 2) × (result ≤ 4) }
     ensures gains { Gains (E.contents errors.old) (E.contents errors.new) }
-    ensures fault { 2 < result → IsFaultTold (E.contents errors.old) (E.contents errors.new) result }
 {
     match done {
         Ok(status) => status,
@@ -89,10 +74,9 @@ fn tell_words<O: Write, E: Write>(
         write_whole(errors, text.as_bytes());
         return USAGE;
     }
-    if write_whole(output, text.as_bytes()) {
-        ACCEPTED
-    } else {
-        tell(Fault::Output, errors)
+    match write_or_why(output, text.as_bytes()) {
+        Ok(()) => ACCEPTED,
+        Err(cause) => tell(Fault::Output(STANDARD_OUTPUT, cause.words()), errors),
     }
 }
 
@@ -103,12 +87,8 @@ fn refuse<O: Write, E: Write>(
     output: &mut O,
     errors: &mut E,
 ) -> u8
-    ensures memory { kind_of error.now ≡ ErrorKind.OutOfMemory → IsStarved (O.contents output.old, E.contents errors.old) (O.contents output.new, E.contents errors.new) result }
-    ensures told { IsRefusalOf (kind_of error.now) (O.contents output.old, E.contents errors.old) (O.contents output.new, E.contents errors.new) result }
+    ensures { IsRefusalOf (kind_of error.now) (O.contents output.old, E.contents errors.old) (O.contents output.new, E.contents errors.new) result }
 {
-    if error.kind() == ErrorKind::OutOfMemory {
-        return tell(Fault::Memory, errors);
-    }
     match told_text(alloc, error) {
         Ok(text) => tell_words(error, text.as_str(), output, errors),
         Err(_) => tell(Fault::Memory, errors),
@@ -122,60 +102,52 @@ fn grant<
     I: Read + Send,
     O: Write,
     E: Write,
->(
-    rt: &R,
-    alloc: Global,
-    wish: Wish<'_>,
-    texts: &S,
-    input: &mut I,
-    output: &mut O,
-    errors: &mut E,
-) -> u8
+>(console: &mut Console<'_, R, S, I, O, E>, wish: Wish<'_>, lines: &mut Option<Vec<u8>>) -> u8
     ensures known { (result ≢ 2) × (result ≤ 4) }
-    ensures fault { 2 < result → IsFaultTold (E.contents errors.old) (E.contents errors.new) result }
-    ensures job { IfSome (job_of wish.entry) (λ job. IsSettled (EndsAsked job (S.bytes_of texts.now) (I.remaining input.old) (O.contents output.old, E.contents errors.old)) (O.contents output.new, E.contents errors.new) result) }
-    ensures several { IfSome (several_of wish.entry) (λ asked. IsSettled (EndsSeveral asked (S.bytes_of texts.now) (O.contents output.old, E.contents errors.old)) (O.contents output.new, E.contents errors.new) result) }
-    ensures gains { BothGain (O.contents output.old, E.contents errors.old) (O.contents output.new, E.contents errors.new) }
+    ensures fault { 2 < result → IsFaultTold (E.contents console.old.errors) (E.contents console.new.errors) result }
+    ensures job { IfSome (job_of wish.entry) (λ job. IsSettled (EndsAsked job (S.bytes_of console.old.texts.now) (I.remaining console.old.input) (O.contents console.old.output, E.contents console.old.errors)) (O.contents console.new.output, E.contents console.new.errors) result) }
+    ensures several { IfSome (several_of wish.entry) (λ asked. IsSettledList (EndsSeveral asked (S.bytes_of console.old.texts.now) (O.contents console.old.output, E.contents console.old.errors)) (O.contents console.new.output, E.contents console.new.errors) result) }
+    ensures lines { result ≡ 0 → IfSome (job_of wish.entry) (λ job. HasLines job (S.bytes_of console.old.texts.now) (O.contents console.old.output) (O.contents console.new.output) lines.old lines.new) }
+    ensures unlined { job_of wish.entry ≡ None → lines.new ≡ lines.old }
+    ensures kept { result ≢ 0 → lines.new ≡ lines.old }
+    ensures gains { BothGain (O.contents console.old.output, E.contents console.old.errors) (O.contents console.new.output, E.contents console.new.errors) }
 {
     match wish {
         Wish::Job(job) => {
-            let done = perform(rt, alloc, job, texts, input, output, errors);
-            settle(done, errors)
+            let done = perform(console, job, lines);
+            settle(done, &mut console.errors)
         }
         Wish::Several(several) => {
-            let done = asked_several(rt, alloc, &several, texts, input, output, errors);
-            settle(done, errors)
+            let done = asked_several(console, &several);
+            settle(done, &mut console.errors)
         }
     }
 }
 
 // Judges the two texts of the input, where there are no words.
 fn check_bare<R: Threads + Sync, S: TextSource, I: Read + Send, O: Write, E: Write>(
-    rt: &R,
-    alloc: Global,
-    texts: &S,
-    input: &mut I,
-    output: &mut O,
-    errors: &mut E,
+    console: &mut Console<'_, R, S, I, O, E>,
 ) -> u8
     ensures known { (result ≢ 2) × (result ≤ 4) }
-    ensures fault { 2 < result → IsFaultTold (E.contents errors.old) (E.contents errors.new) result }
-    ensures told { IsSettled (EndsBare (I.remaining input.old) (O.contents output.old, E.contents errors.old)) (O.contents output.new, E.contents errors.new) result }
-    ensures gains { BothGain (O.contents output.old, E.contents errors.old) (O.contents output.new, E.contents errors.new) }
+    ensures fault { 2 < result → IsFaultTold (E.contents console.old.errors) (E.contents console.new.errors) result }
+    ensures told { IsSettled (EndsBare (I.remaining console.old.input) (O.contents console.old.output, E.contents console.old.errors)) (O.contents console.new.output, E.contents console.new.errors) result }
+    ensures gains { BothGain (O.contents console.old.output, E.contents console.old.errors) (O.contents console.new.output, E.contents console.new.errors) }
 {
-    let done = check_input(rt, alloc, texts, input, output, errors);
-    settle(done, errors)
+    let done = check_input(console);
+    settle(done, &mut console.errors)
 }
 
 /// The program: it reads the texts that the words name, writes what the command answers to them, and answers its status.
 ///
-/// The first of the words is the program's own name; with no other it checks the two texts of the input. The status is
+/// It goes by a reading of the words, of which the first is the program's own name; with no other it checks the two texts of the input. The status is
 /// 0 where all is well or help was asked for, 1 for another answer, 2 where the words are no command or have options that mean
 /// nothing together, 3 where a text was not read whole, has too many bytes or takes too many reads (`FORMATS` says how many),
 /// where a migration's link failed, or the output was not written, and 4 where memory ran out. At 2 to 4 the errors tell why. At 1
 /// they tell why a text is refused, or what of a certificate does not fit its session. The texts are read in the order of the
-/// words, and both before an answer is sought; of several sessions each is audited before the next is read, and of the input among
-/// them nothing is said. The output gains the answer also where the words name a file for it: [`targets_named`] tells which.
+/// words, and both before an answer is sought. Of several sessions each is audited, and its answer written, before the next is read;
+/// one that is not read is told, and the next ones are audited; of the input among them nothing is said. The output gains the answer
+/// also where the words name a file for it, which the reading tells. Where they name one for the lines of a window, and the status
+/// is 0, the table of the lines is put into `lines`.
 ///
 /// Where a `check` ends with status 0, whatever its options are, the bytes that were read as its first text spell one session,
 /// and the headline holds of it: it has a merging, and in every merging each read or write after handover finds its page
@@ -190,60 +162,33 @@ pub fn run<
     I: Read + Send,
     O: Write,
     E: Write,
->(
-    rt: &R,
-    alloc: Global,
-    words: &[&str],
-    texts: &S,
-    input: &mut I,
-    output: &mut O,
-    errors: &mut E,
-) -> u8
+>(console: &mut Console<'_, R, S, I, O, E>, reading: Reading<'_>, lines: &mut Option<Vec<u8>>) -> u8
     ensures known { result ≤ 4 }
-    ensures gains { BothGain (O.contents output.old, E.contents errors.old) (O.contents output.new, E.contents errors.new) }
-    ensures fault { 2 < result → IsFaultTold (E.contents errors.old) (E.contents errors.new) result }
-    ensures misuse { result ≡ 2 → Keeps (O.contents output.old) (O.contents output.new) }
-    ensures bare_usage { length words.entry.now ≤ 1 → result ≢ 2 }
-    ensures bare { length words.entry.now ≤ 1 → IsSettled (EndsBare (I.remaining input.old) (O.contents output.old, E.contents errors.old)) (O.contents output.new, E.contents errors.new) result }
-    ensures usage { takes postcopy_words (word_texts words.entry.now) ≡ true → clashing (word_texts words.entry.now) ≡ false → result ≢ 2 }
-    ensures clash { takes postcopy_words (word_texts words.entry.now) ≡ true → clashing (word_texts words.entry.now) ≡ true → (result ≡ 2) ⊎ (result ≡ 4) }
-    ensures told { takes postcopy_words (word_texts words.entry.now) ≡ true → IfSome (asked (word_texts words.entry.now)) (λ job. IsSettled (EndsAsked job (S.bytes_of texts.now) (I.remaining input.old) (O.contents output.old, E.contents errors.old)) (O.contents output.new, E.contents errors.new) result) }
-    ensures several { takes postcopy_words (word_texts words.entry.now) ≡ true → IfSome (several_asked (word_texts words.entry.now)) (λ asked. IsSettled (EndsSeveral asked (S.bytes_of texts.now) (O.contents output.old, E.contents errors.old)) (O.contents output.new, E.contents errors.new) result) }
-    ensures plain { (name : List ℕ) (names : List (List ℕ)) → IsPlain (word_texts words.entry.now) name names → IfSome (asked_by name names) (λ job. (result ≢ 2) × IsSettled (EndsAsked job (S.bytes_of texts.now) (I.remaining input.old) (O.contents output.old, E.contents errors.old)) (O.contents output.new, E.contents errors.new) result) }
-    ensures bare_headline { length words.entry.now ≤ 1 → result ≡ 0 → ShowsHeadline (AreOfInput (I.remaining input.old)) }
-    ensures headline { (first second : List ℕ) → AsksCheck (word_texts words.entry.now) first second → result ≡ 0 → ShowsHeadline (AreNamed first second (S.bytes_of texts.now) (I.remaining input.old)) }
+    ensures gains { BothGain (O.contents console.old.output, E.contents console.old.errors) (O.contents console.new.output, E.contents console.new.errors) }
+    ensures fault { 2 < result → IsFaultTold (E.contents console.old.errors) (E.contents console.new.errors) result }
+    ensures misuse { result ≡ 2 → Keeps (O.contents console.old.output) (O.contents console.new.output) }
+    ensures bare_usage { length reading.entry ≤ 1 → result ≢ 2 }
+    ensures bare { length reading.entry ≤ 1 → IsSettled (EndsBare (I.remaining console.old.input) (O.contents console.old.output, E.contents console.old.errors)) (O.contents console.new.output, E.contents console.new.errors) result }
+    ensures usage { takes postcopy_words reading.entry ≡ true → clashing reading.entry ≡ false → result ≢ 2 }
+    ensures clash { takes postcopy_words reading.entry ≡ true → clashing reading.entry ≡ true → (result ≡ 2) ⊎ (result ≡ 4) }
+    ensures told { takes postcopy_words reading.entry ≡ true → IfSome (asked reading.entry) (λ job. IsSettled (EndsAsked job (S.bytes_of console.old.texts.now) (I.remaining console.old.input) (O.contents console.old.output, E.contents console.old.errors)) (O.contents console.new.output, E.contents console.new.errors) result) }
+    ensures several { takes postcopy_words reading.entry ≡ true → IfSome (several_asked reading.entry) (λ asked. IsSettledList (EndsSeveral asked (S.bytes_of console.old.texts.now) (O.contents console.old.output, E.contents console.old.errors)) (O.contents console.new.output, E.contents console.new.errors) result) }
+    ensures lines { takes postcopy_words reading.entry ≡ true → result ≡ 0 → IfSome (asked reading.entry) (λ job. HasLines job (S.bytes_of console.old.texts.now) (O.contents console.old.output) (O.contents console.new.output) lines.old lines.new) }
+    ensures unlined { asked reading.entry ≡ None → lines.new ≡ lines.old }
+    ensures kept { result ≢ 0 → lines.new ≡ lines.old }
+    ensures plain { (name : List ℕ) (names : List (List ℕ)) → IsPlain reading.entry name names → IfSome (asked_by name names) (λ job. (result ≢ 2) × IsSettled (EndsAsked job (S.bytes_of console.old.texts.now) (I.remaining console.old.input) (O.contents console.old.output, E.contents console.old.errors)) (O.contents console.new.output, E.contents console.new.errors) result) }
+    ensures bare_headline { length reading.entry ≤ 1 → result ≡ 0 → ShowsHeadline (AreOfInput (I.remaining console.old.input)) }
+    ensures headline { (first second : List ℕ) → AsksCheck reading.entry first second → result ≡ 0 → ShowsHeadline (AreNamed first second (S.bytes_of console.old.texts.now) (I.remaining console.old.input)) }
 {
     headline_holds_at_yes();
-    if words.len() <= 1 {
-        return check_bare(rt, alloc, texts, input, output, errors);
-    }
-    match read_words(alloc, words) {
-        Ok(Some(wish)) => grant(rt, alloc, wish, texts, input, output, errors),
-        Ok(None) => check_bare(rt, alloc, texts, input, output, errors),
-        Err(error) => refuse(alloc, &error, output, errors),
-    }
-}
-
-// No file is named.
-const NO_TARGETS: Targets<'static> = Targets {
-    lines: None,
-    output: None,
-};
-
-/// The files that the words name for what is written: for the answer, as in `-o FILE`, where they are words of a command that has
-/// one, and for the lines of a window, as in `--lines FILE`. Of words that are no command no file is named, or what they say.
-/// The answer of [`run`] has the lines after the session. An error: there is no memory for reading the words.
-pub fn targets_named<'a>(alloc: Global, words: &'a [&'a str]) -> Result<Targets<'a>, AllocError>
-    ensures taken { IfOk result (λ targets. takes postcopy_words (word_texts words.entry.now) ≡ true → target_names targets ≡ targets_named (word_texts words.entry.now)) }
-    ensures other { IfOk result (λ targets. (target_names targets ≡ targets_named (word_texts words.entry.now)) ⊎ (target_names targets ≡ (None, None))) }
-{
-    match read_targets(alloc, words) {
-        Ok(targets) => Ok(targets),
-        Err(error) => {
-            if error.kind() == ErrorKind::OutOfMemory {
-                return Err(AllocError);
-            }
-            Ok(NO_TARGETS)
-        }
+    match reading.wish() {
+        Ok(Some(wish)) => grant(console, wish, lines),
+        Ok(None) => check_bare(console),
+        Err(error) => refuse(
+            console.alloc,
+            &error,
+            &mut console.output,
+            &mut console.errors,
+        ),
     }
 }

@@ -1,17 +1,15 @@
 //! The audit of several sessions: a line for each, after its name, and how many are clean; or an object for each.
 
-ghost use Rattle.std.specs.Prelude.{◌<◌, IfOk, IfErr};
-ghost use Rattle.command_texts.specs.Answers.{IsTextFault};
-ghost use Rattle.command_texts.specs.Several.{IsOneOf};
+ghost use Rattle.std.specs.Prelude.{◌≡◌, IfOk};
+ghost use Rattle.command_texts.specs.Several.{IsListStatus, TellsOneUnread};
 ghost use Rattle.command_texts.specs.Written.{BothGain};
 ghost use Rattle.command_words.specs.Table.{several_names};
-ghost use Rattle.commands.specs.Told.{TellsSeveralAsked};
+ghost use Rattle.commands.specs.Told.{EndsSeveral};
 
 use crate::judging::{list_ask, listing_of};
-use command_texts::{Fault, TextSource, perform_several};
+use command_texts::{Console, Fault, TextSource, perform_several};
 use command_words::Several;
 use judge_commands::AuditCommand;
-use std::alloc::Global;
 use std::io::{Read, Write};
 use std::thread::Threads;
 
@@ -23,27 +21,16 @@ pub(crate) fn asked_several<
     I: Read + Send,
     O: Write,
     E: Write,
->(
-    rt: &R,
-    alloc: Global,
-    several: &Several<'a>,
-    texts: &S,
-    input: &mut I,
-    output: &mut O,
-    errors: &mut E,
-) -> Result<u8, Fault<'a>>
-    ensures few { IfOk result (λ status. status < 2) }
-    ensures told { IfOk result (TellsSeveralAsked (several_names several.now) (S.bytes_of texts.now) (O.contents output.old, E.contents errors.old) (O.contents output.new, E.contents errors.new)) }
-    ensures fault { IfErr result (IsTextFault (IsOneOf (several_names several.now).1)) }
-    ensures gains { BothGain (O.contents output.old, E.contents errors.old) (O.contents output.new, E.contents errors.new) }
+>(console: &mut Console<'_, R, S, I, O, E>, several: &Several<'a>) -> Result<u8, Fault<'a>>
+    ensures known { IfOk result IsListStatus }
+    ensures unread { IfOk result (λ status. status ≡ 3 → TellsOneUnread (E.contents console.old.errors) (E.contents console.new.errors)) }
+    ensures told { EndsSeveral (several_names several.now) (S.bytes_of console.old.texts.now) (O.contents console.old.output, E.contents console.old.errors) (O.contents console.new.output, E.contents console.new.errors) result }
+    ensures gains { BothGain (O.contents console.old.output, E.contents console.old.errors) (O.contents console.new.output, E.contents console.new.errors) }
 {
     let command = AuditCommand {
-        rt,
+        rt: console.rt,
         ask: list_ask(several.lists),
     };
     let listing = listing_of(several.lists.form);
-    let names = several.names.as_slice();
-    perform_several(
-        rt, alloc, &command, listing, names, texts, input, output, errors,
-    )
+    perform_several(console, &command, listing, several.names.as_slice())
 }

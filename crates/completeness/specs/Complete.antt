@@ -21,7 +21,7 @@ abbrev pub is_all : PagerRec → Bool
 is_all All = true
 is_all _ = false
 
--- whether it says that the source learned of that
+-- whether it says that the source learned that every owed page had come
 abbrev pub is_done : SourceRec → Bool
 is_done Done = true
 is_done _ = false
@@ -35,7 +35,7 @@ is_back _ = false
 abbrev pub has_returned : Recorded → Bool
 has_returned s = list_any is_back s.source && not (list_any is_resume s.guest)
 
--- whether it places or drops what the pager's record of this number took
+-- whether it places or drops the packet that the pager's record of this number took
 abbrev pub settles : ℕ → PagerRec → Bool
 settles taken (Place page got content) = got == taken
 settles taken (Skip got) = got == taken
@@ -47,12 +47,12 @@ places_owed s (Place page got content) = not (in_ledger s (at_halt s) page)
 places_owed s (Zero page) = not (in_ledger s (at_halt s) page)
 places_owed s _ = false
 
--- the number behind the last of the pager's records before its record n that places an owed page; 0 where none does
+-- the number after the last of the pager's records before its record n that places an owed page, or 0 if none does
 abbrev pub placed_to : Recorded → ℕ → ℕ
 placed_to s zero = 0
 placed_to s (suc n) = if passes (places_owed s) (slice_get s.pager n) then suc n else placed_to s n
 
--- whether an `all` stands behind the last placement of an owed page
+-- whether an `all` follows the last placement of an owed page
 abbrev pub has_end : Recorded → Bool
 has_end s = list_any is_all (drop (placed_to s (length s.pager)) s.pager)
 
@@ -60,7 +60,7 @@ has_end s = list_any is_all (drop (placed_to s (length s.pager)) s.pager)
 abbrev pub is_end : Recorded → ℕ → Bool
 is_end s n = not (nat_lt n (placed_to s (length s.pager))) && passes is_all (slice_get s.pager n)
 
--- its delivery up, and the source's record that takes this delivery
+-- the delivery of such an `all` up, and the source's record that takes this delivery
 abbrev pub brings_end : Recorded → LinkRec → Bool
 brings_end s (Up asking) = is_end s asking
 brings_end s (Down sending) = false
@@ -69,7 +69,7 @@ abbrev pub takes_end : Recorded → SourceRec → Bool
 takes_end s (Ask up) = passes (brings_end s) (slice_get s.link up)
 takes_end s _ = false
 
--- whether the source's record n is a `done` behind the `ask` of such an `all`, and whether there is one
+-- whether source record n is a `done` after the `ask` of such an `all`; whether there is one
 abbrev pub is_done_behind : Recorded → ℕ → SourceRec → Bool
 is_done_behind s n r = is_done r && earlier (takes_end s) s.source n
 
@@ -80,19 +80,19 @@ has_done s = some_before (is_done_behind s) s.source (length s.source)
 abbrev pub is_page_left : Recorded → ℕ → Bool
 is_page_left s page = not (in_ledger s (at_halt s) page || (list_any (is_placement_of page) s.pager || freed s (length s.guest) page))
 
--- Whether the pager's record of this number took something that was never placed nor dropped. The pager begins by taking
+-- Whether the pager's record of this number took a packet that was neither placed nor dropped. The pager first takes
 -- the processor state, which is neither.
 abbrev pub is_taken_left : Recorded → ℕ → Bool
 is_taken_left s zero = false
 is_taken_left s (suc n) = passes is_taking (slice_get s.pager (suc n)) && not (list_any (settles (suc n)) s.pager)
 
--- the logs tell that the guest was halted and resumed, and that every owed page came or was released at the target
+-- The logs tell that the guest was halted and resumed, and that every owed page was placed, or released at the target.
 pub record HasPages (s : Recorded) : Type 0 where
   pub halted : list_any is_halt s.guest ≡ true
   pub resumed : list_any is_resume s.guest ≡ true
   pub pages : (page : ℕ) → page < s.geometry.pages → is_page_left s page ≡ false
 
--- they tell of a whole migration, from the halt until the source learned that every owed page had come
+-- The logs tell of a whole migration, from the halt until the source learned that every owed page had come.
 pub record IsWhole (s : Recorded) : Type 0 where
   pub has_pages : HasPages s
   pub all : has_end s ≡ true
@@ -104,7 +104,7 @@ abbrev pub IsComplete : Extent → Recorded → Type 0
 IsComplete extent.Pages = HasPages
 IsComplete extent.Whole = IsWhole
 
--- it is missing from the logs; of a guest that returned to the source, all that follows a resume is
+-- This is missing from the logs. If the guest returned to the source, everything after a resume is missing.
 abbrev pub IsMissing : Recorded → Missing → Type 0
 IsMissing s missing.Halt = list_any is_halt s.guest ≡ false
 IsMissing s missing.Returned = has_returned s ≡ true
@@ -114,7 +114,7 @@ IsMissing s missing.All = has_end s ≡ false
 IsMissing s missing.Done = has_done s ≡ false
 IsMissing s (missing.Taken n) = is_taken_left s n ≡ true
 
--- the order in which what is missing is told: by its kind, and then by the number of the page or the record
+-- The order of what is missing: by its kind, and then by the number of the page or the record.
 abbrev pub kind : Missing → ℕ
 kind missing.Halt = 0
 kind missing.Returned = 1
@@ -129,7 +129,7 @@ number (missing.Page page) = page
 number (missing.Taken n) = n
 number _ = 0
 
--- whether a session that is complete to this extent has to have it
+-- whether a session that is complete to this extent must have this
 abbrev pub is_asked : Extent → Missing → Bool
 is_asked extent.Pages missing.Halt = true
 is_asked extent.Pages missing.Returned = true
@@ -140,14 +140,14 @@ is_asked extent.Pages missing.Done = false
 is_asked extent.Pages (missing.Taken n) = false
 is_asked extent.Whole m = true
 
--- it is missing, and nothing that is told before it is
+-- this is missing, and nothing before it in the order is
 pub record IsFirstMissing (s : Recorded) (m : Missing) : Type 0 where
   pub is_missing : IsMissing s m
   pub is_first : (other : Missing) → IsMissing s other →
       (kind m < kind other) ⊎ ((kind m ≡ kind other) × (number m ≤ number other))
 
--- The first thing that is missing is one that is asked for. What is not asked for is told last, so nothing that is asked for
--- hides behind it.
+-- The first thing that is missing is one that the extent requires. What it does not require comes last in the order, so
+-- nothing that it requires comes after it.
 pub record Lacks (e : Extent) (s : Recorded) (m : Missing) : Type 0 where
   pub asked : is_asked e m ≡ true
   pub is_first : IsFirstMissing s m

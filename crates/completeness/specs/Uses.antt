@@ -13,6 +13,6 @@ is_use (Read vcpu page cell value) = true
 is_use (Write vcpu page cell value) = true
 is_use _ = false
 
--- whether the guest reads or writes a page behind its first resume
+-- whether the guest reads or writes a page after its first resume
 abbrev pub tells_use : Recorded → Bool
 tells_use s = option_map_or (λ n. list_any is_use (drop n s.guest)) (position is_resume s.guest) false

@@ -1,4 +1,5 @@
-//! Whether the pager said that every owed page came, once they had, and the source learned of that.
+//! The end of a migration: whether the pager said that every owed page had come, after they had, and the source learned
+//! of it.
 
 ghost use Rattle.std.specs.Prelude.{◌≡◌, ◌&&◌, ◌||◌, length};
 ghost use Rattle.migration_types.specs.Sessions.{IsSession};
@@ -9,21 +10,21 @@ ghost use Rattle.completeness.specs.inner.Walks.{AreSeen};
 use crate::pages::Seen;
 use migration_types::{LinkRec, PagerRec, Session, SourceRec};
 
-/// Whether it says that every owed page came.
+/// Returns whether it says that every owed page has come.
 fn is_all(rec: &PagerRec) -> bool
     ensures { result ≡ is_all rec.now }
 {
     matches!(rec, PagerRec::All)
 }
 
-/// Whether a record of the source says that it learned of it, once it was told.
+/// Returns whether a record of the source says that it learned of it, after it was told.
 fn is_done_behind(told: bool, rec: &SourceRec) -> bool
     ensures { result ≡ (is_done rec.now && told) }
 {
     told && matches!(rec, SourceRec::Done)
 }
 
-/// Whether a record places a page that the target was owed.
+/// Returns whether a record places a page that the target was owed.
 fn places_owed(seen: &Seen, session: &Session, rec: &PagerRec) -> bool
     requires seen { AreSeen session.now seen.now }
     requires page { PagerPage session.now.geometry.pages rec.now }
@@ -36,7 +37,8 @@ fn places_owed(seen: &Seen, session: &Session, rec: &PagerRec) -> bool
     }
 }
 
-/// The number behind the pager's last record that places an owed page; 0 where none does. Takes a pass over its log.
+/// Returns the number after the pager's last record that places an owed page, or 0 if none does. Makes a pass over its
+/// log.
 pub(crate) fn placed_to(session: &Session, seen: &Seen) -> usize
     requires is_session { IsSession session.now }
     requires seen { AreSeen session.now seen.now }
@@ -52,7 +54,7 @@ pub(crate) fn placed_to(session: &Session, seen: &Seen) -> usize
     placed
 }
 
-/// Whether the pager's log has an `all` from this number on, which is behind its last placement of an owed page.
+/// Returns whether the pager's log has an `all` from this number on, which is after its last placement of an owed page.
 pub(crate) fn has_end(session: &Session, placed: usize) -> bool
     requires { placed ≡ placed_to session.now (length session.now.pager) }
     ensures { result ≡ has_end session.now }
@@ -60,7 +62,7 @@ pub(crate) fn has_end(session: &Session, placed: usize) -> bool
     session.pager().iter().skip(placed).any(is_all)
 }
 
-/// Whether the pager's record of this number is such an `all`.
+/// Returns whether the pager's record of this number is such an `all`, after the last placement of an owed page.
 fn is_end(session: &Session, placed: usize, number: u32) -> bool
     requires { placed ≡ placed_to session.now (length session.now.pager) }
     ensures { result ≡ is_end session.now number }
@@ -69,7 +71,7 @@ fn is_end(session: &Session, placed: usize, number: u32) -> bool
     number >= placed && session.pager().get(number).is_some_and(is_all)
 }
 
-/// Whether a record of the link delivers such an `all`.
+/// Returns whether a record of the link delivers such an `all`.
 fn brings_end(session: &Session, placed: usize, rec: &LinkRec) -> bool
     requires { placed ≡ placed_to session.now (length session.now.pager) }
     ensures { result ≡ brings_end session.now rec.now }
@@ -80,7 +82,7 @@ fn brings_end(session: &Session, placed: usize, rec: &LinkRec) -> bool
     }
 }
 
-/// Whether a record of the source takes such a delivery.
+/// Returns whether a record of the source takes such a delivery.
 fn takes_end(session: &Session, placed: usize, rec: &SourceRec) -> bool
     requires { placed ≡ placed_to session.now (length session.now.pager) }
     ensures { result ≡ takes_end session.now rec.now }
@@ -94,7 +96,7 @@ fn takes_end(session: &Session, placed: usize, rec: &SourceRec) -> bool
     }
 }
 
-/// Whether the source was told by a record, or before it.
+/// Returns whether the source was told, by this record or before it.
 fn is_told(session: &Session, placed: usize, told: bool, rec: &SourceRec) -> bool
     requires { placed ≡ placed_to session.now (length session.now.pager) }
     ensures { result ≡ (takes_end session.now rec.now || told) }
@@ -102,7 +104,7 @@ fn is_told(session: &Session, placed: usize, told: bool, rec: &SourceRec) -> boo
     told || takes_end(session, placed, rec)
 }
 
-/// Whether the source's log has a `done` behind the `ask` of such an `all`. Takes a pass over it.
+/// Returns whether the source's log has a `done` after the `ask` of such an `all`. Makes a pass over it.
 pub(crate) fn has_done(session: &Session, placed: usize) -> bool
     requires { placed ≡ placed_to session.now (length session.now.pager) }
     ensures { result ≡ has_done session.now }

@@ -1,10 +1,10 @@
 //! Whether the session of a migration is complete, and what is missing from one that is not.
 //!
-//! Logs that say nothing are faultless, and so are those of a recorder that left records out. A complete session tells of
-//! a whole migration: the guest was halted and resumed, every owed page was placed or released at the target, then the pager
-//! said so and the source learned of that, and all that the pager took was placed or dropped. Where a session has to tell of
-//! the pages alone ([`Extent`]), what the pager said and the source learned is not asked for. [`first_missing`] tells the first
-//! of these that is missing.
+//! Empty logs are faultless, and so are those of a recorder that left records out. A complete session tells of a whole
+//! migration: the guest was halted and resumed, every owed page was placed or released at the target, then the pager
+//! said so and the source learned of it, and everything that the pager took was placed or dropped. If a session must be
+//! complete only as to its pages ([`Extent`]), what the pager said and the source learned does not matter.
+//! [`first_missing`] returns the first of these that is missing.
 #![tactic(auto)]
 
 mod ending;

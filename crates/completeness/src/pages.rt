@@ -21,7 +21,7 @@ use page_facts::halt_place;
 use page_store::Table;
 use std::alloc::{AllocError, Global};
 
-/// What the whole logs say of the pages.
+/// What the whole logs say about the pages.
 #[derive(Drop)]
 pub(crate) struct Seen {
     /// Those that are released at the halt.
@@ -44,7 +44,7 @@ fn take_change(ledger: &mut Ledger, rec: &GuestRec)
     }
 }
 
-/// The pages that are released at the halt.
+/// Returns the pages that are released at the halt.
 fn ledger_at_halt(alloc: Global, session: &Session) -> Result<Ledger, AllocError>
     requires { IsSession session.now }
     ensures { IfOk result (IsLedger session.now (at_halt session.now)) }
@@ -57,7 +57,7 @@ fn ledger_at_halt(alloc: Global, session: &Session) -> Result<Ledger, AllocError
     Ok(ledger)
 }
 
-/// Where the guest is after a record.
+/// Returns where the guest is after a record.
 fn home_after(rec: &GuestRec, home: Home) -> Home
     ensures { result ≡ home_after rec.now home }
 {
@@ -78,7 +78,7 @@ fn take_release(freed: &mut Table<bool>, home: Home, rec: &GuestRec)
     }
 }
 
-/// The pages that the guest released at the target.
+/// Returns the pages that the guest released at the target.
 fn freed_pages(alloc: Global, session: &Session) -> Result<Table<bool>, AllocError>
     requires { IsSession session.now }
     ensures { IfOk result (λ table. IsTable session.now.geometry.pages table (freed session.now (length session.now.guest))) }
@@ -106,7 +106,7 @@ fn take_placement(placed: &mut Table<bool>, rec: &PagerRec)
     }
 }
 
-/// The pages that the pager placed.
+/// Returns the pages that the pager placed.
 fn placed_pages(alloc: Global, session: &Session) -> Result<Table<bool>, AllocError>
     requires { IsSession session.now }
     ensures { IfOk result (λ table. IsTable session.now.geometry.pages table (λ page. list_any (is_placement_of page) session.now.pager)) }
@@ -119,7 +119,7 @@ fn placed_pages(alloc: Global, session: &Session) -> Result<Table<bool>, AllocEr
     Ok(placed)
 }
 
-/// Whether a page was owed, and never placed nor released at the target.
+/// Returns whether a page was owed, and never placed nor released at the target.
 fn is_left(released: bool, placed: bool, freed: bool) -> bool
     ensures { result ≡ not (released || (placed || freed)) }
 {
@@ -127,8 +127,8 @@ fn is_left(released: bool, placed: bool, freed: bool) -> bool
 }
 
 impl Seen {
-    /// What the logs of a session say. Takes one pass over the pager's log and two over the guest's, and memory for three
-    /// marks of each page, which is the only error.
+    /// Returns what the logs of a session say about the pages. Makes one pass over the pager's log and two over the
+    /// guest's, and allocates memory for three marks for each page. Fails only if memory runs out.
     pub(crate) fn of(alloc: Global, session: &Session) -> Result<Seen, AllocError>
         requires { IsSession session.now }
         ensures { IfOk result (AreSeen session.now) }
@@ -140,7 +140,7 @@ impl Seen {
         })
     }
 
-    /// Whether the target was owed a page.
+    /// Returns whether the target was owed a page.
     pub(crate) fn is_owed(&self, _session: &Session, page: PageNo) -> bool
         requires seen { AreSeen _session.now self.now }
         requires page { page < _session.now.geometry.pages }
@@ -149,7 +149,7 @@ impl Seen {
         !self.ledger.holds(page)
     }
 
-    /// Whether a page was owed, and never placed nor released at the target.
+    /// Returns whether a page was owed, and never placed nor released at the target.
     fn is_left(&self, _session: &Session, page: PageNo) -> bool
         requires seen { AreSeen _session.now self.now }
         requires page { page < _session.now.geometry.pages }
@@ -163,7 +163,7 @@ impl Seen {
     }
 }
 
-/// The least owed page that was never placed nor released at the target. Takes no memory.
+/// Returns the least owed page that was never placed nor released at the target. Allocates no memory.
 pub(crate) fn first_page(session: &Session, seen: &Seen) -> Option<PageNo>
     requires { AreSeen session.now seen.now }
     ensures { MatchOption result (NonePass (is_page_left session.now) session.now.geometry.pages) (IsLeast (is_page_left session.now) session.now.geometry.pages) }

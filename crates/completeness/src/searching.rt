@@ -15,28 +15,28 @@ use audit_model::{has_resume, is_halt};
 use migration_types::{GuestRec, Session, SourceRec};
 use std::alloc::{AllocError, Global};
 
-/// Whether the guest was halted.
+/// Returns whether the guest was halted.
 fn has_halt(guest: &[GuestRec]) -> bool
     ensures { result ≡ list_any is_halt guest.now }
 {
     guest.iter().any(is_halt)
 }
 
-/// Whether it starts the guest again at the source.
+/// Returns whether it starts the guest again at the source.
 fn is_back(rec: &SourceRec) -> bool
     ensures { result ≡ is_back rec.now }
 {
     matches!(rec, SourceRec::Back)
 }
 
-/// Whether the source started the guest again.
+/// Returns whether the source started the guest again.
 fn has_back(source: &[SourceRec]) -> bool
     ensures { result ≡ list_any is_back source.now }
 {
     source.iter().any(is_back)
 }
 
-/// The first thing that is missing from a session that has its pages, where it has to tell of a whole migration.
+/// Returns the first thing that is missing from a session that has its pages and must tell of a whole migration.
 fn missing_behind(
     alloc: Global,
     session: &Session,
@@ -60,9 +60,10 @@ fn missing_behind(
     }
 }
 
-/// The first thing that is missing from a session that has to be complete to this extent, in the order of [`Missing`] and
-/// then by the number of the page or the record. None: the session is complete to it. Takes a few passes over the logs, and
-/// memory for three marks of each page and, for the whole, one of each record of the pager, which is the only error.
+/// Returns the first thing that is missing from a session that must be complete to this extent, in the order of
+/// [`Missing`] and then by the number of the page or the record. Returns `None` if the session is complete to this
+/// extent. Makes a few passes over the logs, and allocates memory for three marks for each page and, for the whole, one
+/// for each record of the pager. Fails only if memory runs out.
 pub fn first_missing(
     alloc: Global,
     session: &Session,

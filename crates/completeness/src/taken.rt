@@ -1,4 +1,4 @@
-//! What the pager took, and neither placed nor dropped.
+//! Packets that the pager took, and neither placed nor dropped.
 
 ghost use Rattle.std.specs.Prelude.{◌≡◌, ◌&&◌, not, length, IfOk, MatchOption, false, replicate};
 ghost use Rattle.migration_types.specs.Sessions.{IsSession};
@@ -11,7 +11,7 @@ use audit_model::is_taking;
 use migration_types::{PagerRec, Session};
 use std::alloc::{AllocError, Global};
 
-/// So many marks, none of them set.
+/// Returns this many marks, none of them set. Fails only if memory runs out.
 fn no_marks(alloc: Global, count: usize) -> Result<Vec<bool>, AllocError>
     ensures { IfOk result (λ v. v.items ≡ replicate count false) }
 {
@@ -39,7 +39,7 @@ fn take_settling(marks: &mut Vec<bool>, rec: &PagerRec)
     }
 }
 
-/// A mark for each record of the pager: whether it is placed or dropped.
+/// Returns a mark for each record of the pager: whether its packet is placed or dropped.
 fn settled_of(alloc: Global, session: &Session) -> Result<Vec<bool>, AllocError>
     ensures { IfOk result (λ marks. AreSettled session.now (length session.now.pager) marks.items) }
 {
@@ -51,15 +51,16 @@ fn settled_of(alloc: Global, session: &Session) -> Result<Vec<bool>, AllocError>
     Ok(marks)
 }
 
-/// Whether a record took something that was never placed nor dropped.
+/// Returns whether a record took a packet that was neither placed nor dropped.
 fn is_left(rec: &PagerRec, settled: bool) -> bool
     ensures { result ≡ (is_taking rec.now && not settled) }
 {
     is_taking(rec) && !settled
 }
 
-/// The first record of the pager behind its first that took something which was never placed nor dropped. Takes two
-/// passes over the pager's log, and memory for a mark of each of its records, which is the only error.
+/// Returns the first record of the pager, after its very first, that took a packet that was neither placed nor dropped.
+/// Makes two passes over the pager's log, and allocates memory for a mark for each of its records. Fails only if memory
+/// runs out.
 pub(crate) fn first_taken(alloc: Global, session: &Session) -> Result<Option<u32>, AllocError>
     requires { IsSession session.now }
     ensures { IfOk result (λ found. MatchOption found (NonePass (is_taken_left session.now) (length session.now.pager)) (IsLeast (is_taken_left session.now) (length session.now.pager))) }

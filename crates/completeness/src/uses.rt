@@ -8,29 +8,29 @@ ghost use Rattle.completeness.specs.Uses.{is_use, tells_use};
 use audit_model::is_resume;
 use migration_types::{GuestRec, Session};
 
-/// Whether it reads or writes a page.
+/// Returns whether it reads or writes a page.
 fn is_use(rec: &GuestRec) -> bool
     ensures { result ≡ is_use rec.now }
 {
     matches!(rec, GuestRec::Read { .. } | GuestRec::Write { .. })
 }
 
-/// The number of the first resume.
+/// Returns the number of the first resume.
 fn first_resume(guest: &[GuestRec]) -> Option<usize>
     ensures { result ≡ position is_resume guest.now }
 {
     guest.iter().position(is_resume)
 }
 
-/// Whether there is a use.
+/// Returns whether there is a use.
 fn has_use(guest: &[GuestRec]) -> bool
     ensures { result ≡ list_any is_use guest.now }
 {
     guest.iter().any(is_use)
 }
 
-/// Whether a session tells that the guest read or wrote a page behind its resume. Where it does not, its logs say little: no
-/// order of them can go wrong by a use that came too early. Takes a pass over the guest's log as far as that use.
+/// Returns whether a session tells that the guest read or wrote a page after its resume. If not, its logs say little:
+/// no order of them can fail by a use that came too early. Makes a pass over the guest's log up to that use.
 pub fn tells_use(session: &Session) -> bool
     ensures { result ≡ tells_use session.now }
 {

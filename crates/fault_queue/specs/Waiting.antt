@@ -20,11 +20,11 @@ is_waiting vcpu entries = list_any (λ e. list_any (λ v. v == vcpu) e.vcpus) en
 abbrev pub waiters_of : ℕ → List Waiting → Option (List ℕ)
 waiters_of page entries = option_map (λ e. e.vcpus) (find (λ e. page == e.page) entries)
 
--- the same as a list, empty where nobody does
+-- the waiters of a page as a list, empty if there are none
 abbrev pub waiting_for : ℕ → List Waiting → List ℕ
 waiting_for page entries = unwrap_or (waiters_of page entries) []
 
--- an entry with one waiter more, behind those that it has
+-- an entry with one waiter more, after those that it has
 abbrev pub with_waiter : ℕ → Waiting → Waiting
 with_waiter vcpu e = record { page = e.page; vcpus = e.vcpus ++ vcpu ∷ [] }
 
@@ -36,7 +36,7 @@ joined page vcpu entries = map (λ e. if page == e.page then with_waiter vcpu e 
 abbrev pub entry : ℕ → ℕ → Waiting
 entry page vcpu = record { page = page; vcpus = vcpu ∷ [] }
 
--- one waiter more: in the page's entry, or in a new entry behind the others
+-- one waiter more: in the page's entry, or in a new entry after the others
 abbrev pub asked : ℕ → ℕ → List Waiting → List Waiting
 asked page vcpu entries = if is_asked page entries then joined page vcpu entries else entries ++ entry page vcpu ∷ []
 
@@ -54,7 +54,7 @@ pub record IsEntry (e : Waiting) : Type 0 where
   pub waited_for : 0 < length e.vcpus
   pub numbers : AllByRecursion (λ vcpu. vcpu < 256) e.vcpus
 
--- each page has one entry at most, each virtual processor waits once at most, and each entry has a waiter
+-- each page has at most one entry, each virtual processor waits at most once, and each entry has a waiter
 pub record IsQueue (entries : List Waiting) : Type 0 where
   pub pages : IsDistinct (λ a b. a == b) (map (λ e. e.page) entries)
   pub once : (vcpu : ℕ) → count_by (λ v. v == vcpu) (flat_map (λ e. e.vcpus) entries) ≤ 1

@@ -14,30 +14,29 @@ use std::alloc::{AllocError, Global};
 use std::marker::Model;
 use thiserror::Error;
 
-/// What a fault did to the queue.
+/// What a fault changed in the queue.
 #[derive(Clone, Copy, Debug, PartialEq, Eq)]
 pub enum Asked {
-    /// Nobody waited for the page: it has a new entry.
+    /// Nobody waited for the page, which now has a new entry.
     New,
-    /// The page had an entry, which has one waiter more.
+    /// The page had an entry, which now has one more waiter.
     Joined,
 }
 
-/// Why a fault was not taken in. The queue is then as it was.
+/// Why a fault was not queued. The queue is then as it was.
 #[derive(Clone, Copy, Debug, PartialEq, Eq, Error)]
 pub enum QueueFault {
     /// The virtual processor waits already, for this page or for another.
     #[error("waits already")]
     AlreadyWaiting,
-    /// Memory was refused.
+    /// Memory ran out.
     #[error("out of memory")]
     Memory,
 }
 
-/// The pages that virtual processors wait for, in order of arrival, each with those that wait for it, in order of
-/// arrival.
-/// Each page has one entry at most, each virtual processor waits for one page at most, and each entry has a waiter.
-/// Contracts see the list of entries. Only `fault` and `left_without` take memory.
+/// The pages that virtual processors wait for, in order of arrival, each with its waiters, in order of arrival. Each
+/// page has at most one entry, each virtual processor waits for at most one page, and each entry has a waiter.
+/// Contracts see the list of entries. Only `fault` and `left_without` allocate memory.
 #[derive(Drop)]
 pub struct FaultQueue {
     waiting: IndexMap<PageNo, Vec<u8>>,
@@ -58,7 +57,7 @@ impl Model for FaultQueue {
 impl FaultQueue {
     ghost use Rattle.fault_queue.specs.Waiting.{waiters_of, waiting_for, is_waiting, without, without_all, IsQueue};
 
-    /// Nobody waits. Takes no memory.
+    /// Returns a queue in which nobody waits. Allocates no memory.
     pub fn new(alloc: Global) -> Self
         ensures { result ≡ [] }
     {
@@ -67,9 +66,9 @@ impl FaultQueue {
         }
     }
 
-    /// Takes in that a virtual processor waits for a page: behind those that wait for it already, or in a new entry
-    /// behind the others. One that waits already, for whatever page, is refused, and this is looked at before memory is
-    /// asked for. On an error nothing changes.
+    /// Queues a virtual processor that waits for a page: after the page's other waiters, or in a new entry after the
+    /// others. One that waits already, for any page, is refused; this is checked before memory is allocated. On an
+    /// error, nothing changes.
     pub fn fault(&mut self, page: PageNo, vcpu: u8) -> Result<Asked, QueueFault>
         ensures already { IsErrOf result QueueFault.AlreadyWaiting ↔ IsTrue (is_waiting vcpu self.old) }
         ensures told { IfOk result (λ told. told ≡ (if is_asked page self.old then Asked.Joined else Asked.New)) }
@@ -83,8 +82,8 @@ impl FaultQueue {
         ask(&mut self.waiting, page, vcpu).map_err(|_| QueueFault::Memory)
     }
 
-    /// Takes a page's entry out and hands its waiters over, in order of arrival. The other entries stay, in their
-    /// order. `None` where nobody waits for the page, and then nothing changes. Takes no memory.
+    /// Removes a page's entry and returns its waiters, in order of arrival. The other entries stay, in their order.
+    /// Returns `None` if nobody waits for the page, and then nothing changes. Allocates no memory.
     pub fn served(&mut self, page: PageNo) -> Option<Vec<u8>>
         ensures waiters { option_map (λ v. v.items) result ≡ waiters_of page self.old }
         ensures others { self.new ≡ without page self.old }
@@ -95,8 +94,8 @@ impl FaultQueue {
         self.waiting.shift_remove(&page)
     }
 
-    /// A queue without the entries of these pages. The other entries stay, in their order. An error: there is no memory
-    /// for it.
+    /// Returns a queue without the entries of these pages. The other entries stay, in their order. Fails only if memory
+    /// runs out.
     pub fn left_without(&self, pages: &[PageNo]) -> Result<FaultQueue, AllocError>
         ensures { IfOk result (λ left. left ≡ without_all pages.now self.now) }
     {
@@ -107,7 +106,7 @@ impl FaultQueue {
         Ok(left)
     }
 
-    /// The same queue once more. An error: there is no memory for it.
+    /// Returns the same queue again. Fails only if memory runs out.
     fn another(&self) -> Result<FaultQueue, AllocError>
         ensures { IfOk result (λ same. same ≡ self.now) }
     {
@@ -115,7 +114,7 @@ impl FaultQueue {
         Ok(FaultQueue { waiting })
     }
 
-    /// The page of the oldest entry, or `None` where nobody waits.
+    /// Returns the page of the oldest entry, or `None` if nobody waits.
     pub fn first(&self) -> Option<PageNo>
         ensures { result ≡ option_map (λ e. e.page) (slice_get self.now 0) }
     {
@@ -123,7 +122,7 @@ impl FaultQueue {
         Some(*page)
     }
 
-    /// How many pages are waited for, which is how many entries there are.
+    /// Returns how many pages are waited for, which is the number of entries.
     pub fn pages(&self) -> u32
         ensures count { result ≡ length self.now }
         ensures kept { IsQueue self.now }
@@ -131,15 +130,15 @@ impl FaultQueue {
         self.waiting.len() as u32
     }
 
-    /// Whether a virtual processor waits, for any page.
+    /// Returns whether a virtual processor waits, for any page.
     pub fn is_waiting(&self, vcpu: u8) -> bool
         ensures { result ≡ is_waiting vcpu self.now }
     {
         waits(&self.waiting, vcpu)
     }
 
-    /// Whether a virtual processor waits for a page that is none of these: whether it would wait still in the queue
-    /// without their entries. Takes no memory.
+    /// Returns whether a virtual processor waits for a page other than these, and so would still wait if their entries
+    /// were gone. Allocates no memory.
     pub fn waits_beside(&self, vcpu: u8, pages: &[PageNo]) -> bool
         ensures { result ≡ is_waiting vcpu (without_all pages.now self.now) }
     {
@@ -147,28 +146,28 @@ impl FaultQueue {
     }
 }
 
-/// Whether a virtual processor is among the waiters of a page.
+/// Returns whether a virtual processor is among the waiters of a page.
 fn waits(waiting: &IndexMap<PageNo, Vec<u8>>, vcpu: u8) -> bool
     ensures { result ≡ list_any (λ v. list_any (λ x. x == vcpu) v.items) (values waiting.now) }
 {
     waiting.values().any(|waiters| waiters.contains(&vcpu))
 }
 
-/// Whether a virtual processor is among the waiters of a page that is none of these.
+/// Returns whether a virtual processor is among the waiters of a page other than these.
 fn waits_among_others(waiting: &IndexMap<PageNo, Vec<u8>>, vcpu: u8, pages: &[PageNo]) -> bool
     ensures { result ≡ list_any (λ e. list_any (λ x. x == vcpu) e.1.items && not (list_any (λ p. p == e.0) pages.now)) waiting.now.entries }
 {
     waiting.iter().any(|(page, waiters)| waiters.contains(&vcpu) && !is_among(*page, pages))
 }
 
-/// Whether a page is one of these.
+/// Returns whether a page is one of these.
 fn is_among(page: PageNo, pages: &[PageNo]) -> bool
     ensures { result ≡ list_any (λ p. p == page) pages.now }
 {
     pages.contains(&page)
 }
 
-/// Puts a virtual processor behind those that wait for a page, or into a new entry.
+/// Puts a virtual processor after those that wait for a page, or into a new entry.
 fn ask(waiting: &mut IndexMap<PageNo, Vec<u8>>, page: PageNo, vcpu: u8) -> Result<Asked, AllocError>
     ensures told { IfOk result (λ told. told ≡ (if is_asked page (entries_of waiting.old) then Asked.Joined else Asked.New)) }
     ensures entries { OnOk result (entries_of waiting.new ≡ asked page vcpu (entries_of waiting.old)) }

@@ -10,14 +10,15 @@ pub record IsFaultyPage (s : Recorded) (f : FaultyPage) : Type 0 where
   pub is_line : f.line ≡ line_of s (f.fault.log, f.fault.place)
   pub is_first : IsFirstFault s f.page f.fault
 
--- Of the pages below a number those with a fault, in ascending order, each with its first. A page that is none of them is clean.
+-- Of the pages below a number, those with a fault, in ascending order, each with its first fault. A page that is not in
+-- the list is clean.
 pub record AreFaultyBelow (s : Recorded) (n : ℕ) (found : List FaultyPage) : Type 0 where
   pub ascending : AllPairs (λ a b. a.page < b.page) found
   pub within : All (λ f. f.page < n) found
   pub faulty : All (IsFaultyPage s) found
   pub others : (page : ℕ) → page < n → All (λ f. f.page ≢ page) found → IsClean s page
 
--- the same of so many pages from the first on
+-- the faulty pages among this many from the first on
 pub record AreFaultyFrom (s : Recorded) (first count : ℕ) (found : List FaultyPage) : Type 0 where
   pub ascending : AllPairs (λ a b. a.page < b.page) found
   pub from : All (λ f. first ≤ f.page) found
@@ -25,14 +26,14 @@ pub record AreFaultyFrom (s : Recorded) (first count : ℕ) (found : List Faulty
   pub faulty : All (IsFaultyPage s) found
   pub others : (page : ℕ) → first ≤ page → page < first + count → All (λ f. f.page ≢ page) found → IsClean s page
 
--- of all pages of the machine
+-- the faulty pages of the machine
 abbrev pub AreFaultyPages : Recorded → List FaultyPage → Type 0
 AreFaultyPages s found = AreFaultyBelow s s.geometry.pages found
 
--- of so many pages from the first on, which the machine has, so many have a fault
+-- of this many pages from the first on, which the machine has, `many` have a fault
 abbrev pub AreManyFrom : Recorded → ℕ → ℕ → ℕ → Type 0
 AreManyFrom s first count many = IsSession s → first + count ≤ s.geometry.pages → (found : List FaultyPage) × AreFaultyFrom s first count found × (length found ≡ many)
 
--- so many pages of the machine have a fault
+-- this many pages of the machine have a fault
 abbrev pub AreManyFaulty : Recorded → ℕ → Type 0
 AreManyFaulty s many = (found : List FaultyPage) × AreFaultyPages s found × (length found ≡ many)

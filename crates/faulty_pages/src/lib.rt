@@ -1,4 +1,4 @@
-//! Each page of a session that has a fault, with its first, and how many there are.
+//! The pages of a session that have a fault, each with its first fault, and how many such pages there are.
 #![tactic(auto)]
 
 ghost use Rattle.std.specs.Prelude.{⊤, ◌≡◌, ℕ, [], IfOk};
@@ -14,18 +14,18 @@ use std::alloc::{AllocError, Global};
 use std::marker::Sync;
 use std::thread::Threads;
 
-/// A page with a fault, and its first.
+/// A page with a fault, and the first of its faults.
 #[derive(Clone, Copy, Debug, PartialEq, Eq)]
 pub struct FaultyPage {
     /// The page.
     pub page: PageNo,
     /// The line at which the session's text has the faulty record. Lines count from 1.
     pub line: u32,
-    /// The fault of least line of the page's records, and then of least reason.
+    /// The fault of the page's records with the least line, and then the least reason.
     pub fault: PageFault,
 }
 
-/// A page with its first fault, and the line of this.
+/// Returns a page with its first fault and that fault's line.
 fn with_line(session: &Session, page: PageNo, fault: PageFault) -> FaultyPage
     requires { IsFirstFault session.now page fault }
     ensures page { result.page ≡ page }
@@ -35,7 +35,7 @@ fn with_line(session: &Session, page: PageNo, fault: PageFault) -> FaultyPage
     FaultyPage { page, line, fault }
 }
 
-/// Which pages have a fault, and which is the first of each?
+/// The question for the pages that have a fault, with the first fault of each.
 #[derive(Clone, Copy)]
 pub struct Faults;
 
@@ -71,7 +71,7 @@ impl Question for Faults {
     }
 }
 
-/// How many pages have a fault?
+/// The question for the number of pages that have a fault.
 #[derive(Clone, Copy)]
 pub struct HowMany;
 
@@ -124,17 +124,17 @@ pub fn clean_sessions_have_no_faulty_page()
     ensures { (s : Recorded) → HasNoPageFault s → AreFaultyPages s [] }
 {}
 
-/// A law: how many of all pages of a session have a fault is how many of its pages do. Runs nothing.
+/// A law: a session has as many faulty pages as are found among all its pages. Runs nothing.
 pub fn many_of_pages_are_many()
     ensures { (s : Recorded) (many : ℕ) → IsSession s → AreManyFrom s 0 s.geometry.pages many → AreManyFaulty s many }
 {}
 
-/// Each page of a session that has a fault, in the order of pages, with its first: the fault of least line of the page's
-/// records, and then of least reason. A page that is not among them is clean. Whether the session has the right shape is not
-/// asked: a fault of a page says that the session is unsafe only where it has, and where its logs have a merging.
+/// Returns each page of a session that has a fault, in the order of pages, with its first fault: the one of the page's
+/// records with the least line, and then the least reason. A page that is not in the list is clean. This does not check
+/// the right shape: a fault of a page means that the session is unsafe only if it has the right shape and a merging.
 ///
-/// Takes a few passes over each log, and memory for some numbers for each page, for the cells of all pages, and for a number or
-/// two for each faulty page. The only error: there is no memory for them.
+/// Makes a few passes over each log, and allocates memory for some numbers for each page, for the cells of all pages,
+/// and for a number or two for each faulty page. Fails only if memory runs out.
 pub fn faulty_pages<J: Judges<Faults>>(
     judges: &J,
     alloc: Global,

@@ -25,7 +25,7 @@ pub record IsWith (before after : Machine) (memory : Memory) (pages : Pages) : T
   pub frames : HasMemory before.frames after.frames memory
   pub ledger : HasReleased before.ledger after.ledger pages
 
--- what a record leaves of a memory, and of the released pages
+-- the memory after a record, and the released pages after it
 abbrev pub memory_after : GuestRec → Memory → Memory
 memory_after r memory page cell = cell_after page cell r (memory page cell)
 

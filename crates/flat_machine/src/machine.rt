@@ -11,7 +11,7 @@ use migration_types::{GuestRec, PageNo, Session};
 use page_store::Store;
 use std::alloc::{AllocError, Global};
 
-/// One machine that never moved. Only `start` takes memory.
+/// One machine that never moved. Only `start` allocates memory.
 #[derive(Drop)]
 pub struct Machine {
     /// Its frames.
@@ -23,7 +23,7 @@ pub struct Machine {
 impl Machine {
     ghost use Rattle.flat_machine.specs.Machines.{HasFor, IsAfter, IsFlat, IsWith};
 
-    /// The machine of a session before the guest's first record. An error: there is no memory for it.
+    /// Returns the machine of a session before the guest's first record. Fails only if memory runs out.
     pub fn start(alloc: Global, session: &Session) -> Result<Machine, AllocError>
         ensures { IfOk result (λ machine. IsFlat session.now 0 machine) }
     {
@@ -33,7 +33,7 @@ impl Machine {
         Ok(Machine { frames, ledger })
     }
 
-    /// Gives a cell a value. The page is not released then.
+    /// Sets the value of a cell. The page is then not released.
     pub fn write(&mut self, page: PageNo, cell: u16, value: u64)
         requires frames { page < self.old.frames.geometry.pages }
         requires cell { cell < self.old.frames.geometry.cells }
@@ -44,7 +44,7 @@ impl Machine {
         self.ledger.wrote(page);
     }
 
-    /// Releases a page: each of its cells has the value 0 then.
+    /// Releases a page: each of its cells then has the value 0.
     pub fn release(&mut self, page: PageNo)
         requires frames { page < self.old.frames.geometry.pages }
         requires ledger { page < self.old.ledger.geometry.pages }
@@ -54,7 +54,7 @@ impl Machine {
         self.ledger.release(page);
     }
 
-    /// Does one record of the guest.
+    /// Carries out one record of the guest.
     pub fn step(&mut self, rec: &GuestRec)
         requires { HasFor rec.now self.old }
         ensures { IsAfter rec.now self.old self.new }

@@ -5,7 +5,7 @@
 -- The lines of the events, with FATE one of deliver, lose, repeat and back, and VCPU a number from 0 to 63:
 --     guest VCPU     halt     push     serve     source-tick     link down FATE     link up FATE     link lane FATE
 --     pop     pop-lane     fault     flush     deliver     pager-tick
--- Numbers are in decimal form, with no leading zero.
+-- Numbers are in decimal, with no leading zero.
 use Rattle.std.specs.Prelude.{◌≡◌, ℕ, ◌<◌, ◌≤◌, List, [], ◌∷◌, ◌++◌, length, codes}
 use Rattle.std.specs.List.{AllByRecursion}
 use Rattle.std.specs.Fmt.{decimal}
@@ -25,7 +25,7 @@ fate_word Lose = codes "lose"
 fate_word Repeat = codes "repeat"
 fate_word Back = codes "back"
 
--- how the line of a turn of the link begins
+-- the beginning of the line of a turn of the link
 abbrev pub link_key : Direction → List ℕ
 link_key Down = codes "link down "
 link_key Up = codes "link up "
@@ -48,7 +48,7 @@ event_line PagerFlush = codes "flush"
 event_line PagerDeliver = codes "deliver"
 event_line PagerTick = codes "pager-tick"
 
--- a virtual processor that there may be
+-- the event's virtual processor has a number below 64
 abbrev pub EventFits : Event → Type 0
 EventFits (GuestStep vcpu) = vcpu < vcpus
 EventFits _ = Unit {0}

@@ -11,9 +11,9 @@ use Rattle.migration_events.specs.declared.events.Fate.{Fate}
 use Rattle.migration_events.specs.Ops.{OpFits, LateOpFits}
 use Rattle.guest_script.specs.declared.vcpus.Vcpu.{Vcpu}
 
--- The version; the machine and the pages that do not begin as zeros; how many pivots are kept at most, and how many
--- packets may be under way where pages are pushed; what becomes of the packets in each direction, one after another, and
--- so over the lane, where there is one; and what each virtual processor does.
+-- The version; the machine and the pages that do not begin as zeros; the greatest number of pivots; the window of the
+-- channel of pushed pages; the delivery outcomes of the packets in each direction, in order, and over the lane, if
+-- there is one; and what each virtual processor does.
 pub record Scenario : Type 0 where
   pub version : Version
   pub geometry : Extent
@@ -31,7 +31,7 @@ pub record VcpuFits (version : Version) (e : Extent) (vcpu : Vcpu) : Type 0 wher
   pub before_move : AllByRecursion (OpFits e) vcpu.before_move
   pub after_move : AllByRecursion (LateOpFits version e) vcpu.after_move
 
--- scripts of the second version alone may have a lane
+-- only scripts of the second version may have a lane
 abbrev pub LaneFits : Version → Option (List Fate) → Type 0
 LaneFits version None = Unit {0}
 LaneFits version (Some fates) = HasLane version × (length fates ≤ 4096)

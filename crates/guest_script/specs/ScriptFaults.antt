@@ -1,4 +1,4 @@
--- Why parts are no script: the first that applies, in the order of a script's text.
+-- Why parts do not make a script: the first fault that applies, in the order of a script's text.
 use Rattle.std.specs.Prelude.{ℕ, ◌+◌, ◌<◌, ◌≤◌, List, length, take, slice_get, IsSomeAnd}
 use Rattle.std.specs.List.{AllByRecursion}
 use Rattle.migration_types.specs.declared.version.Version.{Version}
@@ -13,7 +13,7 @@ use Rattle.guest_script.specs.declared.script_fault.VcpuFault.{VcpuFault}
 use Rattle.guest_script.specs.declared.script_fault.VcpuFault.TheVariants.{ManyBefore, ManyAfter, Before, After}
 use Rattle.guest_script.specs.Scenarios.{Scenario, VcpuFits, LaneFits}
 
--- the first so many items are right, and with the next they are not
+-- the first n items are right, and with the next one they are not
 abbrev pub IsFirstWrong : {A : Type 0} → (List A → Type 0) → List A → ℕ → Type 0
 IsFirstWrong AreRight items n = AreRight (take n items) × (AreRight (take (n + 1) items) → ⊥)
 
@@ -26,7 +26,7 @@ IsVcpuFault version e vcpu ManyAfter = (length vcpu.before_move ≤ 65536) × (6
 IsVcpuFault version e vcpu (Before n) = FewOps vcpu × IsFirstWrong (AllByRecursion (OpFits e)) vcpu.before_move n
 IsVcpuFault version e vcpu (After n) = FewOps vcpu × AllByRecursion (OpFits e) vcpu.before_move × IsFirstWrong (AllByRecursion (LateOpFits version e)) vcpu.after_move n
 
--- the virtual processors before one are within their limits, and it has this fault
+-- the virtual processors before this one are within their limits, and it has this fault
 abbrev pub IsFirstVcpuFault : Version → Extent → List Processor → ℕ → VcpuFault → Type 0
 IsFirstVcpuFault version e vcpus n fault = AllByRecursion (VcpuFits version e) (take n vcpus) × IsSomeAnd (slice_get vcpus n) (λ vcpu. IsVcpuFault version e vcpu fault)
 
@@ -42,7 +42,7 @@ AreFates fates = length fates ≤ 4096
 abbrev pub AreAsMany : List Processor → Type 0
 AreAsMany vcpus = (1 ≤ length vcpus) × (length vcpus ≤ 64)
 
--- the parts up to one are within their limits
+-- the parts before one are within their limits
 abbrev pub ToPivots : Scenario → Type 0
 ToPivots s = AreInitPages s.geometry s.init × ArePivots s.pivots
 

@@ -5,16 +5,16 @@
 --     init K              the pages that do not begin as zeros, and then a line for each, as in a session's text
 --     pivots K            1 to 16
 --     window W            1 to 65,536
---     down FATES          what becomes of the packets on their way down, one after another: a dash for none, or 1 to
---     up FATES            4,096 letters, d to deliver, l to lose, r to repeat, b for back; and so on their way up
---     lanes 1             in the second version alone, or: lanes 2, for a lane beside the link, and then
---     lane FATES          what becomes of the packets on their way over the lane
+--     down FATES          the delivery outcomes of the packets on their way down, in order: a dash for none, or 1 to
+--     up FATES            4,096 letters, d to deliver, l to lose, r to repeat, b for back; the same on their way up
+--     lanes 1             only in the second version; or lanes 2, for a lane beside the link, followed by
+--     lane FATES          the delivery outcomes of the packets on the lane
 --     vcpus M             1 to 64
 --     vcpu B A            M times: the operations before and after a move, each 0 to 65,536, and then a line for each
 --     end
--- The lines of operations, of which the last stands after a move in the second version alone:
+-- The lines of operations; the last one is allowed after a move only in the second version:
 --     r PAGE CELL     w PAGE CELL VALUE     z PAGE
--- Numbers are in decimal form, with no leading zero.
+-- Numbers are in decimal, with no leading zero.
 use Rattle.std.specs.Prelude.{◌≡◌, ℕ, List, [], ◌∷◌, ◌++◌, map, length, codes, Option, Some, None}
 use Rattle.std.specs.Fmt.{decimal}
 use Rattle.text_lines.specs.Counted.{counted}
@@ -40,7 +40,7 @@ fate_letter Lose = 108
 fate_letter Repeat = 114
 fate_letter Back = 98
 
--- the letters of fates, or a dash for none
+-- the letters of delivery outcomes, or a dash for none
 abbrev pub fates_text : List Fate → List ℕ
 fates_text [] = codes "-"
 fates_text (fate ∷ fates) = map fate_letter (fate ∷ fates)
@@ -87,7 +87,8 @@ vcpus_lines s = (vcpus_key ++ decimal (length s.vcpus)) ∷ vcpus_onto s.vcpus (
 abbrev pub lane_key : List ℕ
 lane_key = codes "lane "
 
--- how many links carry packets down, which scripts of the second version tell: one, or two with the lane
+-- the lines with the number of links that carry packets down, which only scripts of the second version have: one, or
+-- two with the lane
 abbrev pub with_lanes : Version → Option (List Fate) → List (List ℕ) → List (List ℕ)
 with_lanes One lane more = more
 with_lanes Two None more = codes "lanes 1" ∷ more

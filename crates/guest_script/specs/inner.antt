@@ -1,4 +1,4 @@
--- What serves proofs alone.
+-- Definitions that only proofs use.
 pub mod Exact
 pub mod Ops
 pub mod EventKinds

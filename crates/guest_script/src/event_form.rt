@@ -12,7 +12,7 @@ use migration_types::LAST_VCPU;
 use std::alloc::AllocError;
 use text_lines::{FaultKind, LineForm, after_key, is_line, push_keyed, push_line, read_keyed};
 
-/// How events are written.
+/// The forms of events.
 pub const EVENT_FORMS: &[&str] = &[
     "guest V",
     "halt",
@@ -30,7 +30,7 @@ pub const EVENT_FORMS: &[&str] = &[
     "pager-tick",
 ];
 
-/// The fate that a word spells.
+/// Returns the delivery outcome that a word spells.
 pub fn read_fate(word: &[u8]) -> Option<Fate>
     ensures { MatchOption result ((fate : Met) → word.now ≢ fate_word fate) (λ fate. word.now ≡ fate_word fate) }
 {
@@ -49,7 +49,7 @@ pub fn read_fate(word: &[u8]) -> Option<Fate>
     None
 }
 
-/// The event that a line of one word spells.
+/// Returns the event that a line of one word spells.
 fn read_word(line: &[u8]) -> Option<Event>
     ensures { MatchOption result ((e : Said) → IsAlone e → line.now ≢ event_line e) (λ e. EventFits e × (line.now ≡ event_line e)) }
 {
@@ -86,7 +86,7 @@ fn read_word(line: &[u8]) -> Option<Event>
     None
 }
 
-/// The turn of the link in a direction that a line spells.
+/// Returns the turn of the link in a direction that a line spells.
 fn read_turn(line: &[u8], direction: Direction) -> Option<Event>
     ensures { MatchOption result ((fate : Met) → line.now ≢ link_key direction ++ fate_word fate) (λ e. EventFits e × (line.now ≡ event_line e)) }
 {
@@ -95,7 +95,7 @@ fn read_turn(line: &[u8], direction: Direction) -> Option<Event>
     Some(Event::LinkTurn { direction, fate })
 }
 
-/// The event that a line spells.
+/// Returns the event that a line spells.
 fn read_event(line: &[u8]) -> Result<Event, FaultKind>
     ensures found { IfOk result (λ e. EventFits e × (line.now ≡ event_line e)) }
     ensures refused { OnErr result ((e : Said) → EventFits e → line.now ≢ event_line e) }
@@ -116,7 +116,7 @@ fn read_event(line: &[u8]) -> Result<Event, FaultKind>
     Ok(Event::GuestStep { vcpu: vcpu as u8 })
 }
 
-/// Adds the line of an event.
+/// Appends the line of an event.
 fn push_event(out: &mut Vec<u8>, event: Event) -> Result<(), AllocError>
     ensures { OnOk result (out.new.items ≡ out.old.items ++ (event_line event ++ 10 ∷ [])) }
 {

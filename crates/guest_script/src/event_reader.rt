@@ -1,4 +1,4 @@
-//! What came of a text of events, line by line.
+//! Reading a text of events, line by line.
 
 ghost use Rattle.guest_script.specs.Events.{SpellsEvents};
 
@@ -8,7 +8,7 @@ use migration_types::Seq;
 use std::alloc::Global;
 use text_lines::{Counted, FaultKind, Stages, Wanted};
 
-/// The events that came.
+/// The events that were read.
 #[derive(Drop)]
 pub struct EventParts {
     events: Counted<Event>,

@@ -1,4 +1,4 @@
-//! What a reader of events makes of each line.
+//! How a reader of events takes each line.
 
 ghost use Rattle.guest_script.specs.inner.EventHeld.{EventsLive, EventsStep};
 
@@ -8,20 +8,20 @@ use migration_events::Event;
 use migration_types::MOST_RECORDS;
 use text_lines::{CLOSING, Counted, FaultKind, Wanted, is_line};
 
-/// Which line is due.
+/// The kind of line that comes next.
 #[derive(Clone, Copy)]
 pub enum EventStage {
     /// The header.
     Header,
     /// The number of events.
     Count,
-    /// An event, or the closing line after the last.
+    /// An event, or after the last the closing line.
     Events,
-    /// None.
+    /// No line.
     Done,
 }
 
-/// Takes the next line, and answers the stage after it.
+/// Takes the next line, and returns the stage after it.
 pub fn take_event_line(
     events: &mut Counted<Event>,
     stage: EventStage,
@@ -61,7 +61,7 @@ fn take_event(events: &mut Counted<Event>, line: &[u8]) -> Result<EventStage, Fa
     Ok(EventStage::Events)
 }
 
-/// What may stand at the next line.
+/// Returns what is allowed at the next line.
 pub fn wanted_event_line(events: &Counted<Event>, stage: EventStage) -> Wanted {
     match stage {
         EventStage::Header => Wanted::one("the header of events", &["postcopy-events 1"]),
@@ -73,7 +73,7 @@ pub fn wanted_event_line(events: &Counted<Event>, stage: EventStage) -> Wanted {
     }
 }
 
-/// An event, or the closing line behind the last.
+/// Expects an event, or after the last the closing line.
 fn wanted_event(events: &Counted<Event>) -> Wanted {
     if events.is_whole() {
         Wanted::closing_line()

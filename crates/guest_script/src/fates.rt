@@ -1,4 +1,4 @@
-//! Lines of fates.
+//! Lines of delivery outcomes.
 
 ghost use Rattle.std.specs.Prelude.{◌≡◌, ◌≢◌, ◌≤◌, ◌<◌, ℕ, List, [], ◌∷◌, ◌++◌, length, map, IfOk, IfErr, OnOk, MatchOption};
 ghost use Rattle.migration_events.specs.declared.events.Fate.{Fate as Met};
@@ -10,10 +10,10 @@ use migration_types::Seq;
 use std::alloc::{AllocError, Global};
 use text_lines::{FaultKind, Wanted, after_key, end_line, is_line};
 
-/// Stands where there are no fates.
+/// The word for no delivery outcomes.
 const NONE: &[u8] = b"-";
 
-/// The fate that a letter stands for.
+/// Returns the delivery outcome that a letter stands for.
 fn fate_of(letter: u8) -> Option<Fate>
     ensures { MatchOption result ((fate : Met) → letter ≢ fate_letter fate) (λ fate. letter ≡ fate_letter fate) }
 {
@@ -26,7 +26,7 @@ fn fate_of(letter: u8) -> Option<Fate>
     }
 }
 
-/// The letter of a fate.
+/// Returns the letter of a delivery outcome.
 fn letter_of(fate: Fate) -> u8
     ensures { result ≡ fate_letter fate }
 {
@@ -38,7 +38,7 @@ fn letter_of(fate: Fate) -> u8
     }
 }
 
-/// The fates that letters stand for.
+/// Returns the delivery outcomes that letters stand for.
 fn read_letters(alloc: Global, letters: &[u8]) -> Result<Vec<Fate>, FaultKind>
     ensures found { IfOk result (λ fates. letters.now ≡ map fate_letter fates.items) }
     ensures refused { IfErr result (λ kind. kind ≢ FaultKind.Memory → (fates : List Met) → letters.now ≢ map fate_letter fates) }
@@ -55,7 +55,8 @@ fn read_letters(alloc: Global, letters: &[u8]) -> Result<Vec<Fate>, FaultKind>
     Ok(fates)
 }
 
-/// The fates behind a key that a line spells, at most 4,096. No memory is taken for more.
+/// Returns the delivery outcomes after a key that a line spells, at most 4,096. Allocates no memory for a line with
+/// more.
 pub fn read_fates(alloc: Global, line: &[u8], key: &[u8]) -> Result<Seq<Fate>, FaultKind>
     ensures found { IfOk result (λ fates. (length fates ≤ 4096) × (line.now ≡ key.now ++ fates_text fates)) }
     ensures refused { IfErr result (λ kind. kind ≢ FaultKind.Memory → (fates : List Met) → length fates ≤ 4096 → line.now ≢ key.now ++ fates_text fates) }
@@ -73,12 +74,12 @@ pub fn read_fates(alloc: Global, line: &[u8], key: &[u8]) -> Result<Seq<Fate>, F
     Ok(Seq::from_vec(fates))
 }
 
-/// What may stand where a line of fates does.
+/// Returns what is allowed at a line of delivery outcomes.
 pub fn wanted_fates(what: &'static str, forms: &'static [&'static str]) -> Wanted {
     Wanted::one(what, forms).within(1, MOST_FATES)
 }
 
-/// Adds a line that is a key and fates.
+/// Appends a line that is a key and delivery outcomes. Fails only if memory runs out.
 pub fn push_fates(out: &mut Vec<u8>, key: &[u8], fates: &[Fate]) -> Result<(), AllocError>
     ensures { OnOk result (out.new.items ≡ out.old.items ++ (key.now ++ fates_text fates.now ++ 10 ∷ [])) }
 {
@@ -91,7 +92,7 @@ pub fn push_fates(out: &mut Vec<u8>, key: &[u8], fates: &[Fate]) -> Result<(), A
     end_line(out)
 }
 
-/// Adds the letters of fates.
+/// Appends the letters of delivery outcomes.
 fn push_letters(out: &mut Vec<u8>, fates: &[Fate]) -> Result<(), AllocError>
     ensures { OnOk result (out.new.items ≡ out.old.items ++ map fate_letter fates.now) }
 {

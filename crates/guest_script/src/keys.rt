@@ -8,13 +8,13 @@ use migration_events::{Direction, Fate};
 /// The first line of a text of events.
 pub const EVENTS_HEADER: &[u8] = b"postcopy-events 1";
 
-/// How the line with the number of events begins.
+/// The beginning of the line with the number of events.
 pub const EVENTS_KEY: &[u8] = b"events ";
 
-/// How the line of a virtual processor's step begins.
+/// The beginning of the line of a virtual processor's step.
 pub const GUEST_KEY: &[u8] = b"guest ";
 
-/// How the line of a turn of the link begins.
+/// Returns the beginning of the line of a turn of the link.
 pub fn link_key_of(direction: Direction) -> &'static [u8]
     ensures { result.now ≡ link_key direction }
 {
@@ -25,7 +25,7 @@ pub fn link_key_of(direction: Direction) -> &'static [u8]
     }
 }
 
-/// The word of a fate.
+/// Returns the word of a delivery outcome.
 pub fn fate_word_of(fate: Fate) -> &'static [u8]
     ensures { result.now ≡ fate_word fate }
 {
@@ -40,41 +40,41 @@ pub fn fate_word_of(fate: Fate) -> &'static [u8]
 /// The first line of a script's text, in the first version.
 pub const FIRST_SCRIPT: &[u8] = b"postcopy-script 1";
 
-/// The same, in the second.
+/// The first line of a script's text, in the second version.
 pub const SECOND_SCRIPT: &[u8] = b"postcopy-script 2";
 
-/// How the line with the number of pivots begins.
+/// The beginning of the line with the number of pivots.
 pub const PIVOTS_KEY: &[u8] = b"pivots ";
 
-/// How the line with the window begins.
+/// The beginning of the line with the window.
 pub const WINDOW_KEY: &[u8] = b"window ";
 
-/// How the line with the fates on the way down begins.
+/// The beginning of the line with the delivery outcomes on the way down.
 pub const DOWN_KEY: &[u8] = b"down ";
 
-/// How the line with the fates on the way up begins.
+/// The beginning of the line with the delivery outcomes on the way up.
 pub const UP_KEY: &[u8] = b"up ";
 
-/// The line that says that one link carries packets down.
+/// The line for one link that carries packets down.
 pub const ONE_LANE: &[u8] = b"lanes 1";
 
-/// The line that says that there is a lane beside it.
+/// The line for a lane beside the link.
 pub const TWO_LANES: &[u8] = b"lanes 2";
 
-/// How the line with the fates on the way over the lane begins.
+/// The beginning of the line with the delivery outcomes on the way over the lane.
 pub const LANE_KEY: &[u8] = b"lane ";
 
-/// How the line with the number of virtual processors begins.
+/// The beginning of the line with the number of virtual processors.
 pub const VCPUS_KEY: &[u8] = b"vcpus ";
 
-/// How the line of a virtual processor begins.
+/// The beginning of the line of a virtual processor.
 pub const VCPU_KEY: &[u8] = b"vcpu ";
 
-/// How the line of a read begins.
+/// The beginning of the line of a read.
 pub const READ_KEY: &[u8] = b"r ";
 
-/// How the line of a write begins.
+/// The beginning of the line of a write.
 pub const WRITE_KEY: &[u8] = b"w ";
 
-/// How the line of a release begins.
+/// The beginning of the line of a release.
 pub const RELEASE_KEY: &[u8] = b"z ";

@@ -1,5 +1,5 @@
-//! A guest's script as a value, within all limits: what its virtual processors do, and what becomes of packets. And the texts
-//! of scripts and of lists of events: writing one, reading one, or telling the line at which an input stops being one.
+//! The script of a guest as a value, within all limits: what its virtual processors do, and the delivery outcomes of
+//! packets. Also the texts of scripts and of lists of events: writing one, reading one, or finding its refusal line.
 #![tactic(auto)]
 
 ghost use Rattle.std.specs.Prelude.{IfOk};
@@ -42,24 +42,21 @@ pub use vcpus::{
 };
 use versions::{push_lanes, script_header};
 
-/// The events that the bytes are the text of, at most 1,048,576.
+/// Returns the events whose text the bytes are, at most 1,048,576.
 ///
 /// # Errors
 ///
-/// Where the bytes are no such text, the fault has the number of the line, counted from 1, at which they stop being
-/// one: no text of events begins with the lines up to that one. Where the bytes end too early, it is the line that
-/// follows their last line feed. Where memory is refused, the fault has the kind `Memory` and line 0.
+/// If the bytes are no such text, the fault has the number of the refusal line, counted from 1: no text of events
+/// begins with the lines up to that one. If the bytes end too early, it is the line after their last line feed. If
+/// memory runs out, the fault has the kind `Memory` and line 0.
 pub fn read_events(alloc: Global, bytes: &[u8]) -> Result<Seq<Event>, TextFault>
     ensures { Reads SpellsEvents bytes.now result }
 {
     read(Staged::<EventParts>::new(alloc), bytes)
 }
 
-/// The text of events, at most 1,048,576, whose virtual processors have numbers below 64. `read_events` reads it back.
-///
-/// # Errors
-///
-/// There is no memory for it.
+/// Returns the text of at most 1,048,576 events, whose virtual processors have numbers below 64. `read_events` reads it
+/// back. Fails only if memory runs out.
 pub fn write_events(alloc: Global, events: &[Event]) -> Result<Vec<u8>, AllocError>
     requires { AreEvents events.now }
     ensures { IfOk result (λ bytes. IsSpelling SpellsEvents events.now bytes.items) }
@@ -71,22 +68,18 @@ pub fn write_events(alloc: Global, events: &[Event]) -> Result<Vec<u8>, AllocErr
     Ok(out)
 }
 
-/// The script that the bytes are the text of.
+/// Returns the script whose text the bytes are.
 ///
 /// # Errors
 ///
-/// As those of `read_events`: the line at which the bytes stop being a script's text, or want of memory.
+/// As for `read_events`: the line at which the bytes stop being a script's text, or memory ran out.
 pub fn read_script(alloc: Global, bytes: &[u8]) -> Result<Script, TextFault>
     ensures { Reads SpellsScript bytes.now result }
 {
     read(Staged::<ScriptParts>::new(alloc), bytes)
 }
 
-/// The text of a script, which `read_script` reads back.
-///
-/// # Errors
-///
-/// There is no memory for it.
+/// Returns the text of a script, which `read_script` reads back. Fails only if memory runs out.
 pub fn write_script(alloc: Global, script: &Script) -> Result<Vec<u8>, AllocError>
     ensures { IfOk result (λ bytes. IsSpelling SpellsScript script.now bytes.items) }
 {

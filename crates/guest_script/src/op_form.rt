@@ -21,7 +21,7 @@ use text_lines::{
     read_decimal,
 };
 
-/// A number of at most `limit` that a text spells.
+/// Returns a number of at most `limit` that a text spells.
 fn read_limited(text: &[u8], limit: u64) -> Option<u64>
     ensures { MatchOption result ((n : ℕ) → n ≤ limit → text.now ≢ decimal n) (λ n. (n ≤ limit) × (text.now ≡ decimal n)) }
 {
@@ -32,7 +32,7 @@ fn read_limited(text: &[u8], limit: u64) -> Option<u64>
     Some(number)
 }
 
-/// The page and the cell that a text spells, of a machine.
+/// Returns the page and the cell of a machine that a text spells.
 fn read_place(text: &[u8], sizes: Sizes) -> Option<(PageNo, u16)>
     requires { IsExtent (small_machine sizes.pages sizes.cells) }
     ensures { MatchOption result ((p c : ℕ) → p < sizes.pages → c < sizes.cells → text.now ≢ place_text p c) (λ a. (a.0 < sizes.pages) × (a.1 < sizes.cells) × (text.now ≡ place_text a.0 a.1)) }
@@ -42,7 +42,7 @@ fn read_place(text: &[u8], sizes: Sizes) -> Option<(PageNo, u16)>
     Some((PageNo::new(page as u32), cell as u16))
 }
 
-/// The page, the cell and the value that a text spells, of a machine.
+/// Returns the page and the cell of a machine, and the value, that a text spells.
 fn read_value(text: &[u8], sizes: Sizes) -> Option<(PageNo, u16, u64)>
     requires { IsExtent (small_machine sizes.pages sizes.cells) }
     ensures { MatchOption result ((p c x : ℕ) → p < sizes.pages → c < sizes.cells → x < 2 ^ 64 → text.now ≢ value_text p c x) (λ a. (a.0 < sizes.pages) × (a.1 < sizes.cells) × (a.2 < 2 ^ 64) × (text.now ≡ value_text a.0 a.1 a.2)) }
@@ -53,7 +53,7 @@ fn read_value(text: &[u8], sizes: Sizes) -> Option<(PageNo, u16, u64)>
     Some((PageNo::new(page as u32), cell as u16, value))
 }
 
-/// The operation that a line spells, for a machine, before a move or after it.
+/// Returns the operation that a line spells, for a machine, before a move or after it.
 fn read_op(line: &[u8], sizes: Sizes, when: When) -> Option<Op>
     requires { IsExtent (small_machine sizes.pages sizes.cells) }
     ensures { MatchOption result ((op : Done) → OpFitsAt when (small_machine sizes.pages sizes.cells) op → line.now ≢ op_line op) (λ op. OpFitsAt when (small_machine sizes.pages sizes.cells) op × (line.now ≡ op_line op)) }
@@ -76,7 +76,7 @@ fn read_op(line: &[u8], sizes: Sizes, when: When) -> Option<Op>
     })
 }
 
-/// What may stand where an operation does, before a move or after it.
+/// Returns what is allowed at an operation, before a move or after it.
 pub fn wanted_op(when: When) -> Wanted {
     let what = match when {
         When::BeforeMove => "an operation before the move",
@@ -89,7 +89,7 @@ pub fn wanted_op(when: When) -> Wanted {
     }
 }
 
-/// Takes the line of an operation behind others, before a move or after it.
+/// Takes the line of an operation after others, before a move or after it.
 pub fn take_op(ops: &mut Vec<Op>, sizes: Sizes, when: When, line: &[u8]) -> Result<(), FaultKind>
     requires { IsExtent (small_machine sizes.pages sizes.cells) }
     ensures ok { OnOk result (TakesOp when (small_machine sizes.pages sizes.cells) ops.old.items ops.new.items line.now) }
@@ -105,7 +105,7 @@ pub fn take_op(ops: &mut Vec<Op>, sizes: Sizes, when: When, line: &[u8]) -> Resu
     }
 }
 
-/// How many operations there are before and after a move, as a line says.
+/// Returns the numbers of operations before and after a move that a line gives.
 pub fn read_counts(line: &[u8]) -> Result<(u32, u32), FaultKind>
     ensures found { IfOk result (λ a. (a.0 ≤ 65536) × (a.1 ≤ 65536) × (line.now ≡ counts_line a.0 a.1)) }
     ensures refused { OnErr result ((b a : ℕ) → b ≤ 65536 → a ≤ 65536 → line.now ≢ counts_line b a) }
@@ -122,13 +122,13 @@ pub fn read_counts(line: &[u8]) -> Result<(u32, u32), FaultKind>
     Ok((before as u32, after as u32))
 }
 
-/// What may stand where the numbers of a virtual processor's operations do.
+/// Returns what is allowed at the line with the numbers of a virtual processor's operations.
 pub fn wanted_counts() -> Wanted {
     let what = "the numbers of operations before and after the move of a virtual processor";
     Wanted::one(what, &["vcpu N N"]).within(0, MOST_OPS)
 }
 
-/// Adds the line of an operation.
+/// Appends the line of an operation.
 fn push_op(out: &mut Vec<u8>, op: Op) -> Result<(), AllocError>
     ensures { OnOk result (out.new.items ≡ out.old.items ++ (op_line op ++ 10 ∷ [])) }
 {
@@ -150,7 +150,7 @@ fn push_op(out: &mut Vec<u8>, op: Op) -> Result<(), AllocError>
     }
 }
 
-/// Adds the lines of operations.
+/// Appends the lines of operations.
 fn push_ops(out: &mut Vec<u8>, ops: &[Op]) -> Result<(), AllocError>
     ensures { OnOk result (out.new.items ≡ out.old.items ++ ended (map op_line ops.now)) }
 {
@@ -160,7 +160,7 @@ fn push_ops(out: &mut Vec<u8>, ops: &[Op]) -> Result<(), AllocError>
     Ok(())
 }
 
-/// Adds the line that says how many operations there are before and after a move.
+/// Appends the line with the numbers of operations before and after a move.
 fn push_counts(out: &mut Vec<u8>, before: usize, after: usize) -> Result<(), AllocError>
     ensures { OnOk result (out.new.items ≡ out.old.items ++ (counts_line before after ++ 10 ∷ [])) }
 {
@@ -170,7 +170,7 @@ fn push_counts(out: &mut Vec<u8>, before: usize, after: usize) -> Result<(), All
     end_line(out)
 }
 
-/// Adds the lines of a virtual processor.
+/// Appends the lines of a virtual processor.
 fn push_vcpu(out: &mut Vec<u8>, vcpu: &Vcpu) -> Result<(), AllocError>
     ensures { OnOk result (out.new.items ≡ out.old.items ++ ended (vcpu_onto vcpu.now [])) }
 {
@@ -181,7 +181,7 @@ fn push_vcpu(out: &mut Vec<u8>, vcpu: &Vcpu) -> Result<(), AllocError>
     push_ops(out, after)
 }
 
-/// Adds the lines of virtual processors.
+/// Appends the lines of virtual processors. Fails only if memory runs out.
 pub fn push_vcpus(out: &mut Vec<u8>, vcpus: &[Vcpu]) -> Result<(), AllocError>
     ensures { OnOk result (out.new.items ≡ out.old.items ++ ended (vcpus_onto vcpus.now [])) }
 {

@@ -13,9 +13,9 @@ use migration_types::{Contents, Geometry, InitPage, Seq, Version};
 use std::alloc::{AllocError, Global};
 use std::marker::Model;
 
-/// What a guest does and how its migration goes, within all limits: a machine and its first memory, how many pivots are
-/// kept at most, how many packets may be under way where pages are pushed, what becomes of the packets in each direction
-/// and over the lane, if there is one, and what each virtual processor does.
+/// The script of a migration, within all limits: a machine and its initial memory, the greatest number of pivots, the
+/// window of the channel of pushed pages, the delivery outcomes of the packets in each direction and over the lane, if
+/// there is one, and what each virtual processor does.
 #[derive(Drop)]
 pub struct Script {
     version: Version,
@@ -39,7 +39,7 @@ impl Model for Script {
     ghost invariant = { λ a. IsScenario (record { version = a.version; geometry = a.geometry; init = a.init; pivots = a.pivots; window = a.window; down = a.down; up = a.up; lane = a.lane; vcpus = a.vcpus }) };
 }
 
-/// The fates on the way over a lane, if there is one.
+/// Returns the delivery outcomes over the lane, if there is one.
 fn lane_slice(lane: &Option<Seq<Fate>>) -> Option<&[Fate]>
     ensures { option_map (λ l. l.now) result ≡ lane.now }
 {
@@ -47,7 +47,7 @@ fn lane_slice(lane: &Option<Seq<Fate>>) -> Option<&[Fate]>
     Some(fates.as_slice())
 }
 
-/// Whether scripts of the version may have a lane, if there is one, with at most 4,096 fates.
+/// Returns whether scripts of the version may have a lane, if there is one, and it has at most 4,096 delivery outcomes.
 fn lane_fits(version: Version, lane: Option<&[Fate]>) -> bool
     ensures { MatchBool result (LaneFits version (option_map (λ l. l.now) lane.entry)) (LaneFits version (option_map (λ l. l.now) lane.entry) → ⊥) }
 {
@@ -58,7 +58,7 @@ fn lane_fits(version: Version, lane: Option<&[Fate]>) -> bool
     }
 }
 
-/// The first fault of parts that are no script.
+/// Returns the first fault of parts that are no script, if there is one.
 fn fault_in(
     version: Version,
     geometry: Geometry,
@@ -99,16 +99,16 @@ fn fault_in(
 }
 
 impl Script {
-    /// The script of these parts, of a small machine, where they are within all limits. Takes no memory, and copies
-    /// nothing.
+    /// Returns the script with these parts, of a small machine, if they are within all limits. Allocates no memory, and
+    /// copies nothing.
     ///
     /// # Errors
     ///
-    /// The first fault, in the order of `ScriptFault`: that of the initial pages, which rise, are the machine's and have
-    /// a value for each cell, not all of them zero; 1 to 16 pivots; a window of 1 to 65,536; at most 4,096 fates on each
-    /// way, and a lane in a script of the second version alone; 1 to 64 virtual processors, of which each has at most
-    /// 65,536 operations before its move and after it, on pages and cells of the machine, and in a script of the first
-    /// version no release after it. The parts are then let go.
+    /// The first fault, in the order of `ScriptFault`. The parts are then dropped. The limits are: initial pages that
+    /// rise, belong to the machine, and have one value for each cell, not all of them zero; 1 to 16 pivots; a window of
+    /// 1 to 65,536; at most 4,096 delivery outcomes in each direction; a lane only in a script of the second version; 1
+    /// to 64 virtual processors, each with at most 65,536 operations before its move and at most as many after it, on
+    /// pages and cells of the machine; and in a script of the first version, no release after the move.
     pub fn new(
         version: Version,
         geometry: Geometry,
@@ -142,7 +142,7 @@ impl Script {
         }
     }
 
-    /// The script of these parts, which are within all limits. Takes no memory, and looks at nothing.
+    /// Returns the script with these parts, which must be within all limits. Allocates no memory, and checks nothing.
     pub fn of_parts(
         version: Version,
         geometry: Geometry,
@@ -170,29 +170,29 @@ impl Script {
         }
     }
 
-    /// The version of its text. In the second a virtual processor may release pages after its move, and there may be a
-    /// lane.
+    /// Returns the version of its text. In the second, a virtual processor may release pages after its move, and there
+    /// may be a lane.
     pub fn version(&self) -> Version
         ensures { result ≡ self.now.version }
     {
         self.version
     }
 
-    /// The machine's geometry.
+    /// Returns the machine's geometry.
     pub fn geometry(&self) -> Geometry
         ensures { result ≡ self.now.geometry }
     {
         self.geometry
     }
 
-    /// The pages that do not begin as zeros, in rising order.
+    /// Returns the pages that do not begin as zeros, in rising order.
     pub fn init(&self) -> &[InitPage]
         ensures { result.now ≡ self.now.init }
     {
         self.init.as_slice()
     }
 
-    /// The same, copied. An error: there is no memory for it.
+    /// Returns a copy of the pages that do not begin as zeros. Fails only if memory runs out.
     pub fn copied_init(&self, alloc: Global) -> Result<Seq<InitPage>, AllocError>
         ensures { IfOk result (λ pages. pages ≡ self.now.init) }
     {
@@ -208,36 +208,36 @@ impl Script {
         Ok(Seq::from_vec(pages))
     }
 
-    /// How many pivots are kept at most, 1 to 16.
+    /// Returns the greatest number of pivots, 1 to 16.
     pub fn pivots(&self) -> u32
         ensures { result ≡ self.now.pivots }
     {
         self.pivots
     }
 
-    /// How many packets may be under way where pages are pushed, the pushed one with them, 1 to 65,536: over the lane, or
-    /// else on the way down.
+    /// Returns the window, 1 to 65,536: how many packets may be under way on the channel of pushed pages, including the
+    /// pushed one. That channel is the lane, or without one the link down.
     pub fn window(&self) -> u32
         ensures { result ≡ self.now.window }
     {
         self.window
     }
 
-    /// What becomes of the packets on their way down, one after another, at most 4,096.
+    /// Returns the delivery outcomes of the packets on their way down, in order, at most 4,096.
     pub fn down(&self) -> &[Fate]
         ensures { result.now ≡ self.now.down }
     {
         self.down.as_slice()
     }
 
-    /// What becomes of the packets on their way up, one after another, at most 4,096.
+    /// Returns the delivery outcomes of the packets on their way up, in order, at most 4,096.
     pub fn up(&self) -> &[Fate]
         ensures { result.now ≡ self.now.up }
     {
         self.up.as_slice()
     }
 
-    /// What becomes of the packets on their way over the lane, one after another, at most 4,096. `None`: there is no
+    /// Returns the delivery outcomes of the packets on the lane, in order, at most 4,096, or `None` if there is no
     /// lane, and pages are pushed on the link.
     pub fn lane(&self) -> Option<&[Fate]>
         ensures { option_map (λ l. l.now) result ≡ self.now.lane }
@@ -245,14 +245,14 @@ impl Script {
         lane_slice(&self.lane)
     }
 
-    /// What each virtual processor does, 1 to 64 of them.
+    /// Returns what each virtual processor does. There are 1 to 64.
     pub fn vcpus(&self) -> &[Vcpu]
         ensures { result.now ≡ self.now.vcpus }
     {
         self.vcpus.as_slice()
     }
 
-    /// Tells callers that it is within all limits.
+    /// States that it is within all limits.
     pub fn keeps_limits(&self)
         ensures { IsScenario self.now }
     {

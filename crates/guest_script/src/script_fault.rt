@@ -1,4 +1,4 @@
-//! Why parts are no script.
+//! Why parts do not make a script.
 
 ghost use Rattle.std.specs.Prelude.{◌≡◌, ◌≤◌, ◌<◌, length, MatchBool, MatchOption};
 ghost use Rattle.std.specs.List.{AllByRecursion};
@@ -12,7 +12,8 @@ use migration_events::Op;
 use migration_types::{Geometry, InitPage, Version};
 use thiserror::Error;
 
-/// Why the operations of a virtual processor are none. Of several faults, the first here is told.
+/// Why the operations of a virtual processor are not allowed. If there are several faults, the first in this list
+/// counts.
 #[derive(Clone, Copy, Debug, PartialEq, Eq, Error)]
 pub enum VcpuFault {
     /// More than 65,536 operations before the move.
@@ -25,35 +26,36 @@ pub enum VcpuFault {
     /// have.
     #[error("operation {0} before the move is on no page or cell of the machine")]
     Before(usize),
-    /// The operation of this number after the move, counted from 0, is on a page or a cell that the machine does not have,
-    /// or a release in a script of the first version.
+    /// The operation of this number after the move, counted from 0, is on a page or a cell that the machine does not
+    /// have, or is a release in a script of the first version.
     #[error("operation {0} after the move is on no page or cell of the machine, or a release in the first version")]
     After(usize),
 }
 
-/// Why parts are no script. Of several faults, the first here is told, and among virtual processors that of the first.
+/// Why parts do not make a script. If there are several faults, the first in this list counts, and among virtual
+/// processors that of the first.
 #[derive(Clone, Copy, Debug, PartialEq, Eq, Error)]
 pub enum ScriptFault {
-    /// The initial page at this place, counted from 0, is none of the machine's, does not come behind the one before it,
-    /// has another number of cells, or is zeros.
+    /// The initial page at this place, counted from 0, is not one of the machine's, does not come after the one before
+    /// it, has another number of cells, or is zeros.
     #[error("initial page {0} is none of the machine's, out of order, of another size, or zeros")]
     Init(usize),
-    /// Not 1 to 16 pivots.
+    /// The number of pivots is not 1 to 16.
     #[error("there are 1 to 16 pivots")]
     Pivots,
-    /// Not a window of 1 to 65,536 packets.
+    /// The window is not 1 to 65,536 packets.
     #[error("a window has 1 to 65,536 packets")]
     Window,
-    /// More than 4,096 fates on the way down.
+    /// More than 4,096 delivery outcomes on the way down.
     #[error("there are at most 4,096 fates on the way down")]
     Down,
-    /// More than 4,096 fates on the way up.
+    /// More than 4,096 delivery outcomes on the way up.
     #[error("there are at most 4,096 fates on the way up")]
     Up,
-    /// A lane in a script of the first version, or more than 4,096 fates on the way over it.
+    /// A lane in a script of the first version, or more than 4,096 delivery outcomes on the way over it.
     #[error("a script of the second version alone has a lane, with at most 4,096 fates")]
     Lane,
-    /// Not 1 to 64 virtual processors.
+    /// The number of virtual processors is not 1 to 64.
     #[error("there are 1 to 64 virtual processors")]
     Vcpus,
     /// The virtual processor of this number has a fault.
@@ -61,7 +63,7 @@ pub enum ScriptFault {
     Vcpu { vcpu: u8, fault: VcpuFault },
 }
 
-/// Whether an operation fits before a move, or after it.
+/// Returns whether an operation is allowed before a move, or after it.
 fn op_fits_at(geometry: Geometry, op: Op, when: When) -> bool
     ensures { MatchBool result (OpFitsAt when geometry op) (OpFitsAt when geometry op → ⊥) }
 {
@@ -71,7 +73,7 @@ fn op_fits_at(geometry: Geometry, op: Op, when: When) -> bool
     op.fits(geometry)
 }
 
-/// The place of the first operation that does not fit.
+/// Returns the place of the first operation that is not allowed.
 fn first_wrong_op(geometry: Geometry, ops: &[Op], when: When) -> Option<usize>
     ensures { MatchOption result (AllByRecursion (OpFitsAt when geometry) ops.now) (IsFirstWrong (AllByRecursion (OpFitsAt when geometry)) ops.now) }
 {
@@ -83,7 +85,7 @@ fn first_wrong_op(geometry: Geometry, ops: &[Op], when: When) -> Option<usize>
     None
 }
 
-/// The first fault of a virtual processor.
+/// Returns the first fault of a virtual processor.
 fn vcpu_fault(version: Version, geometry: Geometry, vcpu: &Vcpu) -> Option<VcpuFault>
     ensures { MatchOption result (VcpuFits version geometry vcpu.now) (IsVcpuFault version geometry vcpu.now) }
 {
@@ -104,7 +106,7 @@ fn vcpu_fault(version: Version, geometry: Geometry, vcpu: &Vcpu) -> Option<VcpuF
     None
 }
 
-/// The first virtual processor that has a fault, with its fault.
+/// Returns the first virtual processor that has a fault, with its fault.
 pub fn first_vcpu_fault(
     version: Version,
     geometry: Geometry,
@@ -121,14 +123,14 @@ pub fn first_vcpu_fault(
     None
 }
 
-/// Whether all cells are zero.
+/// Returns whether all cells are zero.
 fn are_zeros(cells: &[u64]) -> bool
     ensures { MatchBool result (AreZeros cells.now) (AreZeros cells.now → ⊥) }
 {
     cells.iter().all(|&value| value == 0)
 }
 
-/// Whether a page of the machine has a value for each cell, not all of them zero.
+/// Returns whether a page of the machine has one value for each cell, not all of them zero.
 fn content_fits(geometry: Geometry, page: &InitPage) -> bool
     requires { page.now.page < geometry.pages }
     ensures { MatchBool result (InitPageFits geometry page.now) (InitPageFits geometry page.now → ⊥) }
@@ -137,15 +139,15 @@ fn content_fits(geometry: Geometry, page: &InitPage) -> bool
     values.len() == geometry.cells() as usize && !are_zeros(values)
 }
 
-/// Whether a page may stand among the initial pages behind those below `least`: it is the machine's, with a value for each
-/// cell, not all of them zero.
+/// Returns whether a page is allowed among the initial pages after those below `least`: it must be one of the
+/// machine's, with one value for each cell, not all of them zero.
 fn page_fits(geometry: Geometry, least: u32, page: &InitPage) -> bool
     ensures { MatchBool result ((least ≤ page.now.page) × InitPageFits geometry page.now) ((least ≤ page.now.page) × InitPageFits geometry page.now → ⊥) }
 {
     least <= page.page.number() && geometry.has_page(page.page) && content_fits(geometry, page)
 }
 
-/// The place of the first initial page that may not stand there.
+/// Returns the place of the first initial page that is not allowed there.
 pub fn first_wrong_page(geometry: Geometry, init: &[InitPage]) -> Option<usize>
     ensures { MatchOption result (AreInitPages geometry init.now) (IsFirstWrong (AreInitPages geometry) init.now) }
 {

@@ -1,4 +1,4 @@
-//! What came of a script, line by line.
+//! Reading a script, line by line.
 
 ghost use Rattle.guest_script.specs.Scripts.{SpellsScript};
 

@@ -1,4 +1,4 @@
-//! What a reader of scripts makes of each line.
+//! How a reader of scripts takes each line.
 
 ghost use Rattle.std.specs.Prelude.{◌≡◌, ◌+◌, ◌<◌, ◌≤◌, length, OnOk, OnErr, IfErr, IsSomeAnd};
 ghost use Rattle.guest_script.specs.inner.ScriptDraft.{draft_of, ScriptStep, HasAllOps, begun, ended};
@@ -19,7 +19,7 @@ use std::alloc::Global;
 use std::mem;
 use text_lines::{CLOSING, Counted, FaultKind, is_line, read_some};
 
-/// What came of a script.
+/// What was read of a script.
 #[derive(Drop)]
 pub struct ScriptParts {
     pub(crate) version: Version,
@@ -29,22 +29,22 @@ pub struct ScriptParts {
     pub(crate) window: u32,
     pub(crate) down: Seq<Fate>,
     pub(crate) up: Seq<Fate>,
-    /// None where there is no lane, and until its fates came.
+    /// `None` if there is no lane, and until its delivery outcomes are read.
     pub(crate) lane: Option<Seq<Fate>>,
     /// How many virtual processors there are.
     pub(crate) count: u32,
-    /// Those of which all came.
+    /// The virtual processors that were read completely.
     pub(crate) vcpus: Vec<Vcpu>,
-    /// How many operations the one that is coming has before its move, and those that came.
+    /// How many operations before its move the current virtual processor has, and those that were read.
     pub(crate) before_count: u32,
     pub(crate) before: Vec<Op>,
-    /// So for those after it.
+    /// How many operations after its move it has, and those that were read.
     pub(crate) after_count: u32,
     pub(crate) after: Vec<Op>,
 }
 
 impl ScriptParts {
-    /// Nothing came. Takes no memory.
+    /// Returns the parts with nothing read. Allocates no memory.
     pub(crate) fn new(alloc: Global) -> Self
         ensures { ScriptLive ScriptStage.Header (draft_of result) }
     {
@@ -71,7 +71,7 @@ impl ScriptParts {
         }
     }
 
-    /// The script, where all of it came.
+    /// Returns the script, if all of it was read.
     pub(crate) fn into_script(self) -> Option<Script>
         requires { ScriptFits ScriptStage.Done (draft_of self) }
         ensures { IsSomeAnd result (λ script. script ≡ scenario_of (draft_of self)) }
@@ -92,7 +92,7 @@ impl ScriptParts {
         }
     }
 
-    /// Takes the next line, and answers the stage after it.
+    /// Takes the next line, and returns the stage after it.
     pub(crate) fn step(&mut self, stage: ScriptStage, line: &[u8]) -> Result<ScriptStage, FaultKind>
         requires { ScriptLive stage (draft_of self.old) }
         ensures { ScriptStep stage (draft_of self.old) line.now (draft_of self.new) result }
@@ -115,7 +115,7 @@ impl ScriptParts {
         }
     }
 
-    /// Takes the header, which tells the version.
+    /// Takes the header, which gives the version.
     fn at_header(&mut self, line: &[u8]) -> Result<ScriptStage, FaultKind>
         requires { ScriptLive ScriptStage.Header (draft_of self.old) }
         ensures { ScriptStep ScriptStage.Header (draft_of self.old) line.now (draft_of self.new) result }
@@ -188,7 +188,7 @@ impl ScriptParts {
         Ok(ScriptStage::Down)
     }
 
-    /// Takes the fates on the way down.
+    /// Takes the delivery outcomes on the way down.
     fn at_down(&mut self, line: &[u8]) -> Result<ScriptStage, FaultKind>
         requires { ScriptLive ScriptStage.Down (draft_of self.old) }
         ensures { ScriptStep ScriptStage.Down (draft_of self.old) line.now (draft_of self.new) result }
@@ -198,7 +198,7 @@ impl ScriptParts {
         Ok(ScriptStage::Up)
     }
 
-    /// Takes the fates on the way up. There is no lane until its line comes.
+    /// Takes the delivery outcomes on the way up. There is no lane until its line is read.
     fn at_up(&mut self, line: &[u8]) -> Result<ScriptStage, FaultKind>
         requires { ScriptLive ScriptStage.Up (draft_of self.old) }
         ensures { ScriptStep ScriptStage.Up (draft_of self.old) line.now (draft_of self.new) result }
@@ -226,7 +226,7 @@ impl ScriptParts {
         Err(FaultKind::Form)
     }
 
-    /// Takes the fates on the way over the lane.
+    /// Takes the delivery outcomes on the way over the lane.
     fn at_lane(&mut self, line: &[u8]) -> Result<ScriptStage, FaultKind>
         requires { ScriptLive ScriptStage.Lane (draft_of self.old) }
         ensures { ScriptStep ScriptStage.Lane (draft_of self.old) line.now (draft_of self.new) result }
@@ -257,7 +257,7 @@ impl ScriptParts {
         Ok(ScriptStage::Ops)
     }
 
-    /// Takes an operation, or what stands behind the last of a virtual processor.
+    /// Takes an operation, or what follows the last of a virtual processor.
     fn at_ops(&mut self, line: &[u8]) -> Result<ScriptStage, FaultKind>
         requires { ScriptLive ScriptStage.Ops (draft_of self.old) }
         ensures { ScriptStep ScriptStage.Ops (draft_of self.old) line.now (draft_of self.new) result }
@@ -277,7 +277,7 @@ impl ScriptParts {
         self.at_end(line)
     }
 
-    /// Takes the numbers of operations of the next virtual processor, behind the last operation of one.
+    /// Takes the numbers of operations of the next virtual processor, after the last operation of one.
     fn at_next(&mut self, line: &[u8]) -> Result<ScriptStage, FaultKind>
         requires live { ScriptLive ScriptStage.Ops (draft_of self.old) }
         requires whole { HasAllOps (draft_of self.old) }
@@ -290,7 +290,7 @@ impl ScriptParts {
         Ok(ScriptStage::Ops)
     }
 
-    /// Takes the closing line, behind the last operation of the last virtual processor.
+    /// Takes the closing line, after the last operation of the last virtual processor.
     fn at_end(&mut self, line: &[u8]) -> Result<ScriptStage, FaultKind>
         requires live { ScriptLive ScriptStage.Ops (draft_of self.old) }
         requires whole { HasAllOps (draft_of self.old) }
@@ -304,7 +304,7 @@ impl ScriptParts {
         Ok(ScriptStage::Done)
     }
 
-    /// A virtual processor is to come, with so many operations. Takes no memory.
+    /// Starts a virtual processor with this many operations. Allocates no memory.
     fn begin_vcpu(&mut self, before: u32, after: u32)
         ensures { draft_of self.new ≡ begun before after (draft_of self.old) }
     {
@@ -314,7 +314,8 @@ impl ScriptParts {
         self.after = Vec::new(self.sizes.alloc);
     }
 
-    /// All operations of a virtual processor came. An error: there is no memory for it, and nothing changes.
+    /// Completes a virtual processor, all of whose operations were read. Fails only if memory runs out, and then
+    /// nothing changes.
     fn end_vcpu(&mut self) -> Result<(), FaultKind>
         ensures ok { OnOk result (draft_of self.new ≡ ended (draft_of self.old)) }
         ensures err { OnErr result (draft_of self.new ≡ draft_of self.old) }

@@ -1,6 +1,6 @@
-//! Where a reader of scripts is.
+//! The stages of a reader of scripts.
 
-/// Which line comes next.
+/// The kind of line that comes next.
 #[derive(Clone, Copy, Debug, PartialEq, Eq)]
 pub enum ScriptStage {
     /// The header.
@@ -11,24 +11,24 @@ pub enum ScriptStage {
     Cells,
     /// The number of pages that do not begin as zeros.
     InitCount,
-    /// One of these pages, or the number of pivots behind the last.
+    /// One of these pages, or after the last the number of pivots.
     Init,
     /// The window.
     Window,
-    /// The fates on the way down.
+    /// The delivery outcomes on the way down.
     Down,
-    /// The fates on the way up.
+    /// The delivery outcomes on the way up.
     Up,
     /// The number of links that carry packets down, in the second version.
     Lanes,
-    /// The fates on the way over the lane, where there is one.
+    /// The delivery outcomes on the way over the lane, if there is one.
     Lane,
     /// The number of virtual processors.
     Count,
     /// The first virtual processor.
     First,
-    /// An operation, or behind the last of a virtual processor the next of these, or the closing line.
+    /// An operation; after the last one of a virtual processor, the next virtual processor or the closing line.
     Ops,
-    /// None.
+    /// No line.
     Done,
 }

@@ -21,7 +21,7 @@ pub enum When {
     AfterMove(Version),
 }
 
-/// Whether a virtual processor may release pages, before its move or after it.
+/// Returns whether a virtual processor may release pages, before its move or after it.
 pub fn may_release(when: When) -> bool
     ensures { MatchBool result (MayRelease when) (MayRelease when → ⊥) }
 {
@@ -34,17 +34,17 @@ pub fn may_release(when: When) -> bool
     }
 }
 
-/// There are 1 to so many pivots.
+/// The greatest number of pivots; the least is 1.
 pub const MOST_PIVOTS: u32 = 16;
 
-/// A window has 1 to so many packets.
+/// The greatest number of packets in a window; the least is 1.
 pub const MOST_WINDOW: u32 = 65_536;
 
-/// The fates of a direction are at most so many.
+/// The greatest number of delivery outcomes in a direction.
 pub const MOST_FATES: u32 = 4_096;
 
-/// There are 1 to so many virtual processors.
+/// The greatest number of virtual processors; the least is 1.
 pub const MOST_VCPUS: u32 = 64;
 
-/// A virtual processor does at most so many operations before its move, and at most so many after it.
+/// The greatest number of operations of a virtual processor before its move, and also after it.
 pub const MOST_OPS: u32 = 65_536;

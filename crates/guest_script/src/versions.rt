@@ -1,4 +1,4 @@
-//! What a script has by its version.
+//! What the version decides in a script.
 
 ghost use Rattle.std.specs.Prelude.{◌≡◌, [], ◌++◌, OnOk};
 ghost use Rattle.std.specs.Option.{option_map};
@@ -12,7 +12,7 @@ use migration_types::Version;
 use std::alloc::AllocError;
 use text_lines::push_line;
 
-/// The first line.
+/// Returns the first line.
 pub fn script_header(version: Version) -> &'static [u8]
     ensures { result.now ≡ script_header version }
 {
@@ -22,8 +22,8 @@ pub fn script_header(version: Version) -> &'static [u8]
     }
 }
 
-/// Adds the lines that say how many links carry packets down and what becomes of those over the lane, where the version
-/// has them.
+/// Appends the lines with the number of links that carry packets down and with the delivery outcomes over the lane, if
+/// the version has them. Fails only if memory runs out.
 pub fn push_lanes(
     out: &mut Vec<u8>,
     version: Version,

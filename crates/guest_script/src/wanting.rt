@@ -1,4 +1,4 @@
-//! What may stand at each line of a script's text.
+//! What is allowed at each line of a script's text.
 
 use crate::fates::wanted_fates;
 use crate::op_form::{wanted_counts, wanted_op};
@@ -12,11 +12,11 @@ use text_lines::Wanted;
 /// The line with the number of initial pages.
 const INIT_LINE: u32 = 4;
 
-/// How the header is written.
+/// The forms of the header.
 const HEADER_FORMS: &[&str] = &["postcopy-script 1", "postcopy-script 2"];
 
 impl ScriptParts {
-    /// What may stand at the next line.
+    /// Returns what is allowed at the next line.
     pub fn wanted_at(&self, stage: ScriptStage) -> Wanted {
         let wanted = match stage {
             ScriptStage::Header => Wanted::one("the header of a script", HEADER_FORMS),
@@ -43,7 +43,7 @@ impl ScriptParts {
         wanted.of_machine(self.sizes.pages, self.sizes.cells)
     }
 
-    /// An initial page, or the number of pivots behind the last.
+    /// Expects an initial page, or after the last the number of pivots.
     fn wanted_in_init(&self) -> Wanted {
         let wanted = if self.init.is_whole() {
             Wanted::one("the number of pivots", &["pivots N"]).within(1, MOST_PIVOTS)
@@ -53,7 +53,7 @@ impl ScriptParts {
         wanted.of_list(&self.init, INIT_LINE)
     }
 
-    /// An operation, or behind the last of a virtual processor the next of these, or the closing line.
+    /// Expects an operation; after the last one of a virtual processor, the next virtual processor or the closing line.
     fn wanted_in_ops(&self) -> Wanted {
         let before = short(self.before.len());
         let after = short(self.after.len());
@@ -74,7 +74,7 @@ impl ScriptParts {
         Wanted::closing_line().counted(ended, self.count, self.vcpus_line())
     }
 
-    /// The line with the number of virtual processors.
+    /// Returns the line with the number of virtual processors.
     fn vcpus_line(&self) -> u32 {
         let lanes = match (self.version, &self.lane) {
             (Version::One, _) => 0,
@@ -87,7 +87,7 @@ impl ScriptParts {
             .saturating_add(lanes)
     }
 
-    /// The line of the virtual processor that is coming.
+    /// Returns the line of the virtual processor that is being read.
     fn vcpu_line(&self) -> u32 {
         let mut line = self.vcpus_line().saturating_add(1);
         for vcpu in &self.vcpus {
@@ -97,14 +97,14 @@ impl ScriptParts {
     }
 }
 
-/// How many lines a virtual processor has: its own, and one for each operation.
+/// Returns how many lines a virtual processor has: its own, and one for each operation.
 fn lines_of(vcpu: &Vcpu) -> u32 {
     let before = short(vcpu.before_move.as_slice().len());
     let after = short(vcpu.after_move.as_slice().len());
     before.saturating_add(after).saturating_add(1)
 }
 
-/// A length, which is small.
+/// Returns a length, which is small.
 fn short(length: usize) -> u32 {
     u32::try_from(length).unwrap_or(u32::MAX)
 }

@@ -1,4 +1,4 @@
--- What a run of a migration leaves, and what is promised of it.
+-- What a run of a migration leaves, and what is promised about it.
 use Rattle.std.specs.Prelude.{◌≡◌, ℕ, ◌<◌, ◌==◌, ◌⊎◌, ◌++◌, List, [], map, length, Option, Some, None, slice_get, slice_index_or, if◌then◌else◌}
 use Rattle.std.specs.List.{filter_map}
 use Rattle.migration_types.specs.declared.records.GuestRec.{GuestRec}
@@ -29,7 +29,7 @@ use Rattle.host_checks.specs.declared.outcome.RunFault.TheVariants.{LogFull, Mem
 abbrev pub answered : Op → ℕ → Answered
 answered op answer = record { op = op; answer = answer }
 
--- the virtual processor and the answered operation that a record of the guest tells of
+-- the virtual processor and the answered operation of a record of the guest
 abbrev pub told_by : GuestRec → Option (ℕ × Answered)
 told_by (Read vcpu page cell value) = Some (vcpu, answered (ReadCell page cell) value)
 told_by (Write vcpu page cell value) = Some (vcpu, answered (WriteCell page cell value) value)
@@ -49,7 +49,7 @@ part_of vcpu log = filter_map (λ r. if_own vcpu (told_by r)) log
 abbrev pub ops_of : List Answered → List Op
 ops_of transcript = map (λ a. a.op) transcript
 
--- what a script asks of a virtual processor
+-- the operations that a script gives a virtual processor
 abbrev pub asked_of : Vcpu → List Op
 asked_of vcpu = vcpu.before_move ++ vcpu.after_move
 
@@ -57,7 +57,8 @@ asked_of vcpu = vcpu.before_move ++ vcpu.after_move
 abbrev pub AreOfScript : List Vcpu → List (List Answered) → Type 0
 AreOfScript vcpus transcripts = map ops_of transcripts ≡ map asked_of vcpus
 
--- each transcript is its virtual processor's part of the guest's log, which tells of no other virtual processor
+-- each transcript is its virtual processor's part of the guest's log, which has operations of no other virtual
+-- processor
 abbrev pub AreOfLog : List GuestRec → List (List Answered) → Type 0
 AreOfLog log transcripts = (vcpu : ℕ) → slice_index_or transcripts vcpu [] ≡ part_of vcpu log
 
@@ -65,12 +66,12 @@ AreOfLog log transcripts = (vcpu : ℕ) → slice_index_or transcripts vcpu [] �
 abbrev pub IsDone : Recorded → Type 0
 IsDone s = (n : ℕ) × (slice_get s.source n ≡ Some Done)
 
--- each page is what one machine that never moved has after the guest's log
+-- after the guest's log, each page is that of one machine that never moved
 pub record IsFlatStore (s : Recorded) (store : Frames) : Type 0 where
   pub geometry : store.geometry ≡ s.geometry
   pub pages : (page : ℕ) → page < s.geometry.pages → page_of s.geometry.cells (memory_of store) page ≡ page_of s.geometry.cells (flat s (length s.guest)) page
 
--- all that is checked of what a run of a script with these virtual processors left, beside its audit
+-- everything that is checked about what a run of a script with these virtual processors left, apart from its audit
 pub record Agrees (vcpus : List Vcpu) (s : Recorded) (cert : Certified) (transcripts : List (List Answered)) (frames : Frames) : Type 0 where
   pub operations : AreOfScript vcpus transcripts
   pub answers : AreOfLog s.guest transcripts
@@ -83,13 +84,13 @@ abbrev pub Differs : List Vcpu → Recorded → Certified → List (List Answere
 Differs vcpus s cert transcripts frames =
     (¬ AreOfScript vcpus transcripts) ⊎ ((¬ IsDone s) ⊎ ((¬ AreOfLog s.guest transcripts) ⊎ ((¬ HasEachOwed s (spelled cert.runs)) ⊎ (¬ IsFlatStore s frames))))
 
--- a session is of the script's version, machine and initial pages
+-- a session has the script's version, machine and initial pages
 pub record IsOfScript (script : Scenario) (s : Recorded) : Type 0 where
   pub version : s.version ≡ script.version
   pub geometry : s.geometry ≡ script.geometry
   pub init : s.init ≡ script.init
 
--- what a run of a script leaves is of the script, and all that is promised of it holds
+-- what a run of a script leaves is of the script, and everything that is promised about it holds
 pub record HasMigrated (script : Scenario) (m : Migrated) : Type 0 where
   pub version : m.session.version ≡ script.version
   pub geometry : m.session.geometry ≡ script.geometry
@@ -98,7 +99,7 @@ pub record HasMigrated (script : Scenario) (m : Migrated) : Type 0 where
   pub safe : IsSafe m.session
   pub agrees : Agrees script.vcpus m.session m.cert m.transcripts m.store
 
--- a report with which an audit is refused is that on a session of the script, and is not that it is clean
+-- a report with which an audit is refused is on a session of the script, and does not say that it is clean
 abbrev pub IsRunFault : Scenario → RunFault → Type 0
 IsRunFault script LogFull = Unit {0}
 IsRunFault script Memory = Unit {0}
@@ -107,7 +108,7 @@ IsRunFault script (AuditRefused report) = (logs : Logs) × IsReport (recorded sc
 IsRunFault script TranscriptDiffers = Unit {0}
 IsRunFault script Link = Unit {0}
 
--- why no session is made of logs: a record is beyond its limits, or want of memory
+-- why logs do not make a session: a record is beyond its limits, or memory ran out
 abbrev pub IsUnread : RunFault → Type 0
 IsUnread LogFull = ⊥
 IsUnread Memory = Unit {0}
@@ -116,7 +117,7 @@ IsUnread (AuditRefused report) = ⊥
 IsUnread TranscriptDiffers = Unit {0}
 IsUnread Link = ⊥
 
--- why a session has no certificate: its audit's report, which is not that it is clean, or want of memory
+-- why a session has no certificate: its audit's report does not say that it is clean, or memory ran out
 abbrev pub IsUnclean : Recorded → RunFault → Type 0
 IsUnclean s LogFull = ⊥
 IsUnclean s Memory = Unit {0}
@@ -125,8 +126,8 @@ IsUnclean s (AuditRefused report) = IsReport s report × ¬ IsClean report
 IsUnclean s TranscriptDiffers = ⊥
 IsUnclean s Link = ⊥
 
--- why what a run left is refused: its audit's report, which is not that the session is clean; or the report is that it is,
--- and something else that is checked does not hold; or want of memory
+-- Why what a run left is refused: its audit's report does not say that the session is clean; or the report does, and
+-- another check fails; or memory ran out.
 abbrev pub IsRefused : List Vcpu → Recorded → List (List Answered) → Frames → RunFault → Type 0
 IsRefused vcpus s transcripts frames LogFull = ⊥
 IsRefused vcpus s transcripts frames Memory = Unit {0}

@@ -1,5 +1,5 @@
-//! What a run of a migration leaves, and the checks that it has to pass: they are made on its logs, its frames and its
-//! transcripts alone, so nothing is assumed of how the run was made.
+//! What a run of a migration leaves, and the checks that it must pass. They look only at its logs, its frames and its
+//! transcripts, so nothing is assumed about how the run was made.
 #![tactic(auto)]
 
 mod limits;

@@ -15,21 +15,21 @@ use migration_types::{
 };
 use std::alloc::Global;
 
-/// Whether each record of a log may stand in a session of the version, and has numbers of the machine.
+/// Returns whether each record of a log is allowed in a session of the version, and its numbers are within the machine.
 fn log_fits<R: Record>(version: Version, geometry: Geometry, log: LogName, records: &[R]) -> bool
     ensures { IsTrue result ↔ AllByRecursion (λ rec. RowFits version geometry log (R.consists rec) (R.contents rec)) records.now }
 {
     records.iter().all(|rec| fits(version, geometry, log, rec))
 }
 
-/// Whether sessions of a size have each record of a log of the source.
+/// Returns whether sessions of a size have each record of this log of the source.
 fn are_of_size(size: Size, records: &[SourceRec]) -> bool
     ensures { IsTrue result ↔ AllByRecursion (λ rec. HasSourceRec size rec) records.now }
 {
     records.iter().all(|rec| rec.is_in(size))
 }
 
-/// Whether each log has as many records as a log may have.
+/// Returns whether no log has more records than a log may have.
 fn are_short(logs: &Logs) -> bool
     ensures { IsTrue result ↔ AreShort logs.now }
 {
@@ -41,7 +41,8 @@ fn are_short(logs: &Logs) -> bool
         && logs.pager.as_slice().len() <= most
 }
 
-/// Whether each record of the logs may stand in a session of the version, and has numbers of the machine.
+/// Returns whether each record of the logs is allowed in a session of the version, and its numbers are within the
+/// machine.
 #[tactic(auto, using(crate::proofs::RowLimits::of_rows))]
 fn are_of_machine(version: Version, geometry: Geometry, logs: &Logs) -> bool
     ensures { IsTrue result → AreOfMachine version geometry logs.now }
@@ -55,11 +56,11 @@ fn are_of_machine(version: Version, geometry: Geometry, logs: &Logs) -> bool
         && log_fits(version, geometry, LogName::Pager, logs.pager.as_slice())
 }
 
-/// The session of a script's version, machine and initial pages with these logs.
+/// Returns the session with these logs, and with the version, machine and initial pages of a script.
 ///
 /// # Errors
 ///
-/// `TranscriptDiffers` where a record is beyond a session's limits; `Memory`.
+/// `TranscriptDiffers` if a record is beyond a session's limits, and `Memory`.
 pub fn session_of(alloc: Global, script: &Script, logs: Logs) -> Result<Session, RunFault>
     ensures session { IfOk result (λ s. s ≡ recorded script.now.version script.now.geometry script.now.init logs) }
     ensures refused { IfErr result IsUnread }

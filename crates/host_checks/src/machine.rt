@@ -1,4 +1,4 @@
-//! What a run left against one machine that never moved.
+//! What a run left, compared with one machine that never moved.
 
 ghost use Rattle.std.specs.Prelude.{◌≡◌, ◌≢◌, ◌<◌, ◌≤◌, ◌⊎◌, ℕ, false, length, slice_get, Some, IfOk, MatchBool};
 ghost use Rattle.migration_types.specs.Sessions.{IsSession};
@@ -22,7 +22,7 @@ use page_facts::halt_place;
 use page_store::Store;
 use std::alloc::{AllocError, Global};
 
-/// Does the guest's records from one place to another.
+/// Carries out the guest's records from one place to another.
 fn run_to(session: &Session, machine: &mut Machine, from: usize, to: usize)
     requires limits { IsSession session.now }
     requires order { from ≤ to }
@@ -36,7 +36,7 @@ fn run_to(session: &Session, machine: &mut Machine, from: usize, to: usize)
     }
 }
 
-/// Whether an entry says where its page was placed, or that it was released at the target.
+/// Returns whether an entry says where its page was placed, or that it was released at the target.
 fn says_where(entry: &Entry) -> bool
     ensures { MatchBool result (entry.now ≢ Nothing) (entry.now ≡ Nothing) }
 {
@@ -48,14 +48,14 @@ fn says_where(entry: &Entry) -> bool
     }
 }
 
-/// Whether a page is released, or its entry says where it was placed or released.
+/// Returns whether a page is released, or its entry says where it was placed or released.
 fn is_served(is_released: bool, entry: &Entry) -> bool
     ensures { MatchBool result (is_released ≡ false → entry.now ≢ Nothing) ((is_released ≡ false) × (entry.now ≡ Nothing)) }
 {
     is_released || says_where(entry)
 }
 
-/// Whether each page that the machine has not released has an entry that says where it was placed or released.
+/// Returns whether each page that the machine has not released has an entry that says where it was placed or released.
 fn owed_are_placed(machine: &Machine, entries: &[Entry]) -> bool
     requires pages { length entries.now ≡ machine.now.ledger.geometry.pages }
     requires few { length entries.now ≤ most_pages }
@@ -72,7 +72,7 @@ fn owed_are_placed(machine: &Machine, entries: &[Entry]) -> bool
     true
 }
 
-/// Whether two machines' frames have the same in each page.
+/// Returns whether two machines' frames have the same contents in each page.
 fn are_same(one: &Store, other: &Store) -> bool
     requires { one.now.geometry ≡ other.now.geometry }
     ensures { MatchBool result
@@ -90,9 +90,9 @@ fn are_same(one: &Store, other: &Store) -> bool
     true
 }
 
-/// Whether each owed page is resident at the end of the certificate's merging, and the frames are those of one machine
-/// that never moved, on each page. Takes one pass over the guest's log, and memory for the frames of one machine, which
-/// is the only error.
+/// Returns whether each owed page is resident at the end of the certificate's merging, and each page of the frames is
+/// that of one machine that never moved. Makes one pass over the guest's log, and allocates memory for the frames of
+/// one machine. Fails only if memory runs out.
 pub(crate) fn is_whole(
     alloc: Global,
     session: &Session,

@@ -1,4 +1,4 @@
-//! Transcripts against the guest's log.
+//! Transcripts compared with the guest's log.
 
 ghost use Rattle.std.specs.Prelude.{◌≡◌, ◌≢◌, ◌++◌, [], ◌∷◌, ℕ, List, length, slice_index_or, IfOk, MatchBool};
 ghost use Rattle.migration_types.specs.declared.records.GuestRec.{GuestRec as Rec};
@@ -10,14 +10,14 @@ use migration_events::Op;
 use migration_types::GuestRec;
 use std::alloc::{AllocError, Global};
 
-/// An operation with its answer.
+/// Returns an operation with its answer.
 fn answered(op: Op, answer: u64) -> Answered
     ensures { result ≡ answered op answer }
 {
     Answered { op, answer }
 }
 
-/// The virtual processor and the answered operation that a record tells of, if it tells of one.
+/// Returns the virtual processor and the answered operation of a record, if it is one of an operation.
 fn told_by(rec: &GuestRec) -> Option<(u8, Answered)>
     ensures { result ≡ told_by rec.now }
 {
@@ -39,16 +39,16 @@ fn told_by(rec: &GuestRec) -> Option<(u8, Answered)>
     }
 }
 
-/// Whether two answered operations are the same.
+/// Returns whether two answered operations are equal.
 fn is_answer(one: &Answered, other: &Answered) -> bool
     ensures { MatchBool result (one.now ≡ other.now) (one.now ≢ other.now) }
 {
     one.answer == other.answer && is_same(one.op, other.op)
 }
 
-/// Takes one record of the guest's log, where so many answers of each transcript were told before it: where it tells of
-/// an operation, that is the next of its virtual processor's transcript. Otherwise the answer is false: no log that begins
-/// so has these transcripts.
+/// Takes one record of the guest's log, where `told` says how many answers of each transcript were found before it. If
+/// the record is one of an operation, that must be the next in the transcript of its virtual processor. Otherwise it
+/// returns `false`: no log that begins like this has these transcripts.
 fn takes(rec: &GuestRec, transcripts: &[Transcript], told: &mut Vec<usize>) -> bool
     requires { length told.old.items ≡ length transcripts.now }
     ensures length { length told.new.items ≡ length transcripts.now }
@@ -72,7 +72,7 @@ fn takes(rec: &GuestRec, transcripts: &[Transcript], told: &mut Vec<usize>) -> b
     true
 }
 
-/// Whether all answers of each transcript were told.
+/// Returns whether all answers of each transcript were found.
 fn are_all_told(transcripts: &[Transcript], told: &[usize]) -> bool
     requires { length told.now ≡ length transcripts.now }
     ensures { MatchBool result
@@ -87,8 +87,8 @@ fn are_all_told(transcripts: &[Transcript], told: &[usize]) -> bool
     true
 }
 
-/// Whether each transcript is its virtual processor's part of the guest's log, and the log tells of no other. Takes one
-/// pass over the log. An error: there is no memory for a number for each transcript.
+/// Returns whether each transcript is its virtual processor's part of the guest's log, and the log has operations of no
+/// other. Makes one pass over the log. Fails only if memory runs out.
 pub(crate) fn are_of_log(
     alloc: Global,
     log: &[GuestRec],

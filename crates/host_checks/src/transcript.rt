@@ -17,7 +17,7 @@ pub struct Answered {
 /// What a virtual processor did, in order, with the answers.
 pub type Transcript = Seq<Answered>;
 
-/// Whether two operations are the same.
+/// Returns whether two operations are equal.
 pub(crate) fn is_same(one: Op, other: Op) -> bool
     ensures { MatchBool result (one ≡ other) (one ≢ other) }
 {
@@ -28,7 +28,7 @@ pub(crate) fn is_same(one: Op, other: Op) -> bool
     }
 }
 
-/// Whether the operation is the read of this cell.
+/// Returns whether the operation is a read of this cell.
 fn is_read(page: u32, cell: u16, op: Op) -> bool
     ensures { MatchBool result (Op.Read page cell ≡ op) (Op.Read page cell ≢ op) }
 {
@@ -38,7 +38,7 @@ fn is_read(page: u32, cell: u16, op: Op) -> bool
     }
 }
 
-/// Whether the operation is the write of this value into this cell.
+/// Returns whether the operation is a write of this value to this cell.
 fn is_write(page: u32, cell: u16, value: u64, op: Op) -> bool
     ensures { MatchBool result (Op.Write page cell value ≡ op) (Op.Write page cell value ≢ op) }
 {
@@ -52,7 +52,7 @@ fn is_write(page: u32, cell: u16, value: u64, op: Op) -> bool
     }
 }
 
-/// Whether the operation is the release of this page.
+/// Returns whether the operation is a release of this page.
 fn is_release(page: u32, op: Op) -> bool
     ensures { MatchBool result (Op.Release page ≡ op) (Op.Release page ≢ op) }
 {
@@ -62,7 +62,7 @@ fn is_release(page: u32, op: Op) -> bool
     }
 }
 
-/// Whether answered operations are these, in order.
+/// Returns whether the answered operations are these operations, in order.
 fn are_ops(transcript: &[Answered], ops: &[Op]) -> bool
     ensures { MatchBool result (ops_of transcript.now ≡ ops.now) (ops_of transcript.now ≢ ops.now) }
 {
@@ -77,7 +77,7 @@ fn are_ops(transcript: &[Answered], ops: &[Op]) -> bool
     true
 }
 
-/// Whether a transcript has a virtual processor's operations in order, each once.
+/// Returns whether a transcript has a virtual processor's operations in order, each once.
 fn is_of_script(transcript: &Transcript, vcpu: &Vcpu) -> bool
     ensures { MatchBool result (ops_of transcript.now ≡ asked_of vcpu.now) (ops_of transcript.now ≢ asked_of vcpu.now) }
 {
@@ -90,7 +90,7 @@ fn is_of_script(transcript: &Transcript, vcpu: &Vcpu) -> bool
     are_ops(first, before) && are_ops(last, vcpu.after_move.as_slice())
 }
 
-/// Whether there is one transcript for each virtual processor, with its operations in order, each once.
+/// Returns whether there is one transcript for each virtual processor, with its operations in order, each once.
 pub(crate) fn are_of_script(transcripts: &[Transcript], vcpus: &[Vcpu]) -> bool
     ensures { MatchBool result (AreOfScript vcpus.now transcripts.now) (¬ AreOfScript vcpus.now transcripts.now) }
 {

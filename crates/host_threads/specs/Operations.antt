@@ -1,4 +1,4 @@
--- What comes of a virtual processor's operation.
+-- The result of a virtual processor's operation.
 use Rattle.std.specs.Prelude.{◌≡◌, ℕ, List, [], ◌∷◌, ◌++◌}
 use Rattle.migration_events.specs.Ops.{answer_of}
 use Rattle.migration_events.specs.declared.ops.Op.{Op}
@@ -11,7 +11,7 @@ use Rattle.target_side.specs.declared.Access.TheVariants.{Done, Missed as Misses
 use Rattle.host_threads.specs.declared.vcpu.Step.{Step}
 use Rattle.host_threads.specs.declared.vcpu.Step.TheVariants.{Answered, Missed, Waits, Stops}
 
--- at the source it is done and answered, or nothing has changed
+-- at the source, the operation is done and answered, or nothing has changed
 abbrev pub IsGuestStep : Step → ℕ → Op → GuestPart → GuestPart → Type 0
 IsGuestStep (Answered x) v op old new = (new ≡ guest_access v op old) × (x ≡ answer_of op old.memory)
 IsGuestStep Missed v op old new = new ≡ old
@@ -21,15 +21,15 @@ IsGuestStep (Stops fault) v op old new = new ≡ old
 abbrev pub came_to : TargetPart → Access → Accessed
 came_to book access = record { book = book; access = access }
 
--- at the target it is done and answered, misses its page or waits, as the event says; or the run stops, and nothing has
--- changed
+-- At the target, the operation is done and answered, misses its page or waits, as the event says. Or the run stops, and
+-- nothing has changed.
 abbrev pub IsTargetStep : Step → ℕ → Op → TargetPart → TargetPart → Type 0
 IsTargetStep (Answered x) v op old new = came_to new (Done x) ≡ target_access v op old
 IsTargetStep Missed v op old new = came_to new Misses ≡ target_access v op old
 IsTargetStep Waits v op old new = came_to new Waiting ≡ target_access v op old
 IsTargetStep (Stops fault) v op old new = new ≡ old
 
--- what the guest's book is after operations of a virtual processor at the source, and their answers
+-- the guest's book after operations of a virtual processor at the source, and their answers
 abbrev pub guest_after : ℕ → List Op → GuestPart → GuestPart
 guest_after v [] part = part
 guest_after v (op ∷ ops) part = guest_after v ops (guest_access v op part)
@@ -38,7 +38,7 @@ abbrev pub answers_to : ℕ → List Op → GuestPart → List AnsweredOp
 answers_to v [] part = []
 answers_to v (op ∷ ops) part = answered op (answer_of op part.memory) ∷ answers_to v ops (guest_access v op part)
 
--- these operations are done at the source, and each stands with its answer behind those before
+-- these operations are done at the source, and each is appended with its answer
 pub record HasDone (v : ℕ) (ops : List Op) (old new : GuestPart) (before answers : List AnsweredOp) : Type 0 where
   pub part : new ≡ guest_after v ops old
   pub told : answers ≡ before ++ answers_to v ops old

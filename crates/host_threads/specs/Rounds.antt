@@ -1,4 +1,4 @@
--- What comes of several events under one hold of the locks, one after another.
+-- The result of several events under one hold of the locks, one after another.
 use Rattle.std.specs.Prelude.{◌≡◌, ◌≢◌, ◌⊎◌, ℕ, zero, suc, Bool, true, false, MatchBool, is_some, List, [], ◌∷◌}
 use Rattle.migration_events.specs.declared.events.Event.{Event}
 use Rattle.guest_script.specs.Scenarios.{Scenario}
@@ -12,8 +12,8 @@ use Rattle.host_threads.specs.declared.shared.Turn.TheVariants.{Idle, Stops}
 use Rattle.host_threads.specs.Tries.{source_makes, exchange_makes, attend_makes}
 use Rattle.host_threads.specs.Turns.{IsTurn, IsUntried}
 
--- A round: the first of these events for which there is something to do is made, and told. For each before it there was
--- nothing to do.
+-- A round: the first of these events that finds something to do is carried out, and reported. Each event before it
+-- found nothing to do.
 abbrev pub MakesFirst : {S : Type 0} → (Event → Turn → S → S → Type 0) → List Event → Turn → S → S → Type 0
 MakesFirst makes [] turn old new = (turn ≡ Idle) × (new ≡ old)
 MakesFirst {S} makes (event ∷ events) turn old new =
@@ -25,35 +25,34 @@ goes_on Idle = false
 goes_on (Stops fault) = false
 goes_on turn = true
 
--- what is told of all rounds where this is the last, and that was told before it: that the run stops, or else what was told
--- before
+-- The report on all rounds, given the last one and the report before it: that the run stops, or else the report before.
 abbrev pub told_last : Turn → Turn → Turn
 told_last (Stops fault) before = Stops fault
 told_last turn before = before
 
--- Rounds, as long as there is something to do and the run goes on, at most so many more.
+-- Rounds, as long as there is something to do and the run goes on, at most this many more.
 abbrev pub MakesOften : {S : Type 0} → (Turn → S → S → Type 0) → ℕ → Turn → Turn → S → S → Type 0
 MakesOften round zero before turn old new = (turn ≡ before) × (new ≡ old)
 MakesOften {S} round (suc n) before turn old new =
     (t : Turn) × (mid : S) × round t old mid × MatchBool (goes_on t) (MakesOften round n t turn mid new) ((turn ≡ told_last t before) × (new ≡ mid))
 
--- The same of these events, from the first round on.
+-- Rounds of these events, from the first on.
 abbrev pub MakesAll : {S : Type 0} → (Event → Turn → S → S → Type 0) → List Event → ℕ → Turn → S → S → Type 0
 MakesAll makes events most turn old new = MakesOften (MakesFirst makes events) most Idle turn old new
 
--- an event on the source's and the link's books, as the source makes it, or does not try it
+-- an event on the source's and the link's books, which the source carries out or does not try
 abbrev pub Acts : Scenario → Event → Turn → SourceKept × Linked → SourceKept × Linked → Type 0
 Acts script event turn (source, link) (source', link') =
     (source_makes event source.is_done (is_quiet link.part) ≡ true → IsTurn turn event (pushing script.window (is_some script.lane) (source_of source) link.part) (pushing script.window (is_some script.lane) (source_of source') link'.part))
     × (source_makes event source.is_done (is_quiet link.part) ≡ false → IsUntried turn (sending (source_of source) link.part) (sending (source_of source') link'.part))
 
--- the same on the link's and the pager's books, as the pager makes it
+-- an event on the link's and the pager's books, which the pager carries out or does not try
 abbrev pub Exchanges : Event → Turn → Linked × PagerLists → Linked × PagerLists → Type 0
 Exchanges event turn (link, pager) (link', pager') =
     (exchange_makes event (is_quiet link.part) ≡ true → IsTurn turn event (receiving link.part (pager_of pager)) (receiving link'.part (pager_of pager')))
     × (exchange_makes event (is_quiet link.part) ≡ false → IsUntried turn (receiving link.part (pager_of pager)) (receiving link'.part (pager_of pager')))
 
--- and on the pager's and the target's
+-- an event on the pager's and the target's books, which the pager carries out or does not try
 abbrev pub Attends : Event → Turn → PagerLists × Kept → PagerLists × Kept → Type 0
 Attends event turn (pager, target) (pager', target') =
     (attend_makes event (is_some pager.released) ≡ true → IsTurn turn event (placing (pager_of pager) (target_of target)) (placing (pager_of pager') (target_of target')))

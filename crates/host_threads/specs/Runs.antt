@@ -1,4 +1,4 @@
--- What a run comes to when its threads have ended.
+-- The result of a run whose threads have ended.
 use Rattle.std.specs.Prelude.{◌≡◌, List, Option, Some, None}
 use Rattle.migration_types.specs.declared.records.PagerRec.{PagerRec}
 use Rattle.migration_types.specs.declared.session.Logs.{Logs}
@@ -16,14 +16,14 @@ use Rattle.host_threads.specs.declared.bell.Fault.TheVariants.{LogFull, Memory, 
 use Rattle.host_threads.specs.declared.side.TargetSide.{TargetSide}
 use Rattle.host_threads.specs.declared.side.TargetSide.TheVariants.{Guest, Moving, Target}
 
--- the logs of the books and the frames at the target; nothing where the guest has not halted
+-- the logs of the books and the frames at the target, or nothing if the guest has not halted
 abbrev pub IsLeft : Option SourceKept → LinkPart → List PagerRec → TargetSide → Option (Logs × Frames) → Type 0
 IsLeft None link pager side left = left ≡ None
 IsLeft (Some s) link pager (Guest b) left = left ≡ None
 IsLeft (Some s) link pager Moving left = left ≡ None
 IsLeft (Some s) link pager (Target t) left = left ≡ Some (record { guest = t.held.log; source = s.log; link = link.log; lane = link.lane_log; pager = pager }, t.held.frames)
 
--- how a fault of the threads is told, before anything is checked
+-- the result for a fault of the threads, before anything is checked
 abbrev pub told_as : Fault → Option RunFault
 told_as LogFull = Some told.LogFull
 told_as Memory = Some told.Memory
@@ -35,7 +35,7 @@ abbrev pub told_of : Option Fault → Option RunFault
 told_of None = None
 told_of (Some fault) = told_as fault
 
--- what is made of a run of the script has these logs, these frames and these transcripts
+-- a run of the script has left these logs, these frames and these transcripts
 pub record IsRunOf (script : Scenario) (logs : Logs) (store : Frames) (transcripts : List (List Answered)) (m : Migrated) : Type 0 where
   pub session : m.session ≡ recorded script.version script.geometry script.init logs
   pub frames : m.store ≡ store

@@ -1,4 +1,4 @@
--- What a thread tells of its turn under the locks.
+-- What a thread reports on its turn under the locks.
 use Rattle.std.specs.Prelude.{◌≡◌, Result, Ok, Err}
 use Rattle.migration_events.specs.declared.events.Event.{Event}
 use Rattle.migration_events.specs.declared.faults.EventFault.{EventFault}
@@ -12,8 +12,9 @@ use Rattle.host_threads.specs.declared.bell.Fault.TheVariants.{LogFull, Memory}
 use Rattle.host_threads.specs.declared.shared.Turn.{Turn}
 use Rattle.host_threads.specs.declared.shared.Turn.TheVariants.{Did, Offered, Served, Idle, Stops}
 
--- The turn made the event of the books: it has changed something, and offered a packet of a page just where it tells so.
--- Where it found nothing to do, the event changes nothing, and nothing has changed; nor has it where the run stops.
+-- The turn carried out the event on the books: something has changed, and a packet of a page was offered exactly if the
+-- report says so. If the turn found nothing to do, the event changes nothing, and nothing has changed. If the run
+-- stops, nothing has changed either.
 abbrev pub IsTurn : Turn → Event → (BooksAfter → BooksAfter) → (BooksAfter → BooksAfter) → Type 0
 IsTurn Did e old new = IsMade e old new × IsDone old new
 IsTurn (Offered page) e old new = IsMade e old new × IsOffered page old new
@@ -21,7 +22,7 @@ IsTurn Served e old new = IsMade e old new × IsDone old new
 IsTurn Idle e old new = IsMade e old new × IsSame old new
 IsTurn (Stops fault) e old new = IsSame old new
 
--- an event that the thread does not try: it tells that it found nothing to do, and nothing has changed
+-- an event that the thread does not try: it reports that there was nothing to do, and nothing has changed
 abbrev pub IsUntried : Turn → (BooksAfter → BooksAfter) → (BooksAfter → BooksAfter) → Type 0
 IsUntried turn old new = (turn ≡ Idle) × IsSame old new
 
@@ -30,7 +31,7 @@ abbrev pub fault_by : EventFault → Fault
 fault_by refused.LogFull = LogFull
 fault_by refused.Memory = Memory
 
--- what is told of an event that was not refused, and of one that may have been
+-- the report on an event that was not refused, and on one that may have been
 abbrev pub turn_by : Came → Turn
 turn_by came.Nothing = Idle
 turn_by came.Made = Did

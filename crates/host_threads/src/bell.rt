@@ -1,4 +1,4 @@
-//! What wakes the threads, and whether the run stops.
+//! The bell, which wakes the threads, and whether the run stops.
 
 use migration_types::PageNo;
 use std::alloc::{AllocError, Global};
@@ -6,14 +6,14 @@ use std::sync::atomic::{AtomicBool, AtomicU32, AtomicUsize, Ordering};
 use std::sync::{Mutex, Wait};
 use std::thread::Parker;
 
-/// Why a run stops. Of several, the least is kept.
+/// Why a run stops. If there are several reasons, the least is kept.
 #[derive(Clone, Copy, PartialEq, Eq, PartialOrd, Ord)]
 pub(crate) enum Fault {
     /// A log has no room for a record.
     LogFull,
-    /// There is no memory.
+    /// Memory ran out.
     Memory,
-    /// A thread could not be made.
+    /// A thread could not be started.
     Threads,
     /// The link failed.
     Link,
@@ -21,7 +21,7 @@ pub(crate) enum Fault {
     Astray,
 }
 
-/// The threads that stand beside the virtual processors.
+/// The threads other than those of the virtual processors.
 #[derive(Clone, Copy)]
 pub(crate) enum Party {
     Source,
@@ -29,25 +29,25 @@ pub(crate) enum Party {
     Pager,
 }
 
-/// Of a virtual processor: it waits for nothing. No page has this number.
+/// The mark of a virtual processor that waits for nothing. No page has this number.
 const NOTHING: u32 = u32::MAX;
 
-/// Of a virtual processor: what it waited for has come, and it is still to be rung. No page has this number.
+/// The mark of a virtual processor whose page has come, and which is still to be rung. No page has this number.
 const CAME: u32 = u32::MAX - 1;
 
 /// What a virtual processor waits for, and what it waits on.
 #[derive(Drop)]
 struct Waiter {
-    /// The page's number, `NOTHING` or `CAME`. A page is written and replaced under the target's lock alone.
+    /// The page's number, `NOTHING` or `CAME`. A page is written and replaced only under the target's lock.
     wanted: AtomicU32,
     parker: Parker,
 }
 
-/// Wakes the threads that wait, and takes no lock for it.
+/// The bell, which wakes the threads that wait, without taking a lock.
 ///
-/// A thread looks at the books, and waits where it finds nothing to do; who changes a book rings those that may have
-/// something to do since. A ring ends the next wait where none is under way, so one that comes after the look is not
-/// lost; and one too many makes a thread look once more, no oftener.
+/// A thread looks at the books, and waits if it finds nothing to do. Whoever changes a book rings the threads that may
+/// now have something to do. If no wait is under way, a ring ends the next one, so a ring that comes after the look is
+/// not lost. A ring too many only makes a thread look once more.
 #[derive(Drop)]
 pub(crate) struct Bell {
     source: Parker,
@@ -56,17 +56,17 @@ pub(crate) struct Bell {
     vcpus: Vec<Waiter>,
     /// How many virtual processors are at their move.
     arrived: AtomicUsize,
-    /// How many have ended.
+    /// How many virtual processors have ended.
     ended: AtomicUsize,
     /// Whether the source was told that every owed page is placed.
     is_done: AtomicBool,
     is_stopped: AtomicBool,
-    /// Its lock is taken last.
+    /// This lock is taken last.
     fault: Mutex<Option<Fault>>,
 }
 
 impl Bell {
-    /// For so many virtual processors. Nothing has happened.
+    /// Returns a bell for this many virtual processors. Nothing has happened yet. Fails only if memory runs out.
     pub(crate) fn new(alloc: Global, vcpus: usize) -> Result<Bell, AllocError> {
         let mut waiters = Vec::new(alloc);
         for _ in 0..vcpus {
@@ -88,18 +88,18 @@ impl Bell {
         })
     }
 
-    /// Whether the run stops.
+    /// Returns whether the run stops.
     pub(crate) fn is_stopped(&self) -> bool {
         self.is_stopped.load(Ordering::SeqCst)
     }
 
-    /// Whether each virtual processor is at its move.
+    /// Returns whether each virtual processor is at its move.
     pub(crate) fn has_each_arrived(&self) -> bool {
         self.arrived.load(Ordering::SeqCst) >= self.vcpus.len()
     }
 
-    /// Whether the source, the link and the pager have nothing more to do: each virtual processor has ended, and the
-    /// source is done; or the run stops.
+    /// Returns whether the source, the link and the pager have nothing more to do: each virtual processor has ended and
+    /// the source is done, or the run stops.
     pub(crate) fn is_over(&self) -> bool {
         let is_done = self.is_done.load(Ordering::SeqCst);
         self.is_stopped() || (is_done && self.ended.load(Ordering::SeqCst) >= self.vcpus.len())
@@ -113,12 +113,12 @@ impl Bell {
         }
     }
 
-    /// A party may have something to do.
+    /// Rings a party, which may have something to do.
     pub(crate) fn ring(&self, party: Party) {
         self.parker(party).unpark();
     }
 
-    /// The source and the pager may have something to do.
+    /// Rings the source and the pager, which may have something to do.
     pub(crate) fn ring_ends(&self) {
         self.source.unpark();
         self.pager.unpark();
@@ -129,31 +129,31 @@ impl Bell {
         self.link.unpark();
     }
 
-    /// A party waits until it is rung.
+    /// Waits until the party is rung.
     pub(crate) fn wait<R: Wait>(&self, rt: &R, party: Party) {
         self.parker(party).park(rt);
     }
 
-    /// A virtual processor is at its move.
+    /// Notes that a virtual processor is at its move.
     pub(crate) fn arrive(&self) {
         self.arrived.fetch_add(1, Ordering::SeqCst);
         self.ring(Party::Source);
     }
 
-    /// A virtual processor has ended.
+    /// Notes that a virtual processor has ended.
     pub(crate) fn end(&self) {
         self.ended.fetch_add(1, Ordering::SeqCst);
         self.ring_parties();
     }
 
-    /// The source was told that every owed page is placed.
+    /// Notes that the source was told that every owed page is placed.
     pub(crate) fn finish(&self) {
         if !self.is_done.swap(true, Ordering::SeqCst) {
             self.ring_parties();
         }
     }
 
-    /// Stops the run, keeps the least of the faults, and wakes all.
+    /// Stops the run, keeps the least of the faults, and wakes all threads.
     pub(crate) fn stop<R: Wait>(&self, rt: &R, fault: Fault) {
         self.keep(rt, fault);
         self.is_stopped.store(true, Ordering::SeqCst);
@@ -172,7 +172,7 @@ impl Bell {
         *kept = Some(least);
     }
 
-    /// A virtual processor found that it has to wait for a page, or for the guest to resume. Said under the target's
+    /// Notes that a virtual processor must wait for a page, or for the guest to resume. Call this under the target's
     /// lock, under which it looked, so that what comes after the look finds it waiting.
     pub(crate) fn want(&self, vcpu: u8, page: PageNo) {
         if let Some(waiter) = self.vcpus.get(usize::from(vcpu)) {
@@ -180,7 +180,7 @@ impl Bell {
         }
     }
 
-    /// A page is resident. Said under the target's lock.
+    /// Notes that a page is resident. Call this under the target's lock.
     pub(crate) fn came(&self, page: PageNo) {
         let page = page.number();
         for waiter in &self.vcpus {
@@ -190,7 +190,7 @@ impl Bell {
         }
     }
 
-    /// The guest resumes. Said under the target's lock.
+    /// Notes that the guest resumes. Call this under the target's lock.
     pub(crate) fn resume(&self) {
         for waiter in &self.vcpus {
             if waiter.wanted.load(Ordering::SeqCst) != NOTHING {
@@ -199,8 +199,8 @@ impl Bell {
         }
     }
 
-    /// Rings the virtual processors for which something came, once the target's lock is free. Of several threads that
-    /// do this at a time one rings each of them, and a page that it waits for by then stays.
+    /// Rings the virtual processors whose page has come, once the target's lock is free. If several threads do this at
+    /// a time, one of them rings each virtual processor. A page that a virtual processor waits for by then stays.
     pub(crate) fn ring_vcpus(&self) {
         for waiter in &self.vcpus {
             let wanted = &waiter.wanted;
@@ -214,14 +214,14 @@ impl Bell {
         }
     }
 
-    /// A virtual processor waits until what it waits for has come, or the run stops.
+    /// Waits until what a virtual processor waits for has come, or the run stops.
     pub(crate) fn wait_vcpu<R: Wait>(&self, rt: &R, vcpu: u8) {
         if let Some(waiter) = self.vcpus.get(usize::from(vcpu)) {
             waiter.parker.park(rt);
         }
     }
 
-    /// Why the run stopped, if it did.
+    /// Returns why the run stopped, if it did.
     pub(crate) fn into_fault(self) -> Option<Fault> {
         let Bell { fault, .. } = self;
         fault.into_inner()

@@ -13,12 +13,12 @@ use page_stream::{Packet, Stream, StreamFaultKind, encode, one_reading};
 use std::alloc::Global;
 use std::marker::Model;
 
-/// Why a packet did not come through.
+/// Why a packet did not come through a relay.
 #[derive(Clone, Copy)]
 pub(crate) enum CarryFault {
-    /// There is no memory.
+    /// Memory ran out.
     Memory,
-    /// The relay failed, or something else came back.
+    /// The relay failed, or something other than the packet came back.
     Link,
 }
 
@@ -31,10 +31,10 @@ impl From<CarryFault> for Fault {
     }
 }
 
-/// At most so many bytes are on their way through a relay.
+/// The greatest number of bytes on their way through a relay.
 const PIECE_BYTES: usize = 4096;
 
-/// Reads so many bytes from a relay, and puts them at the end of what came.
+/// Reads this many bytes from a relay, and appends them to what came.
 #[tactic(auto, using(crate::proofs::Carrying::carried_none))]
 fn read_back<L: Relay>(relay: &mut L, count: usize, came: &mut Vec<u8>) -> Result<(), CarryFault>
     requires { count ≤ 4096 }
@@ -58,10 +58,10 @@ fn read_back<L: Relay>(relay: &mut L, count: usize, came: &mut Vec<u8>) -> Resul
     Ok(())
 }
 
-/// Sends bytes through a relay in pieces, each of which is back before the next goes out, and puts what comes back at
-/// the end of what came. As many bytes come as were sent: those that the relay gave. What they are is not looked at.
+/// Sends bytes through a relay in pieces, each of which is back before the next goes out, and appends what comes back
+/// to what came. As many bytes come as were sent: those that the relay gave. It does not look at what they are.
 ///
-/// `Link` where a call of the relay fails, or answers 0 or more than it was asked for.
+/// The error is `Link` if a call of the relay fails, or returns 0 or more than it was asked for.
 #[tactic(auto, using(crate::proofs::Carrying::through_none, crate::proofs::Carrying::through_all))]
 fn carry<L: Relay>(relay: &mut L, bytes: &[u8], came: &mut Vec<u8>) -> Result<(), CarryFault>
     ensures count { OnOk result (vec_len came.new ≡ vec_len came.old + length bytes.now) }
@@ -82,7 +82,7 @@ fn carry<L: Relay>(relay: &mut L, bytes: &[u8], came: &mut Vec<u8>) -> Result<()
     Ok(())
 }
 
-/// Whether two packets are the same.
+/// Returns whether two packets are equal.
 fn is_same(one: &Packet, other: &Packet) -> bool
     ensures { MatchBool result (one.now ≡ other.now) (one.now ≢ other.now) }
 {
@@ -114,9 +114,9 @@ fn is_same(one: &Packet, other: &Packet) -> bool
     }
 }
 
-/// Gives what came to a stream that holds nothing. It has to be the packet that was sent, and no more.
+/// Feeds what came to a stream that holds nothing. It must be the packet that was sent, and no more.
 ///
-/// `Link` only where what came is not the packet's bytes.
+/// The error is `Link` only if what came is not the packet's bytes.
 fn receive(stream: &mut Stream, came: &[u8], sent: &Packet) -> Result<(), CarryFault>
     requires rest { stream.old.rest ≡ [] }
     requires going { stream.old.is_broken ≡ false }
@@ -140,8 +140,8 @@ fn receive(stream: &mut Stream, came: &[u8], sent: &Packet) -> Result<(), CarryF
     }
 }
 
-/// What comes back from a relay, and the one stream of it. Contracts see the machine whose packets these are, and the
-/// bytes that came last. Between two packets the stream holds nothing.
+/// What comes back from a relay, and the stream that reads it. Contracts see the machine whose packets these are, and
+/// the bytes that came last. Between two packets, the stream holds nothing.
 #[derive(Drop)]
 pub(crate) struct Echo {
     alloc: Global,
@@ -162,7 +162,7 @@ impl Model for Echo {
 }
 
 impl Echo {
-    /// Nothing came yet. Takes no memory.
+    /// Returns an echo to which nothing came yet. Allocates no memory.
     pub(crate) fn new(alloc: Global, geometry: Geometry) -> Echo
         ensures { result ≡ record { geometry = geometry; came = [] } }
     {
@@ -174,17 +174,17 @@ impl Echo {
         }
     }
 
-    /// The machine whose packets these are.
+    /// Returns the machine whose packets these are.
     pub(crate) fn geometry(&self) -> Geometry
         ensures { result ≡ self.now.geometry }
     {
         self.geometry
     }
 
-    /// Sends a packet of the machine's through a relay: its bytes go out, and what comes back, read as a stream, is that
-    /// packet and no more.
+    /// Sends a packet of the machine through a relay: its bytes go out, and what comes back, read as a stream, must be
+    /// that packet and no more.
     ///
-    /// `Link` where the relay fails or something else comes back.
+    /// The error is `Link` if the relay fails or something else comes back.
     #[tactic(auto, using(crate::proofs::Carrying::carried_all))]
     pub(crate) fn pass<L: Relay>(
         &mut self,
@@ -204,7 +204,7 @@ impl Echo {
         self.receive(packet)
     }
 
-    /// Gives what came to the stream. After a fault the stream is a new one.
+    /// Feeds what came to the stream. After a fault, the stream is a new one.
     fn receive(&mut self, sent: &Packet) -> Result<(), CarryFault>
         requires fits { Fits self.old.geometry sent.now }
         requires length { length self.old.came ≡ length (packet_bytes sent.now) }

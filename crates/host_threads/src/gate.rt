@@ -1,42 +1,42 @@
-//! Gates.
+//! Gates, which threads call at some moments of a run.
 
 ghost use Rattle.std.specs.Prelude.{⊤, ◌≡◌, true};
 
 use migration_types::PageNo;
 use target_side::TargetBook;
 
-/// What the threads of a run tell of, at some moments of it. Each call may wait, and the thread waits with it. Only
-/// `held` is called with a lock held, the target's.
+/// A gate: calls that the threads of a run make at some of its moments. Each call may wait, and the thread waits with
+/// it. Only `held` is called while a lock is held, which is the target's.
 pub trait Gate: Sync {
     /// No call does anything.
     ghost stands_open: { Self → Type 0 } = { λ _. ⊥ };
 
-    /// Whether no call does anything. The threads then do many things under one lock, and leave calls out. Under any other
-    /// gate an operation or an event is the only one under its locks.
+    /// Returns whether no call does anything. The threads then do many things under one lock, and leave calls out. With
+    /// any other gate, each operation or event is the only one under its locks.
     fn is_open(&self) -> bool
         ensures { result ≡ true → stands_open self.now }
     {
         false
     }
 
-    /// The pager's thread is about to place a page, or to drop it where it is resident already.
+    /// Called when the pager's thread is about to place a page, or to drop it if it is resident already.
     fn placing(&self, page: PageNo);
 
-    /// The source's thread has offered a page to the link.
+    /// Called when the source's thread has offered a page to the link.
     fn offered(&self, page: PageNo);
 
-    /// A virtual processor's operation on a page was answered at the target.
+    /// Called when a virtual processor's operation on a page was answered at the target.
     fn answered(&self, vcpu: u8, page: PageNo);
 
-    /// A virtual processor's operation on a page was answered at the target, and the target's lock is still held. The
-    /// book is lent.
+    /// Called when a virtual processor's operation on a page was answered at the target, while the target's lock is
+    /// still held. The book is lent.
     fn held(&self, vcpu: u8, page: PageNo, book: &TargetBook);
 }
 
-/// How many things a thread does under one lock at most, where no call of the gate does anything.
+/// The greatest number of things that a thread does under one lock, if no call of the gate does anything.
 const MOST_AT_ONCE: usize = 256;
 
-/// How many things a thread does under one lock at most.
+/// Returns the greatest number of things that a thread does under one lock.
 pub(crate) fn most_at_once<G: Gate>(gate: &G) -> usize
     ensures { (G.stands_open gate.now → ⊥) → result ≡ 1 }
 {

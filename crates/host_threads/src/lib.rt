@@ -1,5 +1,5 @@
 //! A migration in threads: one for each virtual processor of a script, and one each for the source, the link and the
-//! pager, over the parties' books, each under its lock; and the checks of what they leave.
+//! pager, on the parties' books, each under its lock; and the checks of what they leave.
 #![tactic(auto)]
 
 mod bell;

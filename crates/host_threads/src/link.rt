@@ -15,21 +15,22 @@ use link_book::LinkBook;
 use migration_events::{Direction, Fate};
 use std::sync::Wait;
 
-/// The fates that are left for the packets of a line, one for each of the next. Behind the last each is delivered.
+/// The delivery outcomes that are left for the packets of a line, one for each of the next packets. After the last one,
+/// each packet is delivered.
 #[derive(Clone, Copy)]
 struct Fates<'a> {
     left: &'a [Fate],
 }
 
 impl<'a> Fates<'a> {
-    /// None was met yet.
+    /// Returns delivery outcomes of which none is used up.
     fn new(left: &'a [Fate]) -> Self
         ensures { result.left.now ≡ left.now }
     {
         Fates { left }
     }
 
-    /// The fate of the next packet.
+    /// Returns the delivery outcome of the next packet.
     fn next(&self) -> Fate
         ensures { result ≡ next_fate self.now.left.now }
     {
@@ -39,7 +40,7 @@ impl<'a> Fates<'a> {
         }
     }
 
-    /// The fate of the next packet is used up.
+    /// Uses up the delivery outcome of the next packet.
     fn pass(&mut self)
         ensures { self.new.left.now ≡ drop 1 self.old.left.now }
     {
@@ -49,7 +50,7 @@ impl<'a> Fates<'a> {
     }
 }
 
-/// The fates that are left for each line.
+/// The delivery outcomes that are left for each line.
 #[derive(Clone, Copy)]
 struct Lines<'a> {
     down: Fates<'a>,
@@ -57,7 +58,8 @@ struct Lines<'a> {
     lane: Fates<'a>,
 }
 
-/// The fates of a script, of which none was met yet. Where there is no lane, nothing is ever under way there.
+/// Returns the delivery outcomes of a script, none of them used up. If there is no lane, nothing is ever under way
+/// there.
 fn lines_of(script: &Script) -> Lines<'_>
     ensures down { result.down.left.now ≡ script.now.down }
     ensures up { result.up.left.now ≡ script.now.up }
@@ -70,7 +72,7 @@ fn lines_of(script: &Script) -> Lines<'_>
     }
 }
 
-/// Whether a packet that meets the fate arrives at this turn.
+/// Returns whether a packet with this delivery outcome arrives at this turn.
 fn arrives(fate: Fate) -> bool
     ensures { result ≡ arrives fate }
 {
@@ -80,8 +82,8 @@ fn arrives(fate: Fate) -> bool
     }
 }
 
-/// The packet at the head of a line meets its fate. Where it is to arrive, it has come through the passage before. False:
-/// there is none.
+/// Gives the packet at the head of a line its delivery outcome, after it has come through the passage if it is to
+/// arrive. Returns `false` if there is no packet.
 fn turn_head<L: Relay>(
     link: &mut LinkBook,
     passage: &mut Passage<L>,
@@ -105,8 +107,8 @@ fn turn_head<L: Relay>(
     }
 }
 
-/// The packet at the head of a line meets the next fate of these, which is used up. False: there is none, and no fate is
-/// used up.
+/// Gives the packet at the head of a line the next of these delivery outcomes, which is used up. Returns `false` if
+/// there is no packet, and then no delivery outcome is used up.
 fn meet_next<L: Relay>(
     link: &mut LinkBook,
     passage: &mut Passage<L>,
@@ -123,7 +125,8 @@ fn meet_next<L: Relay>(
     Ok(met)
 }
 
-/// LinkTurn, of one line, at most so often: how many packets met their fates. They are fewer only where no packet is left.
+/// Carries out LinkTurn for one line, at most this many times. Returns how many packets got their delivery outcomes.
+/// These are fewer only if no packet is left.
 fn turn_line<L: Relay>(
     link: &mut LinkBook,
     passage: &mut Passage<L>,
@@ -144,7 +147,8 @@ fn turn_line<L: Relay>(
     Ok(most)
 }
 
-/// Turns of one line, at most so many: whether a packet met its fate. The other lines stay, with their fates.
+/// Carries out turns of one line, at most this many. Returns whether a packet got its delivery outcome. The other lines
+/// and their delivery outcomes stay.
 fn turn_at<L: Relay>(
     link: &mut LinkBook,
     passage: &mut Passage<L>,
@@ -165,7 +169,7 @@ fn turn_at<L: Relay>(
     Ok(count > 0)
 }
 
-/// What is told of turns of a line.
+/// Returns the report on turns of a line.
 fn told_turns(turned: Result<bool, Fault>) -> Turn
     ensures did { result ≡ Turn.Did ↔ turned ≡ Ok true }
     ensures idle { result ≡ Turn.Idle ↔ turned ≡ Ok false }
@@ -178,7 +182,7 @@ fn told_turns(turned: Result<bool, Fault>) -> Turn
     }
 }
 
-/// The same as `turn_at`, under one lock.
+/// Carries out turns as `turn_at` does, under one lock.
 fn turn_under_lock<R: Wait, L: Relay>(
     rt: &R,
     shared: &Shared,
@@ -191,7 +195,8 @@ fn turn_under_lock<R: Wait, L: Relay>(
     told_turns(turn_at(&mut link, passage, direction, lines, most))
 }
 
-/// Turns of each line, one line after another, each under the lock anew. The last turn that was not idle is told.
+/// Carries out turns of each line, one line after another, each under the lock anew. Returns the report on the last
+/// turn that was not idle.
 fn turn_each<R: Wait, L: Relay>(
     rt: &R,
     shared: &Shared,
@@ -210,8 +215,8 @@ fn turn_each<R: Wait, L: Relay>(
     last
 }
 
-/// The link and the lane: the turns of the lines down, up and over the lane, one after another, until the run is over. A
-/// packet goes through the passage before it is delivered.
+/// Runs the link and the lane: the turns of the lines down, up and over the lane, one after another, until the run is
+/// over. A packet goes through the passage before it is delivered.
 pub(crate) fn run_link<R: Wait, L: Relay + Drop>(
     rt: &R,
     shared: &Shared,

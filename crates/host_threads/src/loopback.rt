@@ -9,7 +9,7 @@ use std::time::Duration;
 /// How many seconds a read waits for bytes that were written.
 const READ_SECONDS: u64 = 10;
 
-/// The two ends of a connection, in one hand: bytes are written to the near one and read from the far one.
+/// The two ends of a connection, held together: bytes are written to the near end and read from the far one.
 #[derive(Drop)]
 pub(crate) struct TwoEnds<S> {
     near: S,
@@ -26,9 +26,9 @@ impl<S: Read + Write + Send> Relay for TwoEnds<S> {
     }
 }
 
-/// The two ends of a new connection over the loopback address. A write goes out at once, and a read that gets nothing
-/// for 10 seconds fails. One thread makes both ends: the connection waits for its acceptance, and not the other way
-/// round.
+/// Returns the two ends of a new connection over the loopback address. A write goes out at once. A read that gets
+/// nothing for 10 seconds fails. One thread makes both ends: it connects first, and the connection then waits to be
+/// accepted.
 pub(crate) fn loopback<R: Net<Listener = TcpListener, Stream = TcpStream>>(
     rt: &R,
 ) -> io::Result<TwoEnds<TcpStream>> {

@@ -26,14 +26,14 @@ use page_stream::{Packet, fits};
 use std::sync::Wait;
 use target_side::{PagerBook, TargetBook};
 
-/// Whether it is a packet of the machine.
+/// Returns whether the packet is of the machine.
 fn is_packet_of(geometry: Geometry, packet: &Packet) -> bool
     ensures { result ≡ true → IsPacketOf geometry packet.now }
 {
     fits(geometry, packet)
 }
 
-/// Whether the packet that came first, if there is one, is of the machine.
+/// Returns whether the oldest packet, if there is one, is of the machine.
 fn is_first_of(geometry: Geometry, oldest: Option<(u32, &Packet)>) -> bool
     ensures { result ≡ true → (x : Arrived) → option_map (λ a. arrival a.0 a.1.now) oldest.entry ≡ Some x → IsPacketOf geometry x.packet }
 {
@@ -43,8 +43,8 @@ fn is_first_of(geometry: Geometry, oldest: Option<(u32, &Packet)>) -> bool
     }
 }
 
-/// Whether the pager makes such an event on the link's book and its own: it takes packets and offers them, and ticks where
-/// nothing is under way.
+/// Returns whether the pager carries out this event on the link's book and its own: it takes packets and offers them,
+/// and ticks if nothing is under way.
 #[tactic(auto, using(crate::proofs::Tried::exchange_no_other))]
 fn exchanges(link: &LinkBook, event: Event) -> bool
     ensures { result ≡ exchange_makes event (is_quiet link.now.part) }
@@ -56,8 +56,8 @@ fn exchanges(link: &LinkBook, event: Event) -> bool
     }
 }
 
-/// An event on the link's and the pager's books, where the pager makes it: PagerPop, PagerPull, PagerFlush or PagerTick.
-/// A packet of another machine is not taken.
+/// Carries out an event on the link's and the pager's books, if it is one that the pager carries out: PagerPop,
+/// PagerPull, PagerFlush or PagerTick. Does not take a packet of another machine.
 #[tactic(auto, using(crate::proofs::Tried::exchange_no_other))]
 fn exchange(link: &mut LinkBook, pager: &mut PagerBook, event: Event) -> Turn
     ensures turn { exchange_makes event (is_quiet link.old.part) ≡ true → IsTurn result event (receiving link.old.part (part_of pager.old)) (receiving link.new.part (part_of pager.new)) }
@@ -95,8 +95,8 @@ fn pull_next(link: &mut LinkBook, pager: &mut PagerBook) -> Turn
     told(pager_pull(link, pager))
 }
 
-/// Whether the pager makes such an event on its book and the target's: it delivers, and learns of misses where the state
-/// has come.
+/// Returns whether the pager carries out this event on its book and the target's: it delivers, and learns of misses if
+/// the state has come.
 #[tactic(auto, using(crate::proofs::Tried::attend_no_other))]
 fn attends(pager: &PagerBook, event: Event) -> bool
     ensures { result ≡ attend_makes event (is_some pager.now.released) }
@@ -108,8 +108,8 @@ fn attends(pager: &PagerBook, event: Event) -> bool
     }
 }
 
-/// An event on the pager's and the target's books, where the pager makes it: PagerFault or PagerDeliver. Both first settle
-/// the pages that the guest released at the target before they came.
+/// Carries out an event on the pager's and the target's books, if it is one that the pager carries out: PagerFault or
+/// PagerDeliver. Both first cancel the pages that the guest released at the target before they came.
 #[tactic(auto, using(crate::proofs::Tried::attend_no_other))]
 fn attend(pager: &mut PagerBook, target: &mut TargetBook, event: Event) -> Turn
     ensures turn { attend_makes event (is_some pager.old.released) ≡ true → IsTurn result event (placing (part_of pager.old) (target_of target.old)) (placing (part_of pager.new) (target_of target.new)) }
@@ -128,7 +128,7 @@ fn attend(pager: &mut PagerBook, target: &mut TargetBook, event: Event) -> Turn
     }
 }
 
-/// The page that is resident by the last record.
+/// Returns the page that the last record made resident.
 fn placed_last(pager: &PagerBook) -> Option<PageNo> {
     match pager.pager_log().last() {
         Some(PagerRec::Place { page, .. }) => Some(*page),
@@ -137,7 +137,8 @@ fn placed_last(pager: &PagerBook) -> Option<PageNo> {
     }
 }
 
-/// The same as `attend`. The bell is told which virtual processors it lets go on, which the caller rings.
+/// Carries out an event as `attend` does, and tells the bell which virtual processors it lets go on. The caller rings
+/// them.
 fn attend_told(bell: &Bell, pager: &mut PagerBook, target: &mut TargetBook, event: Event) -> Turn
     ensures { Attends event result (pager.old, target.old) (pager.new, target.new) }
 {
@@ -154,7 +155,7 @@ fn attend_told(bell: &Bell, pager: &mut PagerBook, target: &mut TargetBook, even
     turn
 }
 
-/// The bell that is told which virtual processors go on.
+/// The bell, which is told which virtual processors go on.
 #[derive(Drop)]
 struct Attending<'a> {
     bell: &'a Bell,
@@ -168,7 +169,7 @@ impl<'a> Makes<PagerBook, TargetBook> for Attending<'a> {
     }
 }
 
-/// The first of these events for which there is something to do, at most so often.
+/// Carries out the first of these events that finds something to do, at most this many times.
 fn attend_all(
     bell: &Bell,
     pager: &mut PagerBook,
@@ -181,7 +182,7 @@ fn attend_all(
     make_often(&Attending { bell }, pager, target, events, most)
 }
 
-/// The same on the books that are locked, where there is a target's.
+/// Carries out events as `attend_all` does, on the locked books, if there is a target's book.
 fn attend_often<R: Wait>(rt: &R, shared: &Shared, events: &[Event], most: usize) -> Turn {
     let mut pager = shared.pager.lock(rt);
     let mut side = shared.target.lock(rt);
@@ -192,7 +193,7 @@ fn attend_often<R: Wait>(rt: &R, shared: &Shared, events: &[Event], most: usize)
     }
 }
 
-/// Whether there is no source's book yet, or it is done.
+/// Returns whether there is no source's book yet, or the source is done.
 fn asks_nothing<R: Wait>(rt: &R, shared: &Shared) -> bool {
     match &*shared.source.lock(rt) {
         Some(book) => book.is_done(),
@@ -200,7 +201,7 @@ fn asks_nothing<R: Wait>(rt: &R, shared: &Shared) -> bool {
     }
 }
 
-/// PagerTick, unless the source is done.
+/// Carries out PagerTick, unless the source is done.
 fn tick<R: Wait>(rt: &R, shared: &Shared) -> Turn {
     if asks_nothing(rt, shared) {
         return Turn::Idle;
@@ -208,12 +209,12 @@ fn tick<R: Wait>(rt: &R, shared: &Shared) -> Turn {
     exchange_often(rt, shared, &[Event::PagerTick], 1)
 }
 
-/// The oldest page that has come, if there is one.
+/// Returns the oldest page that has come, if there is one.
 fn next_page<R: Wait>(rt: &R, shared: &Shared) -> Option<PageNo> {
     shared.pager.lock(rt).next_page()
 }
 
-/// PagerDeliver. The first time the guest resumes, and from then on the gate is told before of the page.
+/// Carries out PagerDeliver. The first time, the guest resumes. After that, the gate is told the page first.
 fn place<R: Wait, G: Gate>(rt: &R, shared: &Shared, gate: &G, is_resumed: &mut bool) -> Turn {
     if !*is_resumed {
         let turn = attend_often(rt, shared, &[Event::PagerDeliver], 1);
@@ -227,15 +228,15 @@ fn place<R: Wait, G: Gate>(rt: &R, shared: &Shared, gate: &G, is_resumed: &mut b
     attend_often(rt, shared, &[Event::PagerDeliver], 1)
 }
 
-/// What the pager tries on its book and the target's: pages to settle that the guest released and a miss to learn of, or
-/// else a page to place.
+/// Returns the events that the pager tries on its book and the target's: cancelling released pages and learning of a
+/// miss, or else placing a page.
 fn attend_tries() -> [Event; 2]
     ensures { result ≡ attend_tries }
 {
     [Event::PagerFault, Event::PagerDeliver]
 }
 
-/// What there is to do on the pager's and the target's books.
+/// Carries out what there is to do on the pager's and the target's books.
 fn serve<R: Wait, G: Gate>(rt: &R, shared: &Shared, gate: &G, is_resumed: &mut bool) -> Turn {
     if gate.is_open() {
         return attend_often(rt, shared, &attend_tries(), most_at_once(gate));
@@ -246,7 +247,7 @@ fn serve<R: Wait, G: Gate>(rt: &R, shared: &Shared, gate: &G, is_resumed: &mut b
     }
 }
 
-/// What the pager makes of the link's book and its own.
+/// The events of the pager on the link's book and its own.
 #[derive(Clone, Copy, Drop)]
 struct Exchanging;
 
@@ -258,14 +259,14 @@ impl Makes<LinkBook, PagerBook> for Exchanging {
     }
 }
 
-/// The first of these events for which there is something to do, at most so often.
+/// Carries out the first of these events that finds something to do, at most this many times.
 fn exchange_all(link: &mut LinkBook, pager: &mut PagerBook, events: &[Event], most: usize) -> Turn
     ensures { MakesAll Exchanges events.now most result (link.old, pager.old) (link.new, pager.new) }
 {
     make_often(&Exchanging, link, pager, events, most)
 }
 
-/// The same on the books that are locked.
+/// Carries out events as `exchange_all` does, on the locked books.
 fn exchange_often<R: Wait>(rt: &R, shared: &Shared, events: &[Event], most: usize) -> Turn {
     let mut link = shared.link.lock(rt);
     let mut pager = shared.pager.lock(rt);
@@ -274,20 +275,21 @@ fn exchange_often<R: Wait>(rt: &R, shared: &Shared, events: &[Event], most: usiz
     turn
 }
 
-/// What the pager tries on the link's book and its own: a packet to take from the link, or else one to offer, or else a
-/// packet to take from the lane, whose pages nobody asked for.
+/// Returns the events that the pager tries on the link's book and its own: taking a packet from the link, or else
+/// offering one, or else taking a packet from the lane, whose pages nobody asked for.
 fn exchange_tries() -> [Event; 3]
     ensures { result ≡ exchange_tries }
 {
     [Event::PagerPop, Event::PagerFlush, Event::PagerPull]
 }
 
-/// What there is to do on the link's and the pager's books, at most so often.
+/// Carries out what there is to do on the link's and the pager's books, at most this many times.
 fn take_or_offer<R: Wait>(rt: &R, shared: &Shared, most: usize) -> Turn {
     exchange_often(rt, shared, &exchange_tries(), most)
 }
 
-/// The pager: what comes from the link and the lane and what the guest misses or releases, until the run is over.
+/// Runs the pager, with what comes from the link and the lane and what the guest misses or releases, until the run is
+/// over.
 pub(crate) fn run_pager<R: Wait, G: Gate>(rt: &R, shared: &Shared, gate: &G) {
     let most = most_at_once(gate);
     let mut is_resumed = false;

@@ -1,4 +1,4 @@
-//! What a packet passes before it is delivered.
+//! The passage of a packet before it is delivered.
 
 ghost use Rattle.std.specs.Prelude.{OnOk};
 ghost use Rattle.host_threads.specs.Passages.{HasPassed, IsCarried};
@@ -8,18 +8,18 @@ use crate::carry::Echo;
 use crate::relay::{Relay, RelayFault};
 use page_stream::{Packet, fits};
 
-/// What the packets of the link and of the lane pass.
+/// The passage of the packets of the link and of the lane.
 #[derive(Drop)]
 pub(crate) enum Passage<L> {
-    /// Nothing: both are in memory.
+    /// No passage: both are in memory.
     InMemory,
-    /// A relay, from which they come back.
+    /// A relay, from which the packets come back.
     Over(L, Echo),
 }
 
 impl<L: Relay> Passage<L> {
-    /// A packet passes. `Astray` only where it is none of the relay's machine, which is looked at first; `Link` where
-    /// the relay fails, or anything but the packet comes back.
+    /// Sends a packet through the passage. The error is `Astray` only if the packet is not of the relay's machine,
+    /// which is checked first, and `Link` if the relay fails, or anything but the packet comes back.
     pub(crate) fn pass(&mut self, packet: &Packet) -> Result<(), Fault>
         ensures ok { OnOk result (HasPassed self.new packet.now) }
         ensures came { OnOk result (IsCarried L.held self.old self.new packet.now) }
@@ -36,7 +36,7 @@ impl<L: Relay> Passage<L> {
     }
 }
 
-/// The relay of a link in memory, which no packet passes.
+/// The relay of a link in memory, through which no packet goes.
 #[derive(Drop)]
 pub(crate) struct NoRelay;
 

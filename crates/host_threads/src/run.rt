@@ -1,4 +1,4 @@
-//! A run: its threads, and what is made of the books when they have ended.
+//! A run: its threads, and what becomes of the books when the threads have ended.
 
 ghost use Rattle.std.specs.Prelude.{◌≡◌, Some, IfOk, IfErr, IfSome, IsErrOf};
 ghost use Rattle.target_side.specs.Guests.{part_of as guest_part};
@@ -34,7 +34,7 @@ use std::thread;
 use std::thread::{JoinHandle, Scope, Threads};
 use target_side::{GuestBook, PagerBook};
 
-/// The guest's book before the first event. An error: there is no memory for it.
+/// Returns the guest's book before the first event. Fails only if memory runs out.
 fn guest_of(alloc: Global, script: &Script) -> Result<GuestBook, AllocError>
     ensures { IfOk result (λ b. guest_part b ≡ new_guest script.now.geometry script.now.init) }
 {
@@ -42,7 +42,7 @@ fn guest_of(alloc: Global, script: &Script) -> Result<GuestBook, AllocError>
     GuestBook::new(alloc, script.geometry(), script.init())
 }
 
-/// The books before the first event.
+/// Returns the books before the first event. Fails only if memory runs out.
 fn books_of(alloc: Global, script: &Script) -> Result<Shared, AllocError> {
     let guest = guest_of(alloc, script)?;
     let pager = PagerBook::new(alloc, script.geometry())?;
@@ -55,7 +55,7 @@ fn books_of(alloc: Global, script: &Script) -> Result<Shared, AllocError> {
     })
 }
 
-/// Starts a thread for each virtual processor. Where one cannot be made, the run stops.
+/// Starts a thread for each virtual processor. If one cannot be started, the run stops.
 fn start_vcpus<'s, E, R: Threads + Wait + Sync, G: Gate>(
     rt: &'s R,
     alloc: Global,
@@ -79,8 +79,8 @@ fn start_vcpus<'s, E, R: Threads + Wait + Sync, G: Gate>(
     threads
 }
 
-/// Joins the threads of the virtual processors, and puts what they did behind the transcripts. Where there is no memory
-/// for it, the run stops.
+/// Joins the threads of the virtual processors, and appends what they did to the transcripts. If memory runs out, the
+/// run stops.
 fn join_vcpus<R: Threads + Wait>(
     rt: &R,
     shared: &Shared,
@@ -96,7 +96,7 @@ fn join_vcpus<R: Threads + Wait>(
 }
 
 /// Starts a thread for each virtual processor and one each for the source, the link and the pager, and joins them all.
-/// A thread that cannot be made stops the run.
+/// If a thread cannot be started, the run stops.
 fn run_threads<R: Threads + Wait + Sync, G: Gate, L: Relay + Drop>(
     rt: &R,
     alloc: Global,
@@ -130,7 +130,7 @@ fn run_threads<R: Threads + Wait + Sync, G: Gate, L: Relay + Drop>(
     Ok(transcripts)
 }
 
-/// Why a run is refused whose threads met this fault, before anything is checked.
+/// Returns why a run whose threads met this fault is refused, before anything is checked.
 fn refusal(fault: Fault) -> Option<RunFault>
     ensures { result ≡ told_as fault }
 {
@@ -143,7 +143,7 @@ fn refusal(fault: Fault) -> Option<RunFault>
     }
 }
 
-/// The logs that the books have, and the frames at the target. None: the guest has not halted.
+/// Returns the logs of the books, and the frames at the target, or `None` if the guest has not halted.
 fn left_of(
     source: Option<SourceBook>,
     link: LinkBook,
@@ -164,7 +164,7 @@ fn left_of(
     }
 }
 
-/// The fault that the threads met, and what they left, as `left_of` says.
+/// Returns the fault that the threads met, and what they left, as `left_of` does.
 fn left_by(shared: Shared) -> (Option<Fault>, Option<(Logs, Store)>) {
     let Shared {
         source,
@@ -182,7 +182,7 @@ fn left_by(shared: Shared) -> (Option<Fault>, Option<(Logs, Store)>) {
     (bell.into_fault(), left)
 }
 
-/// The checks of what a run left.
+/// Returns the result of the checks of what a run left.
 fn settled<R: Threads + Sync>(
     rt: &R,
     alloc: Global,
@@ -199,7 +199,7 @@ fn settled<R: Threads + Sync>(
     settle(rt, alloc, script, session, store, transcripts)
 }
 
-/// What comes of a run whose threads met this fault and left this.
+/// Returns the result of a run whose threads met this fault and left this.
 fn outcome<R: Threads + Sync>(
     rt: &R,
     alloc: Global,
@@ -220,7 +220,7 @@ fn outcome<R: Threads + Sync>(
     }
 }
 
-/// The checks of what the threads left.
+/// Returns the result of the checks of what the threads left.
 fn checked<R: Threads + Sync>(
     rt: &R,
     alloc: Global,
@@ -235,7 +235,7 @@ fn checked<R: Threads + Sync>(
     outcome(rt, alloc, script, fault, left, Seq::from_vec(transcripts))
 }
 
-/// A run over this passage, and the checks of what it left.
+/// Runs a script over this passage, and returns the result of the checks of what it left.
 fn run<R: Threads + Wait + Sync, G: Gate, L: Relay + Drop>(
     rt: &R,
     alloc: Global,
@@ -255,23 +255,24 @@ fn run<R: Threads + Wait + Sync, G: Gate, L: Relay + Drop>(
     checked(rt, alloc, script, shared, transcripts)
 }
 
-/// Runs a script's migration in threads, one for each virtual processor and one each for the source, the link and the
-/// pager, over books under four locks, which are taken in the order source, link, pager, target; and then checks what it
-/// left. The link is in memory. The lane, where the script has one, turns in the link's thread and under its lock.
+/// Runs a script's migration in threads: one for each virtual processor and one each for the source, the link and the
+/// pager. The books are under four locks, which are taken in the order source, link, pager, target. Then it checks what
+/// the run left. The link is in memory. If the script has a lane, it turns in the link's thread and under its lock.
 ///
-/// `Ok` comes only where all checks were made and passed: the session is of the script's version, machine and initial
-/// pages; the checker answers `Yes` to it with the certificate, so that every merging of its logs is safe; each
-/// transcript has the script's operations of its virtual processor in order, each once, and is that virtual processor's
-/// part of the guest's log; the source was told that every owed page is placed; each owed page is resident at the end of
-/// the certificate's merging; and each page of the frames is what one machine that never moved has.
+/// `Ok` means that all checks were made and passed. The session has the script's version, machine and initial pages.
+/// The checker says `Yes` to it with the certificate, so every merging of its logs is safe. Each transcript has the
+/// script's operations of its virtual processor in order, each once, and is that virtual processor's part of the
+/// guest's log. The source was told that every owed page is placed. Each owed page is resident at the end of the
+/// certificate's merging. Each page of the frames is that of one machine that never moved.
 ///
 /// # Errors
 ///
-/// `LogFull` where a thread found no room in a log, or else `Memory` where one was refused memory or could not be made;
-/// nothing is checked then. Otherwise `AuditRefused` with a report that is not that the session is clean, or else
-/// `TranscriptDiffers` where another check fails, or `Memory` where there is none for the checks.
+/// `LogFull` if a thread found no room in a log, or else `Memory` if memory ran out for a thread, or else `Threads` if
+/// a thread could not be started. Nothing is checked then. Otherwise, `AuditRefused` with a report that does not say
+/// that the session is clean, or else `TranscriptDiffers` if another check fails, or `Memory` if memory runs out for
+/// the checks.
 ///
-/// Nothing is promised of when a thread goes on, nor that the run ends.
+/// Nothing is promised about when a thread goes on, nor that the run ends.
 pub fn migrate<R: Threads + Wait + Sync, G: Gate>(
     rt: &R,
     alloc: Global,
@@ -284,16 +285,16 @@ pub fn migrate<R: Threads + Wait + Sync, G: Gate>(
     run(rt, alloc, script, gate, Passage::<NoRelay>::InMemory)
 }
 
-/// The same as [`migrate`] over a relay, one for the packets of the link in both directions and of the lane. Under the
-/// link's lock, before a packet is delivered, its bytes are written to the relay, 4,096 at most at a time, and read
-/// back before the next are written; what came back, read as one stream, has to be that packet. A packet that is lost
-/// or sent to the back passes at a later turn, or never.
+/// Runs a migration as [`migrate`] does, over one relay for the packets of the link in both directions and of the lane.
+/// Under the link's lock, before a packet is delivered, its bytes are written to the relay, at most 4,096 at a time,
+/// and read back before the next are written. What came back, read as one stream, must be that packet. A packet that is
+/// lost or sent to the back passes at a later turn, or never.
 ///
 /// # Errors
 ///
-/// As of `migrate`; and `Link` where a call of the relay fails, or answers 0 or more than it was asked for, or another
-/// packet comes back, or none, or several; nothing is checked then. Where threads met several of `LogFull`, `Memory` and
-/// `Link`, the first of these is answered.
+/// As for `migrate`; and `Link` if a call of the relay fails, or returns 0 or more than it was asked for, or if another
+/// packet comes back, or none, or several. Nothing is checked then. If threads met several of `LogFull`, `Memory`,
+/// `Threads` and `Link`, the error is the first of these.
 pub fn migrate_over<R: Threads + Wait + Sync, G: Gate, L: Relay + Drop>(
     rt: &R,
     alloc: Global,
@@ -308,8 +309,8 @@ pub fn migrate_over<R: Threads + Wait + Sync, G: Gate, L: Relay + Drop>(
     run(rt, alloc, script, gate, Passage::Over(relay, echo))
 }
 
-/// The same as [`migrate_over`], over the two ends of a connection over the loopback address. `Link` too where there is
-/// none to be had, and where the bytes do not come within 10 seconds.
+/// Runs a migration as [`migrate_over`] does, over the two ends of a connection over the loopback address. The error is
+/// `Link` also if there is no such connection, or if the bytes do not come within 10 seconds.
 pub fn migrate_tcp<
     R: Threads + Wait + Sync + Net<Listener = TcpListener, Stream = TcpStream>,
     G: Gate,

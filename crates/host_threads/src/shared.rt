@@ -1,4 +1,4 @@
-//! The books, each under its lock, and what a thread tells of its turn with them.
+//! The books, each under its lock, and what a thread reports on its turn with them.
 
 ghost use Rattle.std.specs.Prelude.{◌≡◌, IfOk, OnOk, OnErr};
 ghost use Rattle.migration_events.specs.declared.events.Event.{Event};
@@ -16,10 +16,10 @@ use migration_types::PageNo;
 use std::sync::{Mutex, Wait};
 use target_side::{PagerBook, TargetFault};
 
-/// The books, in the order in which their locks are taken, and what wakes the threads.
+/// The books, in the order in which their locks are taken, and the bell that wakes the threads.
 #[derive(Drop)]
 pub(crate) struct Shared {
-    /// None until the halt.
+    /// `None` until the halt.
     pub source: Mutex<Option<SourceBook>>,
     pub link: Mutex<LinkBook>,
     pub pager: Mutex<PagerBook>,
@@ -27,25 +27,25 @@ pub(crate) struct Shared {
     pub bell: Bell,
 }
 
-/// What a thread found to do.
+/// The report on a turn of a thread.
 #[derive(Clone, Copy)]
 pub(crate) enum Turn {
-    /// It made an event.
+    /// It carried out an event.
     Did,
-    /// It made an event that offered a page.
+    /// It carried out an event that offered a page.
     Offered(PageNo),
-    /// It made an event on the pager's and the target's books.
+    /// It carried out an event on the pager's and the target's books.
     Served,
     /// It found nothing to do.
     Idle,
-    /// The run has to stop.
+    /// The run must stop.
     Stops(Fault),
 }
 
 impl Shared {
-    /// Rings those who may have something to do since a turn of the source or the pager on the link's book: the link,
-    /// where a packet is under way, and both ends, which may tick then, where nothing is and no arrival waits. A turn that
-    /// found nothing to do rings nobody, so that no end wakes itself again and again.
+    /// Rings the threads that may have something to do after a turn of the source or the pager on the link's book: the
+    /// link if a packet is under way, and both ends, which may tick then, if nothing is under way and no arrival waits.
+    /// A turn that found nothing to do rings nobody, so that no end wakes itself again and again.
     pub(crate) fn ring_over(&self, turn: &Turn, link: &LinkBook) {
         if let Turn::Idle = turn {
             return;
@@ -58,7 +58,8 @@ impl Shared {
         }
     }
 
-    /// Tells the virtual processors of a turn, or all that the run stops: whether there was an event. None: the run stops.
+    /// Tells the virtual processors of a turn, or all threads that the run stops. Returns whether there was an event,
+    /// or `None` if the run stops.
     pub(crate) fn tell<R: Wait>(&self, rt: &R, turn: Turn) -> Option<bool> {
         match turn {
             Turn::Did | Turn::Offered(_) => Some(true),
@@ -75,14 +76,14 @@ impl Shared {
     }
 }
 
-/// Whether the link has a packet to turn.
+/// Returns whether the link has a packet to turn.
 fn is_under_way(link: &LinkBook) -> bool {
     [Direction::Down, Direction::Up, Direction::Lane]
         .iter()
         .any(|direction| link.head(*direction).is_some())
 }
 
-/// What is told of an event.
+/// Returns the report on an event.
 pub(crate) fn told(came: Result<Came, EventFault>) -> Turn
     ensures turn { (e : Event) (old new : BooksAfter → BooksAfter) → OnOk came (IsMade e old new) → IfOk came (λ c. Tells c old new) → OnErr came (IsSame old new) → IsTurn result e old new }
     ensures exact { result ≡ turn_of came }
@@ -93,7 +94,7 @@ pub(crate) fn told(came: Result<Came, EventFault>) -> Turn
     }
 }
 
-/// What is told of an event that was not refused.
+/// Returns the report on an event that was not refused.
 fn turn_by(came: Came) -> Turn
     ensures exact { result ≡ turn_by came }
     ensures turn { (e : Event) (old new : BooksAfter → BooksAfter) → IsMade e old new → Tells came old new → IsTurn result e old new }
@@ -105,7 +106,7 @@ fn turn_by(came: Came) -> Turn
     }
 }
 
-/// The same of an event on the pager's and the target's books.
+/// Returns the report on an event on the pager's and the target's books.
 pub(crate) fn told_to_all(came: Result<Came, EventFault>) -> Turn
     ensures turn { (e : Event) (old new : BooksAfter → BooksAfter) → OnOk came (IsMade e old new) → IfOk came (λ c. Tells c old new) → OnErr came (IsSame old new) → IsTurn result e old new }
     ensures exact { result ≡ to_all (turn_of came) }
@@ -116,7 +117,7 @@ pub(crate) fn told_to_all(came: Result<Came, EventFault>) -> Turn
     }
 }
 
-/// The fault of a run in which an event was refused.
+/// Returns the fault of a run in which an event was refused.
 pub(crate) fn of_event(fault: EventFault) -> Fault
     ensures { result ≡ fault_by fault }
 {
@@ -126,14 +127,14 @@ pub(crate) fn of_event(fault: EventFault) -> Fault
     }
 }
 
-/// The same where the link's book refused a turn.
+/// Returns the fault of a run in which the link's book refused a turn.
 pub(crate) fn of_link(fault: LinkFault) -> Fault
     ensures { result ≡ fault_by fault }
 {
     of_event(EventFault::from(fault))
 }
 
-/// The same where the guest's or the target's book refused an operation.
+/// Returns the fault of a run in which the guest's or the target's book refused an operation.
 pub(crate) fn of_target(fault: TargetFault) -> Fault
     ensures { result ≡ fault_by fault }
 {

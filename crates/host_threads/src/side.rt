@@ -1,4 +1,4 @@
-//! What stands behind the target's lock.
+//! What the target's lock protects.
 
 ghost use Rattle.std.specs.Prelude.{◌≡◌, ◌≤◌, IfOk, OnErr};
 ghost use Rattle.host_threads.specs.Sides.{Halts};
@@ -20,9 +20,9 @@ pub(crate) enum TargetSide {
 }
 
 impl TargetSide {
-    /// The guest's halt: the target's book is in the place of the guest's, the packet of the state is offered, and the
-    /// source's book is answered. None: the guest's book is not there, and nothing changes. Where it is refused, the
-    /// guest's book is there as before, and nothing is offered.
+    /// Carries out the guest's halt: the target's book takes the place of the guest's, the packet of the state is
+    /// offered, and the source's book is returned. Returns `None` if the guest's book is not there, and then nothing
+    /// changes. If the halt is refused, the guest's book is there as before, and nothing is offered.
     pub(crate) fn halt(
         &mut self,
         link: &mut LinkBook,
@@ -39,7 +39,7 @@ impl TargetSide {
     }
 }
 
-/// What stands there after the halt, and what it made.
+/// Returns what is there after the halt, and what it made.
 fn halted(
     side: TargetSide,
     link: &mut LinkBook,

@@ -23,14 +23,15 @@ use migration_types::PageNo;
 use std::mem::{self, drop};
 use std::sync::Wait;
 
-/// Whether a script has a lane.
+/// Returns whether a script has a lane.
 fn has_lane(script: &Script) -> bool
     ensures { result ≡ is_some script.now.lane }
 {
     script.lane().is_some()
 }
 
-/// Whether the source makes such an event: it pushes and serves, and ticks where nothing is under way and it is not done.
+/// Returns whether the source carries out this event: it pushes and serves, and ticks if nothing is under way and it is
+/// not done.
 #[tactic(auto, using(crate::proofs::Tried::source_no_other))]
 fn makes(book: &SourceBook, link: &LinkBook, event: Event) -> bool
     ensures { result ≡ source_makes event book.now.is_done (is_quiet link.now.part) }
@@ -42,8 +43,8 @@ fn makes(book: &SourceBook, link: &LinkBook, event: Event) -> bool
     }
 }
 
-/// An event on the source's and the link's books, where the source makes it: Push, Serve or SourceTick. Pages are pushed
-/// within the script's window, and over its lane, if it has one.
+/// Carries out an event on the source's and the link's books, if it is one that the source carries out: Push, Serve or
+/// SourceTick. Pages are pushed within the script's window, and over its lane, if it has one.
 #[tactic(auto, using(crate::proofs::Tried::source_no_other))]
 fn act(book: &mut SourceBook, link: &mut LinkBook, event: Event, script: &Script) -> Turn
     ensures turn { source_makes event book.old.is_done (is_quiet link.old.part) ≡ true → IsTurn result event (pushing script.now.window (is_some script.now.lane) (part_of book.old) link.old.part) (pushing script.now.window (is_some script.now.lane) (part_of book.new) link.new.part) }
@@ -60,8 +61,8 @@ fn act(book: &mut SourceBook, link: &mut LinkBook, event: Event, script: &Script
     }
 }
 
-/// The guest's halt: its book parts into the source's and the target's, and the state is offered. On an error the
-/// guest's book stays.
+/// Carries out the guest's halt: its book splits into the source's and the target's, and the state is offered. On an
+/// error, the guest's book stays.
 fn halt_guest(
     source: &mut Option<SourceBook>,
     link: &mut LinkBook,
@@ -82,7 +83,7 @@ fn halt_guest(
     }
 }
 
-/// Halt.
+/// Carries out Halt.
 fn halt<R: Wait>(rt: &R, shared: &Shared, script: &Script) -> Turn {
     let mut source = shared.source.lock(rt);
     let mut link = shared.link.lock(rt);
@@ -92,7 +93,7 @@ fn halt<R: Wait>(rt: &R, shared: &Shared, script: &Script) -> Turn {
     turn
 }
 
-/// The script by which pages are pushed.
+/// The script, which says how pages are pushed.
 #[derive(Drop)]
 struct Acting<'a> {
     script: &'a Script,
@@ -106,14 +107,14 @@ impl<'a> Makes<SourceBook, LinkBook> for Acting<'a> {
     }
 }
 
-/// What the source tries after the halt: to serve, or else to push, or else to tick.
+/// Returns the events that the source tries after the halt: Serve, or else Push, or else SourceTick.
 fn source_tries() -> [Event; 3]
     ensures { result ≡ source_tries }
 {
     [Event::Serve, Event::Push, Event::SourceTick]
 }
 
-/// The first of these events for which there is something to do, at most so often.
+/// Carries out the first of these events that finds something to do, at most this many times.
 fn act_all(
     book: &mut SourceBook,
     link: &mut LinkBook,
@@ -126,7 +127,7 @@ fn act_all(
     make_often(&Acting { script }, book, link, events, most)
 }
 
-/// What there is to do after the halt, at most so often.
+/// Carries out what there is to do after the halt, at most this many times.
 fn turn<R: Wait>(rt: &R, shared: &Shared, script: &Script, most: usize) -> Turn {
     let mut source = shared.source.lock(rt);
     let mut link = shared.link.lock(rt);
@@ -141,7 +142,7 @@ fn turn<R: Wait>(rt: &R, shared: &Shared, script: &Script, most: usize) -> Turn 
     turn
 }
 
-/// The page that was offered, if one was.
+/// Returns the page that was offered, if one was.
 fn page_of(turn: &Turn) -> Option<PageNo> {
     match turn {
         Turn::Offered(page) => Some(*page),
@@ -149,8 +150,8 @@ fn page_of(turn: &Turn) -> Option<PageNo> {
     }
 }
 
-/// The source: the halt, once each virtual processor is at its move, and then what there is to serve and to push, until
-/// the run is over.
+/// Runs the source: the halt, once each virtual processor is at its move, and then what there is to serve and to push,
+/// until the run is over.
 pub(crate) fn run_source<R: Wait, G: Gate>(rt: &R, shared: &Shared, gate: &G, script: &Script) {
     let most = most_at_once(gate);
     let mut is_halted = false;

@@ -1,4 +1,4 @@
-//! Events that a thread makes, one after another under one hold of its locks.
+//! Events that a thread carries out one after another, under one hold of its locks.
 
 ghost use Rattle.migration_events.specs.declared.events.Event.{Event as Tried};
 ghost use Rattle.host_threads.specs.declared.shared.Turn.{Turn as Told};
@@ -7,17 +7,17 @@ ghost use Rattle.host_threads.specs.Rounds.{MakesAll, MakesFirst};
 use crate::shared::Turn;
 use migration_events::Event;
 
-/// Makes events of two books.
+/// What carries out events on two books.
 pub(crate) trait Makes<A, B> {
-    /// What is told of an event, and what it makes of the books.
+    /// The report on an event, and how it changes the books.
     ghost makes: { Self → Tried → Told → A × B → A × B → Type 0 };
 
-    /// Makes an event of these books, where there is something to do.
+    /// Carries out an event on these books, if there is something to do.
     fn make(&self, one: &mut A, other: &mut B, event: Event) -> Turn
         ensures { makes self.now event result (one.old, other.old) (one.new, other.new) };
 }
 
-/// Makes the first of these events for which there is something to do.
+/// Carries out the first of these events that finds something to do.
 fn make_first<A, B, M: Makes<A, B>>(maker: &M, one: &mut A, other: &mut B, events: &[Event]) -> Turn
     ensures { MakesFirst (M.makes maker.now) events.now result (one.old, other.old) (one.new, other.new) }
 {
@@ -30,7 +30,8 @@ fn make_first<A, B, M: Makes<A, B>>(maker: &M, one: &mut A, other: &mut B, event
     Turn::Idle
 }
 
-/// The same as long as there is something to do, at most so often. The last that was not idle is told.
+/// Carries out events as `make_first` does, as long as there is something to do, at most this many times. Returns the
+/// report on the last one that was not idle.
 pub(crate) fn make_often<A, B, M: Makes<A, B>>(
     maker: &M,
     one: &mut A,

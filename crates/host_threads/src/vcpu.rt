@@ -18,19 +18,20 @@ use std::alloc::Global;
 use std::sync::Wait;
 use target_side::{Access, GuestBook, TargetBook};
 
-/// What came of an operation.
+/// The result of an operation.
 enum Step {
     /// It was answered.
     Answered(u64),
     /// Its page was missed.
     Missed,
-    /// It has to wait.
+    /// It must wait.
     Waits,
-    /// The run has to stop.
+    /// The run must stop.
     Stops(Fault),
 }
 
-/// An operation on the guest's book. `Astray` only where it is none of the machine's.
+/// Carries out an operation on the guest's book. The result is `Astray` only if the machine does not have its page or
+/// cell.
 fn step_guest(book: &mut GuestBook, vcpu: u8, op: &Op) -> Step
     ensures step { IsGuestStep result vcpu op.now (guest_of book.old) (guest_of book.new) }
     ensures taken { OpFits book.old.frames.geometry op.now → result ≢ Step.Stops Fault.Astray }
@@ -44,7 +45,8 @@ fn step_guest(book: &mut GuestBook, vcpu: u8, op: &Op) -> Step
     }
 }
 
-/// An operation on the target's book. `Astray` only where it is none of the machine's.
+/// Carries out an operation on the target's book. The result is `Astray` only if the machine does not have its page or
+/// cell.
 fn step_target(book: &mut TargetBook, vcpu: u8, op: &Op) -> Step
     ensures step { IsTargetStep result vcpu op.now (target_of book.old) (target_of book.new) }
     ensures taken { OpFits (geometry_of book.old) op.now → result ≢ Step.Stops Fault.Astray }
@@ -60,8 +62,8 @@ fn step_target(book: &mut TargetBook, vcpu: u8, op: &Op) -> Step
     }
 }
 
-/// Operations on the guest's book, one after another, each put behind the answers with its own. Where one is refused, those
-/// before it are done, and no other.
+/// Carries out operations on the guest's book, one after another, and appends each with its answer to the answers. If
+/// one is refused, those before it are done, and no other.
 fn work_at_source(
     book: &mut GuestBook,
     vcpu: u8,
@@ -85,7 +87,7 @@ fn work_at_source(
     Ok(())
 }
 
-/// Operations, at most so many as the gate lets be done at once, and those after them.
+/// Returns the first operations, at most as many as the gate lets a thread do at once, and the others.
 fn first_at_once<'a, G: Gate>(gate: &G, ops: &'a [Op]) -> (&'a [Op], &'a [Op])
     ensures few { (G.stands_open gate.now → ⊥) → length result.0.now ≤ 1 }
     ensures all { result.0.now ++ result.1.now ≡ ops.now }
@@ -93,26 +95,26 @@ fn first_at_once<'a, G: Gate>(gate: &G, ops: &'a [Op]) -> (&'a [Op], &'a [Op])
     ops.split_at(ops.len().min(most_at_once(gate)))
 }
 
-/// How far operations came that were begun one after another.
+/// How far a sequence of operations came.
 #[derive(Clone, Copy)]
 struct Reached<'a> {
-    /// Those that were answered.
+    /// The operations that were answered.
     done: &'a [Op],
-    /// The others.
+    /// The other operations.
     rest: &'a [Op],
-    /// Whether the first of the others has to wait.
+    /// Whether the first of the others must wait.
     waits: bool,
 }
 
 impl<'a> Reached<'a> {
-    /// So many were answered.
+    /// Returns this progress: the first `count` operations were answered.
     fn new(ops: &'a [Op], count: usize, waits: bool) -> Self {
         let (done, rest) = ops.split_at(count.min(ops.len()));
         Reached { done, rest, waits }
     }
 }
 
-/// A virtual processor at work: its number, and what it was answered so far.
+/// A virtual processor at work: its number, and its answers so far.
 #[derive(Drop)]
 struct Worker<'s, G> {
     shared: &'s Shared,
@@ -122,7 +124,7 @@ struct Worker<'s, G> {
 }
 
 impl<'s, G: Gate> Worker<'s, G> {
-    /// Operations at the source, under one lock.
+    /// Carries out operations at the source, under one lock.
     fn turn_at_source<R: Wait>(&mut self, rt: &R, ops: &[Op]) -> Result<(), Fault> {
         let mut side = self.shared.target.lock(rt);
         let TargetSide::Guest(book) = &mut *side else {
@@ -131,7 +133,8 @@ impl<'s, G: Gate> Worker<'s, G> {
         work_at_source(book, self.vcpu, ops, &mut self.answers)
     }
 
-    /// Does operations at the source, at most so many at once as the gate lets be. False: the run stops.
+    /// Carries out operations at the source, at most as many at once as the gate allows. Returns `false` if the run
+    /// stops.
     fn run_at_source<R: Wait>(&mut self, rt: &R, ops: &[Op]) -> bool {
         let mut rest = ops;
         for _ in rt.forever() {
@@ -151,9 +154,9 @@ impl<'s, G: Gate> Worker<'s, G> {
         false
     }
 
-    /// Does operations at the target, at most so many as the gate lets be done at once, until one has to wait. The gate
-    /// is lent the book of each that is answered. The bell is told of the page of each release, since another virtual
-    /// processor may wait for it, and of the page that one waits for; the pager is rung for a miss.
+    /// Carries out operations at the target, at most as many at once as the gate allows, until one must wait. Lends the
+    /// gate the book after each that is answered. Tells the bell the page of each release, because another virtual
+    /// processor may wait for it, and the page that this one waits for. Rings the pager for a miss.
     fn reach<'a>(&mut self, book: &mut TargetBook, ops: &'a [Op]) -> Result<Reached<'a>, Fault> {
         let bell = &self.shared.bell;
         let count = ops.len().min(most_at_once(self.gate));
@@ -185,7 +188,7 @@ impl<'s, G: Gate> Worker<'s, G> {
         Ok(Reached::new(ops, count, false))
     }
 
-    /// The same, under one lock. Before the halt the first one waits.
+    /// Carries out operations as `reach` does, under one lock. Before the halt, the first one waits.
     fn turn_at_target<'a, R: Wait>(&mut self, rt: &R, ops: &'a [Op]) -> Result<Reached<'a>, Fault> {
         let mut side = self.shared.target.lock(rt);
         match &mut *side {
@@ -200,8 +203,8 @@ impl<'s, G: Gate> Worker<'s, G> {
         }
     }
 
-    /// Tells of an operation that was answered at the target. Of a release the others are told first: another virtual
-    /// processor may wait for the page, and the pager has it to settle.
+    /// Reports an operation that was answered at the target. If it is a release, the others are told first: another
+    /// virtual processor may wait for the page, and the pager must cancel it.
     fn tell_answered(&self, op: &Op) {
         if let Op::Release { .. } = op {
             self.shared.bell.ring_vcpus();
@@ -210,7 +213,7 @@ impl<'s, G: Gate> Worker<'s, G> {
         self.gate.answered(self.vcpu, op.page());
     }
 
-    /// Does operations at the target, however often it has to look. False: the run stops.
+    /// Carries out operations at the target, looking as often as needed. Returns `false` if the run stops.
     fn run_at_target<R: Wait>(&mut self, rt: &R, ops: &[Op]) -> bool {
         let mut rest = ops;
         for _ in rt.forever() {
@@ -239,7 +242,7 @@ impl<'s, G: Gate> Worker<'s, G> {
     }
 }
 
-/// A virtual processor: its operations before the move, and then those after it. Answers what it did.
+/// Runs a virtual processor: its operations before the move, and then those after it. Returns what it did.
 pub(crate) fn run_vcpu<R: Wait, G: Gate>(
     rt: &R,
     alloc: Global,

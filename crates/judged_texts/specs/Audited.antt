@@ -21,12 +21,12 @@ abbrev pub HasReport : Audited → Type 0
 HasReport (Refused line) = ⊥
 HasReport (Reported report) = Unit {0}
 
--- there is a report, and by it the session is clean
+-- there is a report, and it says that the session is clean
 abbrev pub FindsClean : Audited → Type 0
 FindsClean (Refused line) = ⊥
 FindsClean (Reported report) = IsClean report
 
--- there is a report, and by it a page has a fault
+-- there is a report, and it says that a page has a fault
 abbrev pub FindsFault : Audited → Type 0
 FindsFault (Refused line) = ⊥
 FindsFault (Reported (Shape fault)) = ⊥
@@ -38,7 +38,7 @@ FindsFault (Reported (Clean cert)) = ⊥
 abbrev pub IsUnsafe : Recorded → Type 0
 IsUnsafe s = IsSafe s → ⊥
 
--- where the shape is right and there is a merging, the session is safe exactly where it is said to be clean
+-- if the shape is right and there is a merging, the session is safe exactly when it is said to be clean
 abbrev pub IsSafeExactlyIf : Type 0 → Recorded → Type 0
 IsSafeExactlyIf Says s = IsRightShape s → HasMerging s → (IsSafe s ↔ Says)
 

@@ -1,4 +1,4 @@
--- The text that goes with the audit of a session's text.
+-- The text that is written for the audit of a session's text.
 use Rattle.std.specs.Prelude.{ℕ, List, [], ◌∷◌}
 use Rattle.text_lines.specs.Text.{ended}
 use Rattle.cert_text.specs.Grammar.{cert_lines}
@@ -11,25 +11,25 @@ use Rattle.judged_texts.specs.declared.wanted.Wanted.TheVariants as wanted
 use Rattle.audit_report.specs.ReportText.{first_line, report_text}
 use Rattle.audit_report.specs.RefusalText.{refusal_text}
 
--- the certificate's spelling where the session is clean, and else the first line of the report
+-- the certificate's spelling if the session is clean, and otherwise the first line of the report
 abbrev pub certificate_text : Report → List ℕ
 certificate_text (report.Clean cert) = ended (cert_lines cert)
 certificate_text (report.Shape fault) = ended (first_line (report.Shape fault) ∷ [])
 certificate_text (report.Knot left found) = ended (first_line (report.Knot left found) ∷ [])
 certificate_text (report.Faulty line fault order many) = ended (first_line (report.Faulty line fault order many) ∷ [])
 
--- what is wanted of a report
+-- the wanted part of a report
 abbrev pub wanted_text : Wanted → Report → List ℕ
 wanted_text wanted.Report r = report_text r
 wanted_text wanted.Certificate r = certificate_text r
 wanted_text wanted.FirstLine r = ended (first_line r ∷ [])
 
--- what is wanted of the audit of a text
+-- the wanted part of the audit of a text
 abbrev pub audited_text : Wanted → Audited → List ℕ
 audited_text wanted (Refused line) = refusal_text line
 audited_text wanted (Reported r) = wanted_text wanted r
 
--- the first line of what is told of an audit: the line at which a text is refused, or the first line of the report
+-- the first line for an audit: the line that says where the text is refused, or the first line of the report
 abbrev pub summary_text : Audited → List ℕ
 summary_text (Refused line) = refusal_text line
 summary_text (Reported r) = ended (first_line r ∷ [])

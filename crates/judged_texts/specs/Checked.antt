@@ -20,7 +20,7 @@ pub record IsJudged (session cert : List ℕ) (verdict : Verdict) : Type 0 where
   pub cert_is : IsSpelling SpellsCert certified cert
   pub verdict_is : IsVerdict recorded certified verdict
 
--- the first text is a spelling, and the second stops being one at this line
+-- the first text is a spelling, and the second is refused at this line
 pub record IsCertRefused (session cert : List ℕ) (line : ℕ) : Type 0 where
   pub recorded : Recorded
   pub session_is : IsSpelling SpellsSession recorded session
@@ -42,11 +42,12 @@ pub record SpellsOneSession (session : List ℕ) : Type 0 where
 abbrev pub OfSpelled : List ℕ → (Recorded → Type 0) → Type 0
 OfSpelled session Has = (recorded : Recorded) → IsSpelling SpellsSession recorded session → Has recorded
 
--- the merging that is spelled by the runs of the certificate's text has no record whose demand fails
+-- the merging that the runs of the certificate's text spell has no record whose demand fails
 abbrev pub ReplaysClean : List ℕ → Recorded → Type 0
 ReplaysClean cert recorded = (certified : Certified) → IsSpelling SpellsCert certified cert → IsSafeOrder recorded (spelled certified.runs)
 
--- the headline: the first text spells one session, and each claim holds of it, the one on runs of those that the second has
+-- The headline: the first text spells one session, and each claim holds for it. The claim about runs is about those in
+-- the second text.
 pub record HeadlineHolds (session cert : List ℕ) : Type 0 where
   pub one_session : SpellsOneSession session
   pub safe : OfSpelled session IsSafe

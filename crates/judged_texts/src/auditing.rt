@@ -12,7 +12,7 @@ use page_facts::Alone;
 use session_log::{read_session, session_texts_are_unambiguous};
 use std::alloc::{AllocError, Global};
 
-/// What becomes of the audit of a session's text.
+/// The result of the audit of a session's text.
 #[derive(Drop)]
 pub enum Audited {
     /// The text is refused at this line. Lines count from 1.
@@ -21,7 +21,7 @@ pub enum Audited {
     Reported(Report),
 }
 
-/// The report on a session that was read.
+/// Returns the report on a session that was read. Fails only if memory runs out.
 fn reported(alloc: Global, session: &Session) -> Result<Audited, AllocError>
     ensures report { IfOk result (IsReportOn session.now) }
     ensures safe { IfOk result (λ audited. FindsClean audited → IsSafe session.now) }
@@ -35,14 +35,14 @@ fn reported(alloc: Global, session: &Session) -> Result<Audited, AllocError>
     }
 }
 
-/// The report on the session that a text spells, or the line at which the text is refused.
+/// Returns the report on the session that a text spells, or the line at which the text is refused.
 ///
-/// Where there is a report the text spells exactly one session. Where this session has the right shape and a merging,
-/// it is safe exactly where the report is clean; where the report is clean it is safe, and where a page has a fault it
-/// is not.
+/// If there is a report, the text spells exactly one session. If this session has the right shape and a merging, it is
+/// safe exactly when the report is clean. If the report is clean, the session is safe, and if a page has a fault, it is
+/// not.
 ///
-/// The pages are judged by the calling thread alone, which waits for nobody. Nothing is assumed of who wrote the text.
-/// The only error is want of memory, which may come before the text is judged.
+/// The calling thread judges the pages alone, and waits for nobody. Nothing is assumed about who wrote the text. Fails
+/// only if memory runs out, which may happen before the text is judged.
 pub fn audit_text(alloc: Global, session: &[u8]) -> Result<Audited, AllocError>
     ensures audited { IfOk result (IsAudited session.now) }
     ensures one_session { IfOk result (λ audited. HasReport audited → SpellsOneSession session.now) }

@@ -19,10 +19,10 @@ use std::alloc::{AllocError, Global};
 use std::marker::Sync;
 use std::thread::Threads;
 
-/// A law: where the verdict on two texts is yes, the headline holds of them. The first spells exactly one session. There
-/// is a merging of its logs, and in every merging each read or write after handover finds its page resident, each read
-/// gives what one machine that never moved gives, each page is placed at most once, and over no later read, write or
-/// release, and a released page is never sent and comes back as zeros. Runs nothing.
+/// A law: if the verdict on two texts is yes, the headline holds for them. The first spells exactly one session. Its
+/// logs have a merging, and in every merging, each read or write after handover finds its page resident, each read
+/// gives what one machine that never moved gives, each page is placed at most once, and before any read, write or
+/// release of it at the target, and a released page is never sent and comes back as zeros. Runs nothing.
 pub fn headline_holds_at_yes()
     ensures { (session cert : List ℕ) → IsTextVerdict session cert Verdict.Yes → HeadlineHolds session cert }
 {
@@ -31,7 +31,7 @@ pub fn headline_holds_at_yes()
     certified_is_safe();
 }
 
-/// What was read of a session's text: the session, or the line at which the text is refused.
+/// Returns the session that a text spells, or the line at which the text is refused. Fails only if memory runs out.
 fn session_read(alloc: Global, text: &[u8]) -> Result<Result<Session, u32>, AllocError>
     ensures { IfOk result (λ found. IsRead SpellsSession text.now found) }
 {
@@ -41,7 +41,7 @@ fn session_read(alloc: Global, text: &[u8]) -> Result<Result<Session, u32>, Allo
     }
 }
 
-/// What was read of a certificate's text.
+/// Returns the certificate that a text spells, or the line at which the text is refused. Fails only if memory runs out.
 fn cert_read(alloc: Global, text: &[u8]) -> Result<Result<Cert, u32>, AllocError>
     ensures { IfOk result (λ found. IsRead SpellsCert text.now found) }
 {
@@ -51,7 +51,8 @@ fn cert_read(alloc: Global, text: &[u8]) -> Result<Result<Cert, u32>, AllocError
     }
 }
 
-/// The verdict on a session and its certificate, by what was read of their texts, whoever judges the pages.
+/// Returns the verdict on a session and its certificate, given what was read from their texts, whichever judges are
+/// used. Fails only if memory runs out.
 fn check_read_by<J: EntryJudges>(
     judges: &J,
     alloc: Global,
@@ -70,9 +71,9 @@ fn check_read_by<J: EntryJudges>(
     }
 }
 
-/// The verdict on a session and its certificate, by what was read of their texts: the first that applies, of all that
-/// [`Verdict`] has. On `Yes` it promises of the bytes that were read what [`check_texts`] does. The pages are judged by
-/// threads side by side. The only error is want of memory.
+/// Returns the verdict on a session and its certificate, given what was read from their texts: the first that applies
+/// of all in [`Verdict`]. On `Yes`, it promises of the bytes that were read what [`check_texts`] does. Threads side by
+/// side judge the pages. Fails only if memory runs out.
 pub fn check_read<R: Threads + Sync>(
     rt: &R,
     alloc: Global,
@@ -94,7 +95,8 @@ pub fn check_read<R: Threads + Sync>(
     check_read_by(&InThreads { rt }, alloc, session, cert)
 }
 
-/// The verdict on the texts of a session and of its certificate, whoever judges the pages.
+/// Returns the verdict on the texts of a session and of its certificate, whichever judges are used. Fails only if
+/// memory runs out.
 fn check_texts_by<J: EntryJudges>(
     judges: &J,
     alloc: Global,
@@ -111,15 +113,15 @@ fn check_texts_by<J: EntryJudges>(
     check_read_by(judges, alloc, &session, &cert)
 }
 
-/// The verdict on the texts of a session and of its certificate: the first that applies, of all that [`Verdict`] has.
+/// Returns the verdict on the texts of a session and of its certificate: the first that applies of all in [`Verdict`].
 ///
-/// On `Yes` the first text spells exactly one session. There is a merging of its logs, and in every merging each read or
+/// On `Yes`, the first text spells exactly one session. Its logs have a merging, and in every merging, each read or
 /// write after handover finds its page resident, each read gives what one machine that never moved gives, each page is
-/// placed at most once, and over no later read, write or release, and a released page is never sent and comes back as
-/// zeros.
+/// placed at most once, and before any read, write or release of it at the target, and a released page is never sent
+/// and comes back as zeros.
 ///
-/// The pages are judged by threads side by side, and the call waits for these alone. Nothing is assumed of who wrote the
-/// texts. The only error is want of memory, which may come before a text is judged.
+/// Threads side by side judge the pages, and the call waits only for them. Nothing is assumed about who wrote the
+/// texts. Fails only if memory runs out, which may happen before a text is judged.
 pub fn check_texts<R: Threads + Sync>(
     rt: &R,
     alloc: Global,
@@ -140,7 +142,8 @@ pub fn check_texts<R: Threads + Sync>(
     check_texts_by(&InThreads { rt }, alloc, session, cert)
 }
 
-/// The verdict that [`check_texts`] answers, by the calling thread alone, which waits for nobody.
+/// Returns the verdict that [`check_texts`] returns. The calling thread judges alone, and waits for nobody. Fails only
+/// if memory runs out.
 pub fn check_texts_alone(alloc: Global, session: &[u8], cert: &[u8]) -> Result<Verdict, AllocError>
     ensures verdict { IfOk result (IsTextVerdict session.now cert.now) }
     ensures one_session { result ≡ Ok Verdict.Yes → SpellsOneSession session.now }

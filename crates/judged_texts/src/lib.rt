@@ -1,5 +1,6 @@
-//! Judging at the edge: the verdict on the texts of a session and its certificate, the audit of a session's text, and what
-//! becomes of a session along runs. A line stands in these alone; below them a record is known by its log and its place.
+//! Judging texts: the verdict on the texts of a session and its certificate, the audit of a session's text, and the
+//! replay of a session along runs. Only here are there line numbers; in the crates below, a record is known by its log
+//! and its place.
 #![tactic(auto)]
 
 mod auditing;

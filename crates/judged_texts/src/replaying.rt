@@ -1,4 +1,4 @@
-//! What becomes of a merging of a session along its runs.
+//! The replay of a session along the runs of a merging.
 
 ghost use Rattle.std.specs.Prelude.{ℕ, List, IfOk};
 ghost use Rattle.text_lines.specs.Answer.{IsRead};
@@ -14,16 +14,16 @@ use migration_types::{Run, Seq, Session, line_of};
 use session_log::read_session;
 use std::alloc::{AllocError, Global};
 
-/// What becomes of a replay: the first that applies.
+/// The result of a replay: the first that applies.
 #[derive(Clone, Copy)]
 pub enum Outcome {
     /// The session's text is refused at this line.
     SessionText(u32),
     /// The text of the order is refused at this line.
     RunsText(u32),
-    /// The session has not the right shape.
+    /// The session does not have the right shape.
     Shape(ShapeFault),
-    /// The runs spell no merging.
+    /// The runs do not spell a merging.
     NoMerging,
     /// The record at this line of the session's text is the first whose demand fails.
     Broken(u32),
@@ -31,7 +31,7 @@ pub enum Outcome {
     Safe,
 }
 
-/// What becomes of the replay of a session of the right shape along runs.
+/// Returns the result of replaying a session of the right shape along runs.
 fn along_runs(alloc: Global, session: &Session, runs: &[Run]) -> Result<Outcome, AllocError>
     requires { IsRightShape session.now }
     ensures { IfOk result (IsReplayed session.now runs.now) }
@@ -46,7 +46,7 @@ fn along_runs(alloc: Global, session: &Session, runs: &[Run]) -> Result<Outcome,
     }
 }
 
-/// What becomes of the replay of a session along runs, once the runs were read: the shape comes first.
+/// Returns the result of replaying a session along runs that were read. The shape is checked first.
 fn shaped(alloc: Global, session: &Session, runs: &[Run]) -> Result<Outcome, AllocError>
     ensures { IfOk result (IsReplayed session.now runs.now) }
 {
@@ -56,7 +56,7 @@ fn shaped(alloc: Global, session: &Session, runs: &[Run]) -> Result<Outcome, All
     }
 }
 
-/// What becomes of the replay of a session along runs, by what was read of their text.
+/// Returns the result of replaying a session along runs, given what was read from their text.
 fn along_read(
     alloc: Global,
     session: &Session,
@@ -70,7 +70,8 @@ fn along_read(
     }
 }
 
-/// What becomes of the replay of a session along runs, by what was read of their texts. The only error is want of memory.
+/// Returns the result of replaying a session along runs, given what was read from their texts. Fails only if memory
+/// runs out.
 pub fn find_outcome(
     alloc: Global,
     session: &Result<Session, u32>,
@@ -84,7 +85,7 @@ pub fn find_outcome(
     }
 }
 
-/// What becomes of the replay of a session along the order that a text tells.
+/// Returns the result of replaying a session along the order that a text gives.
 fn along_text(alloc: Global, session: &Session, runs: &[u8]) -> Result<Outcome, AllocError>
     ensures { IfOk result (IsAlong session.now runs.now) }
 {
@@ -94,15 +95,16 @@ fn along_text(alloc: Global, session: &Session, runs: &[u8]) -> Result<Outcome, 
     }
 }
 
-/// What becomes of the replay of a session along runs, by their texts: the first that applies, of all that [`Outcome`] has.
+/// Returns the result of replaying a session along an order, given their texts: the first that applies of all in
+/// [`Outcome`].
 ///
-/// The second text tells an order: a text of runs, a certificate, or a report of an audit that has one of these.
+/// The second text gives an order: a text of runs, a certificate, or a report of an audit that contains one of these.
 ///
-/// On `Safe` it tells a merging of the session that the first text spells, and in it the demand of each record holds. Nothing
-/// is said of the session's other mergings.
+/// On `Safe`, it gives a merging of the session that the first text spells, and in it the demand of each record holds.
+/// This says nothing about the session's other mergings.
 ///
-/// The calling thread replays alone, and waits for nobody. Nothing is assumed of who wrote the texts. The only error is want
-/// of memory, which may come before a text is judged.
+/// The calling thread replays alone, and waits for nobody. Nothing is assumed about who wrote the texts. Fails only if
+/// memory runs out, which may happen before a text is judged.
 pub fn replay_texts(alloc: Global, session: &[u8], runs: &[u8]) -> Result<Outcome, AllocError>
     ensures { IfOk result (IsOutcome session.now runs.now) }
 {

@@ -1,4 +1,4 @@
-//! The text that goes with the audit of a session's text.
+//! The text that is written for the audit of a session's text.
 
 ghost use Rattle.std.specs.Prelude.{◌≡◌, IfOk};
 ghost use Rattle.audit_report.specs.Reports.{ReportFits};
@@ -10,18 +10,19 @@ use audit_report::{Report, print_first_line, print_refused_session, print_report
 use cert_text::write_cert;
 use std::alloc::{AllocError, Global};
 
-/// What of an audit is told.
+/// The part of an audit that is wanted.
 #[derive(Clone, Copy)]
 pub enum Wanted {
     /// The report.
     Report,
-    /// The certificate of a clean session, and of another the first line of the report.
+    /// The certificate of a clean session, and for any other session the first line of the report.
     Certificate,
     /// The first line of the report.
     FirstLine,
 }
 
-/// The certificate of a clean session, and of another the first line of the report.
+/// Returns the certificate of a clean session, and for any other session the first line of the report. Fails only if
+/// memory runs out.
 fn certificate(alloc: Global, report: &Report) -> Result<Vec<u8>, AllocError>
     ensures { IfOk result (λ text. text.items ≡ certificate_text report.now) }
 {
@@ -33,7 +34,7 @@ fn certificate(alloc: Global, report: &Report) -> Result<Vec<u8>, AllocError>
     }
 }
 
-/// What is wanted of a report. Each line ends with LF. An error: there is no memory for it.
+/// Returns the wanted part of a report. Each line ends with LF. Fails only if memory runs out.
 pub fn print_wanted(alloc: Global, report: &Report, wanted: Wanted) -> Result<Vec<u8>, AllocError>
     requires { ReportFits report.now }
     ensures { IfOk result (λ text. text.items ≡ wanted_text wanted report.now) }
@@ -45,8 +46,8 @@ pub fn print_wanted(alloc: Global, report: &Report, wanted: Wanted) -> Result<Ve
     }
 }
 
-/// What is wanted of the audit of a text, or the line at which the text is refused. Each line ends with LF. An error:
-/// there is no memory for it.
+/// Returns the wanted part of the audit of a text, or the line that says where the text is refused. Each line ends with
+/// LF. Fails only if memory runs out.
 pub fn print_audited(
     alloc: Global,
     audited: &Audited,

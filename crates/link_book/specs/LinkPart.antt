@@ -1,4 +1,4 @@
--- The links' book, and its part of each event.
+-- The book of the link and of the lane, and its part of each event.
 use Rattle.std.specs.Prelude.{ℕ, List, [], ◌∷◌, ◌++◌, length, Bool, Option, Some, None, if◌then◌else◌}
 use Rattle.migration_types.specs.declared.records.LinkRec.{LinkRec}
 use Rattle.migration_types.specs.declared.records.LinkRec.TheVariants.{Down, Up}
@@ -12,7 +12,7 @@ use Rattle.migration_events.specs.declared.events.Direction.TheVariants.{Down as
 use Rattle.page_stream.specs.declared.Packet.{Packet}
 use Rattle.page_stream.specs.Packets.{number_of, is_of_source, is_of_pager}
 
--- the logs of the link and of the lane, the packets under way each way, and those that have arrived
+-- the logs of the link and of the lane, the packets under way on each channel, and those that have arrived
 pub record LinkPart : Type 0 where
   pub log : List LinkRec
   pub lane_log : List LaneRec
@@ -27,7 +27,7 @@ pub record LinkPart : Type 0 where
 abbrev pub new_link : LinkPart
 new_link = record { log = []; lane_log = []; down = []; up = []; lane = []; down_arrivals = []; up_arrivals = []; lane_arrivals = [] }
 
--- a packet is offered behind the others of its line, or before them
+-- a packet is offered after the others of its line, or before them
 abbrev pub with_back : Packet → LinkPart → LinkPart
 with_back packet b = record b { down = b.down ++ packet ∷ [] }
 
@@ -40,12 +40,12 @@ with_up packet b = record b { up = b.up ++ packet ∷ [] }
 abbrev pub with_lane : Packet → LinkPart → LinkPart
 with_lane packet b = record b { lane = b.lane ++ packet ∷ [] }
 
--- the same, if there is a packet
+-- the packet is offered, if there is one
 abbrev pub if_packet : (Packet → LinkPart → LinkPart) → Option Packet → LinkPart → LinkPart
 if_packet offer None b = b
 if_packet offer (Some packet) b = offer packet b
 
--- what pushed pages are offered on: the lane, where there is one, or else the link
+-- the line that pushed pages are offered on: the lane's if there is one, and otherwise the link's
 abbrev pub pushed_line : Bool → LinkPart → List Packet
 pushed_line has_lane b = if has_lane then b.lane else b.down
 
@@ -57,7 +57,7 @@ pub record Channel : Type 0 where
   pub line : List Packet
   pub arrivals : List Arrival
 
--- what a turn makes of a channel, and the number of the packet that arrives, if one does
+-- the channel after a turn, and the number of the packet that arrives, if one does
 pub record Outcome : Type 0 where
   pub channel : Channel
   pub came : Option ℕ
@@ -66,7 +66,7 @@ pub record Outcome : Type 0 where
 abbrev pub arrived : ℕ → Packet → Channel → Channel
 arrived number packet channel = record channel { arrivals = channel.arrivals ++ (record { number = number; packet = packet }) ∷ [] }
 
--- it is put behind the others of the line
+-- a packet goes to the end of the line
 abbrev pub behind : Packet → Channel → Channel
 behind packet channel = record channel { line = channel.line ++ packet ∷ [] }
 
@@ -76,25 +76,25 @@ fate_of Lose number packet channel = record { channel = channel; came = None }
 fate_of Repeat number packet channel = record { channel = behind packet (arrived number packet channel); came = Some (number_of packet) }
 fate_of Back number packet channel = record { channel = behind packet channel; came = None }
 
--- which packets go by a channel
+-- which packets a channel carries
 abbrev pub goes : Direction → Packet → Bool
 goes Downward = is_of_source
 goes Upward = is_of_pager
 goes OverLane = is_of_source
 
--- a turn of a line: its head is taken; one that does not go this way is dropped
+-- a turn of a line takes its head; a packet that does not go this way is dropped
 abbrev pub channel_turned : (Packet → Bool) → Fate → ℕ → List Packet → List Arrival → Outcome
 channel_turned is_right fate number [] arrivals = record { channel = record { line = []; arrivals = arrivals }; came = None }
 channel_turned is_right fate number (packet ∷ rest) arrivals =
     if is_right packet then fate_of fate number packet (record { line = rest; arrivals = arrivals })
     else record { channel = record { line = rest; arrivals = arrivals }; came = None }
 
--- the log says of the packet with this number that it has arrived
+-- the log records that the packet with this number has arrived
 abbrev pub with_arrival : {R : Type 0} → (ℕ → R) → Option ℕ → List R → List R
 with_arrival names None log = log
 with_arrival names (Some number) log = log ++ names number ∷ []
 
--- the record of a packet that went this way, by its number
+-- the record of the arrival of the packet with this number, in this direction
 abbrev pub link_says : Direction → ℕ → LinkRec
 link_says Downward = Down
 link_says Upward = Up
@@ -117,7 +117,7 @@ turned Downward fate b = went_down (channel_turned (goes Downward) fate (length 
 turned Upward fate b = went_up (channel_turned (goes Upward) fate (length b.log) b.up b.up_arrivals) b
 turned OverLane fate b = went_over_lane (channel_turned (goes OverLane) fate (length b.lane_log) b.lane b.lane_arrivals) b
 
--- the packets under way in a direction, and the length of the log that says of them that they have arrived
+-- the packets under way in a direction, and the length of the log that records their arrival
 abbrev pub line_of : Direction → LinkPart → List Packet
 line_of Downward b = b.down
 line_of Upward b = b.up
@@ -128,7 +128,7 @@ log_length Downward b = length b.log
 log_length Upward b = length b.log
 log_length OverLane b = length b.lane_log
 
--- how many records a turn appends, by the packets under way in its direction
+-- how many records a turn appends, given the packets under way in its direction
 abbrev pub fate_records : Fate → ℕ
 fate_records Deliver = 1
 fate_records Lose = 0

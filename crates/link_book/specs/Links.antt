@@ -1,4 +1,4 @@
--- What the links' book keeps, beside its part of each event.
+-- The invariant of the links' book.
 use Rattle.std.specs.Prelude.{◌≡◌, ℕ, ◌≤◌, ◌==◌, Bool, ◌&&◌, List, Some, length, slice_get}
 use Rattle.std.specs.List.{AllByRecursion}
 use Rattle.migration_types.specs.Limits.{most_records}
@@ -9,7 +9,7 @@ use Rattle.page_stream.specs.Packets.{number_of}
 use Rattle.link_book.specs.declared.Arrival.{Arrival}
 use Rattle.link_book.specs.LinkPart.{LinkPart, Channel, Outcome, with_arrival}
 
--- the links' part, and whether room was made that no offer has used
+-- the links' part, and whether there is room that no offer has used
 pub record Linked : Type 0 where
   pub part : LinkPart
   pub has_room : Bool
@@ -20,12 +20,12 @@ arrival number packet = record { number = number; packet = packet }
 abbrev pub channel : List Packet → List Arrival → Channel
 channel line arrivals = record { line = line; arrivals = arrivals }
 
--- a channel is what a turn has made of it, and its log says of a packet that came that it has arrived
+-- a channel after a turn; if a packet was delivered, its log records that
 pub record HasTurned {R : Type 0} (names : ℕ → R) (o : Outcome) (before log : List R) (line : List Packet) (arrivals : List Arrival) : Type 0 where
   pub channel_is : channel line arrivals ≡ o.channel
   pub log_is : log ≡ with_arrival names o.came before
 
--- the arrival's number is that of the record that its packet came
+-- an arrival has the number of the record of its packet
 abbrev pub IsRecorded : {R : Type 0} → (ℕ → R) → List R → Arrival → Type 0
 IsRecorded names log a = slice_get log a.number ≡ Some (names (number_of a.packet))
 

@@ -8,7 +8,7 @@ use crate::Arrival;
 use page_stream::Packet;
 use std::collections::VecDeque;
 
-/// The oldest.
+/// Returns the oldest arrival.
 pub fn oldest(arrivals: &VecDeque<Arrival>) -> Option<(u32, &Packet)>
     ensures { option_map (λ a. arrival a.0 a.1.now) result ≡ slice_get arrivals.now.items 0 }
 {
@@ -18,7 +18,7 @@ pub fn oldest(arrivals: &VecDeque<Arrival>) -> Option<(u32, &Packet)>
     Some((arrival.number, &arrival.packet))
 }
 
-/// Takes the oldest out.
+/// Removes and returns the oldest arrival.
 pub fn take(arrivals: &mut VecDeque<Arrival>) -> Option<(u32, Packet)>
     ensures oldest { option_map (λ a. arrival a.0 a.1) result ≡ slice_get arrivals.old.items 0 }
     ensures rest { arrivals.new.items ≡ drop 1 arrivals.old.items }

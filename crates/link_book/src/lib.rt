@@ -1,4 +1,4 @@
-//! The lines of packets under way, those that have arrived, and the logs of the link and of the lane.
+//! The book of the link and of the lane: the packets under way, those that have arrived, and the two logs.
 #![tactic(auto)]
 
 ghost use Rattle.std.specs.Prelude.{◌≡◌, ◌==◌, ◌&&◌, ◌<◌, ◌≤◌, [], true, false, None, length, slice_get, drop, if◌then◌else◌, IfSome, IsTrue, OnOk, OnErr, IsErrOf};
@@ -17,8 +17,8 @@ use std::collections::VecDeque;
 use std::marker::Model;
 use turns::{records_of_turn, turn_line};
 
-/// A packet that has arrived, with the number of the record that says so, of the lane's log where it came over the lane
-/// and else of the link's.
+/// A packet that has arrived, with the number of the record that says so. The record is in the lane's log if the packet
+/// came over the lane, and otherwise in the link's.
 #[derive(Drop)]
 pub struct Arrival {
     pub number: u32,
@@ -33,7 +33,7 @@ struct Channel {
 }
 
 impl Channel {
-    /// Nothing was sent.
+    /// Returns a channel with nothing sent.
     fn new(alloc: Global) -> Channel
         ensures line { result.line.items ≡ [] }
         ensures arrivals { result.arrivals.items ≡ [] }
@@ -44,7 +44,7 @@ impl Channel {
         }
     }
 
-    /// Whether nothing is under way, and no arrival waits.
+    /// Returns whether nothing is under way, and no arrival waits.
     fn is_quiet(&self) -> bool
         ensures { result ≡ (length self.now.line.items == 0) && (length self.now.arrivals.items == 0) }
     {
@@ -52,11 +52,11 @@ impl Channel {
     }
 }
 
-/// The book of the link, which carries packets down and up, and of the lane, a second link down: for each channel a line of
-/// packets under way, oldest first, and those that have arrived, oldest first; and for the link and for the lane a log
-/// of arrivals, of at most 1,048,576 records each. The number of each arrival is that of the record that it came. An
-/// offer needs room that was made for it before, and uses it up. Contracts see the lists, and whether there is such
-/// room.
+/// The book of the link, which carries packets down and up, and of the lane, a second link down. For each channel, it
+/// has a line of packets under way, oldest first, and a queue of those that have arrived, oldest first. The link and
+/// the lane each have a log of arrivals, of at most 1,048,576 records. An arrival has the number of its record in the
+/// log. An offer needs room that was made for it before, and uses it up. Contracts see the lists, and whether there is
+/// such room.
 #[derive(Drop)]
 pub struct LinkBook {
     alloc: Global,
@@ -65,7 +65,7 @@ pub struct LinkBook {
     down: Channel,
     up: Channel,
     lane: Channel,
-    /// Whether each line has a place to spare, which no offer has used.
+    /// Whether each line has a spare place, which no offer has used.
     has_room: bool,
 }
 
@@ -86,7 +86,7 @@ impl LinkBook {
     ghost use Rattle.link_book.specs.LinkPart.{new_link, with_back, with_front, with_up, with_lane, line_of, log_length, turned};
     ghost use Rattle.link_book.specs.Links.{IsLink, arrival, is_quiet};
 
-    /// Nothing was sent, and no room was made. Takes no memory.
+    /// Returns a book with nothing sent, and no room made. Allocates no memory.
     pub fn new(alloc: Global) -> LinkBook
         ensures { result ≡ record { part = new_link; has_room = false } }
     {
@@ -101,7 +101,7 @@ impl LinkBook {
         }
     }
 
-    /// Makes room for one offer. On an error nothing changes.
+    /// Makes room for one offer. Fails only if memory runs out, and then nothing changes.
     pub fn room(&mut self) -> Result<(), AllocError>
         ensures ok { OnOk result (self.new ≡ record self.old { has_room = true }) }
         ensures err { OnErr result (self.new ≡ self.old) }
@@ -113,8 +113,8 @@ impl LinkBook {
         Ok(())
     }
 
-    /// Puts a packet before the others that are under way down, or behind them. The room is used up; all else stays.
-    /// Takes no memory.
+    /// Puts a packet before or after the others that are under way down. This uses up the room; all else stays.
+    /// Allocates no memory.
     pub fn offer_down(&mut self, packet: Packet, front: bool)
         requires { IsTrue self.old.has_room }
         ensures { self.new ≡ record { part = if front then with_front packet self.old.part else with_back packet self.old.part; has_room = false } }
@@ -127,7 +127,8 @@ impl LinkBook {
         self.has_room = false;
     }
 
-    /// Puts a packet behind the others that are under way up. The room is used up; all else stays. Takes no memory.
+    /// Puts a packet after the others that are under way up. This uses up the room; all else stays. Allocates no
+    /// memory.
     pub fn offer_up(&mut self, packet: Packet)
         requires { IsTrue self.old.has_room }
         ensures { self.new ≡ record { part = with_up packet self.old.part; has_room = false } }
@@ -136,8 +137,8 @@ impl LinkBook {
         self.has_room = false;
     }
 
-    /// Puts a packet behind the others that are under way over the lane. The room is used up; all else stays. Takes no
-    /// memory.
+    /// Puts a packet after the others that are under way over the lane. This uses up the room; all else stays.
+    /// Allocates no memory.
     pub fn offer_lane(&mut self, packet: Packet)
         requires { IsTrue self.old.has_room }
         ensures { self.new ≡ record { part = with_lane packet self.old.part; has_room = false } }
@@ -146,10 +147,10 @@ impl LinkBook {
         self.has_room = false;
     }
 
-    /// The packet at the head of a line meets its fate; one that does not go this way is dropped, and where the line is
-    /// empty nothing changes. Room that was made stays. `LogFull` where it arrives and the log of its link has
-    /// 1,048,576 records, which is looked at before memory is asked for, so that `Memory` comes only where the log has
-    /// room. On an error nothing changes.
+    /// Gives the packet at the head of a line its delivery outcome. A packet that does not go this way is dropped, and
+    /// if the line is empty, nothing changes. Room that was made stays. Returns `LogFull` if the packet is delivered
+    /// and the log of its link has 1,048,576 records. This is checked before memory is allocated, so `Memory` comes
+    /// only if the log has room. On an error, nothing changes.
     pub fn turn(&mut self, direction: Direction, fate: Fate) -> Result<(), LinkFault>
         ensures ok { OnOk result (self.new ≡ record self.old { part = turned direction fate self.old.part }) }
         ensures full { IsErrOf result LinkFault.LogFull → most_records < log_length direction (turned direction fate self.old.part) }
@@ -166,7 +167,7 @@ impl LinkBook {
         }
     }
 
-    /// Whether the log of the link that is turned has room for what a turn appends. Takes no memory.
+    /// Returns whether the log of the link has room for what the turn appends. Allocates no memory.
     pub fn look_to_turn(&self, direction: Direction, fate: Fate) -> Result<(), LinkFault>
         ensures room { OnOk result (log_length direction (turned direction fate self.now.part) ≤ most_records) }
         ensures full { OnErr result (most_records < log_length direction (turned direction fate self.now.part)) }
@@ -188,7 +189,7 @@ impl LinkBook {
         }
     }
 
-    /// The packet at the head of a line, whose turn is next. `None`: none is under way there.
+    /// Returns the packet at the head of a line, whose turn is next, or `None` if none is under way there.
     pub fn head(&self, direction: Direction) -> Option<&Packet>
         ensures { option_map (λ p. p.now) result ≡ slice_get (line_of direction self.now.part) 0 }
     {
@@ -199,7 +200,7 @@ impl LinkBook {
         }
     }
 
-    /// The oldest arrival at the target, with the number of the link's record. `None`: there is none.
+    /// Returns the oldest arrival at the target, with the number of the link's record, or `None` if there is none.
     #[tactic(auto, using(crate::proofs::Links::oldest_within))]
     pub fn peek_down(&self) -> Option<(u32, &Packet)>
         ensures oldest { option_map (λ a. arrival a.0 a.1.now) result ≡ slice_get self.now.part.down_arrivals 0 }
@@ -208,7 +209,7 @@ impl LinkBook {
         arrivals::oldest(&self.down.arrivals)
     }
 
-    /// The oldest arrival at the source, with the number of the link's record. `None`: there is none.
+    /// Returns the oldest arrival at the source, with the number of the link's record, or `None` if there is none.
     #[tactic(auto, using(crate::proofs::Links::oldest_within))]
     pub fn peek_up(&self) -> Option<(u32, &Packet)>
         ensures oldest { option_map (λ a. arrival a.0 a.1.now) result ≡ slice_get self.now.part.up_arrivals 0 }
@@ -217,7 +218,7 @@ impl LinkBook {
         arrivals::oldest(&self.up.arrivals)
     }
 
-    /// The oldest arrival over the lane, with the number of the lane's record. `None`: there is none.
+    /// Returns the oldest arrival over the lane, with the number of the lane's record, or `None` if there is none.
     #[tactic(auto, using(crate::proofs::Links::oldest_within))]
     pub fn peek_lane(&self) -> Option<(u32, &Packet)>
         ensures oldest { option_map (λ a. arrival a.0 a.1.now) result ≡ slice_get self.now.part.lane_arrivals 0 }
@@ -226,7 +227,8 @@ impl LinkBook {
         arrivals::oldest(&self.lane.arrivals)
     }
 
-    /// Takes out the oldest arrival at the target. `None`: there is none, and nothing changes. Takes no memory.
+    /// Removes and returns the oldest arrival at the target. Returns `None` if there is none, and then nothing changes.
+    /// Allocates no memory.
     pub fn pop_down(&mut self) -> Option<(u32, Packet)>
         ensures oldest { option_map (λ a. arrival a.0 a.1) result ≡ slice_get self.old.part.down_arrivals 0 }
         ensures rest { self.new ≡ record self.old { part = record self.old.part { down_arrivals = drop 1 self.old.part.down_arrivals } } }
@@ -234,7 +236,8 @@ impl LinkBook {
         arrivals::take(&mut self.down.arrivals)
     }
 
-    /// Takes out the oldest arrival at the source. `None`: there is none, and nothing changes. Takes no memory.
+    /// Removes and returns the oldest arrival at the source. Returns `None` if there is none, and then nothing changes.
+    /// Allocates no memory.
     pub fn pop_up(&mut self) -> Option<(u32, Packet)>
         ensures oldest { option_map (λ a. arrival a.0 a.1) result ≡ slice_get self.old.part.up_arrivals 0 }
         ensures rest { self.new ≡ record self.old { part = record self.old.part { up_arrivals = drop 1 self.old.part.up_arrivals } } }
@@ -242,7 +245,8 @@ impl LinkBook {
         arrivals::take(&mut self.up.arrivals)
     }
 
-    /// Takes out the oldest arrival over the lane. `None`: there is none, and nothing changes. Takes no memory.
+    /// Removes and returns the oldest arrival over the lane. Returns `None` if there is none, and then nothing changes.
+    /// Allocates no memory.
     pub fn pop_lane(&mut self) -> Option<(u32, Packet)>
         ensures oldest { option_map (λ a. arrival a.0 a.1) result ≡ slice_get self.old.part.lane_arrivals 0 }
         ensures rest { self.new ≡ record self.old { part = record self.old.part { lane_arrivals = drop 1 self.old.part.lane_arrivals } } }
@@ -250,42 +254,42 @@ impl LinkBook {
         arrivals::take(&mut self.lane.arrivals)
     }
 
-    /// How many packets are under way down.
+    /// Returns how many packets are under way down.
     pub fn down_len(&self) -> usize
         ensures { result ≡ length self.now.part.down }
     {
         self.down.line.len()
     }
 
-    /// How many packets are under way over the lane. Takes no memory.
+    /// Returns how many packets are under way over the lane. Allocates no memory.
     pub fn lane_len(&self) -> usize
         ensures { result ≡ length self.now.part.lane }
     {
         self.lane.line.len()
     }
 
-    /// Whether nothing is under way and no arrival waits, over the lane neither.
+    /// Returns whether nothing is under way and no arrival waits, on the link and on the lane.
     pub fn quiet(&self) -> bool
         ensures { result ≡ is_quiet self.now.part }
     {
         self.down.is_quiet() && self.up.is_quiet() && self.lane.is_quiet()
     }
 
-    /// The link's log.
+    /// Returns the link's log.
     pub fn link_log(&self) -> &[LinkRec]
         ensures { result.now ≡ self.now.part.log }
     {
         self.log.as_slice()
     }
 
-    /// The lane's log.
+    /// Returns the lane's log.
     pub fn lane_log(&self) -> &[LaneRec]
         ensures { result.now ≡ self.now.part.lane_log }
     {
         self.lane_log.as_slice()
     }
 
-    /// Gives up the link's log and the lane's.
+    /// Returns the link's log and the lane's, and consumes the book.
     pub fn into_logs(self) -> (Vec<LinkRec>, Vec<LaneRec>)
         ensures link { result.0.items ≡ self.part.log }
         ensures lane { result.1.items ≡ self.part.lane_log }
@@ -293,8 +297,8 @@ impl LinkBook {
         (self.log, self.lane_log)
     }
 
-    /// Tells callers that each log has at most 1,048,576 records, and that each arrival's number is that of the record
-    /// that it came.
+    /// States that each log has at most 1,048,576 records, and that each arrival has the number of its record. Runs
+    /// nothing.
     pub fn keeps_limits(&self)
         ensures { IsLink self.now.part }
     {

@@ -1,4 +1,4 @@
-//! A turn of one line.
+//! One turn of a line.
 
 ghost use Rattle.std.specs.Prelude.{◌≡◌, ◌<◌, ◌≤◌, ℕ, [], ◌∷◌, ◌++◌, true, length, is_some, IfOk, OnOk, OnErr, IsErrOf, vec_len, vec_capacity};
 ghost use Rattle.std.specs.VecDeque.{deque_len, deque_capacity};
@@ -15,12 +15,12 @@ use page_stream::Packet;
 use std::alloc::Global;
 use std::collections::VecDeque;
 
-/// A record that says of a packet that it has arrived.
+/// A record of the arrival of a packet.
 pub trait Receipt {
-    /// The record of a packet that went this way, by the packet's number.
+    /// The record of the arrival of a packet in this direction, by the packet's number.
     ghost says: { Way → ℕ → Self };
 
-    /// The record of a packet that went this way, by the packet's number.
+    /// Returns the record of the arrival of a packet in this direction, by the packet's number.
     fn of(direction: Direction, number: u32) -> Self
         ensures { result ≡ says direction number };
 }
@@ -48,8 +48,8 @@ impl Receipt for LaneRec {
     }
 }
 
-/// The head of a channel's line meets its fate. Where it arrives, the log says so. On an error nothing changes. A place to
-/// spare in the line stays.
+/// Gives the head of a channel's line its delivery outcome. If the packet is delivered, the log records it. On an
+/// error, nothing changes. A spare place in the line stays.
 pub fn turn_line<R: Receipt>(
     alloc: Global,
     log: &mut Vec<R>,
@@ -73,8 +73,8 @@ pub fn turn_line<R: Receipt>(
     Ok(())
 }
 
-/// The head of a line meets its fate. Where it arrives, its number is answered, and the log, which does not change, has
-/// a place for the record of it. On an error nothing changes. A place to spare in the line stays.
+/// Gives the head of a line its delivery outcome. If the packet is delivered, returns its number; the log, which does
+/// not change, has a place for its record. On an error, nothing changes. A spare place in the line stays.
 fn meet_fate<R>(
     alloc: Global,
     log: &mut Vec<R>,
@@ -133,7 +133,7 @@ fn meet_fate<R>(
     }
 }
 
-/// How many records a turn of a line appends.
+/// Returns how many records a turn of a line appends.
 pub fn records_of_turn(line: &VecDeque<Packet>, direction: Direction, fate: Fate) -> usize
     ensures few { result ≤ 1 }
     ensures count { result ≡ turn_records direction fate line.now.items }
@@ -161,7 +161,7 @@ fn make_places<R>(log: &mut Vec<R>, arrivals: &mut VecDeque<Arrival>) -> Result<
     arrivals.reserve(1).map_err(|_| LinkFault::Memory)
 }
 
-/// A packet arrives, of which the record with this number is to say so. Its own number is answered.
+/// Delivers a packet, which the record with this number will record. Returns the packet's own number.
 fn arrive(place: usize, arrivals: &mut VecDeque<Arrival>, packet: Packet) -> u32
     requires arrivals { deque_len arrivals.old < deque_capacity arrivals.old }
     requires short { place < most_records }
@@ -176,7 +176,7 @@ fn arrive(place: usize, arrivals: &mut VecDeque<Arrival>, packet: Packet) -> u32
     came
 }
 
-/// Whether a packet goes this way.
+/// Returns whether a packet goes this way.
 fn belongs(direction: Direction, packet: &Packet) -> bool
     ensures { result ≡ goes direction packet.now }
 {

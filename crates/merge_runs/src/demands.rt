@@ -15,7 +15,7 @@ use audit_model::Home;
 use migration_types::{GuestRec, PageNo, PagerRec, SourceRec};
 use page_store::Store;
 
-/// Whether a read or a write finds its page.
+/// Returns whether a read or a write finds its page.
 fn finds(moving: &Moving, page: PageNo) -> bool
     requires { HasPage moving.now page }
     ensures { result ≡ finds moving.now.home (values moving.now.target.resident page) }
@@ -27,7 +27,7 @@ fn finds(moving: &Moving, page: PageNo) -> bool
     }
 }
 
-/// The value of a cell where the guest is, or at the target while it is nowhere.
+/// Returns the value of a cell where the guest is, or at the target while it is nowhere.
 fn value_here(moving: &Moving, page: PageNo, cell: u16) -> u64
     requires page { HasPage moving.now page }
     requires cell { HasCell moving.now cell }
@@ -40,7 +40,7 @@ fn value_here(moving: &Moving, page: PageNo, cell: u16) -> u64
     }
 }
 
-/// Whether the guest has left the source.
+/// Returns whether the guest has left the source.
 fn has_left(home: Home) -> bool
     ensures { result ≡ has_left home }
 {
@@ -51,7 +51,7 @@ fn has_left(home: Home) -> bool
     }
 }
 
-/// Whether a page was neither placed at the target nor used there.
+/// Returns whether a page was neither placed at the target nor used there.
 fn is_open(moving: &Moving, page: PageNo) -> bool
     requires { HasPage moving.now page }
     ensures { result ≡ is_open (world_of moving.now) page }
@@ -59,7 +59,7 @@ fn is_open(moving: &Moving, page: PageNo) -> bool
     !moving.target.placed.at(page) && !moving.target.touched.at(page)
 }
 
-/// The value of a cell on the machine that never moved.
+/// Returns the value of a cell on the machine that never moved.
 fn value_unmoved(moving: &Moving, unmoved: &Option<Store>, page: PageNo, cell: u16) -> u64
     requires page { page < (frames_of unmoved.now moving.now.source.frames).geometry.pages }
     requires cell { cell < (frames_of unmoved.now moving.now.source.frames).geometry.cells }
@@ -68,8 +68,8 @@ fn value_unmoved(moving: &Moving, unmoved: &Option<Store>, page: PageNo, cell: u
     frames_of(unmoved, &moving.source.frames).read(page, cell)
 }
 
-/// Whether the demand of a record of the guest is met: a read finds its page, and its value both where the guest is and
-/// on the machine that never moved, and a write finds its page.
+/// Returns whether the demand of a record of the guest is met: a read finds its page, and its value is that of the
+/// memory where the guest is and that of the machine that never moved; a write finds its page.
 pub(crate) fn guest_met(moving: &Moving, unmoved: &Option<Store>, rec: &GuestRec) -> bool
     requires moving { GuestHas moving.now rec.now }
     requires unmoved { GuestRecFits (frames_of unmoved.now moving.now.source.frames).geometry rec.now }
@@ -91,8 +91,8 @@ pub(crate) fn guest_met(moving: &Moving, unmoved: &Option<Store>, rec: &GuestRec
     }
 }
 
-/// Whether the demand of a record of the source is met: what is sent is a page that the source owes, as it is there
-/// once the guest has left.
+/// Returns whether the demand of a record of the source is met: it sends a page that the source owes, with the contents
+/// there, after the guest has left.
 pub(crate) fn source_met(moving: &Moving, rec: &SourceRec) -> bool
     requires { SourceHas moving.now rec.now }
     ensures { result ≡ source_met moving.now.source.frames.geometry.cells rec.now (world_of moving.now) }
@@ -107,8 +107,8 @@ pub(crate) fn source_met(moving: &Moving, rec: &SourceRec) -> bool
     }
 }
 
-/// Whether the demand of a record of the pager is met: a page is placed once, before the guest uses it, as it is at the
-/// source, or as zeros where it is released there.
+/// Returns whether the demand of a record of the pager is met: it places a page once, before the guest uses it, with
+/// the source's contents, or as zeros if the page is released there.
 pub(crate) fn pager_met(moving: &Moving, rec: &PagerRec) -> bool
     requires { PagerHas moving.now rec.now }
     ensures { result ≡ pager_met moving.now.source.frames.geometry.cells rec.now (world_of moving.now) }

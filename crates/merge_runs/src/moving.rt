@@ -23,7 +23,8 @@ impl Moving {
     ghost use Rattle.audit_model.specs.World.{start, read_at, write_at, release_at, guest_step, pager_step};
     ghost use Rattle.merge_runs.specs.inner.Moving.{world_of, frames_at, IsSized, HasPage, HasCell, GuestHas, PagerHas, IsMoved};
 
-    /// The guest at the source with its initial memory, and nothing at the target.
+    /// Returns the state at the start: the guest at the source with its initial memory, and nothing at the target.
+    /// Fails only if memory runs out.
     pub(crate) fn start(alloc: Global, session: &Session) -> Result<Moving, AllocError>
         ensures sized { IfOk result (λ m. IsSized session.now.geometry m) }
         ensures world { IfOk result (λ m. world_of m ≡ start session.now) }
@@ -74,7 +75,7 @@ impl Moving {
         }
     }
 
-    /// Does a record of the guest.
+    /// Carries out a record of the guest.
     pub(crate) fn step_guest(&mut self, rec: &GuestRec)
         requires { GuestHas self.old rec.now }
         ensures { IsMoved self.old self.new (guest_step rec.now (world_of self.old)) }
@@ -94,7 +95,7 @@ impl Moving {
         }
     }
 
-    /// Does a record of the pager.
+    /// Carries out a record of the pager.
     pub(crate) fn step_pager(&mut self, rec: &PagerRec)
         requires { PagerHas self.old rec.now }
         ensures { IsMoved self.old self.new (pager_step rec.now (world_of self.old)) }
@@ -106,7 +107,7 @@ impl Moving {
         }
     }
 
-    /// The frames where the guest is, or the source's while it is nowhere.
+    /// Returns the frames where the guest is, or the source's while it is nowhere.
     pub(crate) fn into_frames(self) -> Store
         ensures { result ≡ frames_at self.home self }
     {

@@ -1,4 +1,4 @@
-//! The replay of a merging: the machines as its records leave them, one after the other.
+//! The replay of a merging: its records change the machines one after the other.
 
 ghost use Rattle.std.specs.Prelude.{◌≡◌, ◌+◌, ◌<◌, ◌≤◌, [], IfOk, OnOk, MatchResult};
 ghost use Rattle.migration_types.specs.Sessions.{IsSession, GuestRecFits};
@@ -19,7 +19,7 @@ use migration_types::{GuestRec, LogName, PagerRec, Run, Session, SourceRec};
 use page_store::Store;
 use std::alloc::{AllocError, Global};
 
-/// What the replay keeps.
+/// The state of a replay.
 #[derive(Drop)]
 pub(crate) struct Replaying {
     pub moving: Moving,
@@ -28,7 +28,7 @@ pub(crate) struct Replaying {
     pub first_broken: Option<(LogName, u32)>,
 }
 
-/// Before the first record.
+/// Returns the state before the first record. Fails only if memory runs out.
 fn start(alloc: Global, session: &Session) -> Result<Replaying, AllocError>
     ensures sized { IfOk result (λ r. AreSized session.now.geometry r) }
     ensures start { IfOk result (λ r. IsReplaying session.now [] r) }
@@ -50,7 +50,7 @@ fn note(met: bool, first_broken: &mut Option<(LogName, u32)>, log: LogName, n: u
     }
 }
 
-/// Judges and does a record of the guest.
+/// Judges a record of the guest, and carries it out.
 fn step_guest(
     alloc: Global,
     replaying: &mut Replaying,
@@ -82,7 +82,7 @@ fn step_source(replaying: &mut Replaying, rec: &SourceRec, n: u32)
     note(met, &mut replaying.first_broken, LogName::Source, n);
 }
 
-/// Judges and does a record of the pager.
+/// Judges a record of the pager, and carries it out.
 fn step_pager(replaying: &mut Replaying, rec: &PagerRec, n: u32)
     requires { PagerHas replaying.old.moving rec.now }
     ensures { IsPagerStep rec.now n replaying.old replaying.new }
@@ -174,9 +174,9 @@ fn replayed(alloc: Global, session: &Session, runs: &[Run]) -> Result<Replay, Al
     })
 }
 
-/// Replays the merging that runs spell: tells its first record whose demand fails, and the guest's memory after all
-/// records. Takes one pass over the runs and the records, and memory for the frames of both machines, for those of one
-/// that never moved once the guest leaves the source, and for four marks a page.
+/// Replays the merging that the runs spell. Returns its first record whose demand fails, and the guest's memory after
+/// all records. Makes one pass over the runs and the records, and allocates memory for the frames of both machines, for
+/// those of one that never moved once the guest leaves the source, and for four marks for each page.
 pub fn replay(alloc: Global, session: &Session, runs: &[Run]) -> Result<Replay, MergeFault>
     ensures { MatchResult result (IsReplay session.now (spelled runs.now)) (IsMergeFault session.now (spelled runs.now)) }
 {

@@ -25,7 +25,7 @@ pub(crate) struct Target {
 impl Target {
     ghost use Rattle.merge_runs.specs.inner.Targets.{HasPage, IsBegun, IsFreed, IsPlaced, IsTouched};
 
-    /// The machine before the first record: zeros, and no page resident, placed or touched.
+    /// Returns the machine before the first record: zeros, and no page resident, placed or touched.
     pub(crate) fn start(alloc: Global, geometry: Geometry) -> Result<Target, AllocError>
         ensures { IfOk result (IsBegun geometry) }
     {
@@ -49,7 +49,7 @@ impl Target {
         self.touched.set(page, true);
     }
 
-    /// Writes a cell of a page. One that is not resident does not change.
+    /// Writes a cell of a page. A page that is not resident does not change.
     pub(crate) fn write(&mut self, page: PageNo, cell: u16, value: u64)
         requires page { HasPage self.old page }
         requires cell { cell < self.old.frames.geometry.cells }
@@ -99,7 +99,7 @@ impl Target {
     }
 }
 
-/// Gives a cell a value where the test is true.
+/// Writes a value to a cell if the test is true.
 fn write_if(test: bool, frames: &mut Store, page: PageNo, cell: u16, value: u64)
     requires page { page < frames.old.geometry.pages }
     requires cell { cell < frames.old.geometry.cells }

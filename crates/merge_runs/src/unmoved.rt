@@ -1,5 +1,5 @@
-//! The machine that never moved, beside the one that moves: it has the source's frames as long as the guest is there, and
-//! a copy of them from then on.
+//! The machine that never moved, beside the one that moves. It shares the source's frames as long as the guest is
+//! there, and then has a copy of them.
 
 ghost use Rattle.std.specs.Prelude.{◌≡◌, ◌||◌, IfOk, OnOk};
 ghost use Rattle.migration_types.specs.Sessions.{GuestRecFits};
@@ -13,7 +13,7 @@ use migration_types::{GuestRec, PageNo};
 use page_store::Store;
 use std::alloc::{AllocError, Global};
 
-/// Its frames, which are the source's where it has none of its own.
+/// Returns its frames, which are the source's if it has none of its own.
 pub(crate) fn frames_of<'a>(own: &'a Option<Store>, source: &'a Store) -> &'a Store
     ensures { result.now ≡ frames_of own.now source.now }
 {
@@ -23,7 +23,7 @@ pub(crate) fn frames_of<'a>(own: &'a Option<Store>, source: &'a Store) -> &'a St
     }
 }
 
-/// The same frames once more.
+/// Returns a copy of these frames. Fails only if memory runs out.
 fn copy_of(alloc: Global, frames: &Store) -> Result<Store, AllocError>
     ensures { IfOk result (IsSameMachine frames.now) }
 {
@@ -37,7 +37,7 @@ fn copy_of(alloc: Global, frames: &Store) -> Result<Store, AllocError>
     Ok(copy)
 }
 
-/// Does a record of the guest on frames that never move.
+/// Carries out a record of the guest on frames that never move.
 fn step_frames(frames: &mut Store, rec: &GuestRec)
     requires { GuestRecFits frames.old.geometry rec.now }
     ensures { IsWith frames.old frames.new (memory_after rec.now (memory_of frames.old)) }
@@ -54,15 +54,15 @@ fn step_frames(frames: &mut Store, rec: &GuestRec)
     }
 }
 
-/// Whether the guest leaves the source by this record, if it was there.
+/// Returns whether the guest leaves the source by this record, if it was there.
 fn leaves(rec: &GuestRec) -> bool
     ensures { result ≡ (is_halt rec.now || is_resume rec.now) }
 {
     is_halt(rec) || is_resume(rec)
 }
 
-/// Does a record of the guest on the machine that never moved. While it has no frames of its own, the source does the
-/// record, or the guest leaves it there. An error: there is no memory for the copy.
+/// Carries out a record of the guest on the machine that never moved. While this has no frames of its own, the source
+/// carries out the record, or the guest leaves the source by it. Fails only if memory runs out.
 pub(crate) fn step_unmoved(
     alloc: Global,
     own: &mut Option<Store>,

@@ -1,4 +1,4 @@
--- What a virtual processor does.
+-- Operations of virtual processors.
 use Rattle.std.specs.Prelude.{ℕ, ◌<◌, ◌^◌}
 use Rattle.migration_types.specs.declared.version.Version.{Version}
 use Rattle.migration_types.specs.declared.version.Version.TheVariants.{One, Two}
@@ -24,14 +24,13 @@ abbrev pub MayReleaseLate : Version → Type 0
 MayReleaseLate One = ⊥
 MayReleaseLate Two = Unit {0}
 
--- an operation after a move: the machine has the page and the cell, and a page is released there in the second version
--- alone
+-- an operation after a move: the machine has the page and the cell, and only in the second version may it be a release
 abbrev pub LateOpFits : Version → Extent → Op → Type 0
 LateOpFits version e (Read page cell) = OpFits e (Read page cell)
 LateOpFits version e (Write page cell value) = OpFits e (Write page cell value)
 LateOpFits version e (Release page) = MayReleaseLate version × OpFits e (Release page)
 
--- the answer to an operation, over the memory before it: the value read, the value written, or 0
+-- the answer to an operation on this memory: the value read, the value written, or 0
 abbrev pub answer_of : Op → Memory → ℕ
 answer_of (Read page cell) memory = memory page cell
 answer_of (Write page cell value) memory = value

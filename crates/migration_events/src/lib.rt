@@ -1,4 +1,5 @@
-//! What happens to a migration: what a guest's virtual processors do, and the events that the parties' books go through.
+//! The events of a migration: the operations of a guest's virtual processors, and the events that change the parties'
+//! books.
 #![tactic(auto)]
 
 mod events;

@@ -1,23 +1,23 @@
-//! What a virtual processor does.
+//! Operations of virtual processors.
 
 ghost use Rattle.std.specs.Prelude.{◌≡◌, ◌<◌, MatchBool};
 ghost use Rattle.migration_events.specs.Ops.{OpFits, page_in};
 
 use migration_types::{Geometry, PageNo};
 
-/// What a virtual processor does.
+/// An operation of a virtual processor.
 #[derive(Clone, Copy, Debug, PartialEq, Eq)]
 pub enum Op {
     /// Reads a cell.
     Read { page: PageNo, cell: u16 },
-    /// Writes a value into a cell.
+    /// Writes a value to a cell.
     Write { page: PageNo, cell: u16, value: u64 },
-    /// Releases a page, which from then on reads as zeros.
+    /// Releases a page, which reads as zeros from then on.
     Release { page: PageNo },
 }
 
 impl Op {
-    /// The page that it is on.
+    /// Returns the page that it is on.
     pub fn page(self) -> PageNo
         ensures { result ≡ page_in self }
     {
@@ -28,7 +28,7 @@ impl Op {
         }
     }
 
-    /// Whether a machine has its page and its cell.
+    /// Returns whether a machine has its page and its cell.
     pub fn fits(self, geometry: Geometry) -> bool
         ensures { MatchBool result (OpFits geometry self) (OpFits geometry self → ⊥) }
     {
@@ -44,7 +44,7 @@ impl Op {
     }
 }
 
-/// Whether a machine has a cell.
+/// Returns whether a machine has a cell.
 fn has_cell(geometry: Geometry, page: PageNo, cell: u16) -> bool
     ensures { MatchBool result ((page < geometry.pages) × (cell < geometry.cells)) ((page < geometry.pages) × (cell < geometry.cells) → ⊥) }
 {

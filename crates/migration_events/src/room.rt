@@ -6,7 +6,7 @@ ghost use Rattle.migration_types.specs.Limits.{most_records};
 use crate::faults::EventFault;
 use migration_types::MOST_RECORDS;
 
-/// Whether the log may have so many records more, which is looked at before memory is asked for.
+/// Returns whether the log has room for this many more records. This is checked before memory is allocated.
 pub fn look_for_room<R>(log: &Vec<R>, more: usize) -> Result<(), EventFault>
     requires { more ≤ 2 }
     ensures room { OnOk result (length log.now.items + more ≤ most_records) }
@@ -19,7 +19,7 @@ pub fn look_for_room<R>(log: &Vec<R>, more: usize) -> Result<(), EventFault>
     Ok(())
 }
 
-/// Makes room for so many records more. On an error the log has its records as before, as on success.
+/// Makes room for this many more records. The log keeps its records, on success and on an error.
 pub fn make_room<R>(log: &mut Vec<R>, more: usize) -> Result<(), EventFault>
     requires { more ≤ 2 }
     ensures items { log.new.items ≡ log.old.items }

@@ -19,13 +19,13 @@ use Rattle.migration_events.specs.Ops.{OpFits, LateOpFits}
 use Rattle.target_side.specs.TargetPart.{TargetPart}
 use Rattle.target_side.specs.PagerPart.{PagerPart}
 
--- what a virtual processor has left to do before its move, and after it
+-- what a virtual processor has left to do, before its move and after it
 pub record Vcpu : Type 0 where
   pub before_move : List Op
   pub after_move : List Op
 
--- the version, the machine, the pages that do not begin as zeros, how many pivots are kept at most, how many packets may be
--- under way where pages are pushed, whether there is a lane, on which they are pushed then, and the virtual processors
+-- The version, the machine, the pages that do not begin as zeros, the greatest number of pivots, the window of the
+-- channel of pushed pages, whether there is a lane, which is that channel then, and the virtual processors.
 pub record Scripted : Type 0 where
   pub version : Version
   pub geometry : Extent
@@ -39,7 +39,7 @@ pub record VcpuFits (version : Version) (e : Extent) (vcpu : Vcpu) : Type 0 wher
   pub before_move : AllByRecursion (OpFits e) vcpu.before_move
   pub after_move : AllByRecursion (LateOpFits version e) vcpu.after_move
 
--- what a script says is within all limits that the law needs: its machine is a small one
+-- what a script says is within all limits that the law needs; its machine is of the small size
 pub record IsScript (script : Scripted) : Type 0 where
   pub geometry : IsExtent script.geometry
   pub small : script.geometry.size ≡ Small
@@ -48,7 +48,7 @@ pub record IsScript (script : Scripted) : Type 0 where
   pub few_vcpus : length script.vcpus ≤ 64
   pub vcpus : AllByRecursion (VcpuFits script.version script.geometry) script.vcpus
 
--- before the halt there is the guest's book alone
+-- the books before the halt, which is only the guest's
 pub record BooksBefore : Type 0 where
   pub version : Version
   pub init : List InitPage
@@ -58,11 +58,11 @@ pub record BooksBefore : Type 0 where
   pub vcpus : List Vcpu
   pub guest : GuestPart
 
--- those of a script, with what its virtual processors have left to do
+-- the books of a script, with what its virtual processors have left to do
 abbrev pub books_before : Scripted → List Vcpu → GuestPart → BooksBefore
 books_before script vcpus guest = record { version = script.version; init = script.init; pivots = script.pivots; window = script.window; has_lane = script.has_lane; vcpus = vcpus; guest = guest }
 
--- from the halt on
+-- the books from the halt on
 pub record BooksAfter : Type 0 where
   pub version : Version
   pub init : List InitPage
@@ -103,10 +103,10 @@ pub record Recording : Type 0 where
   pub books : Books
   pub order : List Name
 
--- the names of the records by which a log grew
+-- the names of the new records of a log
 abbrev pub grown : {A : Type 0} → LogName → List A → List A → List Name
 grown log old new = run_names log (length old) (length new - length old)
 
--- the names of the records by which a session grew: the guest's, the source's, the link's, the lane's and then the pager's
+-- the names of the new records of a session: the guest's, the source's, the link's, the lane's and then the pager's
 abbrev pub new_names : Recorded → Recorded → List Name
 new_names s t = grown Guest s.guest t.guest ++ grown Source s.source t.source ++ grown Link s.link t.link ++ grown Lane s.lane t.lane ++ grown Pager s.pager t.pager

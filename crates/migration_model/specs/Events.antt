@@ -1,4 +1,5 @@
--- The events: each is composed of its books' parts, and its records' names are appended to the recorded order.
+-- The events. Each is composed of the parts of its books, and the names of its records are appended to the recorded
+-- order.
 use Rattle.std.specs.Prelude.{ℕ, Bool, true, false, ◌&&◌, nat_lt, nat_le, List, [], ◌∷◌, ◌++◌, length, Option, Some, None, slice_get, slice_set, if◌then◌else◌}
 use Rattle.std.specs.List.{list_all}
 use Rattle.migration_types.specs.Receipts.{Name}
@@ -30,7 +31,7 @@ abbrev pub home_step : ℕ → Option Vcpu → BooksBefore → BooksBefore
 home_step v None h = h
 home_step v (Some vcpu) h = home_ops v vcpu vcpu.before_move h
 
--- GuestStep from the halt on: an operation that is done is behind its virtual processor
+-- GuestStep from the halt on: a virtual processor whose operation is carried out goes on to the next
 abbrev pub after_access : Access → ℕ → Vcpu → List Op → List Vcpu → List Vcpu
 after_access (Done answer) v vcpu ops vcpus = slice_set vcpus v (record vcpu { after_move = ops })
 after_access Missed v vcpu ops vcpus = vcpus
@@ -70,11 +71,11 @@ halted h =
       target = halted_target h.guest.log;
     }
 
--- what the source's call leaves, its packet offered
+-- the books after a call of the source, with its packet offered
 abbrev pub offered : (Packet → LinkPart → LinkPart) → Offer → BooksAfter → BooksAfter
 offered offer o a = record a { source = o.book; link = if_packet offer o.packet a.link }
 
--- Push: on the lane, where there is one, whose line the window then bounds
+-- Push: on the lane, if there is one; the window then bounds the lane's line
 abbrev pub pushed : BooksAfter → BooksAfter
 pushed a = if nat_lt (length (pushed_line a.has_lane a.link)) a.window then offered (with_pushed a.has_lane) (source_push a.source) a else a
 
@@ -90,7 +91,7 @@ abbrev pub pulled : List Arrival → BooksAfter → BooksAfter
 pulled [] a = a
 pulled (x ∷ rest) a = record a { link = record a.link { lane_arrivals = rest }; pager = pager_pull x.number x.packet a.pager }
 
--- what the pager's call leaves
+-- the books after a call of the pager
 abbrev pub paged : Paged → BooksAfter → BooksAfter
 paged r a = record a { pager = r.pager; target = r.target }
 
@@ -127,18 +128,18 @@ recorded old order new = record { books = new; order = order ++ new_names (sessi
 abbrev pub event : Event → Recording → Recording
 event e core = recorded core.books core.order (books_event e core.books)
 
--- no log has more records than a host's may
+-- no log has more records than a log of a host may have
 abbrev pub has_room : Recorded → Bool
 has_room s = nat_le (length s.guest) most_records && nat_le (length s.source) most_records && nat_le (length s.link) most_records && nat_le (length s.lane) most_records && nat_le (length s.pager) most_records
 
--- an event that needs more records than a log has room for is refused
+-- an event is refused if it needs more records than a log has room for
 abbrev pub if_room : Recording → Option Recording
 if_room core = if has_room (session_of core.books) then Some core else None
 
 abbrev pub step : Event → Recording → Option Recording
 step e core = if_room (event e core)
 
--- go on, if the event was not refused
+-- what follows, if the event was not refused
 abbrev pub if_taken : (Recording → Option Recording) → Option Recording → Option Recording
 if_taken go None = None
 if_taken go (Some next) = go next

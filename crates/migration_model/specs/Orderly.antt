@@ -1,10 +1,10 @@
--- What the calls on the books ask for, and a core that is reached always has.
+-- What the calls on the books require, which a reached core always has.
 use Rattle.std.specs.Prelude.{◌≡◌, Some, slice_get}
 use Rattle.link_book.specs.declared.Arrival.{Arrival}
 use Rattle.target_side.specs.PagerLists.{IsPacketOf}
 use Rattle.migration_model.specs.Books.{BooksAfter, Books, Before, After}
 
--- from the halt on: what the pager takes next, from the link and from the lane, is a packet of its machine
+-- from the halt on, the packets that the pager takes next, from the link and from the lane, are packets of its machine
 pub record IsOrderly (a : BooksAfter) : Type 0 where
   pub arrival : (x : Arrival) → slice_get a.link.down_arrivals 0 ≡ Some x → IsPacketOf a.pager.geometry x.packet
   pub over_lane : (x : Arrival) → slice_get a.link.lane_arrivals 0 ≡ Some x → IsPacketOf a.pager.geometry x.packet

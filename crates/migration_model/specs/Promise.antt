@@ -1,4 +1,4 @@
--- What is promised of a recording.
+-- What is promised about a recording.
 use Rattle.std.specs.Prelude.{◌≡◌, ℕ, ◌<◌, true, false, List, Some, slice_get}
 use Rattle.migration_types.specs.declared.records.SourceRec.TheVariants.{Done}
 use Rattle.migration_types.specs.Receipts.{Name}
@@ -15,7 +15,7 @@ use Rattle.migration_events.specs.declared.events.Event.{Event}
 abbrev pub HasEachOwed : Recorded → List Name → Type 0
 HasEachOwed s order = (page : ℕ) → page < s.geometry.pages → in_ledger s (at_halt s) page ≡ false → (world_after s order).resident page ≡ true
 
--- what was recorded, and the order in which it was
+-- what was recorded, and its recorded order
 pub record IsFaultlessSession (s : Recorded) (order : List Name) : Type 0 where
   pub faultless : IsFaultless s
   pub merging : IsMerging s order
@@ -25,14 +25,14 @@ pub record IsFaultlessSession (s : Recorded) (order : List Name) : Type 0 where
 abbrev pub IsFaultlessRecording : Recording → Type 0
 IsFaultlessRecording core = IsFaultlessSession (session_of core.books) core.order
 
--- a core that events lead to, none of them refused, from a script's start
+-- a core that some events reach from a script's start, none of them refused
 pub record IsReached (core : Recording) : Type 0 where
   pub script : Scripted
   pub fits : IsScript script
   pub events : List Event
   pub runs : run events (start script) ≡ Some core
 
--- a core that is reached, whose source was told that all is there
+-- a reached core whose source was told that all pages are placed
 pub record SomeRunIsDone : Type 0 where
   pub core : Recording
   pub is_reached : IsReached core

@@ -1,4 +1,4 @@
--- Worked runs: which events of a script record what, in which order, and what one book makes of a list of calls.
+-- Worked runs: what the events of a script record, in which order, and what a list of calls changes in one book.
 use Rattle.std.specs.Prelude.{◌≡◌, ℕ, Bool, true, false, List, [], ◌∷◌, length, ◌<◌, Option, Some, None}
 use Rattle.migration_types.specs.declared.size.Size.TheVariants.{Small}
 use Rattle.migration_types.specs.Extents.{Extent}
@@ -62,11 +62,11 @@ session_worked w = record { version = w.script.version; geometry = w.script.geom
 abbrev pub ComesOut : Worked → Type 0
 ComesOut w = Records w.script w.events (session_worked w) w.order
 
--- a small machine of so many pages of one cell
+-- a small machine of this many pages of one cell
 abbrev pub small_machine : ℕ → Extent
 small_machine pages = record { size = Small; pages = pages; cells = 1 }
 
--- a script with so many pages of one cell and one pivot
+-- a script with this many pages of one cell and one pivot
 abbrev pub small_script : Version → ℕ → List InitPage → ℕ → Bool → List Vcpu → Scripted
 small_script version pages init window has_lane vcpus = record { version = version; geometry = small_machine pages; init = init; pivots = 1; window = window; has_lane = has_lane; vcpus = vcpus }
 
@@ -74,11 +74,11 @@ small_script version pages init window has_lane vcpus = record { version = versi
 abbrev pub holding : ℕ → ℕ → InitPage
 holding page value = record { page = page; cells = value ∷ [] }
 
--- a virtual processor that does this before its move, and this after it
+-- a virtual processor with these operations before its move, and these after it
 abbrev pub doing : List Op → List Op → Vcpu
 doing before after = record { before_move = before; after_move = after }
 
--- Two virtual processors miss the same page; the page is lost on its way and sent again.
+-- Two virtual processors miss the same page. The page is lost on its way and sent again.
 abbrev pub run_of_two : Worked
 run_of_two = record {
   script = small_script One 2 (holding 1 7 ∷ []) 4 false (doing [] (ReadCell 1 0 ∷ []) ∷ doing [] (ReadCell 1 0 ∷ []) ∷ []);
@@ -174,16 +174,16 @@ called Pushes b = source_push b
 called (Serves up packet) b = source_serve up packet b
 called Ticks b = source_tick b
 
--- the packets that calls offer, in turn, and the log that they leave
+-- the packets that these calls offer, in turn, and the log that they leave
 abbrev pub offers : List Call → SourcePart → List (Option Packet) × List SourceRec
 offers [] b = ([], b.log)
 offers (call ∷ calls) b = ((called call b).packet ∷ (offers calls (called call b).book).0, (offers calls (called call b).book).1)
 
--- a source of two pages of one cell, of which the second holds 7, at the halt
+-- the source's book at the halt, of a machine of two pages of one cell, of which the second holds 7
 abbrev pub small_source : SourcePart
 small_source = halted_source (small_machine 2) (initial (record { page = 1; cells = 7 ∷ [] } ∷ [])) no_page 1 0
 
--- a page is pushed; the other is wanted twice; then the source is told that all is there
+-- A page is pushed. The other is wanted twice. Then the source is told that all pages are placed.
 abbrev pub source_calls : List Call
 source_calls = Pushes ∷ Serves 3 (WantPacket 3 1) ∷ Serves 4 (WantPacket 5 1) ∷ Serves 5 (AllPacket 9) ∷ Pushes ∷ Ticks ∷ []
 
@@ -208,7 +208,7 @@ core_with log = record {
   order = [];
 }
 
--- a read is refused where the log has no room for a record, and only there; an event that appends nothing never is
+-- a read is refused exactly if the log has no room for a record; an event that appends nothing is never refused
 pub record IsRefusedWhenFull : Type 0 where
   pub refused : (log : List GuestRec) → length log ≡ most_records → step (GuestStep 0) (core_with log) ≡ None
   pub taken : (log : List GuestRec) → length log < most_records → (core : Recording) × (step (GuestStep 0) (core_with log) ≡ Some core)

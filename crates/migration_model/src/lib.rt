@@ -1,4 +1,4 @@
-//! The events of a migration on all books, and the law on what they record.
+//! The events of a migration on all books, and the law about what they record.
 #![tactic(auto)]
 
 ghost use Rattle.std.specs.Prelude.{◌≡◌, ℕ, ◌<◌, true, List, [], ◌∷◌, Some, take};
@@ -11,16 +11,17 @@ ghost use Rattle.migration_model.specs.Promise.{IsFaultlessRecording, IsReached,
 
 use migration_events::Event;
 
-/// Whatever a script says and whatever events come: where each event had room in the logs, what was recorded is a
-/// session in its limits, of the right shape and with no fault of a page, its recorded order is a merging, so it is
-/// safe; and where the source was told that all is there, each owed page is resident at the end of the order.
+/// A law, for every script and all events: if each event had room in the logs, what was recorded is a session within
+/// its limits, of the right shape and with no fault of a page, and its recorded order is a merging, so the session is
+/// safe. If the source was told that all pages are placed, each owed page is resident at the end of the order. Runs
+/// nothing.
 pub fn recordings_are_faultless()
     ensures faultless { (script : Scripted) (events : List Event) (core : Recording) → IsScript script → run events (start script) ≡ Some core → IsFaultlessRecording core }
 {}
 
-/// A core is reached at a script's start, and after each event that is not refused; and what a reached core has
-/// recorded is faultless. So a type that keeps that its value is reached keeps that its recording is faultless. What the
-/// calls on the books ask for, it has too.
+/// A law: a core is reached at a script's start, and after each event that is not refused; and what a reached core has
+/// recorded is faultless. So a type whose invariant is that its value is reached has the invariant that its recording
+/// is faultless. A reached core also meets what the calls on the books require. Runs nothing.
 pub fn reached_cores_are_faultless()
     ensures start { (script : Scripted) → IsScript script → IsReached (start script) }
     ensures step { (e : Event) (core next : Recording) → IsReached core → step e core ≡ Some next → IsReached next }
@@ -28,13 +29,14 @@ pub fn reached_cores_are_faultless()
     ensures orderly { (core : Recording) → IsReached core → AreOrderly core.books }
 {}
 
-/// There is a script with events that the law speaks of, and in which all comes to its end.
+/// A law: there is a script with events that the law speaks about, and whose run comes to its end. Runs nothing.
 pub fn premises_can_be_met()
     ensures { SomeRunIsDone }
 {}
 
-/// Worked runs: what scripts with their events record, and in which order, and whom the last delivery of the first
-/// wakes; what a source offers and records; and that a record for which there is no room is refused, and none but such.
+/// A law about worked runs: what some scripts with their events record, in which order, and whom the last delivery of
+/// the first wakes; what a source offers and records; and that an event is refused exactly when there is no room for
+/// its record. Runs nothing.
 pub fn worked_runs_come_out_so()
     ensures runs { AllByRecursion ComesOut worked_runs }
     ensures woken { woken_next (run (take 17 run_of_two.events) (start run_of_two.script)) ≡ 0 ∷ 1 ∷ [] }

@@ -12,7 +12,8 @@ use Rattle.migration_types.specs.declared.size.Size.{Size}
 use Rattle.migration_types.specs.Limits.{HasSize, limits, most_pages, most_runs}
 use Rattle.migration_types.specs.Sessions.{IsNumber, HasLog}
 
--- what a certificate says, in which version, and within the limits of which size: an entry for each page, and the runs of a merging
+-- What a certificate says, in its version and within the limits of its size: an entry for each page, and the runs of a
+-- merging.
 pub record Certified : Type 0 where
   pub version : Version
   pub size : Size
@@ -31,17 +32,17 @@ EntryFits Two size (Fresh first) = IsNumber size first
 EntryFits version size (Source send place first) = IsNumber size send × IsNumber size place × FirstFits size first
 EntryFits version size (Balloon place first) = IsNumber size place × FirstFits size first
 
--- the logs of which a version has runs
+-- the logs that runs of a version may have
 abbrev pub LogFits : Version → LogName → Type 0
 LogFits version log = HasLog version log
 
--- a run takes some records, and no more than a log has
+-- a run has at least one record, and at most as many as a log may have
 pub record RunFits (version : Version) (size : Size) (run : Run) : Type 0 where
   pub log : LogFits version run.log
   pub some : 1 ≤ run.count
   pub few : run.count ≤ (limits size).records
 
--- runs that stand next to each other are of different logs
+-- consecutive runs are of different logs
 abbrev pub Alternate : List Run → Type 0
 Alternate runs = (k : ℕ) (d : Run) → k + 1 < length runs → (slice_index_or runs k d).log ≢ (slice_index_or runs (k + 1) d).log
 
@@ -51,7 +52,7 @@ pub record AreRuns (version : Version) (size : Size) (runs : List Run) : Type 0 
   pub each : AllByRecursion (RunFits version size) runs
   pub alternate : Alternate runs
 
--- what a certificate says is of a size that its version has, and within all limits
+-- a certificate's size is one that its version has, and it is within all limits
 pub record IsCert (c : Certified) : Type 0 where
   pub size : HasSize c.version c.size
   pub some_pages : 1 ≤ length c.entries

@@ -6,7 +6,7 @@ use Rattle.migration_types.specs.Limits.{limits, most_pages, most_cells, most_ce
 use Rattle.migration_types.specs.declared.geometry.GeometryFault.{GeometryFault}
 use Rattle.migration_types.specs.declared.geometry.GeometryFault.TheVariants.{Pages, Cells, TooMany}
 
--- which limits there are, how many pages, and how many cells each has
+-- a machine's size, how many pages it has, and how many cells each page has
 pub record Extent : Type 0 where
   pub size : Size
   pub pages : ℕ
@@ -17,7 +17,7 @@ pub record IsWithin (l : Limits) (e : Extent) : Type 0 where
   pub pages : e.pages ≤ l.pages
   pub cells : e.pages * e.cells ≤ l.cells
 
--- a machine is within the limits of its size, which are within the greatest
+-- a machine is within the limits of its size, and these are within the greatest limits
 pub record IsExtent (e : Extent) : Type 0 where
   pub some_pages : 1 ≤ e.pages
   pub few_pages : e.pages ≤ most_pages

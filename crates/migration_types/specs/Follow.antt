@@ -12,22 +12,22 @@ use Rattle.migration_types.specs.Receipts.{Name, log_index}
 use Rattle.migration_types.specs.Sessions.{IsNumber, HasLane}
 use Rattle.migration_types.specs.Rows.{Consists, field_name}
 
--- the name, if it is of another log than this one, and otherwise the next
+-- the name if it is of another log than this one, and otherwise the next name
 abbrev pub of_another : LogName → Option Name → Option Name → Option Name
 of_another own None next = next
 of_another own (Some (log, n)) next = if log_index log == log_index own then next else Some (log, n)
 
--- the first record of another log than this one that fields name
+-- the first record of another log than this one that the fields name
 abbrev pub receipt_among : LogName → List Field → Option Name
 receipt_among own [] = None
 receipt_among own (f ∷ fields) = of_another own (field_name f) (receipt_among own fields)
 
--- what a record of this log is a receipt for, if there is one
+-- the record that a record of this log is a receipt for, if there is one
 abbrev pub receipt_by : LogName → Option Consists → Option Name
 receipt_by own None = None
 receipt_by own (Some row) = receipt_among own row.fields
 
--- what is said of a log's records holds, and the version has this log
+-- what is said about a log's records holds, and the version has this log
 abbrev pub WithLog : Version → LogName → Type 0 → Type 0
 WithLog version log.Lane Says = HasLane version × Says
 WithLog version log.Guest Says = Says
@@ -47,7 +47,7 @@ abbrev pub ContentFits : Extent → Option (List ℕ) → Type 0
 ContentFits e None = Unit {0}
 ContentFits e (Some cells) = IsContent e.cells cells
 
--- each field is within the limits, and so are the contents behind them
+-- each field is within the limits, and so are the contents after them
 abbrev pub FieldsFit : Version → Extent → List Field → Option (List ℕ) → Type 0
 FieldsFit version e [] contents = ContentFits e contents
 FieldsFit version e (f ∷ []) None = FieldFits version e f

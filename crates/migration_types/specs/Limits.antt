@@ -7,19 +7,19 @@ use Rattle.migration_types.specs.declared.size.Size.{Size}
 use Rattle.migration_types.specs.declared.size.Size.TheVariants.{Small, Large}
 use Rattle.migration_types.specs.declared.size.Limits.{Limits}
 
--- A machine has 1 to so many pages, and at most so many cells in all. A log has at most so many records, and a record's
--- number is below this one.
+-- The limits of a size: how many pages a machine may have, how many cells in all its pages, and how many records a log
+-- may have. A record's number is below the last.
 abbrev pub limits : Size → Limits
 limits Small = record { pages = 65536; cells = 1048576; records = 1048576 }
 limits Large = record { pages = 16777216; cells = 16777216; records = 134217728 }
 
--- only what is recorded in the second version may be of the large size
+-- only recordings of the second version may be of the large size
 abbrev pub HasSize : Version → Size → Type 0
 HasSize version Small = Unit {0}
 HasSize One Large = ⊥
 HasSize Two Large = Unit {0}
 
--- the greatest of the limits, of all sizes
+-- the greatest of the limits, over all sizes
 abbrev pub most_pages : ℕ
 most_pages = 16777216
 
@@ -29,7 +29,7 @@ most_cells_in_all = 16777216
 abbrev pub longest_log : ℕ
 longest_log = 134217728
 
--- no size has a greater one
+-- no size has a greater limit
 pub record AreAtMost (l : Limits) : Type 0 where
   pub few_pages : l.pages ≤ most_pages
   pub few_cells : l.cells ≤ most_cells_in_all
@@ -39,20 +39,20 @@ pub limits_at_most : (size : Size) → AreAtMost (limits size)
 limits_at_most Small = record { few_pages = omega arith; few_cells = omega arith; few_records = omega arith }
 limits_at_most Large = record { few_pages = omega arith; few_cells = omega arith; few_records = omega arith }
 
--- a page has 1 to so many cells
+-- the greatest number of cells in a page; the least is 1
 abbrev pub most_cells : ℕ
 most_cells = 512
 
--- virtual processors have the numbers below this one
+-- the number of virtual processors that there may be
 abbrev pub vcpus : ℕ
 vcpus = 64
 
--- no log of a host has more records
+-- the greatest number of records in a log of a host
 abbrev pub most_records : ℕ
 most_records = 1048576
 
--- A certificate has at most so many runs: one for each record that four logs may have in the first version, and five in
--- the second.
+-- The greatest number of runs in a certificate: one for each record that four logs may have in the first version, and
+-- five in the second.
 abbrev pub most_runs : Version → Size → ℕ
 most_runs One size = 4 * (limits size).records
 most_runs Two size = 5 * (limits size).records

@@ -2,22 +2,22 @@
 use Rattle.std.specs.Prelude.{ℕ, ◌==◌, Bool, true, false, not, count_by, if◌then◌else◌}
 use Rattle.std.specs.List.{range_with_len}
 
--- whether a page is in the set
+-- a set of pages: whether each page is in it
 abbrev pub Pages : Type 0
 Pages = ℕ → Bool
 
 abbrev pub no_page : Pages
 no_page page = false
 
--- the set with one page more
+-- the set with this page added
 abbrev pub with_page : ℕ → Pages → Pages
 with_page added set page = if added == page then true else set page
 
--- the set with one page less
+-- the set with this page removed
 abbrev pub without_page : ℕ → Pages → Pages
 without_page removed set page = if removed == page then false else set page
 
--- how many of the first pages are in the set
+-- how many pages below a number are in the set
 abbrev pub size_below : ℕ → Pages → ℕ
 size_below pages set = count_by set (range_with_len 0 pages)
 

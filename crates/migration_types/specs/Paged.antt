@@ -1,4 +1,4 @@
--- The page that a record is of.
+-- The page of a record.
 use Rattle.std.specs.Prelude.{◌≡◌, ℕ, ◌<◌, ◌==◌, Bool, false, List, Option, Some, None, slice_get}
 use Rattle.migration_types.specs.declared.pages.InitPage.{InitPage}
 use Rattle.migration_types.specs.declared.records.GuestRec.{GuestRec}
@@ -8,7 +8,7 @@ use Rattle.migration_types.specs.declared.records.SourceRec.TheVariants.{Send}
 use Rattle.migration_types.specs.declared.records.PagerRec.{PagerRec}
 use Rattle.migration_types.specs.declared.records.PagerRec.TheVariants.{Place, Zero}
 
--- a page that is given at the start
+-- the page of an initial page
 abbrev pub init_page : InitPage → Option ℕ
 init_page given = Some given.page
 
@@ -35,10 +35,10 @@ abbrev pub is_page : Option ℕ → ℕ → Bool
 is_page None page = false
 is_page (Some p) page = p == page
 
--- whether a record is of the page
+-- whether a record's page is this one
 abbrev pub of_page : {A : Type 0} → (A → Option ℕ) → ℕ → A → Bool
 of_page page_of page r = is_page (page_of r) page
 
--- the records are of pages below this many
+-- the records' pages are below this number
 pub record AreWithin {A : Type 0} (page_of : A → Option ℕ) (pages : ℕ) (log : List A) : Type 0 where
   pub each : (n p : ℕ) (r : A) → slice_get log n ≡ Some r → page_of r ≡ Some p → p < pages

@@ -17,7 +17,7 @@ use Rattle.migration_types.specs.declared.rows.Field.TheVariants.{Vcpu, Page, Ce
 use Rattle.migration_types.specs.Receipts.{Name}
 use Rattle.migration_types.specs.Sessions.{Recorded}
 
--- what a record consists of: its word, and what stands behind it; contents, which some have last, are apart
+-- What a record consists of: its word, and the fields after it. Contents, which some records have last, are kept apart.
 pub record Consists : Type 0 where
   pub word : List ℕ
   pub fields : List Field
@@ -25,7 +25,7 @@ pub record Consists : Type 0 where
 abbrev pub consists : List ℕ → List Field → Consists
 consists word fields = record { word = word; fields = fields }
 
--- a field's number, as lines have it
+-- a field's number, as it appears in lines
 abbrev pub field_number : Field → ℕ
 field_number (Vcpu n) = n
 field_number (Page n) = n
@@ -77,7 +77,7 @@ pager_row (pager.Zero page) = consists (codes "zero") (Page page ∷ [])
 pager_row (pager.Skip got) = consists (codes "skip") (Number log.Pager got ∷ [])
 pager_row pager.All = consists (codes "all") []
 
--- the contents that stand behind the row of a record, if it has contents
+-- the contents after the row of a record, if it has any
 abbrev pub source_contents : SourceRec → Option (List ℕ)
 source_contents (source.Send page contents) = Some contents
 source_contents _ = None
@@ -86,7 +86,7 @@ abbrev pub pager_contents : PagerRec → Option (List ℕ)
 pager_contents (pager.Place page got contents) = Some contents
 pager_contents _ = None
 
--- what the record of this name consists of
+-- what the record with this name consists of
 abbrev pub row_of : Recorded → Name → Option Consists
 row_of s (log.Guest, n) = option_map guest_row (slice_get s.guest n)
 row_of s (log.Source, n) = option_map source_row (slice_get s.source n)

@@ -25,7 +25,7 @@ use Rattle.migration_types.specs.Extents.{Extent, IsExtent}
 use Rattle.migration_types.specs.Pages.{AreInitPages}
 use Rattle.migration_types.specs.Receipts.{Name}
 
--- what was recorded, and in which version: the machine, the pages that do not begin as zeros, and the parties' logs
+-- What was recorded, and in which version: the machine, the pages that do not begin as zeros, and the parties' logs.
 pub record Recorded : Type 0 where
   pub version : Version
   pub geometry : Extent
@@ -36,7 +36,7 @@ pub record Recorded : Type 0 where
   pub lane : List LaneRec
   pub pager : List PagerRec
 
--- what was recorded, by its parts
+-- what was recorded, made of its parts
 abbrev pub recorded : Version → Extent → List InitPage → Logs → Recorded
 recorded version geometry init logs = record { version = version; geometry = geometry; init = init; guest = logs.guest; source = logs.source; link = logs.link; lane = logs.lane; pager = logs.pager }
 
@@ -44,7 +44,7 @@ recorded version geometry init logs = record { version = version; geometry = geo
 abbrev pub IsNumber : Size → ℕ → Type 0
 IsNumber size n = n < (limits size).records
 
--- the second version alone has a lane
+-- only the second version has a lane
 abbrev pub HasLane : Version → Type 0
 HasLane One = ⊥
 HasLane Two = Unit {0}
@@ -54,7 +54,7 @@ abbrev pub HasLog : Version → LogName → Type 0
 HasLog version Lane = HasLane version
 HasLog version _ = Unit {0}
 
--- the third version's texts alone, which are of the large size, tell that the source started its guest again
+-- Only texts of the third version, which are of the large size, may say that the source started its guest again.
 abbrev pub HasBack : Size → Type 0
 HasBack Small = ⊥
 HasBack Large = Unit {0}
@@ -64,7 +64,7 @@ abbrev pub HasSourceRec : Size → SourceRec → Type 0
 HasSourceRec size Back = HasBack size
 HasSourceRec size _ = Unit {0}
 
--- a record's numbers are those of a machine of this extent, and the numbers of records in it are below this one
+-- The page, cell and processor numbers of a record are within the machine, and its record numbers are below `past`.
 abbrev pub GuestRecIn : ℕ → Extent → GuestRec → Type 0
 GuestRecIn past e (Read vcpu page cell value) = (vcpu < vcpus) × (page < e.pages) × (cell < e.cells) × (value < 2 ^ 64)
 GuestRecIn past e (Write vcpu page cell value) = (vcpu < vcpus) × (page < e.pages) × (cell < e.cells) × (value < 2 ^ 64)
@@ -102,7 +102,7 @@ PagerRecIn past version e (Zero page) = page < e.pages
 PagerRecIn past version e (Skip got) = got < past
 PagerRecIn past version e All = Unit {0}
 
--- a record is within the limits of a machine's size
+-- a record is within the limits of the machine's size
 abbrev pub GuestRecFits : Extent → GuestRec → Type 0
 GuestRecFits e = GuestRecIn (limits e.size).records e
 
@@ -126,8 +126,8 @@ log_length s Link = length s.link
 log_length s Lane = length s.lane
 log_length s Pager = length s.pager
 
--- What was recorded is of a size that its version has, and within all limits, those of its size and the greatest; so in
--- the first version there is no record of the lane.
+-- What was recorded has a size that its version allows, and is within the limits of that size and within the greatest
+-- limits. In the first version, there are no records of the lane.
 pub record IsSession (s : Recorded) : Type 0 where
   pub size : HasSize s.version s.geometry.size
   pub geometry : IsExtent s.geometry
@@ -144,13 +144,14 @@ pub record IsSession (s : Recorded) : Type 0 where
   pub lane : AllByRecursion (LaneRecFits s.version s.geometry) s.lane
   pub pager : AllByRecursion (PagerRecFits s.version s.geometry) s.pager
 
--- how many lines the text of a session has for a lane of so many records, between the link's records and the pager's
+-- how many lines the text of a session has for a lane with this many records, between the link's records and the
+-- pager's
 abbrev pub lane_lines : Version → ℕ → ℕ
 lane_lines One count = 0
 lane_lines Two count = 1 + count
 
--- The line at which the text of a session has a record. Five lines and those of the initial pages stand before the
--- guest's records, and one line before each other log's; the first version has none of the lane.
+-- The line of a record in the text of a session. Before the guest's records there are five lines and the lines of the
+-- initial pages. Before each other log's records there is one line; the first version has none for the lane.
 abbrev pub line_of : Recorded → Name → ℕ
 line_of s (Guest, n) = 6 + length s.init + n
 line_of s (Source, n) = 7 + length s.init + length s.guest + n

@@ -10,7 +10,7 @@ use crate::size::Size;
 use crate::version::Version;
 use std::marker::Model;
 
-/// So many runs a certificate of a version and a size may have.
+/// Returns how many runs a certificate of this version and size may have.
 #[tactic(auto, using(crate::specs::Limits::limits_at_most))]
 pub fn most_runs(version: Version, size: Size) -> u32
     ensures { result ≡ most_runs version size }
@@ -22,47 +22,48 @@ pub fn most_runs(version: Version, size: Size) -> u32
     }
 }
 
-/// The next so many records of a log.
+/// The next `count` records of a log.
 #[derive(Clone, Copy, Debug, PartialEq, Eq)]
 pub struct Run {
     pub log: LogName,
     pub count: u32,
 }
 
-/// The first read, write or release of a page at the target, and the look at the page's placement that stands before it: the
-/// numbers of these two records of the guest.
+/// The first read, write or release of a page at the target, and the look that shows the page's placement before it.
+/// Both are numbers of records of the guest.
 #[derive(Clone, Copy, Debug, PartialEq, Eq)]
 pub struct First {
     pub access: u32,
     pub see: u32,
 }
 
-/// What a certificate says of a page.
+/// What a certificate says about a page.
 #[derive(Clone, Copy, Debug, PartialEq, Eq)]
 pub enum Entry {
-    /// It was not placed at the target, and not used there.
+    /// The page was neither placed nor used at the target.
     Nothing,
-    /// It was not placed at the target, and this record of the guest, its first use there, released it. In certificates
-    /// of the second version alone.
+    /// The page was not placed at the target, and this record of the guest, its first use there, released it. Only in
+    /// certificates of the second version.
     Fresh {
         first: u32,
     },
-    /// It was sent by this record of the source, and placed by this record of the pager.
+    /// The page was sent by this record of the source, and placed by this record of the pager.
     Source {
         send: u32,
         place: u32,
-        /// None where the page was not read, written or released at the target.
+        /// `None` if the page was not read, written or released at the target.
         first: Option<First>,
     },
-    /// It was released at the halt, and placed as zeros by this record of the pager.
+    /// The page was released at the halt, and placed as zeros by this record of the pager.
     Balloon {
         place: u32,
-        /// None where the page was not read, written or released at the target.
+        /// `None` if the page was not read, written or released at the target.
         first: Option<First>,
     },
 }
 
-/// A certificate of one of the versions, within all limits of its size: an entry for each page, and the runs of a merging.
+/// A certificate of one of the versions, within all limits of its size: an entry for each page, and the runs of one
+/// merging.
 #[derive(Drop)]
 pub struct Cert {
     version: Version,
@@ -82,7 +83,7 @@ impl Model for Cert {
 }
 
 impl Cert {
-    /// The certificate of these parts. Takes no memory.
+    /// Returns the certificate with these parts. Allocates no memory.
     pub fn new(version: Version, size: Size, entries: Seq<Entry>, runs: Seq<Run>) -> Self
         requires { IsCert (record { version = version; size = size; entries = entries; runs = runs }) }
         ensures { result ≡ record { version = version; size = size; entries = entries; runs = runs } }
@@ -95,35 +96,35 @@ impl Cert {
         }
     }
 
-    /// Which version of the texts it is of.
+    /// Returns the version of its text.
     pub fn version(&self) -> Version
         ensures { result ≡ self.now.version }
     {
         self.version
     }
 
-    /// Which limits it has.
+    /// Returns the size that sets its limits.
     pub fn size(&self) -> Size
         ensures { result ≡ self.now.size }
     {
         self.size
     }
 
-    /// The pages' entries, page 0 first.
+    /// Returns the pages' entries, page 0 first.
     pub fn entries(&self) -> &[Entry]
         ensures { result.now ≡ self.now.entries }
     {
         self.entries.as_slice()
     }
 
-    /// The runs of the merging.
+    /// Returns the runs of the merging.
     pub fn runs(&self) -> &[Run]
         ensures { result.now ≡ self.now.runs }
     {
         self.runs.as_slice()
     }
 
-    /// Tells callers that it is within all limits.
+    /// States that it is within all limits.
     pub fn keeps_limits(&self)
         ensures { IsCert self.now }
     {

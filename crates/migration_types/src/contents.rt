@@ -6,14 +6,14 @@ use std::alloc::{AllocError, Global};
 use std::marker::Model;
 use std::sync::ArcSlice;
 
-/// The values of a page's cells, cell 0 first, which contracts see as a list. A single value takes no memory of its
-/// own, and those that are shared are there once, however many contents there are of them.
+/// The values of a page's cells, cell 0 first. Contracts see them as a list. A single value has no memory of its own.
+/// Shared values are stored once, however many contents share them.
 #[derive(Drop)]
 pub struct Contents {
     stored: Stored,
 }
 
-/// The values, where they are.
+/// Where the values are stored.
 #[derive(Drop)]
 enum Stored {
     One([u64; 1]),
@@ -31,7 +31,7 @@ impl Model for Contents {
 }
 
 impl Contents {
-    /// The contents of a page of one cell. Takes no memory.
+    /// Returns the contents of a page of one cell. Allocates no memory.
     pub fn one(value: u64) -> Self
         ensures { result ≡ value ∷ [] }
     {
@@ -40,7 +40,7 @@ impl Contents {
         }
     }
 
-    /// The values of a vector. Takes no memory.
+    /// Returns contents with the values of a vector. Allocates no memory.
     pub fn from_vec(items: Vec<u64>) -> Self
         ensures { result ≡ items.items }
     {
@@ -49,8 +49,8 @@ impl Contents {
         }
     }
 
-    /// Makes the values such as several contents can share. On an error, that there is no memory for it, they stay as they
-    /// were.
+    /// Makes the values such that several contents can share them. Fails only if memory runs out, and then they stay as
+    /// they were.
     pub fn share(&mut self, alloc: Global) -> Result<(), AllocError>
         ensures { self.new ≡ self.old }
     {
@@ -61,8 +61,8 @@ impl Contents {
         Ok(())
     }
 
-    /// The same contents once more. Shared values are not copied, and the copy of others is to be shared. An error: there
-    /// is no memory for the copy.
+    /// Returns the same contents again. Shared values are not copied. Other values are copied, and the copy can be
+    /// shared. Fails only if memory runs out.
     pub fn another(&self, alloc: Global) -> Result<Self, AllocError>
         ensures { IfOk result (λ c. c ≡ self.now) }
     {
@@ -83,7 +83,7 @@ impl Contents {
         }
     }
 
-    /// A copy of these values. An error: there is no memory for it.
+    /// Returns a copy of these values. Fails only if memory runs out.
     pub fn copied(alloc: Global, values: &[u64]) -> Result<Self, AllocError>
         ensures { IfOk result (λ c. c ≡ values.now) }
     {
@@ -93,7 +93,7 @@ impl Contents {
         }
     }
 
-    /// The values.
+    /// Returns the values.
     pub fn as_slice(&self) -> &[u64]
         ensures { result.now ≡ self.now }
     {

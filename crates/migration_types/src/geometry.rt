@@ -1,4 +1,4 @@
-//! How many pages and cells a machine has.
+//! The geometry of a machine: how many pages and cells it has.
 
 ghost use Rattle.std.specs.Prelude.{◌≡◌, ◌<◌, MatchBool, MatchResult};
 ghost use Rattle.migration_types.specs.declared.size.Size.TheVariants.{Small};
@@ -9,7 +9,7 @@ use crate::size::Size;
 use std::marker::Model;
 use thiserror::Error;
 
-/// How many pages a machine has, and how many cells each page has, within the limits of its size.
+/// The geometry of a machine: how many pages it has, and how many cells each page has, within the limits of its size.
 #[derive(Clone, Copy, Debug, PartialEq, Eq)]
 pub struct Geometry {
     size: Size,
@@ -29,33 +29,34 @@ impl Model for Geometry {
     ghost inverse = { λ e. record { size = e.size; pages = e.pages; cells = e.cells } };
 }
 
-/// Why there is no machine of so many pages and cells.
+/// Why no machine has this many pages and cells.
 #[derive(Clone, Copy, Debug, PartialEq, Eq, Error)]
 pub enum GeometryFault {
     /// No page, or more pages than the size allows.
     #[error("a machine has at least one page, and no more than its size allows")]
     Pages,
-    /// Not 1 to 512 cells a page.
+    /// The number of cells in a page is not 1 to 512.
     #[error("a page has 1 to 512 cells")]
     Cells,
-    /// More cells in all than the size allows.
+    /// More cells in all pages than the size allows.
     #[error("a machine has no more cells than its size allows")]
     TooMany,
 }
 
-/// A page has at most so many cells.
+/// The greatest number of cells in a page.
 pub const MOST_CELLS: u32 = 512;
 
 impl Geometry {
-    /// A machine of so many pages, 1 to 65,536, of so many cells, 1 to 512, at most 1,048,576 cells in all. Of several
-    /// faults, the first is answered.
+    /// Returns a machine of 1 to 65,536 pages, each of 1 to 512 cells, and at most 1,048,576 cells in all. If several
+    /// limits are missed, the error is the first of them.
     pub fn new(pages: u32, cells: u32) -> Result<Self, GeometryFault>
         ensures { MatchResult result (λ g. (g ≡ record { size = Small; pages = pages; cells = cells }) × IsExtent g) (IsGeometryFault Small pages cells) }
     {
         Geometry::with_size(Size::Small, pages, cells)
     }
 
-    /// A machine of this size, of so many pages of so many cells. Of several faults, the first is answered.
+    /// Returns a machine of this size, with this many pages of this many cells each. If several limits are missed, the
+    /// error is the first of them.
     #[tactic(auto, using(crate::specs::Limits::limits_at_most))]
     pub fn with_size(size: Size, pages: u32, cells: u32) -> Result<Self, GeometryFault>
         ensures { MatchResult result (λ g. (g ≡ record { size = size; pages = pages; cells = cells }) × IsExtent g) (IsGeometryFault size pages cells) }
@@ -73,35 +74,35 @@ impl Geometry {
         Ok(Geometry { size, pages, cells })
     }
 
-    /// Which limits it has.
+    /// Returns the size that sets its limits.
     pub fn size(self) -> Size
         ensures { result ≡ self.size }
     {
         self.size
     }
 
-    /// How many pages there are.
+    /// Returns how many pages there are.
     pub fn pages(self) -> u32
         ensures { result ≡ self.pages }
     {
         self.pages
     }
 
-    /// How many cells each page has.
+    /// Returns how many cells each page has.
     pub fn cells(self) -> u32
         ensures { result ≡ self.cells }
     {
         self.cells
     }
 
-    /// Whether the machine has a page.
+    /// Returns whether the machine has this page.
     pub fn has_page(self, page: PageNo) -> bool
         ensures { MatchBool result (page < self.pages) (page < self.pages → ⊥) }
     {
         page.number() < self.pages
     }
 
-    /// Tells callers that it is within the limits.
+    /// States that it is within the limits.
     pub fn keeps_limits(self)
         ensures { IsExtent self }
     {}

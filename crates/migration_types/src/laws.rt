@@ -1,4 +1,4 @@
-//! What is said of each kind of record follows from what it consists of.
+//! Laws: the receipt and the limits of each kind of record follow from what it consists of.
 
 ghost use Rattle.std.specs.Prelude.{◌≡◌, ◌↔◌, None};
 ghost use Rattle.migration_types.specs.Extents.{Extent};
@@ -25,8 +25,8 @@ pub fn receipts_follow()
     ensures named { (s : Recorded) (name : Name) → receipt s name ≡ receipt_by name.0 (row_of s name) }
 {}
 
-/// A record is within the limits exactly where each of its fields is, and its contents are, and where sessions of the
-/// size have it, as they have all but some of the source's.
+/// A record is within the limits exactly when its fields and its contents are, and sessions of the size have it. Every
+/// size has all records, except some of the source's.
 pub fn limits_follow()
     ensures guest { (v : Of) (e : Extent) (r : GuestRec) → GuestRecFits e r ↔ RowFits v e log.Guest (guest_row r) None }
     ensures source { (v : Of) (e : Extent) (r : SourceRec) → SourceRecFits e r ↔ (RowFits v e log.Source (source_row r) (source_contents r) × HasSourceRec e.size r) }

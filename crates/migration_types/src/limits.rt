@@ -1,4 +1,4 @@
-//! Whether a record is within the limits, by what it consists of.
+//! Whether a record is within the limits, decided by what it consists of.
 
 ghost use Rattle.std.specs.Prelude.{◌≡◌, ◌↔◌, IsTrue};
 ghost use Rattle.std.specs.List.{AllByRecursion};
@@ -10,7 +10,7 @@ use crate::records::{LAST_VCPU, LogName, Record};
 use crate::rows::Field;
 use crate::version::Version;
 
-/// Whether a field is within the limits.
+/// Returns whether a field is within the limits.
 fn field_fits(version: Version, geometry: Geometry, field: Field) -> bool
     ensures { IsTrue result ↔ FieldFits version geometry field }
 {
@@ -25,14 +25,14 @@ fn field_fits(version: Version, geometry: Geometry, field: Field) -> bool
     }
 }
 
-/// Whether there is a value for each of so many cells.
+/// Returns whether there is one value for each of this many cells.
 fn is_content(cells: u32, values: &[u64]) -> bool
     ensures { IsTrue result ↔ IsContent cells values.now }
 {
     values.len() == cells as usize
 }
 
-/// Whether contents, if there are any, have a value for each cell of a page.
+/// Returns whether the contents, if there are any, have one value for each cell of a page.
 fn has_content<R: Record>(geometry: Geometry, rec: &R) -> bool
     ensures { IsTrue result ↔ ContentFits geometry (R.contents rec.now) }
 {
@@ -42,7 +42,7 @@ fn has_content<R: Record>(geometry: Geometry, rec: &R) -> bool
     }
 }
 
-/// Whether each field is within the limits.
+/// Returns whether each field is within the limits.
 fn fields_fit(version: Version, geometry: Geometry, fields: &[Field]) -> bool
     ensures { IsTrue result ↔ AllByRecursion (FieldFits version geometry) fields.now }
 {
@@ -51,7 +51,8 @@ fn fields_fit(version: Version, geometry: Geometry, fields: &[Field]) -> bool
         .all(|field| field_fits(version, geometry, *field))
 }
 
-/// Whether a record of a log may stand in a session of a version, and has numbers of the machine. Takes no memory.
+/// Returns whether a record of a log is allowed in a session of a version, and its numbers are within the machine.
+/// Allocates no memory.
 #[tactic(auto, using(crate::proofs::Fitting::row_fits, crate::proofs::Fitting::row_back))]
 pub fn fits<R: Record>(version: Version, geometry: Geometry, log: LogName, rec: &R) -> bool
     ensures { IsTrue result ↔ RowFits version geometry log (R.consists rec.now) (R.contents rec.now) }

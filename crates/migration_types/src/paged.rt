@@ -1,17 +1,17 @@
-//! Of which page a record is: the page that the guest reads, writes or releases, that the source sends for the first
-//! time, or that the pager places.
+//! The page of a record: the page that the guest reads, writes or releases, that the source sends for the first time,
+//! or that the pager places.
 
 ghost use Rattle.std.specs.Prelude.{◌≡◌, ℕ, Option};
 ghost use Rattle.migration_types.specs.Paged.{guest_page, source_page, pager_page, init_page};
 
 use crate::{GuestRec, InitPage, PageNo, PagerRec, SourceRec};
 
-/// What may be of a page.
+/// A record or an initial page, which may have a page.
 pub trait Paged {
-    /// The page that this is of.
+    /// The page that it has.
     ghost page: { Self → Option ℕ };
 
-    /// The page that this is of. Takes no memory.
+    /// Returns the page that it has. Allocates no memory.
     fn page(&self) -> Option<PageNo>
         ensures { result ≡ page self.now };
 }
@@ -19,7 +19,7 @@ pub trait Paged {
 impl Paged for InitPage {
     ghost page = { init_page };
 
-    /// The page that is given.
+    /// Returns the initial page's number.
     fn page(&self) -> Option<PageNo> {
         Some(self.page)
     }
@@ -28,7 +28,7 @@ impl Paged for InitPage {
 impl Paged for GuestRec {
     ghost page = { guest_page };
 
-    /// The page that is read, written or released.
+    /// Returns the page that is read, written or released.
     fn page(&self) -> Option<PageNo> {
         match *self {
             GuestRec::Read { page, .. } => Some(page),
@@ -42,7 +42,7 @@ impl Paged for GuestRec {
 impl Paged for SourceRec {
     ghost page = { source_page };
 
-    /// The page that is sent for the first time.
+    /// Returns the page that is sent for the first time.
     fn page(&self) -> Option<PageNo> {
         match self {
             SourceRec::Send { page, .. } => Some(*page),
@@ -54,7 +54,7 @@ impl Paged for SourceRec {
 impl Paged for PagerRec {
     ghost page = { pager_page };
 
-    /// The page that is placed.
+    /// Returns the page that is placed.
     fn page(&self) -> Option<PageNo> {
         match self {
             PagerRec::Place { page, .. } => Some(*page),

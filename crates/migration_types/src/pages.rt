@@ -5,7 +5,7 @@ ghost use Rattle.std.specs.Prelude.{◌≡◌, ◌<◌, ◌^◌};
 use crate::contents::Contents;
 use std::marker::Model;
 
-/// A page's number, 0 to 16,777,215, in three bytes. Contracts see the number.
+/// A page's number, 0 to 16,777,215, stored in three bytes. Contracts see the number.
 #[derive(Clone, Copy, Debug, Default, PartialEq, Eq, Hash)]
 pub struct PageNo {
     high: u8,
@@ -33,7 +33,7 @@ impl Model for PageNo {
 }
 
 impl PageNo {
-    /// The page of this number.
+    /// Returns the page with this number.
     #[inline(always)]
     pub fn new(number: u32) -> Self
         requires { number < 2 ^ 24 }
@@ -46,7 +46,7 @@ impl PageNo {
         }
     }
 
-    /// Its number.
+    /// Returns the number.
     #[inline(always)]
     pub fn number(self) -> u32
         ensures value { result ≡ self }
@@ -55,7 +55,7 @@ impl PageNo {
         u32::from(self.high) * 65_536 + u32::from(self.middle) * 256 + u32::from(self.low)
     }
 
-    /// Its number, as an index into a table of pages.
+    /// Returns the number as an index into a table of pages.
     #[inline(always)]
     pub fn index(self) -> usize
         ensures value { result ≡ self }

@@ -1,4 +1,4 @@
-//! Where the text of a session has its records.
+//! The lines of records in the text of a session.
 
 ghost use Rattle.std.specs.Prelude.{◌≡◌, ◌+◌, ◌<◌, ◌≤◌, ◌^◌};
 ghost use Rattle.migration_types.specs.Limits.{longest_log};
@@ -9,7 +9,7 @@ use crate::records::{LOGS, LogName};
 use crate::session::Session;
 use crate::version::lane_lines;
 
-/// How many lines the section of a log has.
+/// Returns how many lines the section of a log has.
 fn section_lines(session: &Session, log: LogName) -> u32
     ensures value { result ≡ section_lines session.now log }
     ensures few { result ≤ longest_log + 1 }
@@ -21,7 +21,7 @@ fn section_lines(session: &Session, log: LogName) -> u32
     }
 }
 
-/// The line at which the first record of a log stands, or would.
+/// Returns the line of a log's first record, or the line where it would be.
 #[tactic(auto, using(crate::specs::inner::InitPages::few_init, crate::proofs::Sectioned::first_behind))]
 fn first_line(session: &Session, log: LogName) -> u32
     ensures value { result ≡ line_of session.now (log, 0) }
@@ -36,8 +36,8 @@ fn first_line(session: &Session, log: LogName) -> u32
     line
 }
 
-/// The line, counted from 1, at which a session's text has a record: the one at a place, counted from 0, of a log.
-/// Takes no memory.
+/// Returns the line of a record in a session's text. Lines count from 1. The record's place counts from 0, in its log.
+/// Allocates no memory.
 #[tactic(auto, using(crate::proofs::Sectioned::line_from))]
 pub fn line_of(session: &Session, log: LogName, place: u32) -> u32
     requires { place < log_length session.now log }

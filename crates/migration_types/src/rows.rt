@@ -1,4 +1,4 @@
-//! What a record consists of: a word, and what stands behind it.
+//! What a record consists of: a word, and the fields after it.
 
 ghost use Rattle.std.specs.Prelude.{◌≡◌, [], ◌∷◌};
 ghost use Rattle.migration_types.specs.Follow.{receipt_among};
@@ -8,21 +8,21 @@ use crate::pages::PageNo;
 use crate::records::LogName;
 use std::marker::Model;
 
-/// What stands in a record.
+/// A field of a record.
 #[derive(Clone, Copy)]
 pub enum Field {
     Vcpu(u8),
     Page(PageNo),
     Cell(u16),
     Value(u64),
-    /// The number of a record that is about what this one is about.
+    /// The number of a record that is about the same page.
     Number(LogName, u32),
     /// The number of a record of the handover, which is about no page.
     Handover(LogName, u32),
 }
 
 impl Field {
-    /// Its number, as lines have it.
+    /// Returns its number, as it appears in lines.
     pub fn number(self) -> u64
         ensures { result ≡ field_number self }
     {
@@ -35,7 +35,7 @@ impl Field {
         }
     }
 
-    /// The record that it names, if it names one.
+    /// Returns the record that it names, if it names one.
     pub fn name(self) -> Option<(LogName, u32)>
         ensures { result ≡ field_name self }
     {
@@ -46,10 +46,11 @@ impl Field {
     }
 }
 
-/// No record has more.
+/// The greatest number of fields in a record.
 const MOST_FIELDS: usize = 4;
 
-/// What a record consists of: its word, and what stands behind it. Contents, which some records have last, are apart.
+/// What a record consists of: its word, and the fields after it. Contents, which some records have last, are kept
+/// apart.
 #[derive(Drop)]
 pub struct Row {
     word: &'static [u8],
@@ -68,7 +69,7 @@ impl Model for Row {
     ghost invariant = { λ r. r.count ≤ 4 };
 }
 
-/// The first record of another log than this one that is named.
+/// Returns the first named record that is of another log than `own`.
 fn receipt_among(fields: &[Field], own: LogName) -> Option<(LogName, u32)>
     ensures { result ≡ receipt_among own fields.now }
 {
@@ -83,7 +84,7 @@ fn receipt_among(fields: &[Field], own: LogName) -> Option<(LogName, u32)>
 }
 
 impl Row {
-    /// The row of a word alone.
+    /// Returns the row of a word alone.
     pub fn new(word: &'static [u8]) -> Self
         ensures { result ≡ consists word.now [] }
     {
@@ -94,7 +95,7 @@ impl Row {
         }
     }
 
-    /// The row of a word and a field.
+    /// Returns the row of a word and a field.
     pub fn one(word: &'static [u8], field: Field) -> Self
         ensures { result ≡ consists word.now (field ∷ []) }
     {
@@ -105,7 +106,7 @@ impl Row {
         }
     }
 
-    /// The row of a word and two fields.
+    /// Returns the row of a word and two fields.
     pub fn two(word: &'static [u8], first: Field, second: Field) -> Self
         ensures { result ≡ consists word.now (first ∷ second ∷ []) }
     {
@@ -116,7 +117,7 @@ impl Row {
         }
     }
 
-    /// The row of what a virtual processor read or wrote.
+    /// Returns the row of a read or a write by a virtual processor.
     pub fn access(word: &'static [u8], vcpu: u8, page: PageNo, cell: u16, value: u64) -> Self
         ensures { result ≡ consists word.now (Field.Vcpu vcpu ∷ Field.Page page ∷ Field.Cell cell ∷ Field.Value value ∷ []) }
     {
@@ -133,21 +134,21 @@ impl Row {
         }
     }
 
-    /// Its word.
+    /// Returns its word.
     pub fn word(&self) -> &'static [u8]
         ensures { result.now ≡ self.now.word }
     {
         self.word
     }
 
-    /// What stands behind the word.
+    /// Returns the fields after the word.
     pub fn fields(&self) -> &[Field]
         ensures { result.now ≡ self.now.fields }
     {
         &self.fields[..self.count]
     }
 
-    /// The record of another log than its own that it is a receipt for.
+    /// Returns the record of another log than its own that it is a receipt for.
     pub fn receipt(&self, own: LogName) -> Option<(LogName, u32)>
         ensures { result ≡ receipt_among own self.now.fields }
     {

@@ -4,7 +4,7 @@ ghost use Rattle.std.specs.Prelude.{◌≡◌};
 
 use std::marker::Model;
 
-/// Values in order, which contracts see as a list.
+/// Values in order. Contracts see them as a list.
 #[derive(Drop)]
 pub struct Seq<T> {
     items: Vec<T>,
@@ -19,21 +19,21 @@ impl<T> Model for Seq<T> {
 }
 
 impl<T> Seq<T> {
-    /// The values of a vector. Takes no memory.
+    /// Returns the values of a vector. Allocates no memory.
     pub fn from_vec(items: Vec<T>) -> Self
         ensures { result ≡ items.items }
     {
         Seq { items }
     }
 
-    /// The values as a vector. Takes no memory.
+    /// Returns the values as a vector. Allocates no memory.
     pub fn into_vec(self) -> Vec<T>
         ensures { result.items ≡ self }
     {
         self.items
     }
 
-    /// The values.
+    /// Returns the values.
     pub fn as_slice(&self) -> &[T]
         ensures { result.now ≡ self.now }
     {

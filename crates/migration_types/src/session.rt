@@ -16,7 +16,7 @@ use crate::seq::Seq;
 use crate::version::Version;
 use std::marker::Model;
 
-/// The logs of the parties. That of the lane is empty in the first version.
+/// The logs of the parties. In the first version, the lane's log is empty.
 #[derive(Drop)]
 pub struct Logs {
     pub guest: Seq<GuestRec>,
@@ -26,8 +26,8 @@ pub struct Logs {
     pub pager: Seq<PagerRec>,
 }
 
-/// A recorded session of one of the versions, within all limits: a machine, the pages that do not begin as zeros, and the
-/// logs of the guest, the source, the link, the lane and the pager.
+/// A recorded session of one of the versions, within all limits: a machine, the pages that do not begin as zeros, and
+/// the logs of the guest, the source, the link, the lane and the pager.
 #[derive(Drop)]
 pub struct Session {
     version: Version,
@@ -46,7 +46,7 @@ impl Model for Session {
     ghost invariant = { λ a. IsSession (recorded a.version a.geometry a.init a.logs) };
 }
 
-/// The row of the record at a place.
+/// Returns the row of the record at a place.
 fn row_in<R: Record>(records: &[R], place: u32) -> Option<Row>
     ensures { result ≡ option_map R.consists (slice_get records.now place) }
 {
@@ -57,7 +57,7 @@ fn row_in<R: Record>(records: &[R], place: u32) -> Option<Row>
 }
 
 impl Session {
-    /// The session of these parts. Takes no memory.
+    /// Returns the session with these parts. Allocates no memory.
     pub fn new(version: Version, geometry: Geometry, init: Seq<InitPage>, logs: Logs) -> Self
         requires { IsSession (recorded version geometry init logs) }
         ensures { result ≡ recorded version geometry init logs }
@@ -70,63 +70,63 @@ impl Session {
         }
     }
 
-    /// Which version of the texts it is of.
+    /// Returns the version of its text.
     pub fn version(&self) -> Version
         ensures { result ≡ self.now.version }
     {
         self.version
     }
 
-    /// The machine's geometry.
+    /// Returns the machine's geometry.
     pub fn geometry(&self) -> Geometry
         ensures { result ≡ self.now.geometry }
     {
         self.geometry
     }
 
-    /// The pages that do not begin as zeros, in rising order.
+    /// Returns the pages that do not begin as zeros, in rising order.
     pub fn init(&self) -> &[InitPage]
         ensures { result.now ≡ self.now.init }
     {
         self.init.as_slice()
     }
 
-    /// The guest's log.
+    /// Returns the guest's log.
     pub fn guest(&self) -> &[GuestRec]
         ensures { result.now ≡ self.now.guest }
     {
         self.logs.guest.as_slice()
     }
 
-    /// The source's log.
+    /// Returns the source's log.
     pub fn source(&self) -> &[SourceRec]
         ensures { result.now ≡ self.now.source }
     {
         self.logs.source.as_slice()
     }
 
-    /// The link's log.
+    /// Returns the link's log.
     pub fn link(&self) -> &[LinkRec]
         ensures { result.now ≡ self.now.link }
     {
         self.logs.link.as_slice()
     }
 
-    /// The lane's log.
+    /// Returns the lane's log.
     pub fn lane(&self) -> &[LaneRec]
         ensures { result.now ≡ self.now.lane }
     {
         self.logs.lane.as_slice()
     }
 
-    /// The pager's log.
+    /// Returns the pager's log.
     pub fn pager(&self) -> &[PagerRec]
         ensures { result.now ≡ self.now.pager }
     {
         self.logs.pager.as_slice()
     }
 
-    /// How many records a log has.
+    /// Returns how many records a log has.
     pub fn len(&self, log: LogName) -> usize
         ensures value { result ≡ log_length self.now log }
         ensures few { result ≤ longest_log }
@@ -141,7 +141,8 @@ impl Session {
         }
     }
 
-    /// What the record of this log and number consists of, without contents, if there is such a record. Takes no memory.
+    /// Returns what the record with this name consists of, except its contents, if there is such a record. Allocates no
+    /// memory.
     pub fn row(&self, name: (LogName, u32)) -> Option<Row>
         ensures { result ≡ row_of self.now name }
     {
@@ -155,7 +156,7 @@ impl Session {
         }
     }
 
-    /// The record of another log that the record of this log and number is a receipt for. Takes no memory.
+    /// Returns the record of another log that the record with this name is a receipt for. Allocates no memory.
     pub fn named(&self, name: (LogName, u32)) -> Option<(LogName, u32)>
         ensures { result ≡ receipt self.now name }
     {
@@ -166,7 +167,7 @@ impl Session {
         }
     }
 
-    /// Tells callers that it is within all limits.
+    /// States that it is within all limits.
     pub fn keeps_limits(&self)
         ensures { IsSession self.now }
     {

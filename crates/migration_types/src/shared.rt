@@ -1,4 +1,4 @@
-//! Lists that several owners have.
+//! Lists with several owners.
 
 ghost use Rattle.std.specs.Prelude.{◌≡◌, IfOk};
 ghost use Rattle.std.specs.Arc.{arc_slice_items};
@@ -7,7 +7,7 @@ use std::alloc::AllocError;
 use std::marker::Model;
 use std::sync::ArcSlice;
 
-/// Values in order, which contracts see as a list, and which are there once, however many owners they have.
+/// Values in order, stored once for all their owners. Contracts see them as a list.
 #[derive(Drop)]
 pub struct Shared<T> {
     items: ArcSlice<T>,
@@ -23,7 +23,7 @@ impl<T> Model for Shared<T> {
 }
 
 impl<T: Drop> Shared<T> {
-    /// The values of a vector. An error: there is no memory for what counts their owners.
+    /// Returns the values of a vector, with one owner. Fails only if memory runs out for the count of owners.
     pub fn from_vec(items: Vec<T>) -> Result<Self, AllocError>
         ensures { IfOk result (λ list. list ≡ items.items) }
     {
@@ -31,7 +31,7 @@ impl<T: Drop> Shared<T> {
         Ok(Shared { items })
     }
 
-    /// The same list, with one owner more. An error: it has more owners than can be counted.
+    /// Returns the same list, with one more owner. Fails only if it has more owners than can be counted.
     pub fn another(&self) -> Result<Self, AllocError>
         ensures { IfOk result (λ list. list ≡ self.now) }
     {
@@ -41,7 +41,7 @@ impl<T: Drop> Shared<T> {
 }
 
 impl<T> Shared<T> {
-    /// The values.
+    /// Returns the values.
     pub fn as_slice(&self) -> &[T]
         ensures { result.now ≡ self.now }
     {

@@ -1,30 +1,30 @@
-//! How large what is recorded may be.
+//! The sizes of recordings, and their limits.
 
 ghost use Rattle.std.specs.Prelude.{◌≡◌, ◌↔◌, IsTrue};
 ghost use Rattle.migration_types.specs.Limits.{limits, HasSize};
 
 use crate::version::Version;
 
-/// Which limits a machine and its logs have.
+/// A size, which sets the limits of a machine and of its logs.
 #[derive(Clone, Copy, Debug, PartialEq, Eq)]
 pub enum Size {
     Small,
     Large,
 }
 
-/// The limits of a size, each the greatest number that is still within it.
+/// The limits of a size. Each is the greatest number that is allowed.
 #[derive(Clone, Copy, Debug, PartialEq, Eq)]
 pub struct Limits {
     /// Pages of a machine.
     pub pages: u32,
-    /// Cells of a machine, in all its pages.
+    /// Cells of a machine, in all its pages together.
     pub cells: u32,
     /// Records of a log.
     pub records: u32,
 }
 
 impl Size {
-    /// Whether what is recorded in a version may be of this size.
+    /// Returns whether what is recorded in a version may be of this size.
     pub fn is_in(self, version: Version) -> bool
         ensures { IsTrue result ↔ HasSize version self }
     {
@@ -34,7 +34,7 @@ impl Size {
         }
     }
 
-    /// Its limits.
+    /// Returns its limits.
     #[inline(always)]
     pub fn limits(self) -> Limits
         ensures { result ≡ limits self }

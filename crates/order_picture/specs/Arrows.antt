@@ -23,17 +23,17 @@ abbrev pub is_plain : Mark → Bool
 is_plain mark.Plain = true
 is_plain m = false
 
--- whether a row has a record that is marked
+-- whether a row has a marked record
 abbrev pub is_marked : Option Row → Bool
 is_marked None = false
 is_marked (Some (Record log place m)) = if is_plain m then false else true
 is_marked (Some (Fold counts)) = false
 
--- what an arrow says to the record of a row from that of the row at this place: whether both are marked
+-- what the arrow from the row at this place to the record of a row says: whether both are marked
 abbrev pub received_kind : List Row → Row → ℕ → ArrowKind
 received_kind rows row from = if is_marked (Some row) && is_marked (slice_get rows from) then OfPage else Received
 
--- the place of the row whose record a row's record receives, if that has one
+-- the place of the row whose record a row's record receives, if there is one
 abbrev pub sender_at : List (Option ℕ) → ℕ → Option ℕ
 sender_at senders n = get_or senders n None
 
@@ -41,7 +41,8 @@ abbrev pub received_from : Picture → Seat → Row → LogName → Option ℕ �
 received_from p to row sender (Some from) = Arrow from sender to.row to.log (received_kind p.rows.items row from)
 received_from p to row sender None = Stub to.row to.log sender
 
--- the arrow to the record of a row, which receives one of this log: from that one's row, or from nowhere where it has none
+-- the arrow to the record of a row, which receives a record of this log: from that record's row, or from nowhere if it
+-- has none
 abbrev pub received_shape : Picture → Seat → Row → LogName → Shape
 received_shape p to row sender = received_from p to row sender (sender_at p.senders.items to.row)
 
@@ -64,7 +65,7 @@ arrows_to s p at = listed (arrow_to s p at)
 abbrev pub arrows : Recorded → Picture → List Shape
 arrows s p = flat_map (arrows_to s p) (enumerate_from 0 p.rows.items)
 
--- whether a record that waits for another receives that one itself: else it receives one that comes after it in its log
+-- whether a waiting record receives the other record itself; otherwise it receives a later one of the same log
 abbrev pub is_direct : Tie → Bool
 is_direct t = t.waiting.sent_place == t.next.place
 
@@ -75,7 +76,7 @@ abbrev pub seat_at : ℕ → Name → Option ℕ → Option Seat
 seat_at rows name None = None
 seat_at rows name (Some n) = Some (record { row = rows + n; log = name.0 })
 
--- where the box of a record behind so many rows of the order is, if it has one
+-- the place of the box of a record after this many rows of the order, if it has one
 abbrev pub seat_behind : ℕ → List Name → Name → Option Seat
 seat_behind rows behind name = seat_at rows name (position (is_one (Some name)) behind)
 
@@ -87,13 +88,13 @@ abbrev pub tie_by : Picture → List Name → Name → Option Tie → Option Sha
 tie_by p behind name None = None
 tie_by p behind name (Some t) = tie_between (tie_kind t) (seat_behind (length p.rows.items) behind (t.next.log, t.next.place)) (seat_behind (length p.rows.items) behind name)
 
--- the arrow to a record that waits for another that does, from that one
+-- the arrow to a waiting record from the waiting record that it waits for
 abbrev pub tie_to : Picture → List Name → Name → Option Shape
 tie_to p behind name = tie_by p behind name (tie_of p.told name)
 
 abbrev pub ties_to : Picture → List Name → Name → List Shape
 ties_to p behind name = listed (tie_to p behind name)
 
--- the arrows between the records behind the order
+-- the arrows between the records after the order
 abbrev pub ties : Picture → List Name → List Shape
 ties p behind = flat_map (ties_to p behind) behind

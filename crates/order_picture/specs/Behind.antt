@@ -1,5 +1,5 @@
--- The records that have a row behind the order: of those that it does not take the next of each log, the faulty one, the one
--- that its fault concerns, and those that wait for one another.
+-- The records that have a row after the order. Of those that the order does not take, these are the next of each log,
+-- the faulty record, the record that its fault concerns, and those that wait for one another.
 use Rattle.std.specs.Prelude.{ℕ, ◌-◌, ◌==◌, ◌||◌, Bool, List, Option, Some, None, filter, flat_map, is_some, position, slice_get, if◌then◌else◌}
 use Rattle.migration_types.specs.declared.records.LogName.{LogName}
 use Rattle.migration_types.specs.Receipts.{Name, logs}
@@ -35,12 +35,12 @@ abbrev pub tie_at : Knot → Option ℕ → Option Tie
 tie_at k None = None
 tie_at k (Some n) = tie (slice_get k.waits.items n) (next_in k n)
 
--- a record that waits for another that does, and that one, where it is one of those that wait for one another
+-- a waiting record with the waiting record that it waits for, if it is one of those that wait for one another
 abbrev pub tie_of : Told → Name → Option Tie
 tie_of (told.Report (explained.Knot knot)) name = tie_at knot (place_in knot name)
 tie_of t name = None
 
--- whether a record has a row even where the order does not come to it
+-- whether a record has a row even if the order does not reach it
 abbrev pub stands_out : Picture → Name → Bool
 stands_out p name = is_one p.focus.fault name || (is_one p.focus.concerned name || is_some (tie_of p.told name))
 
@@ -48,15 +48,15 @@ stands_out p name = is_one p.focus.fault name || (is_one p.focus.concerned name 
 abbrev pub is_behind : Picture → Name → Bool
 is_behind p name = name.1 == cursors_of p.taken name.0 || stands_out p name
 
--- the records of a log that have a row behind the order
+-- the records of a log that have a row after the order
 abbrev pub log_behind : Recorded → Picture → LogName → List Name
 log_behind s p log = filter (is_behind p) (run_names log (cursors_of p.taken log) (log_length s log - cursors_of p.taken log))
 
--- the records that have a row behind the order
+-- the records that have a row after the order
 abbrev pub names_behind : Recorded → Picture → List Name
 names_behind s p = flat_map (log_behind s p) logs
 
--- what the box of a record behind the order says of it
+-- what the box of a record after the order says about it
 abbrev pub kind_behind : Picture → Name → BoxKind
 kind_behind p name =
     if is_one p.focus.fault name then Faulty
@@ -68,6 +68,7 @@ abbrev pub obstacle_by : Recorded → Picture → Name → Option Tie → Obstac
 obstacle_by s p name (Some t) = Waits
 obstacle_by s p name None = if is_received (cursors_of p.taken) (receipt s name) then Unhindered else NotSent
 
--- why the order does not take a record: it waits for another that waits, or what it receives was not taken, or nothing keeps it
+-- why the order does not take a record: it waits for another waiting record, or the record that it receives was not
+-- taken, or nothing prevents it
 abbrev pub obstacle_of : Recorded → Picture → Name → Obstacle
 obstacle_of s p name = obstacle_by s p name (tie_of p.told name)

@@ -1,4 +1,4 @@
--- How a record is marked in a picture.
+-- The marks of records in a picture.
 use Rattle.std.specs.Prelude.{ℕ, Bool, false, Option, Some, None, ◌==◌, ◌&&◌, if◌then◌else◌}
 use Rattle.migration_types.specs.Receipts.{Name}
 use Rattle.migration_types.specs.Sessions.{Recorded}
@@ -19,7 +19,7 @@ is_page None other = false
 is_page (Some page) None = false
 is_page (Some page) (Some other) = page == other
 
--- how a record is marked
+-- the mark of a record
 abbrev pub mark_of : Recorded → Focus → Name → Mark
 mark_of s focus name =
     if is_one focus.fault name then Faulty

@@ -37,7 +37,7 @@ abbrev pub faulty_in : Option FaultStory → Option Name
 faulty_in None = None
 faulty_in (Some story) = Some (story.fault.log, story.fault.place)
 
--- the faulty record that a picture is about: the report's, or that of the first fault of the page that is told of
+-- the faulty record that a picture is about: the report's, or that of the first fault of the story's page
 abbrev pub fault_for : Report → Told → Option Name
 fault_for r (told.Report explanation) = fault_of r
 fault_for r t = faulty_in (fault_in t)
@@ -46,21 +46,21 @@ abbrev pub number_in : Option PageTold → Option ℕ
 number_in None = None
 number_in (Some t) = Some t.story.page
 
--- the page that a picture is about: the one that the report's faulty record is about, or the one that is told of
+-- the page that a picture is about: that of the report's faulty record, or that of the story
 abbrev pub page_for : Recorded → Report → Told → Option ℕ
 page_for s r (told.Report explanation) = option_and_then (page_of s) (fault_of r)
 page_for s r t = number_in (page_in t)
 
--- what a picture is about, by what is told: the faulty record, the page, and the record that the fault concerns
+-- what a picture is about, given the story: the faulty record, the page, and the record that the fault concerns
 pub record IsFocus (s : Recorded) (r : Report) (t : Told) (focus : Focus) : Type 0 where
   pub fault : focus.fault ≡ fault_for r t
   pub page : focus.page ≡ page_for s r t
   pub concerned : focus.concerned ≡ concerned_of s t
 
--- A picture of the records that the runs take, as far as they can be taken, with what is told of the session on a topic:
--- each record has its place in one row, there are few rows, the faulty record has one of its own, and so have those next to it
--- and the record that its fault concerns, the record that is marked as that one is the one that is told of, and each row knows
--- the row whose record it receives.
+-- A picture of the records that the runs take, as far as they can be taken, with the story of the session on a topic.
+-- Each record has its place in one row, and there are few rows. The faulty record has a row of its own, and so have the
+-- records next to it and the record that its fault concerns. The record that is marked as concerned is the one in the
+-- story. Each row knows the row whose record it receives.
 pub record IsPictureOf (s : Recorded) (r : Report) (topic : Topic) (runs : List Run) (p : Picture) : Type 0 where
   pub order : List Name
   pub part : IsOrderPart s runs order p.bad
@@ -73,7 +73,7 @@ pub record IsPictureOf (s : Recorded) (r : Report) (topic : Topic) (runs : List 
   pub senders : p.senders.items ≡ map (sender_of s p.rows.items) p.rows.items
   pub taken : cursors_of p.taken ≡ cursors_from at_start order
 
--- the runs that a report is shown along: those that show its fault or stop at its knot, or those of the found order
+-- the runs along which a report is shown: those that show its fault or stop at its knot, or those of the found order
 abbrev pub IsShownAlong : Recorded → Report → List Run → Type 0
 IsShownAlong s (report.Shape fault) runs = IsFoundOrder s (spelled runs)
 IsShownAlong s (report.Knot left found) runs = runs ≡ found.runs

@@ -13,14 +13,14 @@ use Rattle.order_picture.specs.declared.picture.Row.{Row}
 use Rattle.order_picture.specs.declared.picture.Row.TheVariants.{Record, Fold}
 use Rattle.order_picture.specs.Marks.{is_one}
 
--- The rows have the records of the order, in its sequence, each in one row: a row has one record with its mark, or the
--- next few of them, of which it has the count of each log.
+-- The rows have the records of the order, in its sequence, each in one row. A row has one record with its mark, or it
+-- folds the next few records into their count for each log.
 abbrev pub Covers : (Name → Mark) → List Row → List Name → Type 0
 Covers mark [] order = order ≡ []
 Covers mark (Record log place m ∷ rows) order = (rest : List Name) × (order ≡ (log, place) ∷ rest) × (m ≡ mark (log, place)) × Covers mark rows rest
 Covers mark (Fold counts ∷ rows) order = (folded rest : List Name) × (order ≡ folded ++ rest) × (cursors_of counts ≡ cursors_from at_start folded) × Covers mark rows rest
 
--- whether it is the faulty record's mark
+-- whether this is the mark of the faulty record
 abbrev pub is_faulty : Mark → Bool
 is_faulty Faulty = true
 is_faulty Concerned = false
@@ -53,12 +53,12 @@ sender_of s rows row = option_and_then (λ name. position (is_row_of name) rows)
 abbrev pub has_row : List Row → Name → Bool
 has_row rows name = list_any (is_row_of name) rows
 
--- whether a place is right before or right after another, if there is that one
+-- whether a place is right before or right after another, if there is another
 abbrev pub is_next_to : Option ℕ → ℕ → Bool
 is_next_to None n = false
 is_next_to (Some at) n = at == n + 1 || n == at + 1
 
--- whether a place is another one, if there is that one
+-- whether a place is the other one, if there is another
 abbrev pub is_at : Option ℕ → ℕ → Bool
 is_at None n = false
 is_at (Some at) n = at == n
@@ -67,7 +67,7 @@ is_at (Some at) n = at == n
 abbrev pub is_certain : Option ℕ → Option ℕ → ℕ → Bool
 is_certain fault concerned n = is_next_to fault n || is_at concerned n
 
--- The records next to the faulty one have rows of their own, and so has the record that its fault concerns, wherever the order
--- has them.
+-- The records next to the faulty one have rows of their own, and so has the record that its fault concerns, wherever
+-- they are in the order.
 abbrev pub HasCertain : (faulty concerned : Option ℕ) → List Row → List Name → Type 0
 HasCertain faulty concerned rows order = (n : ℕ) (name : Name) → is_certain faulty concerned n ≡ true → slice_get order n ≡ Some name → has_row rows name ≡ true

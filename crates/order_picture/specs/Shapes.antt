@@ -17,11 +17,11 @@ use Rattle.order_picture.specs.Boxes.{behind_shapes, row_shapes}
 use Rattle.order_picture.specs.Headings.{order_shown}
 use Rattle.order_picture.specs.Signs.{signs_in}
 
--- the report's first line, what is told first, which order is shown, and what the session is
+-- the report's first line, the first sentences of the story, which order is shown, and the description of the session
 abbrev pub heading : Report → Picture → Shown → List Shape
 heading r p shown = Title ∷ Summary ∷ Order (order_shown r p shown) ∷ Facts ∷ []
 
--- whether a log has a column: the lane has one only where it has records
+-- whether a log has a column: the lane has one only if it has records
 abbrev pub has_column : Recorded → LogName → Bool
 has_column s Lane = nat_lt 0 (length s.lane)
 has_column s log = true
@@ -29,11 +29,12 @@ has_column s log = true
 abbrev pub columns : Recorded → List Shape
 columns s = map Column (filter (has_column s) logs)
 
--- the columns, the arrows between the rows of the order, these rows, the arrows between those behind it, and these
+-- the columns, the arrows between the rows of the order, these rows, the arrows between the rows after the order, and
+-- those rows
 abbrev pub body_shapes : Recorded → Picture → List Name → List Shape
 body_shapes s p behind = columns s ++ arrows s p ++ row_shapes s (amended_by s p.told) p.rows.items ++ ties p behind ++ behind_shapes s (amended_by s p.told) p behind
 
--- all but the legend, with these records behind the order
+-- all shapes but the legend, with these records after the order
 abbrev pub drawn_shapes : Recorded → Report → Picture → Shown → List Name → List Shape
 drawn_shapes s r p shown behind = heading r p shown ++ body_shapes s p behind
 

@@ -10,11 +10,11 @@ use Rattle.order_picture.specs.declared.shapes.Shape.TheVariants as shape
 use Rattle.order_picture.specs.declared.signs.Sign.{Sign}
 use Rattle.order_picture.specs.declared.signs.Sign.TheVariants.{Faulty, Tied, Tie, TieBehind, Concerned, OfPage, Plain, Stuck, Arrow, Stub}
 
--- the signs, in the sequence of a legend
+-- the signs, in the order of a legend
 abbrev pub signs : List Sign
 signs = Faulty ∷ Tied ∷ Tie ∷ TieBehind ∷ Concerned ∷ OfPage ∷ Plain ∷ Stuck ∷ Arrow ∷ Stub ∷ []
 
--- the sign that a box is
+-- the sign for a box
 abbrev pub box_sign : BoxKind → Sign
 box_sign kind.Faulty = Faulty
 box_sign kind.Concerned = Concerned
@@ -23,21 +23,21 @@ box_sign kind.Plain = Plain
 box_sign kind.Tied = Tied
 box_sign kind.Stuck = Stuck
 
--- the sign that an arrow is
+-- the sign for an arrow
 abbrev pub arrow_sign : ArrowKind → Sign
 arrow_sign arrow.Received = Arrow
 arrow_sign arrow.OfPage = Arrow
 arrow_sign arrow.Tied = Tie
 arrow_sign arrow.TiedBehind = TieBehind
 
--- the sign that a shape is, if a legend explains it
+-- the sign for a shape, if a legend explains it
 abbrev pub sign_of : Shape → Option Sign
 sign_of (shape.Record row log place kind line label obstacle) = Some (box_sign kind)
 sign_of (shape.Arrow from from_log to to_log kind) = Some (arrow_sign kind)
 sign_of (shape.Stub row log sender) = Some Stub
 sign_of other = None
 
--- a sign's place in that sequence
+-- a sign's place in a legend
 abbrev pub number_of : Sign → ℕ
 number_of Faulty = 0
 number_of Tied = 1
@@ -54,11 +54,11 @@ abbrev pub is_sign : Sign → Option Sign → Bool
 is_sign sign None = false
 is_sign sign (Some other) = number_of other == number_of sign
 
--- whether a shape is this sign
+-- whether a shape has this sign
 abbrev pub shows : Sign → Shape → Bool
 shows sign shape = is_sign sign (sign_of shape)
 
--- whether one of the shapes is this sign
+-- whether one of the shapes has this sign
 abbrev pub occurs : List Shape → Sign → Bool
 occurs shapes sign = list_any (shows sign) shapes
 

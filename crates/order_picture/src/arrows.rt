@@ -1,5 +1,5 @@
-//! The arrows of a picture: between the rows of the order from each record that is received to that which receives it, and
-//! behind the order between records that wait for one another.
+//! The arrows of a picture. Between the rows of the order, an arrow goes from each received record to the record that
+//! receives it. After the order, arrows go between records that wait for one another.
 
 ghost use Rattle.std.specs.Prelude.{◌≡◌, [], ◌∷◌, ◌++◌, Some, flat_map, length, position, option_copied, slice_get, OnOk};
 ghost use Rattle.std.specs.List.{enumerate_from};
@@ -14,27 +14,27 @@ use crate::shapes::Shape;
 use migration_types::{LogName, Session};
 use std::alloc::AllocError;
 
-/// Where the box of a record is: in a row, in the column of its log.
+/// The place of a record's box: its row, and its log's column.
 #[derive(Clone, Copy)]
 pub(crate) struct Seat {
     pub row: usize,
     pub log: LogName,
 }
 
-/// What an arrow says of the two records between which it goes.
+/// What an arrow says about its two records.
 #[derive(Clone, Copy)]
 pub enum ArrowKind {
-    /// The second receives the first.
+    /// The second record receives the first.
     Received,
-    /// The second receives the first, and both are marked.
+    /// The second record receives the first, and both are marked.
     OfPage,
-    /// The second waits for the first.
+    /// The second record waits for the first.
     Tied,
-    /// The second waits for a record that comes after the first in its log.
+    /// The second record waits for a record that comes after the first in its log.
     TiedBehind,
 }
 
-/// Whether a row has a record that is marked.
+/// Returns whether a row has a marked record.
 fn is_marked(row: Option<&Row>) -> bool
     ensures { result ≡ is_marked (option_copied row.entry) }
 {
@@ -44,7 +44,7 @@ fn is_marked(row: Option<&Row>) -> bool
     }
 }
 
-/// What an arrow to the record of a row says, from that of the row at this place.
+/// Returns what the arrow from the row at this place to the record of a row says.
 fn received_kind(rows: &[Row], row: &Row, from: usize) -> ArrowKind
     ensures { result ≡ received_kind rows.now row.now from }
 {
@@ -55,7 +55,7 @@ fn received_kind(rows: &[Row], row: &Row, from: usize) -> ArrowKind
     }
 }
 
-/// The place of the row whose record a row's record receives, if that has one.
+/// Returns the place of the row whose record a row's record receives, if there is one.
 fn sender_at(senders: &[Option<usize>], place: usize) -> Option<usize>
     ensures { result ≡ sender_at senders.now place }
 {
@@ -65,7 +65,8 @@ fn sender_at(senders: &[Option<usize>], place: usize) -> Option<usize>
     }
 }
 
-/// The arrow to the record of a row, which receives one of this log: from that one's row, or from nowhere.
+/// Returns the arrow to the record of a row, which receives a record of this log: from that record's row, or from
+/// nowhere if it has none.
 fn received_shape(picture: &Picture, to: Seat, row: &Row, sender: LogName) -> Shape
     ensures { result ≡ received_shape picture.now to row.now sender }
 {
@@ -85,7 +86,7 @@ fn received_shape(picture: &Picture, to: Seat, row: &Row, sender: LogName) -> Sh
     }
 }
 
-/// The arrow to the record of a row, if it receives one.
+/// Returns the arrow to the record of a row, if it receives one.
 fn arrow_to(session: &Session, picture: &Picture, place: usize, row: &Row) -> Option<Shape>
     ensures { result ≡ arrow_to session.now picture.now (place, row.now) }
 {
@@ -101,7 +102,7 @@ fn arrow_to(session: &Session, picture: &Picture, place: usize, row: &Row) -> Op
     }
 }
 
-/// Adds the arrows between the rows of the order.
+/// Appends the arrows between the rows of the order.
 pub(crate) fn push_arrows(
     shapes: &mut Vec<Shape>,
     session: &Session,
@@ -117,14 +118,15 @@ pub(crate) fn push_arrows(
     Ok(())
 }
 
-/// Whether a record that waits for another receives that one itself: else it receives one that comes after it in its log.
+/// Returns whether a waiting record receives the other record itself. Otherwise it receives a later one of the same
+/// log.
 fn is_direct(tie: Tie) -> bool
     ensures { result ≡ is_direct tie }
 {
     tie.waiting.sent_place == tie.next.place
 }
 
-/// What the arrow to a record says that waits for another.
+/// Returns what the arrow to a waiting record says.
 fn tie_kind(tie: Tie) -> ArrowKind
     ensures { result ≡ tie_kind tie }
 {
@@ -135,14 +137,14 @@ fn tie_kind(tie: Tie) -> ArrowKind
     }
 }
 
-/// The place of a record among these.
+/// Returns the place of a record among these.
 fn place_of(names: &[Name], name: Name) -> Option<usize>
     ensures { result ≡ position (is_one (Some name)) names.now }
 {
     names.iter().position(|other| is_one(Some(name), *other))
 }
 
-/// Where the box of a record behind so many rows of the order is, if it has one.
+/// Returns the place of the box of a record after this many rows of the order, if it has one.
 fn seat_behind(rows: &[Row], behind: &[Name], name: Name) -> Option<Seat>
     ensures { result ≡ seat_behind (length rows.now) behind.now name }
 {
@@ -155,7 +157,7 @@ fn seat_behind(rows: &[Row], behind: &[Name], name: Name) -> Option<Seat>
     }
 }
 
-/// An arrow that says this, if it has both ends.
+/// Returns an arrow of this kind, if it has both ends.
 fn tie_between(kind: ArrowKind, from: Option<Seat>, to: Option<Seat>) -> Option<Shape>
     ensures { result ≡ tie_between kind from to }
 {
@@ -171,7 +173,7 @@ fn tie_between(kind: ArrowKind, from: Option<Seat>, to: Option<Seat>) -> Option<
     }
 }
 
-/// The arrow to a record that waits for another, where both are behind the order.
+/// Returns the arrow to a record that waits for another, if both are after the order.
 fn tie_to(picture: &Picture, behind: &[Name], name: Name) -> Option<Shape>
     ensures { result ≡ tie_to picture.now behind.now name }
 {
@@ -185,7 +187,7 @@ fn tie_to(picture: &Picture, behind: &[Name], name: Name) -> Option<Shape>
     }
 }
 
-/// Adds the arrows between the records behind the order.
+/// Appends the arrows between the records after the order.
 pub(crate) fn push_ties(
     shapes: &mut Vec<Shape>,
     picture: &Picture,

@@ -1,5 +1,5 @@
-//! The records that have a row behind the order: of those that it does not take the next of each log, the faulty one, the
-//! one that its fault concerns, and those that wait for one another.
+//! The records that have a row after the order. Of those that the order does not take, these are the next of each log,
+//! the faulty record, the record that its fault concerns, and those that wait for one another.
 
 ghost use Rattle.std.specs.Prelude.{◌≡◌, [], ◌∷◌, ◌++◌, filter, IfOk, OnOk};
 ghost use Rattle.order_picture.specs.Behind.{is_behind, kind_behind, log_behind, names_behind, obstacle_of, place_in, stands_out, tie_at, tie_of};
@@ -11,11 +11,11 @@ use migration_types::{LogName, Session, logs};
 use session_story::{Explanation, Knot, Told, Waiting};
 use std::alloc::{AllocError, Global};
 
-/// A record that waits for another that does.
+/// A record that waits for another waiting record.
 #[derive(Clone, Copy)]
 pub(crate) struct Tie {
     pub waiting: Waiting,
-    /// What it waits for, or what comes before that in its log.
+    /// The record that it waits for, or one that comes before that in its log.
     pub next: Waiting,
 }
 
@@ -24,15 +24,15 @@ pub(crate) struct Tie {
 pub enum Obstacle {
     /// The order takes it.
     Nothing,
-    /// It waits for another that waits.
+    /// It waits for another waiting record.
     Waits,
-    /// What it receives was not taken.
+    /// The record that it receives was not taken.
     NotSent,
-    /// The order ends before it, and nothing else keeps it.
+    /// The order ends before it, and nothing else prevents it.
     Unhindered,
 }
 
-/// The place of a record among those that wait for one another.
+/// Returns the place of a record among those that wait for one another.
 fn place_in(knot: &Knot, name: Name) -> Option<usize>
     ensures { result ≡ place_in knot.now name }
 {
@@ -41,7 +41,7 @@ fn place_in(knot: &Knot, name: Name) -> Option<usize>
         .position(|waiting| is_one(Some((waiting.log, waiting.place)), name))
 }
 
-/// The record at this place of those that wait for one another, and the one that it waits for.
+/// Returns the record at this place of those that wait for one another, and the one that it waits for.
 fn tie_at(knot: &Knot, place: Option<usize>) -> Option<Tie>
     ensures { result ≡ tie_at knot.now place }
 {
@@ -57,7 +57,7 @@ fn tie_at(knot: &Knot, place: Option<usize>) -> Option<Tie>
     }
 }
 
-/// A record and the one that it waits for, where both are of those that wait for one another.
+/// Returns a record and the record that it waits for, if both are among those that wait for one another.
 pub(crate) fn tie_of(told: &Told, name: Name) -> Option<Tie>
     ensures { result ≡ tie_of told.now name }
 {
@@ -67,7 +67,7 @@ pub(crate) fn tie_of(told: &Told, name: Name) -> Option<Tie>
     }
 }
 
-/// Whether a record has a row even where the order does not come to it.
+/// Returns whether a record has a row even if the order does not reach it.
 fn stands_out(picture: &Picture, name: Name) -> bool
     ensures { result ≡ stands_out picture.now name }
 {
@@ -76,14 +76,14 @@ fn stands_out(picture: &Picture, name: Name) -> bool
         || tie_of(&picture.told, name).is_some()
 }
 
-/// Whether a record that the order does not take has a row.
+/// Returns whether a record that the order does not take has a row.
 fn is_behind(picture: &Picture, name: Name) -> bool
     ensures { result ≡ is_behind picture.now name }
 {
     name.1 as usize == picture.taken.of(name.0) || stands_out(picture, name)
 }
 
-/// Adds a record, if it has a row.
+/// Appends a record, if it has a row.
 fn push_if_behind(names: &mut Vec<Name>, picture: &Picture, name: Name) -> Result<(), AllocError>
     ensures { OnOk result (names.new.items ≡ names.old.items ++ filter (is_behind picture.now) (name ∷ [])) }
 {
@@ -93,7 +93,7 @@ fn push_if_behind(names: &mut Vec<Name>, picture: &Picture, name: Name) -> Resul
     Ok(())
 }
 
-/// Adds the records of a log that have a row behind the order.
+/// Appends the records of a log that have a row after the order.
 fn push_log_behind(
     names: &mut Vec<Name>,
     session: &Session,
@@ -110,7 +110,7 @@ fn push_log_behind(
     Ok(())
 }
 
-/// The records that have a row behind the order.
+/// Returns the records that have a row after the order.
 pub(crate) fn names_behind(
     alloc: Global,
     session: &Session,
@@ -125,7 +125,7 @@ pub(crate) fn names_behind(
     Ok(names)
 }
 
-/// What the box of a record behind the order says of it.
+/// Returns what the box of a record after the order says about it.
 pub(crate) fn kind_behind(picture: &Picture, name: Name) -> BoxKind
     ensures { result ≡ kind_behind picture.now name }
 {
@@ -140,7 +140,7 @@ pub(crate) fn kind_behind(picture: &Picture, name: Name) -> BoxKind
     }
 }
 
-/// Why the order does not take a record.
+/// Returns why the order does not take a record.
 pub(crate) fn obstacle_of(session: &Session, picture: &Picture, name: Name) -> Obstacle
     ensures { result ≡ obstacle_of session.now picture.now name }
 {

@@ -1,4 +1,4 @@
-//! The rows of a picture: the boxes of records, and what is folded.
+//! The rows of a picture: the boxes of records, and the folded records.
 
 ghost use Rattle.std.specs.Prelude.{◌≡◌, [], ◌∷◌, ◌++◌, length, map, OnOk};
 ghost use Rattle.std.specs.List.{enumerate_from};
@@ -13,7 +13,7 @@ use migration_types::{Session, line_of};
 use session_story::Amended;
 use std::alloc::AllocError;
 
-/// What the box of a record says of it.
+/// What the box of a record says about it.
 #[derive(Clone, Copy)]
 pub enum BoxKind {
     /// It is the faulty record.
@@ -24,13 +24,13 @@ pub enum BoxKind {
     OfPage,
     /// It is another record of the order.
     Plain,
-    /// It waits for another that does.
+    /// It waits for another waiting record.
     Tied,
-    /// It is the next of its log, which the order does not take.
+    /// It is the next record of its log, which the order does not take.
     Stuck,
 }
 
-/// What the label of a box has.
+/// What the label of a box shows.
 #[derive(Clone, Copy)]
 pub enum Label {
     /// The record as it is.
@@ -39,7 +39,7 @@ pub enum Label {
     Amended,
 }
 
-/// The line at which the session's text has a record, from 1; 0 where the session has no such record.
+/// Returns the line of a record in the session's text, from 1, or 0 if the session has no such record.
 fn line_in(session: &Session, name: Name) -> u32
     ensures { result ≡ line_in session.now name }
 {
@@ -50,7 +50,8 @@ fn line_in(session: &Session, name: Name) -> u32
     }
 }
 
-/// What the label of a box has: that of the faulty record its wrong value with the right one, where they are known.
+/// Returns what the label of a box shows. That of the faulty record shows its wrong value and the right one, if they
+/// are known.
 fn label_in(amended: &Option<Amended>, kind: BoxKind) -> Label
     ensures { result ≡ label_in amended.now kind }
 {
@@ -60,7 +61,7 @@ fn label_in(amended: &Option<Amended>, kind: BoxKind) -> Label
     }
 }
 
-/// What the box of a record of the order says, which is marked so.
+/// Returns what the box of a record of the order with this mark says.
 pub(crate) fn kind_of(mark: Mark) -> BoxKind
     ensures { result ≡ kind_of mark }
 {
@@ -72,7 +73,7 @@ pub(crate) fn kind_of(mark: Mark) -> BoxKind
     }
 }
 
-/// The shape of a row of the order.
+/// Returns the shape of a row of the order.
 fn row_shape(session: &Session, amended: &Option<Amended>, place: usize, row: &Row) -> Shape
     ensures { result ≡ row_shape session.now amended.now (place, row.now) }
 {
@@ -97,7 +98,7 @@ fn row_shape(session: &Session, amended: &Option<Amended>, place: usize, row: &R
     }
 }
 
-/// Adds the rows of the order.
+/// Appends the rows of the order.
 pub(crate) fn push_rows(
     shapes: &mut Vec<Shape>,
     session: &Session,
@@ -112,7 +113,7 @@ pub(crate) fn push_rows(
     Ok(())
 }
 
-/// The box of a record behind the order, in this row.
+/// Returns the box of a record after the order, in this row.
 fn behind_box(
     session: &Session,
     amended: &Option<Amended>,
@@ -134,7 +135,7 @@ fn behind_box(
     }
 }
 
-/// Adds the rows of the records behind the order.
+/// Appends the rows of the records after the order.
 pub(crate) fn push_behind(
     shapes: &mut Vec<Shape>,
     session: &Session,

@@ -50,7 +50,7 @@ fn begin_margin(out: &mut Vec<u8>, y: u64) -> Result<(), AllocError> {
     push(out, b">")
 }
 
-/// Adds the word above the lines in the margin.
+/// Appends the word above the lines in the margin.
 pub(crate) fn push_margin_name(out: &mut Vec<u8>) -> Result<(), AllocError> {
     begin_margin(out, NAMES)?;
     push(out, LINES)?;
@@ -58,7 +58,7 @@ pub(crate) fn push_margin_name(out: &mut Vec<u8>) -> Result<(), AllocError> {
     push(out, b"\n")
 }
 
-/// Adds a column's name, and the line down it as far as so many rows.
+/// Appends a column's name, and the line down it as far as this many rows.
 pub(crate) fn push_column(
     out: &mut Vec<u8>,
     columns: Columns,
@@ -79,7 +79,7 @@ pub(crate) fn push_column(
     push(out, b"/>\n")
 }
 
-/// Adds a line that is painted so and has the head of an arrow.
+/// Appends a line with this paint and the head of an arrow.
 fn push_line(
     out: &mut Vec<u8>,
     from: (u64, u64),
@@ -94,7 +94,7 @@ fn push_line(
     push(out, b"\n")
 }
 
-/// The height of an arrow at a row.
+/// Returns the height of an arrow at a row.
 fn height_at(arrow: &Arrow, row: usize) -> u64 {
     match arrow.kind {
         ArrowKind::Received | ArrowKind::OfPage => middle_of(row),
@@ -108,7 +108,7 @@ fn height_at(arrow: &Arrow, row: usize) -> u64 {
     }
 }
 
-/// Adds an arrow from one record to another.
+/// Appends an arrow from one record to another.
 pub(crate) fn push_arrow(
     out: &mut Vec<u8>,
     columns: Columns,
@@ -125,7 +125,7 @@ pub(crate) fn push_arrow(
     push_line(out, from, to, arrow_paint(arrow.kind), arrow.kind)
 }
 
-/// Adds the end of an arrow from a record that has no row.
+/// Appends the end of an arrow from a record that has no row.
 pub(crate) fn push_stub(
     out: &mut Vec<u8>,
     columns: Columns,
@@ -142,7 +142,7 @@ pub(crate) fn push_stub(
     push_line(out, (from, y), (x, y), STUB_LINE, ArrowKind::Received)
 }
 
-/// The class of a record's row.
+/// Returns the class of a record's row.
 fn row_class(kind: BoxKind) -> &'static [u8] {
     match kind {
         BoxKind::Faulty | BoxKind::Tied => b"row record faulty",
@@ -170,7 +170,7 @@ fn begin_row(
     push(out, b"</title>")
 }
 
-/// Adds a record's line in the margin, if it has one.
+/// Appends a record's line number in the margin, if it has one.
 fn push_record_line(out: &mut Vec<u8>, one: &RecordBox) -> Result<(), AllocError> {
     if one.line == 0 {
         return Ok(());
@@ -180,7 +180,7 @@ fn push_record_line(out: &mut Vec<u8>, one: &RecordBox) -> Result<(), AllocError
     end_text(out)
 }
 
-/// Adds a sign to a box, at its right.
+/// Appends a sign at the right of a box.
 fn push_sign(
     out: &mut Vec<u8>,
     columns: Columns,
@@ -194,8 +194,8 @@ fn push_sign(
     push(out, b"</g>")
 }
 
-/// Adds a box, with its sign: a cross where the record is faulty or waits for another that waits, and a diamond where the
-/// fault concerns it.
+/// Appends a box with its sign: a cross if the record is faulty or waits for another waiting record, and a diamond if
+/// the fault concerns it.
 fn push_box(
     out: &mut Vec<u8>,
     columns: Columns,
@@ -219,7 +219,7 @@ fn push_box(
     }
 }
 
-/// Adds the number and the label in a record's box.
+/// Appends the number and the label in a record's box.
 fn push_box_text(
     out: &mut Vec<u8>,
     subject: Subject<'_>,
@@ -241,7 +241,7 @@ fn push_box_text(
     end_text(out)
 }
 
-/// Adds the row of a record.
+/// Appends the row of a record.
 pub(crate) fn push_record(
     out: &mut Vec<u8>,
     alloc: Global,
@@ -260,7 +260,7 @@ pub(crate) fn push_record(
     push(out, b"</g>\n")
 }
 
-/// Adds the frame of what is folded, for so many letters.
+/// Appends the frame around folded records, for this many letters.
 fn push_frame(out: &mut Vec<u8>, middle: u64, row: usize, letters: u64) -> Result<(), AllocError> {
     let width = letters.saturating_mul(LETTER).saturating_add(FOLD_BESIDE);
     push(out, b"<rect")?;
@@ -274,7 +274,7 @@ fn push_frame(out: &mut Vec<u8>, middle: u64, row: usize, letters: u64) -> Resul
     push(out, b"/>")
 }
 
-/// Adds the row of what is folded.
+/// Appends a row of folded records.
 pub(crate) fn push_fold(
     out: &mut Vec<u8>,
     alloc: Global,

@@ -4,12 +4,12 @@ use crate::style::{Head, Paint};
 use std::alloc::AllocError;
 use text_lines::push_number;
 
-/// Adds a text.
+/// Appends a text.
 pub(crate) fn push(out: &mut Vec<u8>, text: &[u8]) -> Result<(), AllocError> {
     out.extend_from_slice(text)
 }
 
-/// Adds an attribute, if its value is not empty.
+/// Appends an attribute, if its value is not empty.
 pub(crate) fn push_attribute(
     out: &mut Vec<u8>,
     name: &[u8],
@@ -25,7 +25,7 @@ pub(crate) fn push_attribute(
     push(out, b"'")
 }
 
-/// Adds an attribute with a number.
+/// Appends an attribute with a number.
 pub(crate) fn push_length(out: &mut Vec<u8>, name: &[u8], number: u64) -> Result<(), AllocError> {
     push(out, b" ")?;
     push(out, name)?;
@@ -34,7 +34,7 @@ pub(crate) fn push_length(out: &mut Vec<u8>, name: &[u8], number: u64) -> Result
     push(out, b"'")
 }
 
-/// Adds the attributes with a painted part's colours.
+/// Appends the attributes with a painted part's colours.
 pub(crate) fn push_colours(out: &mut Vec<u8>, paint: Paint) -> Result<(), AllocError> {
     push_attribute(out, b"fill", paint.fill)?;
     push_attribute(out, b"stroke", paint.stroke)?;
@@ -42,7 +42,7 @@ pub(crate) fn push_colours(out: &mut Vec<u8>, paint: Paint) -> Result<(), AllocE
     push_attribute(out, b"stroke-dasharray", paint.dashes)
 }
 
-/// Adds the attributes with a painted part's class and colours.
+/// Appends the attributes with a painted part's class and colours.
 pub(crate) fn push_paint(out: &mut Vec<u8>, paint: Paint) -> Result<(), AllocError> {
     push_attribute(out, b"class", paint.class)?;
     push_colours(out, paint)
@@ -68,7 +68,7 @@ pub(crate) fn begin_at(out: &mut Vec<u8>, x: u64, y: u64) -> Result<(), AllocErr
     push(out, b")'>")
 }
 
-/// Adds where a line goes.
+/// Appends the ends of a line.
 pub(crate) fn push_ends(
     out: &mut Vec<u8>,
     x1: u64,
@@ -82,14 +82,14 @@ pub(crate) fn push_ends(
     push_length(out, b"y2", y2)
 }
 
-/// Adds the head of a line, and ends the line.
+/// Appends the head of a line, and ends the line.
 pub(crate) fn end_arrow(out: &mut Vec<u8>, head: Head) -> Result<(), AllocError> {
     push(out, b" marker-end='url(#")?;
     push(out, head.name)?;
     push(out, b")'/>")
 }
 
-/// Adds a path that is painted so.
+/// Appends a path with this paint.
 pub(crate) fn push_path(out: &mut Vec<u8>, path: &[u8], paint: Paint) -> Result<(), AllocError> {
     push(out, b"<path")?;
     push_attribute(out, b"class", paint.class)?;
@@ -98,7 +98,7 @@ pub(crate) fn push_path(out: &mut Vec<u8>, path: &[u8], paint: Paint) -> Result<
     push(out, b"/>")
 }
 
-/// Adds the head of an arrow, for lines to have it.
+/// Appends the head of an arrow, which lines then refer to.
 pub(crate) fn push_head(out: &mut Vec<u8>, head: Head) -> Result<(), AllocError> {
     push(out, b"<marker")?;
     push_attribute(out, b"id", head.name)?;

@@ -15,7 +15,7 @@ use session_story::{FaultStory, PageTold, Told, concerned_of, page_of};
 pub enum Mark {
     /// It is the faulty record that the picture is about.
     Faulty,
-    /// It is the record that is told of as the one that the fault concerns.
+    /// It is the record that the fault concerns.
     Concerned,
     /// It is about the page that the picture is about.
     OfPage,
@@ -25,15 +25,15 @@ pub enum Mark {
 /// What a picture is about.
 #[derive(Clone, Copy)]
 pub struct Focus {
-    /// The faulty record: the report's, or that of the first fault of the page that is told of.
+    /// The faulty record: the report's, or that of the first fault of the story's page.
     pub fault: Option<Name>,
     /// The record that the fault concerns.
     pub concerned: Option<Name>,
-    /// The page: the one that the report's faulty record is about, or the one that is told of.
+    /// The page of the report's faulty record, or the page of the story.
     pub page: Option<PageNo>,
 }
 
-/// Whether both are the same page.
+/// Returns whether both are the same page.
 fn is_page(page: Option<PageNo>, other: Option<PageNo>) -> bool
     ensures { result ≡ is_page page other }
 {
@@ -43,7 +43,7 @@ fn is_page(page: Option<PageNo>, other: Option<PageNo>) -> bool
     }
 }
 
-/// How a record is marked.
+/// Returns the mark of a record.
 pub(crate) fn mark_of(session: &Session, focus: &Focus, name: Name) -> Mark
     ensures { result ≡ mark_of session.now focus.now name }
 {
@@ -61,7 +61,7 @@ pub(crate) fn mark_of(session: &Session, focus: &Focus, name: Name) -> Mark
     }
 }
 
-/// The faulty record of a report.
+/// Returns the faulty record of a report.
 fn fault_of(report: &Report) -> Option<Name>
     ensures { result ≡ fault_of report.now }
 {
@@ -73,7 +73,7 @@ fn fault_of(report: &Report) -> Option<Name>
     }
 }
 
-/// The record of a fault of a page, if there is one.
+/// Returns the record of a fault of a page, if there is one.
 fn faulty_in(fault: &Option<FaultStory>) -> Option<Name>
     ensures { result ≡ faulty_in fault.now }
 {
@@ -83,7 +83,7 @@ fn faulty_in(fault: &Option<FaultStory>) -> Option<Name>
     }
 }
 
-/// The faulty record that a picture is about, by what is told.
+/// Returns the faulty record that a picture is about, given the story.
 fn fault_for(report: &Report, told: &Told) -> Option<Name>
     ensures { result ≡ fault_for report.now told.now }
 {
@@ -93,7 +93,7 @@ fn fault_for(report: &Report, told: &Told) -> Option<Name>
     }
 }
 
-/// The page that the report's faulty record is about, if there is one.
+/// Returns the page that the report's faulty record is about, if there is one.
 fn page_of_fault(session: &Session, report: &Report) -> Option<PageNo>
     ensures { result ≡ option_and_then (page_of session.now) (fault_of report.now) }
 {
@@ -103,7 +103,7 @@ fn page_of_fault(session: &Session, report: &Report) -> Option<PageNo>
     }
 }
 
-/// The page that is told of, if there is one.
+/// Returns the page of the story, if there is one.
 fn number_in(page: &Option<PageTold>) -> Option<PageNo>
     ensures { result ≡ number_in page.now }
 {
@@ -113,7 +113,7 @@ fn number_in(page: &Option<PageTold>) -> Option<PageNo>
     }
 }
 
-/// The page that a picture is about, by what is told.
+/// Returns the page that a picture is about, given the story.
 fn page_for(session: &Session, report: &Report, told: &Told) -> Option<PageNo>
     ensures { result ≡ page_for session.now report.now told.now }
 {
@@ -123,7 +123,7 @@ fn page_for(session: &Session, report: &Report, told: &Told) -> Option<PageNo>
     }
 }
 
-/// What a picture is about, by what is told.
+/// Returns what a picture is about, given the story.
 pub(crate) fn focus_of(session: &Session, report: &Report, told: &Told) -> Focus
     ensures { IsFocus session.now report.now told.now result }
 {

@@ -13,10 +13,10 @@ use migration_types::Session;
 use session_story::{Told, push_summary};
 use std::alloc::{AllocError, Global};
 
-/// So many sentences of what is told first stand in a heading.
+/// The number of first sentences of the story in a heading.
 const MOST_SENTENCES: usize = 2;
 
-/// What a picture shows is told of this.
+/// The session, its report and its story, which a picture shows.
 #[derive(Clone, Copy)]
 pub(crate) struct Subject<'a> {
     pub session: &'a Session,
@@ -28,18 +28,18 @@ pub(crate) struct Subject<'a> {
 #[derive(Drop)]
 pub(crate) struct Heading {
     pub text: Vec<u8>,
-    /// Where its next line stands.
+    /// The height of its next line.
     y: u64,
-    /// So many letters stand in a line at most.
+    /// The greatest number of letters in a line.
     most: u64,
 }
 
-/// Whether a line of at most so many letters has room for a word.
+/// Returns whether a line of at most this many letters has room for one more word.
 fn has_room(most: u64, line: &[u8], word: &[u8]) -> bool {
     line.is_empty() || (line.len().saturating_add(word.len()) as u64) < most
 }
 
-/// Adds the first line: that of the report.
+/// Appends the first line, which is the report's.
 fn push_title(out: &mut Vec<u8>, report: &Report) -> Result<(), AllocError> {
     begin_text(out, INK)?;
     push_length(out, b"x", HEADING_LEFT)?;
@@ -52,12 +52,12 @@ fn push_title(out: &mut Vec<u8>, report: &Report) -> Result<(), AllocError> {
 }
 
 impl Heading {
-    /// How much room it takes beyond four lines.
+    /// Returns how much room it takes beyond four lines.
     pub(crate) fn beyond(&self) -> u64 {
         self.y.saturating_sub(HEADING_END)
     }
 
-    /// Adds a line.
+    /// Appends a line.
     fn push_line(&mut self, words: &[u8]) -> Result<(), AllocError> {
         begin_text(&mut self.text, INK)?;
         push_length(&mut self.text, b"x", HEADING_LEFT)?;
@@ -70,7 +70,7 @@ impl Heading {
         Ok(())
     }
 
-    /// Adds a word to a line, or begins the next line with it where that has no room for it.
+    /// Appends a word to a line, or begins the next line with it if the line has no room for it.
     fn push_word(&mut self, line: &mut Vec<u8>, word: &[u8]) -> Result<(), AllocError> {
         if !has_room(self.most, line, word) {
             self.push_line(line)?;
@@ -82,7 +82,7 @@ impl Heading {
         push(line, word)
     }
 
-    /// Adds the lines of a sentence.
+    /// Appends the lines of a sentence.
     fn push_sentence(&mut self, alloc: Global, sentence: &[u8]) -> Result<(), AllocError> {
         let mut line = Vec::new(alloc);
         let mut word = Vec::new(alloc);
@@ -98,7 +98,7 @@ impl Heading {
         self.push_line(&line)
     }
 
-    /// Adds the lines of the first sentences of a text, each of which is a line there.
+    /// Appends the lines of the first sentences of a text, in which each sentence is a line.
     fn push_sentences(&mut self, alloc: Global, text: &[u8]) -> Result<(), AllocError> {
         let mut sentence = Vec::new(alloc);
         let mut left = MOST_SENTENCES;
@@ -116,28 +116,28 @@ impl Heading {
         Ok(())
     }
 
-    /// Adds the lines of what is told first.
+    /// Appends the lines of the first sentences of the story.
     fn push_told(&mut self, alloc: Global, subject: Subject<'_>) -> Result<(), AllocError> {
         let mut text = String::new(alloc);
         push_summary(&mut text, subject.session, subject.told)?;
         self.push_sentences(alloc, text.as_bytes())
     }
 
-    /// Adds the line that says which order is shown.
+    /// Appends the line that says which order is shown.
     fn push_order(&mut self, alloc: Global, order: OrderShown) -> Result<(), AllocError> {
         let mut words = Vec::new(alloc);
         push_order(&mut words, order)?;
         self.push_line(&words)
     }
 
-    /// Adds the line that says what the session is.
+    /// Appends the line that describes the session.
     fn push_facts(&mut self, alloc: Global, session: &Session) -> Result<(), AllocError> {
         let mut words = Vec::new(alloc);
         push_facts(&mut words, session)?;
         self.push_line(&words)
     }
 
-    /// Adds a shape, if it is of the heading.
+    /// Appends a shape, if it belongs to the heading.
     fn push_shape(
         &mut self,
         alloc: Global,
@@ -154,7 +154,7 @@ impl Heading {
     }
 }
 
-/// The heading that these shapes have, in a picture of this width.
+/// Returns the heading with these shapes, in a picture of this width.
 pub(crate) fn heading_of(
     alloc: Global,
     subject: Subject<'_>,

@@ -1,4 +1,4 @@
-//! Which order the heading of a picture says to be shown.
+//! What the heading of a picture says about the order that is shown.
 
 ghost use Rattle.std.specs.Prelude.{◌≡◌};
 ghost use Rattle.order_picture.specs.Headings.{faulty_order, found_order, given_order, order_shown, reported_order};
@@ -10,32 +10,32 @@ use session_story::{Told, is_always_wrong};
 /// Which order a picture shows.
 #[derive(Clone, Copy)]
 pub enum Shown {
-    /// That of the report.
+    /// The order of the report.
     Reported,
-    /// That of given runs.
+    /// The order of given runs.
     Given,
 }
 
-/// What the heading says of the order.
+/// What the heading says about the order.
 #[derive(Clone, Copy)]
 pub enum OrderShown {
-    /// A record goes wrong in every order, as in this one.
+    /// A record goes wrong in every order, as it does in this one.
     EveryOrder,
     /// A record goes wrong in this order.
     OneOrder,
-    /// It shows the first fault of the session, where the picture is about a page or a line.
+    /// It shows the first fault of the session, and the picture is about a page or a line.
     FirstFault,
-    /// It is the found order, which is whole.
+    /// It is the found order, which is complete.
     Found,
     /// It is the found order, as far as it goes.
     FoundPart,
-    /// It is that of the given runs, which spell a merging.
+    /// It is the order of the given runs, which spell a merging.
     Given,
-    /// It is that of the given runs before the one at this place, which cannot be taken.
+    /// It is the order of the given runs before the one at this place, which cannot be taken.
     GivenPart(usize),
 }
 
-/// What is said of an order that shows a fault of the session, by what is told.
+/// Returns what the heading says about an order that shows a fault of the session, given the story.
 fn faulty_order(told: &Told) -> OrderShown
     ensures { result ≡ faulty_order told.now }
 {
@@ -51,7 +51,7 @@ fn faulty_order(told: &Told) -> OrderShown
     }
 }
 
-/// What is said of the found order, by the first run of it that cannot be taken.
+/// Returns what the heading says about the found order, given the first of its runs that cannot be taken.
 fn found_order(bad: Option<usize>) -> OrderShown
     ensures { result ≡ found_order bad }
 {
@@ -61,7 +61,7 @@ fn found_order(bad: Option<usize>) -> OrderShown
     }
 }
 
-/// What is said of given runs, by the first of them that cannot be taken.
+/// Returns what the heading says about given runs, given the first of them that cannot be taken.
 fn given_order(bad: Option<usize>) -> OrderShown
     ensures { result ≡ given_order bad }
 {
@@ -71,7 +71,7 @@ fn given_order(bad: Option<usize>) -> OrderShown
     }
 }
 
-/// What is said of the order of a report.
+/// Returns what the heading says about the order of a report.
 fn reported_order(report: &Report, picture: &Picture) -> OrderShown
     ensures { result ≡ reported_order report.now picture.now }
 {
@@ -81,7 +81,7 @@ fn reported_order(report: &Report, picture: &Picture) -> OrderShown
     }
 }
 
-/// What the heading says of the order that a picture shows.
+/// Returns what the heading says about the order that a picture shows.
 pub(crate) fn order_shown(report: &Report, picture: &Picture, shown: Shown) -> OrderShown
     ensures { result ≡ order_shown report.now picture.now shown }
 {

@@ -1,46 +1,60 @@
-//! Which records of an order have a row of their own: the page's, but of its reads and writes before the faulty record
-//! those alone that are told of; what these receive, the halt and the resume, and those that stand next to the faulty
-//! one; of too many the first, the last, those nearest to it, and the one that its fault concerns.
+//! Which records of an order have a row of their own: those of the page, except that of its reads and writes before the
+//! faulty record only those in the story do; the records that these receive; the halt and the resume; and those next to
+//! the faulty record. If these are too many, only the first, the last, those nearest to the faulty record, and the one
+//! that its fault concerns.
 
 use crate::focus::{Focus, Mark, mark_of};
 use crate::records::{Name, is_one};
-use migration_types::{GuestRec, LOG_COUNT, LOGS, LogName, Session};
+use migration_types::{GuestRec, LOG_COUNT, LogName, Session, logs};
 use session_story::{Told, tells_of};
 use std::alloc::{AllocError, Global};
 
-/// So many are kept at each end of the order.
+/// How many are kept at each end of the order.
 const MOST_AT_ENDS: usize = 8;
 
-/// So many are kept on each side of the middle.
+/// How many are kept on each side of the middle.
 const MOST_BESIDE: usize = 40;
 
-/// How many records the first so many logs of a session have.
-fn records_before(session: &Session, count: usize) -> usize {
-    let mut before: usize = 0;
-    for log in LOGS.iter().take(count) {
-        before = before.saturating_add(session.len(*log));
+/// Where each log begins if all records of a session stand in one list, log after log, and how many records there are.
+#[derive(Clone, Copy)]
+struct Begins {
+    logs: [usize; LOG_COUNT],
+    all: usize,
+}
+
+impl Begins {
+    /// Returns where the logs of a session begin.
+    fn of(session: &Session) -> Self {
+        let mut begins = Begins {
+            logs: [0; LOG_COUNT],
+            all: 0,
+        };
+        for log in logs() {
+            begins.logs[log.index()] = begins.all;
+            begins.all = begins.all.saturating_add(session.len(log));
+        }
+        begins
     }
-    before
+
+    /// Returns the place of a record among all records of the session.
+    fn place(&self, name: Name) -> usize {
+        self.logs[name.0.index()].saturating_add(name.1 as usize)
+    }
 }
 
-/// The place of a record among all of a session.
-fn place_among(session: &Session, name: Name) -> usize {
-    records_before(session, name.0.index()).saturating_add(name.1 as usize)
-}
-
-/// Says of a place that it is wanted, if it is there.
+/// Marks a place as wanted, if it exists.
 fn want(wanted: &mut Vec<bool>, place: usize) {
     if let Some(is_wanted) = wanted.get_mut(place) {
         *is_wanted = true;
     }
 }
 
-/// Whether a place is wanted.
+/// Returns whether a place is wanted.
 fn is_wanted(wanted: &[bool], place: usize) -> bool {
     wanted.get(place).copied().unwrap_or(false)
 }
 
-/// Whether the record is the halt or the resume.
+/// Returns whether the record is the halt or the resume.
 fn hands_over(session: &Session, name: Name) -> bool {
     name.0 == LogName::Guest
         && matches!(
@@ -49,7 +63,7 @@ fn hands_over(session: &Session, name: Name) -> bool {
         )
 }
 
-/// Whether the record reads or writes a page.
+/// Returns whether the record reads or writes a page.
 fn uses(session: &Session, name: Name) -> bool {
     name.0 == LogName::Guest
         && matches!(
@@ -64,16 +78,17 @@ pub(crate) struct Keeping<'a> {
     pub session: &'a Session,
     pub told: &'a Told,
     pub focus: &'a Focus,
-    /// Around which place of the order most is shown.
+    /// The place of the order around which most is shown.
     pub middle: usize,
 }
 
-/// Whether a picture is about the order: what it tells of is the report, and that names no record of a page.
+/// Returns whether a picture is about the order: its story is that of the report, and the report names no record of a
+/// page.
 fn is_of_order(keeping: &Keeping<'_>) -> bool {
     keeping.focus.page.is_none() && matches!(keeping.told, Told::Report(_))
 }
 
-/// Whether a record concerns what the picture is about: a page, or the order.
+/// Returns whether a record concerns what the picture is about: a page, or the order.
 fn concerns(keeping: &Keeping<'_>, place: usize, name: Name) -> bool {
     if hands_over(keeping.session, name) {
         return true;
@@ -87,47 +102,48 @@ fn concerns(keeping: &Keeping<'_>, place: usize, name: Name) -> bool {
     }
 }
 
-/// Which records of the session concern what the picture is about, or are received by such a one.
+/// Returns which records of the session concern what the picture is about, or are received by such a record.
 fn concerned(
     alloc: Global,
     keeping: &Keeping<'_>,
+    begins: Begins,
     order: &[Name],
 ) -> Result<Vec<bool>, AllocError> {
     let session = keeping.session;
-    let mut flags = vec![in alloc; false; records_before(session, LOG_COUNT)]?;
+    let mut flags = vec![in alloc; false; begins.all]?;
     for (place, name) in order.iter().enumerate() {
         if concerns(keeping, place, *name) {
-            want(&mut flags, place_among(session, *name));
+            want(&mut flags, begins.place(*name));
             if let Some(sent) = session.named(*name) {
-                want(&mut flags, place_among(session, sent));
+                want(&mut flags, begins.place(sent));
             }
         }
     }
     Ok(flags)
 }
 
-/// Which places of the order have a record with its flag.
+/// Returns which places of the order have a record whose flag is set.
 fn in_order(
     alloc: Global,
-    session: &Session,
+    begins: Begins,
     order: &[Name],
     flags: &[bool],
 ) -> Result<Vec<bool>, AllocError> {
     let mut wanted = vec![in alloc; false; order.len()]?;
     for (n, name) in order.iter().enumerate() {
-        if is_wanted(flags, place_among(session, *name)) {
+        if is_wanted(flags, begins.place(*name)) {
             want(&mut wanted, n);
         }
     }
     Ok(wanted)
 }
 
-/// How many places before this one are wanted.
+/// Returns how many places before this one are wanted.
 fn wanted_before(wanted: &[bool], place: usize) -> usize {
     wanted.iter().take(place).filter(|is| **is).count()
 }
 
-/// Leaves the first and the last of too many, and those nearest to this place.
+/// If there are too many, keeps the first and the last, and those nearest to this place.
 fn leave_nearest(wanted: &mut Vec<bool>, middle: usize) {
     let count = wanted_before(wanted, wanted.len());
     let rank = wanted_before(wanted, middle);
@@ -143,13 +159,12 @@ fn leave_nearest(wanted: &mut Vec<bool>, middle: usize) {
     }
 }
 
-/// Whether a place is wanted, or there is no such place.
+/// Returns whether a place is wanted, or there is no such place.
 fn is_wanted_or_none(wanted: &[bool], place: usize) -> bool {
     wanted.get(place).copied().unwrap_or(true)
 }
 
-/// A single record between two that are wanted, or between one and an end, takes no more room than what would stand for
-/// it.
+/// Wants a single record between two wanted ones, or between one and an end: it takes no more room than a fold of it.
 fn fill_gaps(wanted: &mut Vec<bool>) {
     for n in 0..wanted.len() {
         let is_behind_one = n == 0 || is_wanted(wanted, n.saturating_sub(1));
@@ -159,7 +174,8 @@ fn fill_gaps(wanted: &mut Vec<bool>) {
     }
 }
 
-/// Which places of an order have a row of their own. Takes a flag for each record. An error: there is no memory for it.
+/// Returns which places of an order have a row of their own. Allocates memory for a flag for each record. Fails only if
+/// memory runs out.
 pub(crate) fn kept_in(
     alloc: Global,
     keeping: &Keeping<'_>,
@@ -167,8 +183,9 @@ pub(crate) fn kept_in(
 ) -> Result<Vec<bool>, AllocError> {
     let focus = keeping.focus;
     let middle = keeping.middle;
-    let flags = concerned(alloc, keeping, order)?;
-    let mut wanted = in_order(alloc, keeping.session, order, &flags)?;
+    let begins = Begins::of(keeping.session);
+    let flags = concerned(alloc, keeping, begins, order)?;
+    let mut wanted = in_order(alloc, begins, order, &flags)?;
     if focus.fault.is_some() {
         want(&mut wanted, middle.saturating_sub(1));
         want(&mut wanted, middle.saturating_add(1));

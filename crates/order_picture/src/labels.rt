@@ -1,4 +1,4 @@
-//! The labels in the boxes of a picture: what was done, to which cell of which page, and which record is named.
+//! The labels in the boxes of a picture: what the record did, to which cell of which page, and which record it names.
 
 use crate::boxes::Label;
 use crate::drawing::RecordBox;
@@ -10,7 +10,7 @@ use session_story::{Amended, amended_by};
 use std::alloc::AllocError;
 use text_lines::push_number;
 
-/// Adds a field: a page as in " p1", a cell as in "[0]", a value as in " = 9", and a record as in " guest 5".
+/// Appends a field: a page as in " p1", a cell as in "[0]", a value as in " = 9", and a record as in " guest 5".
 fn push_field(out: &mut Vec<u8>, field: Field) -> Result<(), AllocError> {
     match field {
         Field::Vcpu(_) => Ok(()),
@@ -36,7 +36,7 @@ fn push_field(out: &mut Vec<u8>, field: Field) -> Result<(), AllocError> {
     }
 }
 
-/// What was done: for a use or a release a word in place of the letter that lines have.
+/// Returns the word for what was done: for a use or a release, a word instead of the letter that lines have.
 fn done_word(session: &Session, name: Name, word: &'static [u8]) -> &'static [u8] {
     let used = match name.0 {
         LogName::Guest => session.guest().get(name.1 as usize).copied(),
@@ -50,7 +50,7 @@ fn done_word(session: &Session, name: Name, word: &'static [u8]) -> &'static [u8
     }
 }
 
-/// Adds the cell with the wrong value, and the right one, as in " p1[0] = 7, right: 9".
+/// Appends the cell with the wrong value, and the right one, as in " p1[0] = 7, right: 9".
 fn push_amended(out: &mut Vec<u8>, amended: &Amended) -> Result<(), AllocError> {
     push_field(out, Field::Page(amended.page))?;
     push_field(out, Field::Cell(amended.cell))?;
@@ -59,7 +59,7 @@ fn push_amended(out: &mut Vec<u8>, amended: &Amended) -> Result<(), AllocError> 
     push_number(out, amended.right)
 }
 
-/// Adds the fields of a record.
+/// Appends the fields of a record.
 fn push_fields(out: &mut Vec<u8>, fields: &[Field]) -> Result<(), AllocError> {
     for field in fields {
         push_field(out, *field)?;
@@ -67,7 +67,7 @@ fn push_fields(out: &mut Vec<u8>, fields: &[Field]) -> Result<(), AllocError> {
     Ok(())
 }
 
-/// Adds the wrong value of the faulty record, and the right one, if they are known.
+/// Appends the wrong value of the faulty record, and the right one, if they are known.
 fn push_wrong(out: &mut Vec<u8>, subject: Subject<'_>) -> Result<(), AllocError> {
     match amended_by(subject.session, subject.told) {
         Some(amended) => push_amended(out, &amended),
@@ -75,7 +75,7 @@ fn push_wrong(out: &mut Vec<u8>, subject: Subject<'_>) -> Result<(), AllocError>
     }
 }
 
-/// Adds the label of a box.
+/// Appends the label of a box.
 pub(crate) fn push_label(
     out: &mut Vec<u8>,
     subject: Subject<'_>,

@@ -1,4 +1,4 @@
-//! Where the shapes of a picture stand, in pixels: the columns, the rows, and the boxes in them.
+//! The layout of a picture, in pixels: the columns, the rows, and the boxes in them.
 
 use crate::arrows::Seat;
 use crate::style::{
@@ -9,14 +9,14 @@ use migration_types::{LOG_COUNT, LogName, logs};
 /// The columns of a picture.
 #[derive(Clone, Copy)]
 pub(crate) struct Columns {
-    /// Which logs have one.
+    /// Which logs have a column.
     pub has: [bool; LOG_COUNT],
-    /// So many letters stand in a box of each log at most.
+    /// The greatest number of letters in a box of each log.
     pub letters: [usize; LOG_COUNT],
 }
 
 impl Columns {
-    /// Half the width of a box in a log's column.
+    /// Returns half the width of a box in a log's column.
     pub(crate) fn half(self, log: LogName) -> u64 {
         let least = match log {
             LogName::Guest => LEAST_GUEST_HALF,
@@ -27,7 +27,7 @@ impl Columns {
         wanted.max(least)
     }
 
-    /// Where the columns of these logs end.
+    /// Returns where the columns of these logs end.
     fn end_of(self, before: &[LogName]) -> u64 {
         let mut x = COLUMNS_LEFT;
         for log in before {
@@ -39,28 +39,28 @@ impl Columns {
         x
     }
 
-    /// The width of the picture.
+    /// Returns the width of the picture.
     pub(crate) fn width(self) -> u64 {
         self.end_of(&logs()).saturating_add(RIGHT)
     }
 
-    /// The left edge of a box in a log's column.
+    /// Returns the left edge of a box in a log's column.
     pub(crate) fn left(self, log: LogName) -> u64 {
         let all = logs();
         self.end_of(&all[..log.index()])
     }
 
-    /// The middle of a log's column.
+    /// Returns the middle of a log's column.
     pub(crate) fn middle(self, log: LogName) -> u64 {
         self.left(log).saturating_add(self.half(log))
     }
 
-    /// The right edge of a box in a log's column.
+    /// Returns the right edge of a box in a log's column.
     pub(crate) fn right(self, log: LogName) -> u64 {
         self.middle(log).saturating_add(self.half(log))
     }
 
-    /// Where an arrow meets a box on the side of another log.
+    /// Returns where an arrow meets a box on the side of another log.
     pub(crate) fn side(self, seat: Seat, other: LogName) -> u64 {
         if is_left_of(other, seat.log) {
             self.left(seat.log)
@@ -70,17 +70,17 @@ impl Columns {
     }
 }
 
-/// Whether the one log's column is left of the other's.
+/// Returns whether one log's column is left of the other's.
 pub(crate) fn is_left_of(one: LogName, other: LogName) -> bool {
     one.index() < other.index()
 }
 
-/// The upper edge of a row.
+/// Returns the upper edge of a row.
 pub(crate) fn top_of(row: usize) -> u64 {
     (row as u64).saturating_mul(ROW).saturating_add(ROWS_TOP)
 }
 
-/// The middle of a row.
+/// Returns the middle of a row.
 pub(crate) fn middle_of(row: usize) -> u64 {
     top_of(row).saturating_add(ROW / 2)
 }

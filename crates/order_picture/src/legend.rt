@@ -1,4 +1,4 @@
-//! The legend of a picture as text: each sign with what it means.
+//! The legend of a picture as text: each sign with its meaning.
 
 use crate::arrows::ArrowKind;
 use crate::boxes::BoxKind;
@@ -13,7 +13,7 @@ use crate::style::{
 use crate::words::meaning_of;
 use std::alloc::AllocError;
 
-/// Adds a box.
+/// Appends a box.
 fn push_box(out: &mut Vec<u8>, kind: BoxKind) -> Result<(), AllocError> {
     push(out, b"<rect")?;
     push_paint(out, box_paint(kind))?;
@@ -23,7 +23,7 @@ fn push_box(out: &mut Vec<u8>, kind: BoxKind) -> Result<(), AllocError> {
     push(out, b"/>")
 }
 
-/// Adds an arrow.
+/// Appends an arrow.
 fn push_arrow(out: &mut Vec<u8>, paint: Paint, kind: ArrowKind) -> Result<(), AllocError> {
     let y = SIGN_HEIGHT / 2;
     push(out, b"<line")?;
@@ -32,19 +32,19 @@ fn push_arrow(out: &mut Vec<u8>, paint: Paint, kind: ArrowKind) -> Result<(), Al
     end_arrow(out, head_of(kind))
 }
 
-/// Adds the box of a faulty record.
+/// Appends the box of a faulty record.
 fn push_faulty(out: &mut Vec<u8>) -> Result<(), AllocError> {
     push_box(out, BoxKind::Faulty)?;
     push_path(out, b"M18 4L26 12M18 12L26 4", CROSS)
 }
 
-/// Adds the box of the record that the fault concerns.
+/// Appends the box of the record that the fault concerns.
 fn push_concerned(out: &mut Vec<u8>) -> Result<(), AllocError> {
     push_box(out, BoxKind::Concerned)?;
     push_path(out, b"M22 3L27 8L22 13L17 8z", DIAMOND)
 }
 
-/// Adds a sign.
+/// Appends a sign.
 fn push_sign(out: &mut Vec<u8>, sign: Sign) -> Result<(), AllocError> {
     match sign {
         Sign::Faulty | Sign::Tied => push_faulty(out),
@@ -63,7 +63,7 @@ fn push_sign(out: &mut Vec<u8>, sign: Sign) -> Result<(), AllocError> {
     }
 }
 
-/// Adds the entry of a sign, at its place in the legend.
+/// Appends the entry of a sign, at its place in the legend.
 pub(crate) fn push_entry(out: &mut Vec<u8>, place: u64, sign: Sign) -> Result<(), AllocError> {
     begin_at(
         out,
@@ -80,7 +80,7 @@ pub(crate) fn push_entry(out: &mut Vec<u8>, place: u64, sign: Sign) -> Result<()
     push(out, b"</g>\n")
 }
 
-/// How much room a legend with so many entries takes.
+/// Returns how much room a legend with this many entries takes.
 pub(crate) fn legend_height(count: u64) -> u64 {
     (count.saturating_add(LEGEND_IN_LINE - 1) / LEGEND_IN_LINE)
         .saturating_mul(LEGEND_LINE)

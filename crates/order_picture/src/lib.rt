@@ -1,5 +1,6 @@
-//! The picture of a session's records in an order, in three steps: first a plan of it as values (which records have a row,
-//! which are folded, what is marked, which record receives which), then a list of shapes, and last their text as SVG.
+//! The picture of a session's records in an order. It is made in three steps: first a plan of it as values (which
+//! records have a row, which are folded, what is marked, which record receives which), then a list of shapes, and last
+//! their text as SVG.
 #![tactic(auto)]
 
 mod arrows;

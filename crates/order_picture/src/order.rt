@@ -13,16 +13,16 @@ use merge_runs::{Taken, first_bad_run};
 use migration_types::{LogName, Run, Session};
 use std::alloc::{AllocError, Global};
 
-/// The records of an order, and how many of each log they are.
+/// The records of an order, and how many of each log there are.
 #[derive(Drop)]
 pub(crate) struct OrderPart {
     pub names: Vec<Name>,
     pub taken: Taken,
-    /// The place of the first run that cannot be taken, or the number of the runs where records are left.
+    /// The place of the first run that cannot be taken, or the number of runs if records are left.
     pub bad: Option<usize>,
 }
 
-/// Adds the names of so many records of a log, from a place on.
+/// Appends the names of this many records of a log, from a place on.
 fn push_run(names: &mut Vec<Name>, log: LogName, from: u32, count: u32) -> Result<(), AllocError>
     requires { from + count < 2 ^ 32 }
     ensures { OnOk result (names.new.items ≡ names.old.items ++ run_names log from count) }
@@ -33,7 +33,7 @@ fn push_run(names: &mut Vec<Name>, log: LogName, from: u32, count: u32) -> Resul
     Ok(())
 }
 
-/// Adds the names of the records that runs take, and answers how many of each log they are.
+/// Appends the names of the records that the runs take, and returns how many of each log there are.
 fn push_runs(names: &mut Vec<Name>, session: &Session, runs: &[Run]) -> Result<Taken, AllocError>
     requires limits { IsSession session.now }
     requires walk { Walks session.now at_start (spelled runs.now) }
@@ -48,8 +48,8 @@ fn push_runs(names: &mut Vec<Name>, session: &Session, runs: &[Run]) -> Result<T
     Ok(taken)
 }
 
-/// The records that the runs take, where they spell a merging, and else those that the runs before the first bad one
-/// take. Takes memory for the names. An error: there is no memory for them.
+/// Returns the records that the runs take, if they spell a merging, and otherwise those that the runs before the first
+/// bad one take. Allocates memory for the names. Fails only if memory runs out.
 pub(crate) fn part_along(
     alloc: Global,
     session: &Session,

@@ -17,7 +17,7 @@ use migration_types::{GuestRec, LogName, Run, Session};
 use session_story::{Told, Topic, tell};
 use std::alloc::{AllocError, Global};
 
-/// A picture has at most so many rows.
+/// The greatest number of rows in a picture.
 pub const MOST_ROWS: usize = 203;
 
 /// A row of a picture.
@@ -29,7 +29,7 @@ pub enum Row {
         place: u32,
         mark: Mark,
     },
-    /// So many records of each log.
+    /// A fold of this many records of each log.
     Fold(Taken),
 }
 
@@ -38,20 +38,20 @@ pub enum Row {
 pub struct Picture {
     /// The rows, from the first record on.
     pub rows: Vec<Row>,
-    /// For each row the row whose record it receives, if that has one.
+    /// For each row, the row whose record it receives, if there is one.
     pub senders: Vec<Option<usize>>,
-    /// How many records of each log it has.
+    /// How many records of each log the picture has.
     pub taken: Taken,
-    /// The place of the first run that cannot be taken, or the number of the runs where records are left; none where it
-    /// has all records.
+    /// The place of the first run that cannot be taken, or the number of runs if records are left. `None` if the
+    /// picture has all records.
     pub bad: Option<usize>,
-    /// What is told of the session.
+    /// The story of the session.
     pub told: Told,
-    /// What it is about.
+    /// What the picture is about.
     pub focus: Focus,
 }
 
-/// Whether it is the row of this record.
+/// Returns whether it is the row of this record.
 fn is_row_of(name: Name, row: &Row) -> bool
     ensures { result ≡ is_row_of name row.now }
 {
@@ -61,7 +61,7 @@ fn is_row_of(name: Name, row: &Row) -> bool
     }
 }
 
-/// The record that the row's record is a receipt for.
+/// Returns the record that the row's record is a receipt for.
 pub(crate) fn row_receipt(session: &Session, row: &Row) -> Option<Name>
     ensures { result ≡ row_receipt session.now row.now }
 {
@@ -71,14 +71,14 @@ pub(crate) fn row_receipt(session: &Session, row: &Row) -> Option<Name>
     }
 }
 
-/// The place of the row of this record.
+/// Returns the place of the row of this record.
 fn row_with(rows: &[Row], name: Name) -> Option<usize>
     ensures { result ≡ position (is_row_of name) rows.now }
 {
     rows.iter().position(|row| is_row_of(name, row))
 }
 
-/// The place of the row whose record the row's record receives.
+/// Returns the place of the row whose record the row's record receives.
 fn sender_of(session: &Session, rows: &[Row], row: &Row) -> Option<usize>
     ensures { result ≡ sender_of session.now rows.now row.now }
 {
@@ -88,7 +88,7 @@ fn sender_of(session: &Session, rows: &[Row], row: &Row) -> Option<usize>
     }
 }
 
-/// For each row the row whose record it receives.
+/// Returns, for each row, the row whose record it receives, if there is one. Fails only if memory runs out.
 fn senders_of(
     alloc: Global,
     session: &Session,
@@ -101,7 +101,7 @@ fn senders_of(
         .collect(alloc)
 }
 
-/// Whether the guest goes on at the target with this record.
+/// Returns whether this record resumes the guest at the target.
 fn resumes(session: &Session, name: Name) -> bool {
     name.0 == LogName::Guest
         && matches!(
@@ -110,8 +110,8 @@ fn resumes(session: &Session, name: Name) -> bool {
         )
 }
 
-/// Around which place of an order most is shown: the faulty record, or the end where the order is not whole, or the
-/// resume.
+/// Returns the place of an order around which most is shown: the faulty record, or the end if the order is not
+/// complete, or the resume.
 fn middle_of(session: &Session, focus: &Focus, order: &[Name], is_whole: bool) -> usize {
     if let Some(place) = order.iter().position(|name| is_one(focus.fault, *name)) {
         return place;
@@ -125,8 +125,8 @@ fn middle_of(session: &Session, focus: &Focus, order: &[Name], is_whole: bool) -
         .unwrap_or(0)
 }
 
-/// The picture of a session's records along runs, with what is told on a topic: of all of them, where the runs spell a
-/// merging, and else of those that the runs before the first bad one take.
+/// Returns the picture of a session's records along runs, with the story on a topic. It has all records if the runs
+/// spell a merging, and otherwise those that the runs before the first bad one take. Fails only if memory runs out.
 pub fn plan_along(
     alloc: Global,
     session: &Session,
@@ -160,10 +160,11 @@ pub fn plan_along(
     })
 }
 
-/// The picture of a report, with what is told on a topic: along the runs that show its fault, or those that it has of a
-/// knot; of a clean session along those of its certificate; and of a session of another shape along the found order as far
-/// as it goes. Takes what [`tell`] takes, a few passes over the records, and memory for the names of the records and two
-/// flags for each. An error: there is no memory for them.
+/// Returns the picture of a report, with the story on a topic. It goes along the runs that show the report's fault, or
+/// that lead to its knot. For a clean session, it goes along those of its certificate, and for a session that does not
+/// have the right shape, along the found order as far as it goes. Makes the passes and allocates the memory that
+/// [`tell`] does. Also makes a few passes over the records, and allocates memory for the names of the records and two
+/// flags for each. Fails only if memory runs out.
 pub fn plan_on(
     alloc: Global,
     session: &Session,

@@ -8,7 +8,7 @@ use migration_types::LogName;
 /// A record, by its log and its number there.
 pub type Name = (LogName, u32);
 
-/// Whether the name is this one, if there is one.
+/// Returns whether the name is this one, if there is one.
 pub(crate) fn is_one(one: Option<Name>, name: Name) -> bool
     ensures { result ≡ is_one one name }
 {

@@ -1,4 +1,4 @@
-//! The rows of a picture, as they are built.
+//! The rows of a picture, while they are built.
 
 ghost use Rattle.std.specs.Prelude.{◌≡◌, ◌+◌, ◌*◌, ◌≤◌, ◌<◌, ◌^◌, [], ◌∷◌, ◌++◌, List, IfOk, OnOk, length, nat_lt, position, true, if◌then◌else◌};
 ghost use Rattle.std.specs.List.{list_any};
@@ -17,25 +17,25 @@ use merge_runs::Taken;
 use migration_types::{LogName, Session};
 use std::alloc::{AllocError, Global};
 
-/// So many rows there may be beside those of the faulty record, of its neighbours and of the record that its fault concerns,
-/// the folds before each of these, and the fold at the end.
+/// The greatest number of rows besides those of the faulty record, of its neighbours and of the record that its fault
+/// concerns, the folds before each of these, and the fold at the end.
 const MOST_OTHERS: usize = 194;
 
 /// The rows so far.
 #[derive(Drop)]
 pub(crate) struct Building {
     pub rows: Vec<Row>,
-    /// How many records of each log came since the last row.
+    /// How many records of each log came after the last row.
     pub since: Taken,
     /// How many these are in all.
     pub folded: usize,
-    /// How many rows more there may be of others than the faulty record.
+    /// How many more rows there may be for records other than the faulty one.
     pub room: usize,
-    /// 1 until the faulty record came.
+    /// 1 until the faulty record has come.
     pub fault_left: usize,
 }
 
-/// Whether it is the faulty record's mark.
+/// Returns whether this is the mark of the faulty record.
 fn is_faulty(mark: Mark) -> bool
     ensures { result ≡ is_faulty mark }
 {
@@ -43,7 +43,7 @@ fn is_faulty(mark: Mark) -> bool
 }
 
 impl Building {
-    /// No row.
+    /// Returns a state without rows.
     fn new(alloc: Global) -> Self
         ensures start { (mark : Named → Marked) → IsBuilt mark result [] }
         ensures few { length result.rows.items + result.room + 2 * result.fault_left ≡ 196 }
@@ -57,7 +57,7 @@ impl Building {
         }
     }
 
-    /// Puts what came since the last row into a row of its own, if something came.
+    /// Folds the records that came after the last row into a row of their own, if there are any.
     fn close(&mut self) -> Result<(), AllocError>
         ensures rows { OnOk result (self.new.rows.items ≡ closed_rows self.old) }
         ensures since { OnOk result (cursors_of self.new.since ≡ at_start) }
@@ -133,8 +133,8 @@ impl Building {
         self.folded += 1;
     }
 
-    /// Takes the next record, another than the faulty one or the faulty one once more, which has a row where it is
-    /// wanted and there is room for it.
+    /// Takes the next record, which is not the faulty one, or is the faulty one again. It gets a row if it is wanted
+    /// and there is room for it.
     fn take_other(&mut self, name: Name, mark: Mark, wanted: bool) -> Result<(), AllocError>
         requires few { self.old.folded + 1 < 2 ^ 64 }
         requires since { cursors_of self.old.since name.0 ≤ self.old.folded }
@@ -151,7 +151,7 @@ impl Building {
         self.keep_other(name, mark)
     }
 
-    /// Takes the next record, one whose row is not certain: it has one where it is wanted and there is room for it, and where
+    /// Takes the next record, whose row is not certain. It gets a row if it is wanted and there is room for it, or if
     /// it is the faulty one.
     fn take_uncertain(&mut self, name: Name, mark: Mark, wanted: bool) -> Result<(), AllocError>
         requires few { self.old.folded + 1 < 2 ^ 64 }
@@ -203,7 +203,7 @@ impl Building {
     }
 }
 
-/// Whether a place is right before or right after another, if there is that one.
+/// Returns whether a place is right before or right after another, if there is another.
 fn is_next_to(at: Option<usize>, n: usize) -> bool
     ensures { result ≡ is_next_to at n }
 {
@@ -213,7 +213,7 @@ fn is_next_to(at: Option<usize>, n: usize) -> bool
     }
 }
 
-/// Whether a place is another one, if there is that one.
+/// Returns whether a place is the other one, if there is another.
 fn is_at(at: Option<usize>, n: usize) -> bool
     ensures { result ≡ is_at at n }
 {
@@ -223,28 +223,28 @@ fn is_at(at: Option<usize>, n: usize) -> bool
     }
 }
 
-/// The places in an order of the faulty record and of the record that its fault concerns, if it has them.
+/// The places in an order of the faulty record and of the record that its fault concerns, if the order has them.
 #[derive(Clone, Copy)]
 struct Certain {
     fault: Option<usize>,
     concerned: Option<usize>,
 }
 
-/// Whether the record at a place of an order has a row in any case.
+/// Returns whether the record at a place of an order always has a row.
 fn is_certain(certain: Certain, n: usize) -> bool
     ensures { result ≡ is_certain certain.fault certain.concerned n }
 {
     is_next_to(certain.fault, n) || is_at(certain.concerned, n)
 }
 
-/// The place of a record in an order, if there is that record and the order has it.
+/// Returns the place of a record in an order, if there is that record and the order has it.
 fn place_of(order: &[Name], one: Option<Name>) -> Option<usize>
     ensures { result ≡ position (is_one one) order.now }
 {
     order.iter().position(|name| is_one(one, *name))
 }
 
-/// Takes the records of an order, of which those at these places are wanted.
+/// Takes the records of an order, given which places are wanted.
 fn take_all(
     session: &Session,
     focus: &Focus,
@@ -266,7 +266,7 @@ fn take_all(
     Ok(())
 }
 
-/// The rows of the records of an order, of which those at these places are wanted.
+/// Returns the rows of the records of an order, given which places are wanted.
 pub(crate) fn rows_of(
     alloc: Global,
     session: &Session,

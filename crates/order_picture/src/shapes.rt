@@ -1,5 +1,5 @@
-//! What a picture shows, as a list of shapes: which record has a box in which row and column, what is folded, which arrows
-//! go between rows, and what the heading and the legend say.
+//! What a picture shows, as a list of shapes: which record has a box in which row and column, what is folded, which
+//! arrows go between rows, and what the heading and the legend say.
 
 ghost use Rattle.std.specs.Prelude.{◌≡◌, ◌++◌, IfOk, OnOk};
 ghost use Rattle.order_picture.specs.Shapes.{body_shapes, columns, drawn_shapes, has_column, heading, legend, picture_shapes, with_legend};
@@ -18,20 +18,20 @@ use migration_types::{LogName, Session, logs};
 use session_story::amended_by;
 use std::alloc::{AllocError, Global};
 
-/// A shape of a picture. The rows are counted from 0.
+/// A shape of a picture. Rows count from 0.
 #[derive(Clone, Copy)]
 pub enum Shape {
-    /// The first line of the heading: that of the report.
+    /// The first line of the heading, which is the report's.
     Title,
-    /// What is told first of the session.
+    /// The first sentences of the story of the session.
     Summary,
     /// Which order is shown.
     Order(OrderShown),
-    /// How large the machine is, and how many records each log has.
+    /// The size of the machine, and how many records each log has.
     Facts,
     /// The column of a log.
     Column(LogName),
-    /// An arrow from the record in one row to that in another, each with its log.
+    /// An arrow from the record in one row to the record in another, each with its log.
     Arrow {
         from: usize,
         from_log: LogName,
@@ -39,7 +39,7 @@ pub enum Shape {
         to_log: LogName,
         kind: ArrowKind,
     },
-    /// The end of an arrow to the record in a row, from one of another log that has no row.
+    /// The end of an arrow to the record in a row, from a record of another log that has no row.
     Stub {
         row: usize,
         log: LogName,
@@ -51,12 +51,12 @@ pub enum Shape {
         log: LogName,
         place: u32,
         kind: BoxKind,
-        /// The line at which the session's text has it; 0 where the session has no such record.
+        /// The line of the record in the session's text, or 0 if the session has no such record.
         line: u32,
         label: Label,
         obstacle: Obstacle,
     },
-    /// A row that stands for so many records of each log.
+    /// A row with a fold of this many records of each log.
     Fold {
         row: usize,
         counts: Taken,
@@ -65,7 +65,7 @@ pub enum Shape {
     Legend(Sign),
 }
 
-/// Adds the heading.
+/// Appends the heading.
 fn push_heading(
     shapes: &mut Vec<Shape>,
     report: &Report,
@@ -81,7 +81,7 @@ fn push_heading(
     Ok(())
 }
 
-/// Whether a log has a column.
+/// Returns whether a log has a column.
 fn has_column(session: &Session, log: LogName) -> bool
     ensures { result ≡ has_column session.now log }
 {
@@ -91,7 +91,7 @@ fn has_column(session: &Session, log: LogName) -> bool
     }
 }
 
-/// Adds the columns.
+/// Appends the columns.
 fn push_columns(shapes: &mut Vec<Shape>, session: &Session) -> Result<(), AllocError>
     ensures { OnOk result (shapes.new.items ≡ shapes.old.items ++ columns session.now) }
 {
@@ -103,7 +103,8 @@ fn push_columns(shapes: &mut Vec<Shape>, session: &Session) -> Result<(), AllocE
     Ok(())
 }
 
-/// Adds the columns, the arrows between the rows of the order, these rows, the arrows between those behind it, and these.
+/// Appends the columns, the arrows between the rows of the order, these rows, the arrows between the rows after the
+/// order, and those rows.
 fn push_body(
     shapes: &mut Vec<Shape>,
     session: &Session,
@@ -120,7 +121,7 @@ fn push_body(
     push_behind(shapes, session, &amended, picture, behind)
 }
 
-/// Adds an entry of the legend for each of these signs.
+/// Appends an entry of the legend for each of these signs.
 fn push_entries(shapes: &mut Vec<Shape>, found: &[Sign]) -> Result<(), AllocError>
     ensures { OnOk result (shapes.new.items ≡ shapes.old.items ++ legend found.now) }
 {
@@ -130,7 +131,7 @@ fn push_entries(shapes: &mut Vec<Shape>, found: &[Sign]) -> Result<(), AllocErro
     Ok(())
 }
 
-/// The shapes of a picture but for its legend, with these records behind the order.
+/// Returns the shapes of a picture without its legend, with these records after the order.
 fn drawn_shapes(
     alloc: Global,
     session: &Session,
@@ -147,7 +148,7 @@ fn drawn_shapes(
     Ok(shapes)
 }
 
-/// Adds the legend of these shapes.
+/// Appends the legend of these shapes.
 fn push_legend(shapes: &mut Vec<Shape>) -> Result<(), AllocError>
     ensures { OnOk result (shapes.new.items ≡ with_legend shapes.old.items) }
 {
@@ -155,9 +156,9 @@ fn push_legend(shapes: &mut Vec<Shape>) -> Result<(), AllocError>
     push_entries(shapes, &found)
 }
 
-/// What a picture of this session shows: its heading, a column for each log, the rows of the order with the arrows between
-/// them, the rows of the records behind it with theirs, and a legend of what occurs. Takes memory for the shapes, which is
-/// the only error.
+/// Returns what a picture of this session shows: its heading, a column for each log, the rows of the order with the
+/// arrows between them, the rows of the records after it with theirs, and a legend of the signs that occur. Allocates
+/// memory for the shapes. Fails only if memory runs out.
 pub fn picture_shapes(
     alloc: Global,
     session: &Session,

@@ -8,16 +8,16 @@ use crate::boxes::BoxKind;
 use crate::shapes::Shape;
 use std::alloc::{AllocError, Global};
 
-/// What a legend explains.
+/// A sign that a legend explains.
 #[derive(Clone, Copy)]
 pub enum Sign {
     /// The box of the faulty record.
     Faulty,
-    /// The box of a record that waits for another that does.
+    /// The box of a record that waits for another waiting record.
     Tied,
     /// The arrow to such a record from the one that it receives.
     Tie,
-    /// The arrow to such a record from one before that which it receives.
+    /// The arrow to such a record from one that comes before the one that it receives.
     TieBehind,
     /// The box of the record that the fault concerns.
     Concerned,
@@ -33,7 +33,7 @@ pub enum Sign {
     Stub,
 }
 
-/// The signs, in the sequence of a legend.
+/// Returns the signs, in the order of a legend.
 fn signs() -> [Sign; 10]
     ensures { result ≡ signs }
 {
@@ -51,7 +51,7 @@ fn signs() -> [Sign; 10]
     ]
 }
 
-/// The sign that a box is.
+/// Returns the sign for a box.
 fn box_sign(kind: BoxKind) -> Sign
     ensures { result ≡ box_sign kind }
 {
@@ -65,7 +65,7 @@ fn box_sign(kind: BoxKind) -> Sign
     }
 }
 
-/// The sign that an arrow is.
+/// Returns the sign for an arrow.
 fn arrow_sign(kind: ArrowKind) -> Sign
     ensures { result ≡ arrow_sign kind }
 {
@@ -76,7 +76,7 @@ fn arrow_sign(kind: ArrowKind) -> Sign
     }
 }
 
-/// The sign that a shape is, if a legend explains it.
+/// Returns the sign for a shape, if a legend explains it.
 fn sign_of(shape: &Shape) -> Option<Sign>
     ensures { result ≡ sign_of shape.now }
 {
@@ -88,7 +88,7 @@ fn sign_of(shape: &Shape) -> Option<Sign>
     }
 }
 
-/// The place of a sign in the sequence of a legend.
+/// Returns the place of a sign in a legend.
 fn number_of(sign: Sign) -> usize
     ensures { result ≡ number_of sign }
 {
@@ -106,7 +106,7 @@ fn number_of(sign: Sign) -> usize
     }
 }
 
-/// Whether a shape is this sign.
+/// Returns whether a shape has this sign.
 fn shows(sign: Sign, shape: &Shape) -> bool
     ensures { result ≡ shows sign shape.now }
 {
@@ -116,14 +116,14 @@ fn shows(sign: Sign, shape: &Shape) -> bool
     }
 }
 
-/// Whether one of the shapes is this sign.
+/// Returns whether one of the shapes has this sign.
 fn occurs(shapes: &[Shape], sign: Sign) -> bool
     ensures { result ≡ occurs shapes.now sign }
 {
     shapes.iter().any(|shape| shows(sign, shape))
 }
 
-/// The signs that occur among shapes, in the sequence of a legend.
+/// Returns the signs that occur among shapes, in the order of a legend.
 pub(crate) fn signs_in(alloc: Global, shapes: &[Shape]) -> Result<Vec<Sign>, AllocError>
     ensures { IfOk result (λ found. found.items ≡ signs_in shapes.now) }
 {

@@ -1,52 +1,52 @@
-//! How a picture looks: each size, in pixels, and each colour. The colours of a dark page stand in [`DARK_COLOURS`], by the
-//! classes of the others.
+//! How a picture looks: each size, in pixels, and each colour. The colours for a dark page are in [`DARK_COLOURS`], by
+//! the classes of the others.
 
 use crate::arrows::ArrowKind;
 use crate::boxes::BoxKind;
 
-/// Where the lines of the heading begin at the left.
+/// The left end of the heading's lines.
 pub(crate) const HEADING_LEFT: u64 = 20;
 
-/// Where the heading's first line stands.
+/// The height of the heading's first line.
 pub(crate) const TITLE_TOP: u64 = 30;
 
-/// Where the heading's line below the report's first line stands.
+/// The height of the heading's line below the report's first line.
 pub(crate) const HEADING_TOP: u64 = 52;
 
 /// The height of a line of the heading.
 pub(crate) const HEADING_LINE: u64 = 18;
 
-/// Where the line below a heading of four lines stands. What is below is moved down where the heading has more.
+/// The height of the line below a heading of four lines. If the heading has more lines, everything below it moves down.
 pub(crate) const HEADING_END: u64 = 106;
 
 /// The least width of a letter of the heading.
 pub(crate) const HEADING_LETTER: u64 = 6;
 
-/// The height at which the names of the columns stand.
+/// The height of the columns' names.
 pub(crate) const NAMES: u64 = 120;
 
-/// Where the lines down the columns begin.
+/// The upper end of the lines down the columns.
 pub(crate) const COLUMNS_TOP: u64 = 130;
 
-/// Where the first row begins.
+/// The upper end of the first row.
 pub(crate) const ROWS_TOP: u64 = 136;
 
 /// The height of a row.
 pub(crate) const ROW: u64 = 26;
 
-/// How far below a row's top its texts stand.
+/// How far below a row's top its texts are.
 pub(crate) const ROW_TEXT: u64 = 17;
 
-/// The right end of what stands in the margin.
+/// The right end of the texts in the margin.
 pub(crate) const MARGIN: u64 = 62;
 
-/// Where the first column begins.
+/// The left end of the first column.
 pub(crate) const COLUMNS_LEFT: u64 = 72;
 
-/// What is free right of the last column.
+/// The free space to the right of the last column.
 pub(crate) const RIGHT: u64 = 6;
 
-/// What is free between two columns.
+/// The free space between two columns.
 pub(crate) const GAP: u64 = 24;
 
 /// Half the least width of a box.
@@ -55,10 +55,11 @@ pub(crate) const LEAST_HALF: u64 = 80;
 /// Half the least width of a box of the guest.
 pub(crate) const LEAST_GUEST_HALF: u64 = 122;
 
-/// The width of a letter of a label, at most.
+/// The greatest width of a letter in a label.
 pub(crate) const LETTER: u64 = 7;
 
-/// What a box has beside its letters: a margin on each side, what is free between number and label, and the sign.
+/// The width of a box besides its letters: a margin on each side, the free space between number and label, and the
+/// sign.
 pub(crate) const BESIDE: u64 = 44;
 
 /// How far below a row's top its box begins.
@@ -70,32 +71,32 @@ pub(crate) const BOX: u64 = 20;
 /// The radius of a box's corners.
 pub(crate) const CORNER: u64 = 4;
 
-/// How far right of a box's left edge its label begins.
+/// How far to the right of a box's left edge its label begins.
 pub(crate) const LABEL: u64 = 7;
 
-/// What is free between a record's number and its label.
+/// The free space between a record's number and its label.
 pub(crate) const NUMBER_GAP: u64 = 7;
 
-/// How far left of a box's right edge the middle of its sign is.
+/// How far to the left of a box's right edge the middle of its sign is.
 pub(crate) const SIGN: u64 = 12;
 
-/// How far below a row's top the frame of what is folded begins.
+/// How far below a row's top the frame of a fold begins.
 pub(crate) const FOLD_TOP: u64 = 4;
 
-/// The height of the frame of what is folded.
+/// The height of the frame of a fold.
 pub(crate) const FOLD: u64 = 18;
 
-/// The radius of its corners.
+/// The radius of the corners of that frame.
 pub(crate) const FOLD_CORNER: u64 = 9;
 
-/// What such a frame has beside its letters.
+/// The width of that frame besides its letters.
 pub(crate) const FOLD_BESIDE: u64 = 40;
 
 /// The length of the end of an arrow from a record that has no row.
 pub(crate) const STUB: u64 = 22;
 
-/// How far an arrow between records that wait for one another is from the middles of their rows, so that it stands apart
-/// from one that goes back.
+/// How far an arrow between records that wait for one another is from the middles of their rows, so that it is apart
+/// from an arrow in the other direction.
 pub(crate) const APART: u64 = 5;
 
 /// How far below the last row the legend begins.
@@ -104,13 +105,13 @@ pub(crate) const LEGEND_GAP: u64 = 24;
 /// The height of a line of the legend.
 pub(crate) const LEGEND_LINE: u64 = 28;
 
-/// So many entries stand in such a line.
+/// The number of entries in a line of the legend.
 pub(crate) const LEGEND_IN_LINE: u64 = 3;
 
 /// The width of an entry of the legend.
 pub(crate) const ENTRY: u64 = 270;
 
-/// What is free above and below the legend.
+/// The free space above and below the legend.
 pub(crate) const LEGEND_BESIDE: u64 = 40;
 
 /// The width of a sign in the legend.
@@ -119,19 +120,19 @@ pub(crate) const SIGN_WIDTH: u64 = 34;
 /// The height of a sign in the legend.
 pub(crate) const SIGN_HEIGHT: u64 = 16;
 
-/// Where the meaning of a sign begins, right of the sign.
+/// How far to the right of a sign its meaning begins.
 pub(crate) const MEANING_LEFT: u64 = 44;
 
-/// How far below the sign's top its meaning stands.
+/// How far below the sign's top its meaning is.
 pub(crate) const MEANING_TOP: u64 = 13;
 
 /// The size of the letters.
 pub(crate) const FONT: u64 = 12;
 
-/// The size of those of the heading's first line.
+/// The size of the letters in the heading's first line.
 pub(crate) const TITLE_FONT: u64 = 18;
 
-/// How a part of a picture is painted: its class, by which a dark page has colours of its own, and the attributes that are
+/// The paint of a part of a picture: its class, which gives it its colours on a dark page, and the attributes that are
 /// not empty.
 #[derive(Clone, Copy)]
 pub(crate) struct Paint {
@@ -190,7 +191,7 @@ pub(crate) const COLUMN: Paint = Paint {
     dashes: b"",
 };
 
-/// The frame of what is folded.
+/// The frame of a fold.
 pub(crate) const FOLD_FRAME: Paint = Paint {
     class: b"fold",
     fill: WHITE,
@@ -226,7 +227,7 @@ pub(crate) const STUB_LINE: Paint = Paint {
     dashes: b"3 2",
 };
 
-/// How the box of a record is painted.
+/// Returns the paint of a record's box.
 pub(crate) fn box_paint(kind: BoxKind) -> Paint {
     match kind {
         BoxKind::Faulty | BoxKind::Tied => Paint {
@@ -267,7 +268,7 @@ pub(crate) fn box_paint(kind: BoxKind) -> Paint {
     }
 }
 
-/// How an arrow is painted.
+/// Returns the paint of an arrow.
 pub(crate) fn arrow_paint(kind: ArrowKind) -> Paint {
     match kind {
         ArrowKind::Received => Paint {
@@ -301,7 +302,7 @@ pub(crate) fn arrow_paint(kind: ArrowKind) -> Paint {
     }
 }
 
-/// The head of an arrow: by which name a line has it, its size, and how it is painted.
+/// The head of an arrow: the name by which lines refer to it, its size, and its paint.
 #[derive(Clone, Copy)]
 pub(crate) struct Head {
     pub name: &'static [u8],
@@ -309,7 +310,7 @@ pub(crate) struct Head {
     pub paint: Paint,
 }
 
-/// The heads of the arrows.
+/// Returns the heads of the arrows.
 pub(crate) fn heads() -> [Head; 3] {
     [
         head_of(ArrowKind::Received),
@@ -318,7 +319,7 @@ pub(crate) fn heads() -> [Head; 3] {
     ]
 }
 
-/// The head of an arrow.
+/// Returns the head of an arrow.
 pub(crate) fn head_of(kind: ArrowKind) -> Head {
     match kind {
         ArrowKind::Received => Head {

@@ -27,17 +27,17 @@ const OPENING: &[u8] = b"<svg ";
 
 const CLOSING: &[u8] = b"</svg>\n";
 
-/// How large a picture is.
+/// The size of a picture.
 #[derive(Clone, Copy)]
 struct Extent {
     columns: Columns,
-    /// How many rows it has.
+    /// The number of its rows.
     rows: usize,
-    /// How many entries its legend has.
+    /// The number of entries in its legend.
     entries: u64,
 }
 
-/// The box that a shape is, if it is one.
+/// Returns the box of a shape, if it has one.
 fn box_of(shape: &Shape) -> Option<RecordBox> {
     match shape {
         Shape::Record {
@@ -60,7 +60,7 @@ fn box_of(shape: &Shape) -> Option<RecordBox> {
     }
 }
 
-/// The arrow that a shape is, if it is one.
+/// Returns the arrow of a shape, if it has one.
 fn arrow_of(shape: &Shape) -> Option<Arrow> {
     match shape {
         Shape::Arrow {
@@ -84,7 +84,7 @@ fn arrow_of(shape: &Shape) -> Option<Arrow> {
     }
 }
 
-/// How many letters the label of a box has, with its number.
+/// Returns how many letters the label of a box has, with its number.
 fn letters_of(alloc: Global, subject: Subject<'_>, one: &RecordBox) -> Result<usize, AllocError> {
     let mut label = Vec::new(alloc);
     push_number(&mut label, one.name.1)?;
@@ -92,8 +92,8 @@ fn letters_of(alloc: Global, subject: Subject<'_>, one: &RecordBox) -> Result<us
     Ok(label.len())
 }
 
-/// How large the picture of these shapes is: it has a row for each record and each fold, and columns as wide as the labels
-/// want.
+/// Returns the size of the picture of these shapes: it has a row for each record and each fold, and columns as wide as
+/// the labels need.
 fn extent_of(alloc: Global, subject: Subject<'_>, shapes: &[Shape]) -> Result<Extent, AllocError> {
     let mut has = [false; LOG_COUNT];
     let mut letters = [0; LOG_COUNT];
@@ -118,7 +118,7 @@ fn extent_of(alloc: Global, subject: Subject<'_>, shapes: &[Shape]) -> Result<Ex
     })
 }
 
-/// Adds the attributes of the element.
+/// Appends the attributes of the element.
 fn push_size(out: &mut Vec<u8>, width: u64, height: u64) -> Result<(), AllocError> {
     push(out, b"xmlns='http://www.w3.org/2000/svg'")?;
     push_length(out, b"width", width)?;
@@ -133,7 +133,7 @@ fn push_size(out: &mut Vec<u8>, width: u64, height: u64) -> Result<(), AllocErro
     push(out, b">\n")
 }
 
-/// Adds the heads of the arrows.
+/// Appends the heads of the arrows.
 fn push_heads(out: &mut Vec<u8>) -> Result<(), AllocError> {
     push(out, b"<defs>\n")?;
     for head in heads() {
@@ -142,7 +142,8 @@ fn push_heads(out: &mut Vec<u8>) -> Result<(), AllocError> {
     push(out, b"</defs>\n")
 }
 
-/// Adds what stands before the heading: the title, the colours on a dark page, the heads of the arrows and the paper.
+/// Appends what comes before the heading: the title, the colours for a dark page, the heads of the arrows and the
+/// paper.
 fn push_front(out: &mut Vec<u8>, report: &Report) -> Result<(), AllocError> {
     push(out, b"<title>")?;
     push_first_line(out, report)?;
@@ -154,7 +155,7 @@ fn push_front(out: &mut Vec<u8>, report: &Report) -> Result<(), AllocError> {
     push(out, b" width='100%' height='100%'/>\n")
 }
 
-/// Adds a shape, if it stands between the heading and the legend.
+/// Appends a shape, if it comes between the heading and the legend.
 fn push_shape(
     out: &mut Vec<u8>,
     alloc: Global,
@@ -183,7 +184,7 @@ fn push_shape(
     }
 }
 
-/// Adds the legend.
+/// Appends the legend.
 fn push_legend(out: &mut Vec<u8>, rows: usize, shapes: &[Shape]) -> Result<(), AllocError> {
     push(out, b"<g class='legend' transform='translate(")?;
     push_number(out, COLUMNS_LEFT)?;
@@ -200,7 +201,7 @@ fn push_legend(out: &mut Vec<u8>, rows: usize, shapes: &[Shape]) -> Result<(), A
     push(out, b"</g>\n")
 }
 
-/// Adds what stands below the heading.
+/// Appends what comes below the heading.
 fn push_body(
     out: &mut Vec<u8>,
     alloc: Global,
@@ -215,7 +216,7 @@ fn push_body(
     push_legend(out, extent.rows, shapes)
 }
 
-/// What stands between the opening and the closing tag.
+/// Returns what comes between the opening and the closing tag.
 fn inside_of(alloc: Global, subject: Subject<'_>, shapes: &[Shape]) -> Result<Vec<u8>, AllocError> {
     let extent = extent_of(alloc, subject, shapes)?;
     let width = extent.columns.width();
@@ -236,8 +237,8 @@ fn inside_of(alloc: Global, subject: Subject<'_>, shapes: &[Shape]) -> Result<Ve
     Ok(out)
 }
 
-/// Adds shapes as SVG without scripts, in light colours and in dark ones: of a session with this report, of which this is
-/// told. What was there stays the beginning. An error: there is no memory for it.
+/// Appends shapes as SVG without scripts, in light colours and in dark ones, for a session with this report and this
+/// story. What was there stays the beginning. Fails only if memory runs out.
 pub fn write_shapes(
     out: &mut Vec<u8>,
     session: &Session,
@@ -259,8 +260,8 @@ pub fn write_shapes(
     out.extend_from_slice(CLOSING)
 }
 
-/// The text of a picture of this session: the shapes that [`picture_shapes`] answers, as [`write_shapes`] writes them. An
-/// error: there is no memory for it.
+/// Returns the text of a picture of this session: the shapes that [`picture_shapes`] returns, as [`write_shapes`]
+/// writes them. Fails only if memory runs out.
 pub fn picture_text(
     alloc: Global,
     session: &Session,
@@ -276,8 +277,8 @@ pub fn picture_text(
     Ok(text)
 }
 
-/// The picture of a session in the order of its report, about what is told on a topic. Takes what [`plan_on`] takes, and
-/// memory for the text, which is the only error.
+/// Returns the picture of a session in the order of its report, about the story on a topic. Makes the passes and
+/// allocates the memory that [`plan_on`] does, and also allocates memory for the text. Fails only if memory runs out.
 pub fn print_picture_on(
     alloc: Global,
     session: &Session,
@@ -292,7 +293,8 @@ pub fn print_picture_on(
     picture_text(alloc, session, report, &picture, Shown::Reported)
 }
 
-/// The picture of a session along runs, with its report above it, about what is told on a topic. Takes as much.
+/// Returns the picture of a session along runs, with its report above it, about the story on a topic. Makes as many
+/// passes and allocates as much memory as [`print_picture_on`]. Fails only if memory runs out.
 pub fn print_picture_along(
     alloc: Global,
     session: &Session,

@@ -15,13 +15,13 @@ use text_lines::push_number;
 /// The name of the lines in the margin.
 pub(crate) const LINES: &[u8] = b"line";
 
-/// What stands between the wrong value of a record and the right one.
+/// The words between the wrong value of a record and the right one.
 pub(crate) const RIGHT_VALUE: &[u8] = b", right: ";
 
-/// What the line of a runs-text is that has its first run.
+/// The line of a text of runs that has its first run.
 const FIRST_RUN_LINE: u64 = 3;
 
-/// Adds so many of something.
+/// Appends a count and its noun.
 fn push_many(out: &mut Vec<u8>, count: u64, one: &[u8]) -> Result<(), AllocError> {
     push_number(out, count)?;
     push(out, one)?;
@@ -31,7 +31,7 @@ fn push_many(out: &mut Vec<u8>, count: u64, one: &[u8]) -> Result<(), AllocError
     Ok(())
 }
 
-/// How many records there are by these counts.
+/// Returns how many records these counts make.
 fn sum_of(counts: &Taken) -> u64 {
     let mut sum: u64 = 0;
     for log in logs() {
@@ -40,7 +40,7 @@ fn sum_of(counts: &Taken) -> u64 {
     sum
 }
 
-/// Adds how many records there are by these counts, and how many each log has that has some, as in "15 records: guest 12,
+/// Appends how many records these counts make, and how many each log has that has some, as in "15 records: guest 12,
 /// link 3".
 pub(crate) fn push_records(out: &mut Vec<u8>, counts: &Taken) -> Result<(), AllocError> {
     push_many(out, sum_of(counts), b" record")?;
@@ -58,7 +58,7 @@ pub(crate) fn push_records(out: &mut Vec<u8>, counts: &Taken) -> Result<(), Allo
     Ok(())
 }
 
-/// Adds what the machine and the logs are, as in "4 pages of 2 cells, 15 records: guest 12, link 3".
+/// Appends the size of the machine and of the logs, as in "4 pages of 2 cells, 15 records: guest 12, link 3".
 pub(crate) fn push_facts(out: &mut Vec<u8>, session: &Session) -> Result<(), AllocError> {
     let geometry = session.geometry();
     push_many(out, u64::from(geometry.pages()), b" page")?;
@@ -68,7 +68,7 @@ pub(crate) fn push_facts(out: &mut Vec<u8>, session: &Session) -> Result<(), All
     push_records(out, &all_of(session))
 }
 
-/// Adds that given runs are shown as far as the line of their text that cannot be taken.
+/// Appends that given runs are shown up to the line of their text that cannot be taken.
 fn push_given_part(out: &mut Vec<u8>, place: usize) -> Result<(), AllocError> {
     push(
         out,
@@ -78,7 +78,7 @@ fn push_given_part(out: &mut Vec<u8>, place: usize) -> Result<(), AllocError> {
     push(out, b" of their text, which cannot be taken")
 }
 
-/// Adds which order is shown.
+/// Appends which order is shown.
 pub(crate) fn push_order(out: &mut Vec<u8>, order: OrderShown) -> Result<(), AllocError> {
     match order {
         OrderShown::EveryOrder => push(out, b"It goes wrong in every order, as in this one"),
@@ -94,7 +94,7 @@ pub(crate) fn push_order(out: &mut Vec<u8>, order: OrderShown) -> Result<(), All
     }
 }
 
-/// What a sign means.
+/// Returns the meaning of a sign.
 pub(crate) fn meaning_of(sign: Sign) -> &'static [u8] {
     match sign {
         Sign::Faulty => b"the faulty record",
@@ -110,7 +110,7 @@ pub(crate) fn meaning_of(sign: Sign) -> &'static [u8] {
     }
 }
 
-/// Adds to a title which record another waits for that waits, if it does.
+/// Appends to a title which waiting record another one waits for, if it does.
 fn push_waiting(text: &mut String, subject: Subject<'_>, name: Name) -> Result<(), AllocError> {
     match tie_of(subject.told, name) {
         Some(tie) => push_wait(text, subject.session, &tie.waiting, &tie.next),
@@ -118,7 +118,7 @@ fn push_waiting(text: &mut String, subject: Subject<'_>, name: Name) -> Result<(
     }
 }
 
-/// Adds to the title of a record's box why the order does not take the record.
+/// Appends to the title of a record's box why the order does not take the record.
 fn push_obstacle(
     text: &mut String,
     subject: Subject<'_>,
@@ -133,7 +133,7 @@ fn push_obstacle(
     }
 }
 
-/// Adds where a record stands, what it says, and why the order does not take it, as in "line 12 (guest 5): virtual
+/// Appends the place of a record, what it says, and why the order does not take it, as in "line 12 (guest 5): virtual
 /// processor 0 reads 7 in cell 0 of page 1".
 pub(crate) fn push_title(
     out: &mut Vec<u8>,

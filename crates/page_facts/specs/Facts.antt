@@ -1,4 +1,4 @@
--- What the logs of a session say of its pages.
+-- What the logs of a session say about its pages.
 use Rattle.std.specs.Prelude.{◌≡◌, ℕ, length}
 use Rattle.migration_types.specs.Sessions.{Recorded}
 use Rattle.audit_model.specs.Shape.{is_placement_of}
@@ -7,7 +7,7 @@ use Rattle.page_facts.specs.Tables.{some_before, first_before}
 use Rattle.page_facts.specs.Judged.{is_wrong_read, is_wrong_send, is_altered, is_late_touch, releases_at}
 use Rattle.page_facts.specs.Moved.{is_again}
 
--- what the whole logs say of a page
+-- what the whole logs say about a page
 pub record IsFacts (s : Recorded) (page : ℕ) (f : PageFacts) : Type 0 where
   pub wrong_read : f.wrong_read ≡ some_before (is_wrong_read s page) s.guest (length s.guest)
   pub wrong_send : f.wrong_send ≡ some_before (is_wrong_send s page) s.source (length s.source)

@@ -1,4 +1,4 @@
--- What the logs of a session say of a page, each by the first record that says so.
+-- What the logs of a session say about a page, and the first record that says so.
 use Rattle.std.specs.Prelude.{◌≡◌, ℕ, length}
 use Rattle.migration_types.specs.Sessions.{Recorded}
 use Rattle.audit_model.specs.Flat.{in_ledger, at_halt}
@@ -9,7 +9,7 @@ use Rattle.page_facts.specs.Moved.{is_again}
 use Rattle.page_facts.specs.Looks.{first_look}
 use Rattle.page_facts.specs.declared.findings.Findings.{Findings}
 
--- what the whole logs say of a page
+-- what the whole logs say about a page
 pub record IsFindings (s : Recorded) (page : ℕ) (f : Findings) : Type 0 where
   pub wrong_read : f.wrong_read ≡ first_before (is_wrong_read s page) s.guest (length s.guest)
   pub wrong_send : f.wrong_send ≡ first_before (is_wrong_send s page) s.source (length s.source)

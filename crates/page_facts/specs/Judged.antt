@@ -13,7 +13,7 @@ use Rattle.audit_model.specs.Flat.{flat, in_ledger, home, is_target, at_halt}
 use Rattle.audit_model.specs.Shape.{passes, is_release}
 use Rattle.audit_model.specs.Certificates.{is_touch_of}
 
--- a read of the page whose value is not the flat answer
+-- a read of the page whose value is not that of the flat machine
 abbrev pub is_wrong_read : Recorded → ℕ → ℕ → GuestRec → Bool
 is_wrong_read s page n (Read vcpu p c value) = (p == page) && not (value == flat s n p c)
 is_wrong_read s page n _ = false

@@ -21,13 +21,13 @@ first_look s n page = first_before (λ m. looks_at s page) s.guest n
 abbrev pub is_placed : Recorded → ℕ → ℕ → Bool
 is_placed s reached page = some_before (λ m. is_placement_of page) s.pager reached
 
--- the table has each page's first look, and these reach the first records of the pager
+-- the table has each page's first look, and the looks reach this many records of the pager
 pub record AreLooksOf (s : Recorded) (f : ℕ → Option ℕ) (looks : Looks) : Type 0 where
   pub table : IsTable s.geometry.pages looks.first f
   pub known : (page : ℕ) → is_some (f page) ≡ is_placed s looks.reached page
   pub within : looks.reached ≤ length s.pager
 
--- the same before guest record n
+-- the table before guest record n
 abbrev pub AreLooks : Recorded → ℕ → Looks → Type 0
 AreLooks s n looks = AreLooksOf s (first_look s n) looks
 

@@ -11,11 +11,11 @@ use Rattle.audit_model.specs.Shape.{is_placement_of}
 use Rattle.page_store.specs.Frames.{Frames, memory_of}
 use Rattle.page_facts.specs.Tables.{first_before, noted}
 
--- whether contents are not those of the page in these frames
+-- whether the contents differ from those of the page in these frames
 abbrev pub differs : Frames → ℕ → List ℕ → Bool
 differs f page content = not (bytes_eq content (page_of f.geometry.cells (memory_of f) page))
 
--- the page that a record sends or places is below this many
+-- the page that a record sends or places is below this number
 abbrev pub SourcePage : ℕ → SourceRec → Type 0
 SourcePage pages (Send p content) = p < pages
 SourcePage pages _ = Unit {0}
@@ -29,7 +29,7 @@ PagerPage pages _ = Unit {0}
 abbrev pub is_again : Recorded → ℕ → ℕ → PagerRec → Bool
 is_again s page n r = is_placement_of page r && is_some (first_before (λ m. is_placement_of page) s.pager n)
 
--- the numbers with this one at the page of a record that places one which has none
+-- the numbers with this one at the page that a record places, if that page has none
 abbrev pub placed_by : ℕ → PagerRec → (ℕ → Option ℕ) → ℕ → Option ℕ
 placed_by n (Place p got content) at = noted p n at
 placed_by n (Zero p) at = noted p n at

@@ -16,7 +16,7 @@ use Rattle.page_facts.specs.declared.page_fault.PageFault.{PageFault}
 use Rattle.page_facts.specs.inner.Frontier.{is_before}
 use Rattle.page_facts.specs.inner.FirstOfLog.{reason_at}
 
--- the page that the record of this name is of
+-- the page of the record with this name
 abbrev pub page_at : Recorded → Name → Option ℕ
 page_at s (Guest, n) = if_there guest_page (slice_get s.guest n)
 page_at s (Source, n) = if_there source_page (slice_get s.source n)
@@ -32,7 +32,8 @@ Precedes a b = (log_index a.0 < log_index b.0) ⊎ ((log_index a.0 ≡ log_index
 pub record AreClean (s : Recorded) (among : ℕ → Type 0) : Type 0 where
   pub each : (page : ℕ) (name : Name) → among page → page_at s name ≡ Some page → reason_at s name ≡ None
 
--- a fault of one of these pages, and none of a lesser line; its reason is the least that the record has
+-- A fault of one of these pages, and none of them has a fault of a lesser line. Its reason is the least that the record
+-- has.
 pub record IsFirstFaultOf (s : Recorded) (among : ℕ → Type 0) (f : PageFault) : Type 0 where
   pub page : ℕ
   pub is_among : among page
@@ -40,18 +41,18 @@ pub record IsFirstFaultOf (s : Recorded) (among : ℕ → Type 0) (f : PageFault
   pub is_reason : reason_at s (f.log, f.place) ≡ Some f.reason
   pub is_first : (other : ℕ) (name : Name) → among other → page_at s name ≡ Some other → Precedes name (f.log, f.place) → reason_at s name ≡ None
 
--- the same of one page
+-- no record of this page has a fault; the first fault of this page
 abbrev pub IsClean : Recorded → ℕ → Type 0
 IsClean s page = AreClean s (λ p. p ≡ page)
 
 abbrev pub IsFirstFault : Recorded → ℕ → PageFault → Type 0
 IsFirstFault s page f = IsFirstFaultOf s (λ p. p ≡ page) f
 
--- the page is one of so many from the first on
+-- the page is one of this many from the first on
 abbrev pub IsPageOf : ℕ → ℕ → ℕ → Type 0
 IsPageOf first count page = (first ≤ page) × (page < first + count)
 
--- the first fault of so many pages from the first on
+-- the first fault of this many pages from the first on
 abbrev pub IsFirstFaultFrom : Recorded → ℕ → ℕ → Option PageFault → Type 0
 IsFirstFaultFrom s first count fault = MatchOption fault (AreClean s (IsPageOf first count)) (IsFirstFaultOf s (IsPageOf first count))
 
@@ -60,16 +61,16 @@ IsFirstFaultFrom s first count fault = MatchOption fault (AreClean s (IsPageOf f
 abbrev pub fault : LogName → ℕ → PageReason → PageFault
 fault log place reason = record { log = log; place = place; reason = reason }
 
--- a first touch that no look before it covers
+-- the first touch, if no look before it covers it
 abbrev pub uncovered_of : Option ℕ → Option ℕ → Option ℕ
 uncovered_of None look = None
 uncovered_of (Some touch) look = if is_before look touch then None else Some touch
 
--- the access that is too early: an uncovered first touch that is no release
+-- the early access: an uncovered first touch that is not a release
 abbrev pub early_of : Findings → Option ℕ
 early_of f = if f.releases then None else uncovered_of f.touch f.look
 
--- the placement that may come after a release: the first, where the first touch is an uncovered release
+-- the placement that may come after a release: the first one, if the first touch is an uncovered release
 abbrev pub over_at : Option ℕ → Option ℕ → Option ℕ
 over_at None placement = None
 over_at (Some touch) placement = placement
@@ -77,7 +78,7 @@ over_at (Some touch) placement = placement
 abbrev pub over_of : Findings → Option ℕ
 over_of f = if f.releases then over_at (uncovered_of f.touch f.look) f.placement else None
 
--- a fault of this record, if there is one
+-- the fault of this record, if there is one
 abbrev pub told : LogName → PageReason → Option ℕ → Option PageFault
 told log reason None = None
 told log reason (Some n) = Some (fault log n reason)
@@ -86,7 +87,7 @@ told log reason (Some n) = Some (fault log n reason)
 abbrev pub precedes : PageFault → PageFault → Bool
 precedes a b = nat_lt (log_index a.log) (log_index b.log) || ((log_index a.log == log_index b.log) && nat_lt a.place b.place)
 
--- the fault of least line, and of one record the first
+-- the fault with the least line, or the first if both are of one record
 abbrev pub least : Option PageFault → Option PageFault → Option PageFault
 least None other = other
 least (Some f) None = Some f

@@ -1,4 +1,4 @@
-//! The entries of a certificate, judged where their pages are.
+//! The entries of a certificate, judged where their pages are judged.
 
 ghost use Rattle.std.specs.Prelude.{◌≡◌, ◌+◌, ◌<◌, ◌↔◌, IsTrue, length};
 ghost use Rattle.audit_model.specs.Certificates.{IsRightEntry};
@@ -13,14 +13,14 @@ use crate::right_entry::is_right_entry;
 use migration_types::{Entry, PageNo, Session};
 use std::alloc::{AllocError, Global};
 
-/// Which is the first page whose entry in a certificate is not right?
+/// The question for the first page whose entry in a certificate is not right.
 #[derive(Clone, Copy)]
 pub(crate) struct Entries<'a> {
     /// An entry for each page, page 0 first.
     pub(crate) entries: &'a [Entry],
 }
 
-/// Whether a page's entry is right, by what is found of the page.
+/// Returns whether a page's entry is right, given the findings about the page.
 fn is_right(session: &Session, findings: &Findings, page: PageNo, entry: &Entry) -> bool
     requires { IsFindings session.now page findings.now }
     ensures { IsTrue result ↔ IsRightEntry session.now page entry.now }
@@ -29,7 +29,7 @@ fn is_right(session: &Session, findings: &Findings, page: PageNo, entry: &Entry)
     is_right_entry(session, page, &facts, entry)
 }
 
-/// Whether the entry of this page among those of all is right.
+/// Returns whether the entry of this page among those of all is right.
 fn is_right_at(session: &Session, findings: &Findings, page: PageNo, entries: &[Entry]) -> bool
     requires findings { IsFindings session.now page findings.now }
     requires entries { page < length entries.now }

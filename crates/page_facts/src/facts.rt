@@ -6,18 +6,19 @@ ghost use Rattle.page_facts.specs.Findings.{IsFindings};
 use crate::findings::Findings;
 use migration_types::{PageNo, Session};
 
-/// What the logs say of a page.
+/// What the logs say about a page.
 #[derive(Clone, Copy, Debug, PartialEq, Eq)]
 pub struct PageFacts {
-    /// Whether a read of it gave another value than one machine that never moved.
+    /// Whether a read of it gave another value than one machine that never moved would.
     pub wrong_read: bool,
     /// Whether it was sent with other contents than it had at the halt, or while it was released there.
     pub wrong_send: bool,
     /// The pager's first placement of it.
     pub placement: Option<u32>,
-    /// Whether it was placed once more.
+    /// Whether it was placed again.
     pub again: bool,
-    /// Whether it was placed with other contents than it had at the halt, or as zeros while it was not released there.
+    /// Whether it was placed with other contents than it had at the halt, or as zeros although it was not released
+    /// there.
     pub altered: bool,
     /// The guest's first read, write or release of it after handover.
     pub touch: Option<u32>,
@@ -25,7 +26,7 @@ pub struct PageFacts {
     pub releases: bool,
 }
 
-/// The facts of a page with these findings.
+/// Returns the facts of a page with these findings.
 pub fn facts_of(_session: &Session, findings: &Findings, _page: PageNo) -> PageFacts
     requires { IsFindings _session.now _page findings.now }
     ensures { IsFacts _session.now _page result }

@@ -1,4 +1,4 @@
-//! Who judges the pages of a session: the calling thread alone, or threads side by side.
+//! Judges of the pages of a session: the calling thread alone, or threads side by side.
 
 ghost use Rattle.std.specs.Prelude.{⊤, ◌≡◌, ◌+◌, ◌*◌, ◌<◌, ◌≤◌, length, IfOk};
 ghost use Rattle.std.specs.Thread.{IsSync};
@@ -15,24 +15,24 @@ use std::thread::Threads;
 /// How many records and pages are worth a thread of their own.
 const WORTH_A_THREAD: usize = 16384;
 
-/// Who judges the pages of which this is asked. What is answered is the same whoever does.
+/// Judges of pages, which answer a question about all pages of a session. All judges give the same answer.
 pub trait Judges<Q: Question> {
-    // What lets them work.
+    // The condition for their work.
     ghost ready: { Type 0 } = { ⊤ };
 
-    /// What is answered of all pages of a session. An error: there is no memory to judge them, or for the answer.
+    /// Returns the answer about all pages of a session. Fails only if memory runs out.
     fn ask(&self, question: &Q, alloc: Global, session: &Session) -> Result<Q::Answer, AllocError>
         requires ready { ready }
         requires asked { Q.IsFor question.now session.now }
         ensures { IfOk result (Q.IsAnswer question.now session.now 0 session.now.geometry.pages) };
 }
 
-/// Who judges the entries of a certificate.
+/// Judges of the entries of a certificate.
 pub trait JudgesEntries {
-    // What lets them work.
+    // The condition for their work.
     ghost ready: { Type 0 } = { ⊤ };
 
-    /// The first page whose entry in a certificate is not right. An error: there is no memory to judge the pages.
+    /// Returns the first page whose entry in a certificate is not right. Fails only if memory runs out.
     fn first_wrong_entry(
         &self,
         alloc: Global,
@@ -65,8 +65,8 @@ impl JudgesEntries for Alone {
     }
 }
 
-/// As many threads as there are processors, side by side. A small session is judged by the calling thread. Of each question
-/// that threads are asked, the question's crate says that they answer it, by [`answer_apart`].
+/// As many threads as there are processors, side by side. The calling thread judges a small session alone. The crate of
+/// each question that threads are asked implements this with [`answer_apart`].
 #[derive(Clone, Copy)]
 pub struct InThreads<'a, R> {
     /// What starts threads.
@@ -86,10 +86,10 @@ impl<R: Threads + Sync> JudgesEntries for InThreads<'_, R> {
     }
 }
 
-/// At least so many pages are judged at once.
+/// The least number of pages that are judged at once.
 const PAGES_AT_ONCE: usize = 65_536;
 
-/// How many records there are, with the pages that do not begin as zeros.
+/// Returns how many records and initial pages there are.
 #[tactic(auto, using(migration_types::specs::inner::InitPages::few_init))]
 fn records_of(session: &Session) -> usize
     ensures { result ≤ most_pages + 5 * longest_log }
@@ -102,21 +102,22 @@ fn records_of(session: &Session) -> usize
     records
 }
 
-/// How many pages a thread judges at once: as many as there are records, so that memory follows the records and not the
-/// machine, and yet all walks over the logs, one for so many pages, take no more steps than there are pages and records.
+/// Returns how many pages a thread judges at once: as many as there are records. Then memory grows with the records and
+/// not with the machine, and all walks over the logs, one for this many pages, take no more steps than there are pages
+/// and records.
 pub(crate) fn pages_at_once(session: &Session) -> usize
     ensures { 0 < result }
 {
     records_of(session).max(PAGES_AT_ONCE)
 }
 
-/// How much there is to judge: pages and records.
+/// Returns how much there is to judge: pages and records.
 fn work_of(session: &Session) -> usize {
     session.keeps_limits();
     session.geometry().pages() as usize + records_of(session)
 }
 
-/// Whether a session has too little to judge for two threads.
+/// Returns whether a session has too little to judge for two threads.
 pub fn is_small(session: &Session) -> bool {
     work_of(session) < 2 * WORTH_A_THREAD
 }

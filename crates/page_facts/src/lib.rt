@@ -1,11 +1,11 @@
-//! What the logs of a session say of each page, by the records of that page.
+//! What the logs of a session say about each page, found from the records of that page.
 //!
 //! A checker, a maker of certificates and an audit all judge a page by the same few facts: whether a read of it gave
 //! another value than one machine would, what was sent of it, where it was placed, and when it was first used after
-//! handover. [`Judges`] find these of all pages, in one pass over each log with the cells of the pages beside it, alone or by
-//! ranges of pages side by side. What is found of a page is not kept: each asks a [`Question`], which takes of it what it
-//! wants, as [`FirstFault`] the first fault of all pages; [`JudgesEntries`] the first entry of a certificate that is not right.
-//! [`findings_for`] tells what is found of one page, and [`fault_of`] the first fault of a page.
+//! handover. [`Judges`] find these facts for all pages, in one pass over each log with the cells of the pages, alone or
+//! by ranges of pages side by side. The findings about a page are not kept. A [`Question`] takes what it wants from
+//! them: [`FirstFault`] takes the first fault of all pages, and [`JudgesEntries`] the first entry of a certificate that
+//! is not right. [`findings_for`] returns the findings about one page, and [`fault_of`] the first fault of a page.
 #![tactic(auto)]
 
 mod entries;

@@ -13,7 +13,7 @@ use migration_types::{GuestRec, PagerRec, Session};
 use page_store::Table;
 use std::alloc::{AllocError, Global};
 
-/// What the walk over the guest's log keeps.
+/// The state of the walk over the guest's log.
 #[derive(Drop)]
 pub(crate) struct Looks {
     /// The guest's first look at a placement of each page, or at a later record of the pager.
@@ -22,7 +22,7 @@ pub(crate) struct Looks {
     pub reached: usize,
 }
 
-/// The pager's record that a look sees.
+/// Returns the pager's record that a look sees.
 fn look_of(logged: &GuestRec) -> Option<u32>
     ensures { result ≡ look_of logged.now }
 {
@@ -44,7 +44,7 @@ fn note_placed(first: &mut Table<Option<u32>>, rec: &PagerRec, n: u32)
     }
 }
 
-/// Notes a look for the pages that these records of the pager place, where no look is noted.
+/// Notes a look for the pages that these records of the pager place, if no look is noted for a page.
 fn note_reached(session: &Session, first: &mut Table<Option<u32>>, from: usize, to: usize, n: u32)
     requires limits { IsSession session.now }
     requires order { from ≤ to }
@@ -73,8 +73,8 @@ fn take_look(session: &Session, looks: &mut Looks, placement: u32, n: u32)
     }
 }
 
-/// The guest's first look at a placement of each page, or at a later record of the pager. Takes each record of the
-/// guest and of the pager once, and memory for a number for each page. An error: there is no memory for them.
+/// Returns the guest's first look at a placement of each page, or at a later record of the pager. Visits each record of
+/// the guest and of the pager once, and allocates memory for a number for each page. Fails only if memory runs out.
 pub(crate) fn first_looks(
     alloc: Global,
     session: &Session,

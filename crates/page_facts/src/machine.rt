@@ -7,7 +7,7 @@ ghost use Rattle.page_facts.specs.Machines.{late_after};
 use audit_model::is_halt;
 use migration_types::GuestRec;
 
-/// Whether the guest is at the target after this record.
+/// Returns whether the guest is at the target after this record.
 pub(crate) fn late_after(rec: &GuestRec, late: bool) -> bool
     ensures { result ≡ late_after rec.now late }
 {
@@ -18,7 +18,7 @@ pub(crate) fn late_after(rec: &GuestRec, late: bool) -> bool
     }
 }
 
-/// The place of the first `halt`, or the log's length where there is none.
+/// Returns the place of the first `halt`, or the log's length if there is none.
 pub fn halt_place(guest: &[GuestRec]) -> usize
     ensures place { result ≡ halt_place guest.now }
     ensures within { result ≤ length guest.now }

@@ -20,11 +20,11 @@ pub struct PageFault {
     pub log: LogName,
     /// The record's number in that log.
     pub place: u32,
-    /// The first of the reasons that it has.
+    /// The first of its reasons.
     pub reason: PageReason,
 }
 
-/// A fault of this record, if there is one.
+/// Returns the fault of this record, if there is one.
 pub(crate) fn told(log: LogName, reason: PageReason, place: Option<u32>) -> Option<PageFault>
     ensures { result ≡ told log reason place }
 {
@@ -32,7 +32,7 @@ pub(crate) fn told(log: LogName, reason: PageReason, place: Option<u32>) -> Opti
     Some(PageFault { log, place, reason })
 }
 
-/// Whether a fault's line is less than the other's.
+/// Returns whether a fault's line is less than the other's.
 fn precedes(one: &PageFault, other: &PageFault) -> bool
     ensures { result ≡ precedes one.now other.now }
 {
@@ -41,7 +41,7 @@ fn precedes(one: &PageFault, other: &PageFault) -> bool
     log < before || (log == before && one.place < other.place)
 }
 
-/// The fault of least line, and where they are of one record, the first.
+/// Returns the fault with the least line, or the first if both are of one record.
 pub(crate) fn least(first: Option<PageFault>, other: Option<PageFault>) -> Option<PageFault>
     ensures { result ≡ least first other }
 {
@@ -58,7 +58,7 @@ pub(crate) fn least(first: Option<PageFault>, other: Option<PageFault>) -> Optio
     }
 }
 
-/// The one that is there, or else the other.
+/// Returns the first one if it exists, and otherwise the other.
 fn or_next(first: Option<PageFault>, next: Option<PageFault>) -> Option<PageFault>
     ensures { result ≡ or_next first next }
 {
@@ -68,7 +68,7 @@ fn or_next(first: Option<PageFault>, next: Option<PageFault>) -> Option<PageFaul
     }
 }
 
-/// The first fault of a page with these findings, by the logs in their order.
+/// Returns the first fault of a page with these findings, going through the logs in their order.
 fn first_in_logs(session: &Session, findings: &Findings) -> Option<PageFault>
     ensures { result ≡ page_fault session.now findings.now }
 {
@@ -76,8 +76,8 @@ fn first_in_logs(session: &Session, findings: &Findings) -> Option<PageFault>
     or_next(guest_fault(findings), moved)
 }
 
-/// The fault of least line, and then of least reason, of a page with these findings; none where no record of the page
-/// is a fault. Takes no memory.
+/// Returns the fault of a page with these findings that has the least line, and then the least reason, or `None` if no
+/// record of the page is a fault. Allocates no memory.
 pub fn fault_of(session: &Session, findings: &Findings, page: PageNo) -> Option<PageFault>
     requires { IsFindings session.now page findings.now }
     ensures { MatchOption result (IsClean session.now page) (IsFirstFault session.now page) }
@@ -85,7 +85,7 @@ pub fn fault_of(session: &Session, findings: &Findings, page: PageNo) -> Option<
     first_in_logs(session, findings)
 }
 
-/// Which is the fault of least line, and then of least reason, of the pages?
+/// The question for the pages' fault with the least line, and then the least reason.
 #[derive(Clone, Copy)]
 pub struct FirstFault;
 
@@ -126,9 +126,9 @@ pub fn first_of_pages_is_first()
     ensures { (s : Recorded) (fault : Option PageFault) → IsSession s → IsFirstFaultFrom s 0 s.geometry.pages fault → MatchOption fault (HasNoPageFault s) (λ f. IsFirstPageFault s f.reason (f.log, f.place)) }
 {}
 
-/// The fault of least line, and then of least reason, of a session's pages; none where no record is a fault. Takes a
-/// few passes over each log, and memory for some numbers for each page and for the cells of all pages. The only error:
-/// there is no memory for them.
+/// Returns the fault of a session's pages with the least line, and then the least reason, or `None` if no record is a
+/// fault. Makes a few passes over each log, and allocates memory for some numbers for each page and for the cells of
+/// all pages. Fails only if memory runs out.
 pub fn first_page_fault(alloc: Global, session: &Session) -> Result<Option<PageFault>, AllocError>
     ensures { IfOk result (λ fault. MatchOption fault (HasNoPageFault session.now) (λ f. IsFirstPageFault session.now f.reason (f.log, f.place))) }
 {

@@ -1,5 +1,5 @@
-//! What is asked of all pages of a session, and taken of what is found of each where it is judged: by the calling thread
-//! alone, or by threads side by side. No list of what is found is kept.
+//! Questions about all pages of a session, which take what they want from the findings about each page where it is
+//! judged: by the calling thread alone, or by threads side by side. No list of findings is kept.
 
 ghost use Rattle.std.specs.Prelude.{◌≡◌, ◌<◌, ◌≤◌, ◌+◌, ℕ, length, IfOk, OnOk};
 ghost use Rattle.std.specs.List.{AllByRecursion};
@@ -21,23 +21,23 @@ use std::alloc::{AllocError, Global};
 use std::marker::Sync;
 use std::thread::Threads;
 
-/// What is asked of pages: what is taken of what is found of each, as [`FirstFault`](crate::FirstFault) or a user's own.
+/// A question about pages: what it takes from the findings about each. For example [`FirstFault`](crate::FirstFault),
+/// or a question of the caller.
 pub trait Question {
-    /// What is answered of some pages that follow one another.
+    /// The answer about some consecutive pages.
     type Answer: Drop;
 
-    /// It can be asked of the pages of this session.
+    /// The question fits the pages of this session.
     ghost IsFor: { Self → Recorded → Type 0 };
 
-    /// The answer is of so many pages from the first on.
+    /// The answer is about this many pages from the first on.
     ghost IsAnswer: { Self → Recorded → ℕ → ℕ → Self.Answer → Type 0 };
 
-    /// What is answered of no page, before the first of some. There are about to be `room` of them. An error: there is no
-    /// memory for it.
+    /// Returns the answer about no page, before the first of about `room` pages. Fails only if memory runs out.
     fn blank(&self, alloc: Global, room: usize) -> Result<Self::Answer, AllocError>
         ensures { IfOk result (λ answer. (s : Recorded) (first : ℕ) → IsAnswer self.now s first 0 answer) };
 
-    /// Takes what is found of the page behind those so far. An error: there is no memory for it.
+    /// Takes in the findings about the page after those so far. Fails only if memory runs out.
     fn take(
         &self,
         answer: &mut Self::Answer,
@@ -51,12 +51,12 @@ pub trait Question {
         requires findings { IsFindings session.now page findings.now }
         ensures { OnOk result ((first count : ℕ) → page ≡ first + count → IsAnswer self.now session.now first count answer.old → IsAnswer self.now session.now first (count + 1) answer.new) };
 
-    /// Adds what is answered of the pages behind those so far. An error: there is no memory for it.
+    /// Appends the answer about the pages after those so far. Fails only if memory runs out.
     fn add(&self, answer: &mut Self::Answer, next: Self::Answer) -> Result<(), AllocError>
         ensures { OnOk result ((s : Recorded) (first count more : ℕ) → IsAnswer self.now s first count answer.old → IsAnswer self.now s (first + count) more next → IsAnswer self.now s first (count + more) answer.new) };
 }
 
-/// What is answered of some pages that follow one another.
+/// The answer about some consecutive pages.
 #[derive(Drop)]
 pub(crate) struct Part<A> {
     pub(crate) first: usize,
@@ -64,7 +64,7 @@ pub(crate) struct Part<A> {
     pub(crate) answer: A,
 }
 
-/// Judges the next so many pages, and takes what is found of each. An error: there is no memory for it.
+/// Judges the next `count` pages, and takes in the findings about each. Fails only if memory runs out.
 fn answer_next<Q: Question>(
     question: &Q,
     alloc: Global,
@@ -90,7 +90,7 @@ fn answer_next<Q: Question>(
     Ok(())
 }
 
-/// Judges so many pages from the first on, some at a time, and takes what is found of each.
+/// Judges `count` pages from the first on, some at a time, and takes in the findings about each.
 fn answer_range<Q: Question>(
     question: &Q,
     alloc: Global,
@@ -125,7 +125,7 @@ fn answer_range<Q: Question>(
     Ok(answer)
 }
 
-/// What is answered of all pages. An error: there is no memory for it.
+/// Returns the answer about all pages. Fails only if memory runs out.
 pub(crate) fn answer_alone<Q: Question>(
     question: &Q,
     alloc: Global,
@@ -140,7 +140,7 @@ pub(crate) fn answer_alone<Q: Question>(
     answer_range(question, alloc, session, &looks, 0, pages)
 }
 
-/// What is answered of one of the parts that have so many pages each.
+/// Returns the answer about one of the parts, which have this many pages each.
 fn answer_part<Q: Question>(
     question: &Q,
     alloc: Global,
@@ -173,7 +173,7 @@ fn answer_part<Q: Question>(
     })
 }
 
-/// Adds a part to the pages before it, where it begins where they end.
+/// Appends a part to the pages before it, if it begins where they end.
 fn add_part<Q: Question>(
     question: &Q,
     _session: &Session,
@@ -193,7 +193,7 @@ fn add_part<Q: Question>(
     Ok(())
 }
 
-/// Adds parts to the pages before them, in turn.
+/// Appends parts to the pages before them, in turn.
 fn add_parts<Q: Question>(
     question: &Q,
     session: &Session,
@@ -212,7 +212,7 @@ fn add_parts<Q: Question>(
     Ok(())
 }
 
-/// What is answered of all pages, where it is answered of the first of them: the others are judged by the calling thread.
+/// Returns the answer about all pages, given that about the first of them. The calling thread judges the others.
 fn complete<Q: Question>(
     question: &Q,
     alloc: Global,
@@ -239,7 +239,7 @@ fn complete<Q: Question>(
     Ok(answer)
 }
 
-/// How many threads judge a session: one where it is little work, and else one for each processor.
+/// Returns how many threads judge a session: one if it is little work, and otherwise one for each processor.
 fn threads_for<R: Threads>(rt: &R, session: &Session) -> usize {
     if is_small(session) {
         return 1;
@@ -247,7 +247,7 @@ fn threads_for<R: Threads>(rt: &R, session: &Session) -> usize {
     current_num_threads(rt)
 }
 
-/// What is answered of each of so many parts, by threads side by side: each part is worth a thread.
+/// Returns the answers about this many parts, by threads side by side. Each part is worth a thread.
 fn answer_parts<R: Threads + Sync, X: Send + Drop, Q: Question<Answer = X> + Sync>(
     rt: &R,
     question: &Q,
@@ -274,8 +274,8 @@ fn answer_parts<R: Threads + Sync, X: Send + Drop, Q: Question<Answer = X> + Syn
         .collect(rt, alloc)?
 }
 
-/// What is answered of all pages by threads side by side, a range of pages for each processor; where there is one processor
-/// or little work, by the calling thread. An error: there is no memory for it.
+/// Returns the answer about all pages by threads side by side, with a range of pages for each processor. If there is
+/// one processor or little work, the calling thread judges all. Fails only if memory runs out.
 pub fn answer_apart<R: Threads + Sync, X: Send + Drop, Q: Question<Answer = X> + Sync>(
     rt: &R,
     question: &Q,

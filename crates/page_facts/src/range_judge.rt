@@ -16,10 +16,10 @@ use crate::range_start::range_for;
 use migration_types::{PageNo, Session};
 use std::alloc::{AllocError, Global};
 
-/// What is known of the pages of a range once all logs are read.
+/// What is known about the pages of a range once all logs are read.
 #[derive(Drop)]
 pub struct Judged {
-    /// What is seen of each at the end.
+    /// What was seen of each at the end.
     pub range: Range,
     /// Whether each was released at the halt.
     pub released: Vec<bool>,
@@ -29,7 +29,7 @@ pub struct Judged {
     pub placed: Placed,
 }
 
-/// Whether each page of the range is released.
+/// Returns whether each page of the range is released. Fails only if memory runs out.
 fn released_of(_session: &Session, alloc: Global, range: &Range) -> Result<Vec<bool>, AllocError>
     requires { AreSeen _session.now (at_halt _session.now) range.now }
     ensures many { IfOk result (λ column. length column.items ≡ length range.now.seen.items) }
@@ -43,7 +43,7 @@ fn released_of(_session: &Session, alloc: Global, range: &Range) -> Result<Vec<b
     Ok(released)
 }
 
-/// The item at an index.
+/// Returns the item at an index.
 pub(crate) fn item_at<T: Copy>(column: &Vec<T>, index: usize) -> T
     requires { index < length column.now.items }
     ensures { slice_get column.now.items index ≡ Some result }
@@ -51,7 +51,7 @@ pub(crate) fn item_at<T: Copy>(column: &Vec<T>, index: usize) -> T
     column[index]
 }
 
-/// All logs, read for the pages of a range that is as it was at the start.
+/// Returns what all logs say about the pages of a range that is as at the start. Fails only if memory runs out.
 fn judge_from_start(alloc: Global, session: &Session, start: Range) -> Result<Judged, AllocError>
     requires limits { IsSession session.now }
     requires start { IsRange session.now 0 start }
@@ -76,8 +76,8 @@ fn judge_from_start(alloc: Global, session: &Session, start: Range) -> Result<Ju
     })
 }
 
-/// All logs, read for so many pages from the first on, by one pass over each. Takes memory for the cells of these pages
-/// and some numbers for each. An error: there is no memory for them.
+/// Returns what all logs say about this many pages from the first on, by one pass over each log. Allocates memory for
+/// the cells of these pages and some numbers for each. Fails only if memory runs out.
 pub(crate) fn judge_range(
     alloc: Global,
     session: &Session,
@@ -95,8 +95,8 @@ pub(crate) fn judge_range(
     judge_from_start(alloc, session, start)
 }
 
-/// What the logs say of one page, by one pass over each log and one more for the looks. Takes memory for the cells of this page and a number for each. An
-/// error: there is no memory for them.
+/// Returns what the logs say about one page, by one pass over each log and one more for the looks. Allocates memory for
+/// the cells of this page and a number for each page. Fails only if memory runs out.
 pub fn findings_for(alloc: Global, session: &Session, page: PageNo) -> Result<Findings, AllocError>
     requires { page < session.now.geometry.pages }
     ensures { IfOk result (IsFindings session.now page) }

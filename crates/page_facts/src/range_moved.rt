@@ -10,7 +10,7 @@ use crate::findings::{Placed, Sent, take_place, take_send};
 use crate::range::Range;
 use migration_types::{PageNo, Session};
 
-/// The index of a page in the range.
+/// Returns the index of a page in the range.
 pub(crate) fn index_of(range: &Range, page: PageNo) -> Option<usize>
     ensures { MatchOption result (IsOutside range.now page) (IsAt range.now page) }
 {
@@ -25,7 +25,7 @@ pub(crate) fn index_of(range: &Range, page: PageNo) -> Option<usize>
     Some(index)
 }
 
-/// What was sent of each page.
+/// Takes in the source's records: what was sent of each page.
 pub(crate) fn run_source(session: &Session, range: &Range, sent: &mut Sent)
     requires limits { IsSession session.now }
     requires halted { AreSeen session.now (at_halt session.now) range.now }
@@ -38,7 +38,7 @@ pub(crate) fn run_source(session: &Session, range: &Range, sent: &mut Sent)
     }
 }
 
-/// What was placed of each page.
+/// Takes in the pager's records: what was placed of each page.
 pub(crate) fn run_pager(session: &Session, range: &Range, placed: &mut Placed)
     requires limits { IsSession session.now }
     requires halted { AreSeen session.now (at_halt session.now) range.now }

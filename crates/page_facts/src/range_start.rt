@@ -12,7 +12,7 @@ use migration_types::{Geometry, InitPage, PageNo, Session};
 use page_store::Store;
 use std::alloc::{AllocError, Global};
 
-/// A machine of so many pages, of the size of the session's.
+/// Returns a machine of this many pages, of the size of the session's.
 fn machine_of(session: &Session, count: usize) -> Geometry
     requires some { 0 < count }
     requires within { count ≤ session.now.geometry.pages }
@@ -26,7 +26,7 @@ fn machine_of(session: &Session, count: usize) -> Geometry
     }
 }
 
-/// Puts a page that is given at the start into the range, where it is of the range.
+/// Puts an initial page into the range, if it is one of the range.
 fn give(range: &mut Range, given: &InitPage)
     requires pages { range.old.cells.geometry.pages ≡ length range.old.seen.items }
     requires few { length range.old.seen.items ≤ most_pages }
@@ -41,7 +41,7 @@ fn give(range: &mut Range, given: &InitPage)
         .install(PageNo::new(index as u32), given.cells.as_slice());
 }
 
-/// Nothing is seen of so many pages.
+/// Returns rows for this many pages with nothing seen. Fails only if memory runs out.
 fn unseen_for(alloc: Global, count: usize) -> Result<Vec<Seen>, AllocError>
     ensures many { IfOk result (λ seen. length seen.items ≡ count) }
     ensures unseen { IfOk result (λ seen. AreUnseen seen.items) }
@@ -54,7 +54,7 @@ fn unseen_for(alloc: Global, count: usize) -> Result<Vec<Seen>, AllocError>
     Ok(vec![in alloc; unseen; count]?)
 }
 
-/// A range of zeros.
+/// Returns a range of zeros. Fails only if memory runs out.
 fn zeros_for(
     alloc: Global,
     session: &Session,
@@ -75,7 +75,7 @@ fn zeros_for(
     })
 }
 
-/// The pages of a range as they are at the start. An error: there is no memory for them.
+/// Returns the pages of a range as they are at the start. Fails only if memory runs out.
 pub(crate) fn range_for(
     alloc: Global,
     session: &Session,

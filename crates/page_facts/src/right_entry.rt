@@ -1,4 +1,4 @@
-//! Whether a page's entry in a certificate is right, by the facts of the page.
+//! Whether a page's entry in a certificate is right, given the facts of the page.
 
 ghost use Rattle.std.specs.Prelude.{◌≡◌, ◌↔◌, IsTrue, slice_get};
 ghost use Rattle.audit_model.specs.Shape.{passes, is_send_of};
@@ -10,7 +10,7 @@ use crate::facts::PageFacts;
 use audit_model::{delivery, is_send_of};
 use migration_types::{Entry, First, GuestRec, PageNo, PagerRec, Session, SourceRec};
 
-/// Whether guest record n is a look at this placement, or at a later one.
+/// Returns whether guest record n is a look at this placement, or at a later one.
 fn sees_from_at(session: &Session, n: u32, place: u32) -> bool
     ensures { result ≡ passes (sees_from place) (slice_get session.now.guest n) }
 {
@@ -20,7 +20,7 @@ fn sees_from_at(session: &Session, n: u32, place: u32) -> bool
     }
 }
 
-/// Whether source record n is a `send` of the page.
+/// Returns whether source record n is a `send` of the page.
 fn is_send_at(session: &Session, n: u32, page: PageNo) -> bool
     ensures { result ≡ passes (is_send_of page) (slice_get session.now.source n) }
 {
@@ -30,7 +30,7 @@ fn is_send_at(session: &Session, n: u32, page: PageNo) -> bool
         .is_some_and(|rec| is_send_of(rec, page))
 }
 
-/// Whether source record n is an `again` of this `send`.
+/// Returns whether source record n is an `again` of this `send`.
 fn repeats_at(session: &Session, n: u32, send: u32) -> bool
     ensures { result ≡ passes (repeats send) (slice_get session.now.source n) }
 {
@@ -40,7 +40,7 @@ fn repeats_at(session: &Session, n: u32, send: u32) -> bool
     }
 }
 
-/// Whether a delivery is this `send`, or an `again` of it.
+/// Returns whether a delivery is this `send`, or an `again` of it.
 fn delivers_from(session: &Session, send: u32, delivered: Option<u32>) -> bool
     ensures { result ≡ delivers_from session.now send delivered }
 {
@@ -50,7 +50,7 @@ fn delivers_from(session: &Session, send: u32, delivered: Option<u32>) -> bool
     }
 }
 
-/// Whether pager record n is a `place` of the page, delivered from this `send`.
+/// Returns whether pager record n is a `place` of the page, delivered from this `send`.
 fn places_from_at(session: &Session, page: PageNo, send: u32, n: u32) -> bool
     ensures { result ≡ passes (places_from session.now page send) (slice_get session.now.pager n) }
 {
@@ -69,7 +69,7 @@ fn places_from_at(session: &Session, page: PageNo, send: u32, n: u32) -> bool
     }
 }
 
-/// Whether pager record n is a `zero` of the page.
+/// Returns whether pager record n is a `zero` of the page.
 fn zeroes_at(session: &Session, page: PageNo, n: u32) -> bool
     ensures { result ≡ passes (zeroes page) (slice_get session.now.pager n) }
 {
@@ -79,7 +79,7 @@ fn zeroes_at(session: &Session, page: PageNo, n: u32) -> bool
     }
 }
 
-/// Whether an entry's first touch and its look are right.
+/// Returns whether an entry's first touch and its look are right.
 fn covers(session: &Session, touch: Option<u32>, place: u32, first: &Option<First>) -> bool
     ensures { result ≡ covers session.now touch place first.now }
 {
@@ -92,7 +92,7 @@ fn covers(session: &Session, touch: Option<u32>, place: u32, first: &Option<Firs
     }
 }
 
-/// Whether a first record is there, and has this number.
+/// Returns whether there is a first record, and it has this number.
 fn is_place(first: Option<u32>, place: u32) -> bool
     ensures { result ≡ is_place first place }
 {
@@ -102,14 +102,14 @@ fn is_place(first: Option<u32>, place: u32) -> bool
     }
 }
 
-/// Whether this is the page's one placement, and is what the page is at the halt.
+/// Returns whether this is the page's only placement, and is what the page is at the halt.
 fn is_once(facts: &PageFacts, place: u32) -> bool
     ensures { result ≡ is_once facts.now place }
 {
     is_place(facts.placement, place) && !facts.again && !facts.altered
 }
 
-/// Whether an entry is right beside the page's reads and sends.
+/// Returns whether an entry is right, apart from the page's reads and sends.
 fn is_right_of(session: &Session, page: PageNo, facts: &PageFacts, entry: &Entry) -> bool
     ensures { result ≡ is_right_of session.now page facts.now entry.now }
 {
@@ -132,15 +132,15 @@ fn is_right_of(session: &Session, page: PageNo, facts: &PageFacts, entry: &Entry
     }
 }
 
-/// Whether an entry passes all tests.
+/// Returns whether an entry passes all tests.
 fn passes_tests(session: &Session, page: PageNo, facts: &PageFacts, entry: &Entry) -> bool
     ensures { result ≡ is_right_entry session.now page facts.now entry.now }
 {
     !facts.wrong_read && !facts.wrong_send && is_right_of(session, page, facts, entry)
 }
 
-/// Whether an entry of a certificate is right for a page of which these are the facts. Takes a few looks into the logs,
-/// and no memory.
+/// Returns whether an entry of a certificate is right for a page with these facts. Looks at a few records, and
+/// allocates no memory.
 pub fn is_right_entry(session: &Session, page: PageNo, facts: &PageFacts, entry: &Entry) -> bool
     requires { IsFacts session.now page facts.now }
     ensures { IsTrue result ↔ IsRightEntry session.now page entry.now }

@@ -9,7 +9,7 @@ pub record Frames : Type 0 where
   pub geometry : Extent
   pub items : List ℕ
 
--- the memory that frames hold; beyond them are zeros
+-- the memory that frames hold, with zeros beyond the machine
 abbrev pub memory_of : Frames → Memory
 memory_of f page cell = if nat_lt page f.geometry.pages && nat_lt cell f.geometry.cells then slice_index f.items (page * f.geometry.cells + cell) else 0
 
@@ -18,7 +18,7 @@ pub record IsPageOf (e : Extent) (given : InitPage) : Type 0 where
   pub page : given.page < e.pages
   pub cells : length given.cells ≡ e.cells
 
--- frames of the same geometry, which hold this memory
+-- frames of the same geometry, which now hold this memory
 pub record IsWith (before after : Frames) (memory : Memory) : Type 0 where
   pub geometry : after.geometry ≡ before.geometry
   pub memory_is : memory_of after ≡ memory

@@ -1,7 +1,7 @@
 -- Tables with a value for each page of a machine.
 use Rattle.std.specs.Prelude.{◌≡◌, ℕ, ◌==◌, ◌&&◌, ◌||◌, Bool, List, length, Option, Some, None, slice_index_or, if◌then◌else◌}
 
--- what each page began with, and the value of each page, page 0 first
+-- the value that each page began with, and the value of each page, page 0 first
 pub record Values (T : Type 0) : Type 0 where
   pub initial : T
   pub items : List T
@@ -10,23 +10,23 @@ pub record Values (T : Type 0) : Type 0 where
 abbrev pub pages_of : {T : Type 0} → Values T → ℕ
 pages_of t = length t.items
 
--- the value of each page; pages beyond the machine have what all began with
+-- the value of each page; pages beyond the machine have the value that all began with
 abbrev pub values : {T : Type 0} → Values T → ℕ → T
 values t page = slice_index_or t.items page t.initial
 
--- the same value at each page
+-- the same value for each page
 abbrev pub all_at : {T : Type 0} → T → ℕ → T
 all_at value page = value
 
--- the values with another one at a page
+-- the values with another one at this page
 abbrev pub with_value : {T : Type 0} → ℕ → T → (ℕ → T) → ℕ → T
 with_value given value at page = if given == page then value else at page
 
--- the marks with one at a page, if the test holds
+-- the marks with one at this page, if the test holds
 abbrev pub marked_if : Bool → ℕ → (ℕ → Bool) → ℕ → Bool
 marked_if test given at page = ((given == page) && test) || at page
 
--- the number that is there, or this one where none is and the test holds
+-- the number that is there, or this one if there is none and the test holds
 abbrev pub or_here : Option ℕ → Bool → ℕ → Option ℕ
 or_here (Some first) here number = Some first
 or_here None here number = if here then Some number else None

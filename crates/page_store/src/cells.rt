@@ -1,4 +1,4 @@
-//! Values of which it is known where they may be other than 0, so that no zero is written over zeros.
+//! Values with marks for where they may be other than 0, so that zeros are not overwritten with zeros.
 
 ghost use Rattle.std.specs.Prelude.{◌≡◌, ℕ, ◌-◌, ◌+◌, ◌*◌, ◌<◌, ◌≤◌, ◌⊎◌, ◌++◌, true, false, IfOk, length, replicate, take, drop, slice_index, slice_index_or, slice_set};
 ghost use Rattle.page_store.specs.inner.Blocks.{block, IsCleared, AreTouched};
@@ -6,10 +6,10 @@ ghost use Rattle.page_store.specs.inner.Blocks.{block, IsCleared, AreTouched};
 use std::alloc::{AllocError, Global};
 use std::marker::Model;
 
-/// So many values share a mark.
+/// The number of values that share a mark.
 const BLOCK: usize = 64;
 
-/// A list of values, all 0 at first. Only the constructor takes memory.
+/// A list of values, all 0 at first. Only the constructor allocates memory.
 #[derive(Drop)]
 pub struct Cells {
     values: Vec<u64>,
@@ -29,7 +29,7 @@ impl Model for Cells {
 }
 
 impl Cells {
-    /// So many zeros.
+    /// Returns this many zeros. Fails only if memory runs out.
     pub fn zeroed(alloc: Global, count: usize) -> Result<Cells, AllocError>
         ensures { IfOk result (λ v. v ≡ replicate count 0) }
     {
@@ -38,7 +38,7 @@ impl Cells {
         Ok(Cells { values, touched })
     }
 
-    /// The value at a place.
+    /// Returns the value at a place.
     pub fn at(&self, place: usize) -> u64
         requires { place < length self.now }
         ensures { result ≡ slice_index self.now place }
@@ -46,7 +46,7 @@ impl Cells {
         self.values[place]
     }
 
-    /// Gives a place a value.
+    /// Sets the value at a place.
     pub fn set(&mut self, place: usize, value: u64)
         requires { place < length self.old }
         ensures { self.new ≡ slice_set self.old place value }
@@ -55,8 +55,8 @@ impl Cells {
         self.touched[place / BLOCK] = true;
     }
 
-    /// Writes so many zeros from one place on. What this takes is in proportion to the values that were written there
-    /// since it was last done, and to a mark for each block.
+    /// Writes this many zeros from one place on. The time is proportional to the values written there since the last
+    /// time, and to one mark for each block.
     pub fn clear(&mut self, from: usize, count: usize)
         requires { from + count ≤ length self.old }
         ensures { self.new ≡ take from self.old ++ (replicate count 0 ++ drop (from + count) self.old) }
@@ -74,7 +74,7 @@ impl Cells {
         touch(&mut self.touched, from / BLOCK, to.div_ceil(BLOCK));
     }
 
-    /// The values from one place up to another.
+    /// Returns the values from one place up to another.
     pub fn slice(&self, from: usize, to: usize) -> &[u64]
         requires order { from ≤ to }
         requires within { to ≤ length self.now }
@@ -84,21 +84,21 @@ impl Cells {
     }
 }
 
-/// So many zeros.
+/// Returns this many zeros. Fails only if memory runs out.
 fn zeros(alloc: Global, count: usize) -> Result<Vec<u64>, AllocError>
     ensures { IfOk result (λ v. v.items ≡ replicate count 0) }
 {
     vec![in alloc; 0; count]
 }
 
-/// So many marks, none of them set.
+/// Returns this many marks, none of them set. Fails only if memory runs out.
 fn no_marks(alloc: Global, count: usize) -> Result<Vec<bool>, AllocError>
     ensures { IfOk result (λ v. v.items ≡ replicate count false) }
 {
     vec![in alloc; false; count]
 }
 
-/// Writes zeros from one place up to another, where a block's mark is set. A block that is within takes its mark off.
+/// Writes zeros from one place up to another, in blocks whose mark is set. Clears the marks of blocks that lie within.
 fn clear_touched(values: &mut Vec<u64>, touched: &mut Vec<bool>, from: usize, to: usize)
     requires order { from ≤ to }
     requires within { to ≤ length values.old.items }
@@ -116,7 +116,7 @@ fn clear_touched(values: &mut Vec<u64>, touched: &mut Vec<bool>, from: usize, to
     }
 }
 
-/// Writes so many zeros from one place on.
+/// Writes this many zeros from one place on.
 fn clear(items: &mut Vec<u64>, from: usize, count: usize)
     requires { from + count ≤ length items.old.items }
     ensures { items.new.items ≡ take from items.old.items ++ (replicate count 0 ++ drop (from + count) items.old.items) }

@@ -1,4 +1,4 @@
-//! The frames of one machine: a value for each cell of each page; and tables with a value for each page.
+//! The frames of one machine, which are a value for each cell of each page; and tables with a value for each page.
 #![tactic(auto)]
 
 ghost use Rattle.std.specs.Prelude.{◌≡◌, ◌<◌, ◌≤◌, ◌*◌, ◌+◌, ◌++◌, IfOk, length, replicate, take, drop};
@@ -13,8 +13,8 @@ use std::alloc::{AllocError, Global};
 use std::marker::Model;
 pub use tables::Table;
 
-/// A value for each cell of each page of a machine. Only the constructors take memory: one block for all frames, and
-/// one of a byte for each 64 cells.
+/// The frames of a machine: a value for each cell of each page. Only the constructors allocate memory: one block for
+/// all frames, and one of a byte for each 64 cells.
 #[derive(Drop)]
 pub struct Store {
     geometry: Geometry,
@@ -36,7 +36,7 @@ impl Store {
     ghost use Rattle.migration_types.specs.Memory.{initial, zeros, page_of, with_cell, with_content, with_zeros};
     ghost use Rattle.page_store.specs.Frames.{IsPageOf, memory_of, IsWith};
 
-    /// The frames of a machine whose cells are all 0.
+    /// Returns the frames of a machine whose cells are all 0. Fails only if memory runs out.
     pub fn zeroed(alloc: Global, geometry: Geometry) -> Result<Store, AllocError>
         ensures geometry { IfOk result (λ s. s.geometry ≡ geometry) }
         ensures memory { IfOk result (λ s. memory_of s ≡ zeros) }
@@ -47,8 +47,8 @@ impl Store {
         Ok(Store { geometry, items })
     }
 
-    /// The frames of a machine that begins with these pages, and with zeros elsewhere. Of a page that is given twice
-    /// the first counts.
+    /// Returns the frames of a machine that begins with these pages, and with zeros elsewhere. If a page is given
+    /// twice, the first counts. Fails only if memory runs out.
     pub fn from_init(
         alloc: Global,
         geometry: Geometry,
@@ -68,7 +68,7 @@ impl Store {
         Ok(store)
     }
 
-    /// The value of a cell.
+    /// Returns the value of a cell.
     pub fn read(&self, page: PageNo, cell: u16) -> u64
         requires page { page < self.now.geometry.pages }
         requires cell { cell < self.now.geometry.cells }
@@ -77,7 +77,7 @@ impl Store {
         self.items.at(page.index() * self.geometry.cells() as usize + cell as usize)
     }
 
-    /// Gives a cell a value.
+    /// Sets the value of a cell.
     pub fn write(&mut self, page: PageNo, cell: u16, value: u64)
         requires page { page < self.old.geometry.pages }
         requires cell { cell < self.old.geometry.cells }
@@ -87,7 +87,7 @@ impl Store {
         self.items.set(at, value);
     }
 
-    /// Gives each cell of a page the value 0. This takes no longer than the writes of cells since the page was released.
+    /// Sets each cell of a page to 0. This takes no longer than the writes to its cells since it was last released.
     pub fn release(&mut self, page: PageNo)
         requires { page < self.old.geometry.pages }
         ensures { IsWith self.old self.new (with_zeros page (memory_of self.old)) }
@@ -96,7 +96,7 @@ impl Store {
         self.items.clear(page.index() * cells, cells);
     }
 
-    /// The values of a page, cell 0 first.
+    /// Returns the values of a page, cell 0 first.
     pub fn page(&self, page: PageNo) -> &[u64]
         requires { page < self.now.geometry.pages }
         ensures { result.now ≡ page_of self.now.geometry.cells (memory_of self.now) page }
@@ -106,7 +106,7 @@ impl Store {
         self.items.slice(from, from + cells)
     }
 
-    /// Gives a page these values, cell 0 first.
+    /// Sets the values of a page, cell 0 first.
     pub fn install(&mut self, page: PageNo, content: &[u64])
         requires page { page < self.old.geometry.pages }
         requires content { length content.now ≡ self.old.geometry.cells }
@@ -116,7 +116,7 @@ impl Store {
         self.items.put(from, content);
     }
 
-    /// The machine's geometry.
+    /// Returns the machine's geometry.
     pub fn geometry(&self) -> Geometry
         ensures { result ≡ self.now.geometry }
     {

@@ -6,10 +6,10 @@ use migration_types::PageNo;
 use std::alloc::{AllocError, Global};
 use std::marker::Model;
 
-/// A value for each page of a machine. Only the constructors take memory, one block for all values.
+/// A value for each page of a machine. Only the constructors allocate memory, one block for all values.
 #[derive(Drop)]
 pub struct Table<T> {
-    /// What each page began with.
+    /// The value that each page began with.
     initial: T,
     /// The value of each page, page 0 first.
     items: Vec<T>,
@@ -27,7 +27,7 @@ impl Table<bool> {
     ghost use Rattle.std.specs.Prelude.{false};
     ghost use Rattle.page_store.specs.Tables.{all_at, marked_if, pages_of, values, IsWith};
 
-    /// A mark for each of so many pages, none of them set. An error: there is no memory for it.
+    /// Returns a table of marks for this many pages, none of them set. Fails only if memory runs out.
     pub fn no_marks(alloc: Global, pages: u32) -> Result<Table<bool>, AllocError>
         ensures pages { IfOk result (λ t. pages_of t ≡ pages) }
         ensures values { IfOk result (λ t. values t ≡ all_at false) }
@@ -39,7 +39,7 @@ impl Table<bool> {
         })
     }
 
-    /// Marks a page where the test is true.
+    /// Marks a page if the test is true.
     pub fn mark_if(&mut self, page: PageNo, test: bool)
         requires { page < pages_of self.old }
         ensures { IsWith self.old self.new (marked_if test page (values self.old)) }
@@ -54,7 +54,7 @@ impl Table<Option<u32>> {
     ghost use Rattle.std.specs.Prelude.{None};
     ghost use Rattle.page_store.specs.Tables.{all_at, noted, pages_of, values, IsWith};
 
-    /// The number of a record for each of so many pages, none of them there. An error: there is no memory for it.
+    /// Returns a table of record numbers for this many pages, none of them set. Fails only if memory runs out.
     pub fn no_numbers(alloc: Global, pages: u32) -> Result<Table<Option<u32>>, AllocError>
         ensures pages { IfOk result (λ t. pages_of t ≡ pages) }
         ensures values { IfOk result (λ t. values t ≡ all_at None) }
@@ -64,7 +64,7 @@ impl Table<Option<u32>> {
         Ok(Table { initial, items })
     }
 
-    /// Gives a page this number, if it has none.
+    /// Sets the number of a page that has none.
     pub fn note(&mut self, page: PageNo, number: u32)
         requires { page < pages_of self.old }
         ensures { IsWith self.old self.new (noted page number (values self.old)) }
@@ -78,7 +78,7 @@ impl Table<Option<u32>> {
 impl<T: Copy> Table<T> {
     ghost use Rattle.page_store.specs.Tables.{pages_of, values, with_value, IsWith};
 
-    /// The value of a page.
+    /// Returns the value of a page.
     pub fn at(&self, page: PageNo) -> T
         requires { page < pages_of self.now }
         ensures { result ≡ values self.now page }
@@ -86,7 +86,7 @@ impl<T: Copy> Table<T> {
         self.items[page.index()]
     }
 
-    /// Gives a page another value. The other pages stay as they are.
+    /// Sets the value of a page. The other pages stay as they are.
     pub fn set(&mut self, page: PageNo, value: T)
         requires { page < pages_of self.old }
         ensures { IsWith self.old self.new (with_value page value (values self.old)) }

@@ -39,7 +39,7 @@ body_of p = kind_of p ∷ (number_bytes (number_of p) ++ fields_of p)
 abbrev pub packet_bytes : Packet → List ℕ
 packet_bytes p = number_bytes (length (body_of p)) ++ body_of p
 
--- each is below the next, from this number on and below that
+-- the numbers rise, the first is at least `from`, and all are below `limit`
 abbrev pub Rises : ℕ → ℕ → List ℕ → Type 0
 Rises from limit [] = Unit {0}
 Rises from limit (page ∷ pages) = (from ≤ page) × (page < limit) × Rises (page + 1) limit pages
@@ -51,16 +51,16 @@ FieldsFit e (PagePacket number page contents) = (page < e.pages) × IsContent e.
 FieldsFit e (WantPacket number page) = page < e.pages
 FieldsFit e (AllPacket number) = Unit {0}
 
--- a packet of a machine's migration
+-- a packet that a machine's migration may send
 pub record Fits (e : Extent) (p : Packet) : Type 0 where
   pub number : number_of p < most_records
   pub fields : FieldsFit e p
 
--- no packet of the machine's has these bytes after its length
+-- no packet of the machine has these bytes after its length
 abbrev pub IsNoBody : Extent → List ℕ → Type 0
 IsNoBody e body = (p : Packet) → Fits e p → body ≡ body_of p → ⊥
 
--- no more pages and cells than the largest machine has
+-- it has no more pages and cells than the largest machine has
 abbrev pub IsShort : Packet → Type 0
 IsShort (StatePacket number released) = length released ≤ most_pages
 IsShort (PagePacket number page contents) = length contents ≤ most_cells

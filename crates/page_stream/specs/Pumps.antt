@@ -10,13 +10,13 @@ use Rattle.page_stream.specs.declared.stream.StreamFaultKind.{StreamFaultKind}
 use Rattle.page_stream.specs.declared.pumping.PumpFault.{PumpFault}
 use Rattle.page_stream.specs.declared.pumping.PumpFault.TheVariants.{Read, Write, Stream, Turns, Memory, Cut}
 
--- the bytes that a reader has left, or that a writer holds, before and after, where they are known
+-- the bytes that a reader has left, or that a writer holds, before and after, if they are known
 pub record Known : Type 0 where
   pub before : Option (List ℕ)
   pub after : Option (List ℕ)
 
--- Some bytes were read, which are these packets and then a rest, and some bytes were written: the packets' first ones,
--- and some more were not.
+-- Some bytes were read, which are these packets and then a rest. Some bytes were written, which are the first of the
+-- packets' bytes; the others were not written.
 pub record Moves (e : Extent) (reader writer : Known) (packets : List Packet) (rest written unwritten : List ℕ) : Type 0 where
   pub bytes : List ℕ
   pub read : Consumes reader.before reader.after bytes
@@ -24,21 +24,21 @@ pub record Moves (e : Extent) (reader writer : Known) (packets : List Packet) (r
   pub appended : Appends writer.before writer.after written
   pub front : flat_map packet_bytes packets ≡ written ++ unwritten
 
--- all that was left was read, and is so many packets; just their bytes were written
+-- all that was left was read, and is this many packets; exactly their bytes were written
 pub record PumpsAll (e : Extent) (reader writer : Known) (count : ℕ) : Type 0 where
   pub packets : List Packet
   pub moves : Moves e reader writer packets [] (flat_map packet_bytes packets) []
   pub end : IsAtEnd reader.after
   pub count_is : length packets ≡ count
 
--- so many reads, each of a byte or more, gave these bytes
+-- this many reads, each of a byte or more, gave these bytes
 pub record AreReads (count : ℕ) (bytes : List ℕ) : Type 0 where
   pub pieces : List (List ℕ)
   pub whole : concat pieces ≡ bytes
   pub some : AllByRecursion (λ piece. 1 ≤ length piece) pieces
   pub count_is : length pieces ≡ count
 
--- what a fault says of what was read and of what was not written
+-- what a fault says about what was read and what was not written
 abbrev pub IsPumpFault : Extent → ℕ → Option (List ℕ) → List ℕ → List ℕ → List ℕ → PumpFault → Type 0
 IsPumpFault e turns left bytes rest unwritten Read = unwritten ≡ []
 IsPumpFault e turns left bytes rest unwritten Write = Unit {0}
@@ -47,7 +47,7 @@ IsPumpFault e turns left bytes rest unwritten Turns = AreReads turns bytes × (u
 IsPumpFault e turns left bytes rest unwritten Memory = Unit {0}
 IsPumpFault e turns left bytes rest unwritten Cut = IsAtEnd left × IsPartial e rest × (1 ≤ length rest) × (unwritten ≡ [])
 
--- what was read and written up to a fault
+-- what was read and written before a fault
 pub record PumpsUntil (e : Extent) (reader writer : Known) (turns : ℕ) (fault : PumpFault) : Type 0 where
   pub packets : List Packet
   pub rest : List ℕ

@@ -1,4 +1,4 @@
--- What a stream of packets stands for.
+-- The packets in a stream of bytes.
 use Rattle.std.specs.Prelude.{◌≡◌, ℕ, ◌+◌, ◌*◌, ◌<◌, ◌≤◌, ◌⊎◌, Bool, true, false, List, [], ◌∷◌, ◌++◌, take, drop, length, slice_index}
 use Rattle.std.specs.List.{flat_map, AllByRecursion}
 use Rattle.std.specs.Int.{w32, from_be_bytes}
@@ -15,25 +15,25 @@ pub record StandsFor (e : Extent) (bytes : List ℕ) (packets : List Packet) (re
   pub whole : bytes ≡ flat_map packet_bytes packets ++ rest
   pub each : AllByRecursion (Fits e) packets
 
--- the length that the first four bytes say
+-- the length that the first four bytes give
 abbrev pub said_length : List ℕ → ℕ
 said_length rest = from_be_bytes w32 (take 4 rest)
 
--- what the length of a state is that has each page of the largest machine of a size released, which is the longest: 262,153 of
--- a small one
+-- The greatest length of a packet: a state that has each page of the largest machine of a size released. For the small
+-- size it is 262,153.
 abbrev pub most_length : Size → ℕ
 most_length size = 9 + 4 * (limits size).pages
 
--- a packet of a machine may have such a length
+-- a packet of the machine may have this length
 abbrev pub IsLength : Extent → ℕ → Type 0
 IsLength e n = (1 ≤ n) × (n ≤ most_length e.size)
 
--- a packet may have such a kind byte
+-- a packet may have this kind byte
 abbrev pub IsKind : ℕ → Type 0
 IsKind kind = (1 ≤ kind) × (kind ≤ 4)
 
--- The fault that a rest shows: the length once 4 bytes are there, the kind once it is, the fields once the packet is
--- whole.
+-- The fault that the rest shows: of the length once 4 bytes are there, of the kind once it is there, of the fields once
+-- the packet is whole.
 abbrev pub HasFault : Extent → List ℕ → StreamFaultKind → Type 0
 HasFault e rest Length = (4 ≤ length rest) × (IsLength e (said_length rest) → ⊥)
 HasFault e rest Kind = (5 ≤ length rest) × IsLength e (said_length rest) × (IsKind (slice_index rest 4) → ⊥)
@@ -46,34 +46,35 @@ pub record IsPartial (e : Extent) (rest : List ℕ) : Type 0 where
   pub long : 4 ≤ length rest → IsLength e (said_length rest) × (length rest < 4 + said_length rest)
   pub kind : 5 ≤ length rest → IsKind (slice_index rest 4)
 
--- a rest that goes no further: it is partial, or shows a fault
+-- a rest that stops the reading: it is partial, or shows a fault
 abbrev pub IsRest : Extent → List ℕ → Type 0
 IsRest e rest = IsPartial e rest ⊎ ((kind : StreamFaultKind) × HasFault e rest kind)
 
--- a reading of bytes, however they came: the packets at the front, as many as are whole and have no fault, and a rest
+-- The reading of some bytes, however they came: the packets at the front, as many as are whole and have no fault, and
+-- the rest.
 pub record IsReading (e : Extent) (bytes : List ℕ) (packets : List Packet) (rest : List ℕ) : Type 0 where
   pub stands : StandsFor e bytes packets rest
   pub end : IsRest e rest
 
--- a stream between two pieces: the bytes of no whole packet yet, and whether a fault came
+-- the state of a stream between two pieces: the bytes of a partial packet, and whether a fault was found
 pub record Flow : Type 0 where
   pub geometry : Extent
   pub rest : List ℕ
   pub is_broken : Bool
 
--- a stream that had no fault took a piece, of which these packets are whole
+-- a stream without a fault took a piece, and these packets are whole then
 pub record Takes (old new : Flow) (piece : List ℕ) (packets : List Packet) : Type 0 where
   pub going : old.is_broken ≡ false
   pub geometry : new.geometry ≡ old.geometry
   pub stands : StandsFor old.geometry (old.rest ++ piece) packets new.rest
 
--- what a fault says of the stream and the piece
+-- what a fault says about the stream and the piece
 abbrev pub Refuses : Flow → Flow → List ℕ → List Packet → StreamFaultKind → Type 0
 Refuses old new piece before Memory = (old.is_broken ≡ false) × (new ≡ old) × (before ≡ [])
 Refuses old new piece before Broken = (old.is_broken ≡ true) × (new ≡ old) × (before ≡ [])
 Refuses old new piece before kind = (new.is_broken ≡ true) × Takes old new piece before × HasFault old.geometry new.rest kind
 
--- these pieces came in turn, each of them taken, with these packets in all
+-- these pieces were fed in turn, each was taken, and these are all their packets
 abbrev pub TakesAll : Flow → List (List ℕ) → List Packet → Flow → Type 0
 TakesAll old [] packets new = (new ≡ old) × (packets ≡ [])
 TakesAll old (piece ∷ pieces) packets new = (mid : Flow) × (first : List Packet) × (later : List Packet) × Takes old mid piece first × TakesAll mid pieces later new × (packets ≡ first ++ later)

@@ -1,4 +1,4 @@
-//! Packets of bytes.
+//! Packets from bytes.
 
 ghost use Rattle.std.specs.Prelude.{◌≡◌, ◌++◌, ◌<◌, ◌≤◌, ◌^◌, ℕ, List, length, IfOk, MatchOption};
 ghost use Rattle.std.specs.List.{flat_map};
@@ -12,7 +12,7 @@ use crate::Packet;
 use migration_types::{Contents, Geometry, LAST_RECORD, PageNo, Shared};
 use std::alloc::{AllocError, Global};
 
-/// The number of 4 bytes at the front, and what follows it.
+/// Returns the number of 4 bytes at the front, and what follows it.
 pub(crate) fn number_at(bytes: &[u8]) -> Option<(u32, &[u8])>
     ensures { MatchOption result (length bytes.now < 4) (λ x. (bytes.now ≡ number_bytes x.0 ++ x.1.now) × (x.0 < 2 ^ 32)) }
 {
@@ -20,7 +20,7 @@ pub(crate) fn number_at(bytes: &[u8]) -> Option<(u32, &[u8])>
     Some((u32::from_be_bytes(*front), rest))
 }
 
-/// The cell at the front, and what follows it.
+/// Returns the cell at the front, and what follows it.
 fn cell_at(bytes: &[u8]) -> Option<(u64, &[u8])>
     ensures { MatchOption result (length bytes.now < 8) (λ x. bytes.now ≡ cell_bytes x.0 ++ x.1.now) }
 {
@@ -28,7 +28,7 @@ fn cell_at(bytes: &[u8]) -> Option<(u64, &[u8])>
     Some((u64::from_be_bytes(*front), rest))
 }
 
-/// The pages that these bytes list, which rise.
+/// Returns the pages that these bytes list, if they rise.
 fn pages_of(
     alloc: Global,
     geometry: Geometry,
@@ -57,7 +57,7 @@ fn pages_of(
     }
 }
 
-/// The cells of these bytes.
+/// Returns the cells that these bytes hold.
 fn cells_of(alloc: Global, count: u32, bytes: &[u8]) -> Result<Option<Vec<u64>>, AllocError>
     requires { count ≤ most_cells }
     ensures { IfOk result (λ found. MatchOption found
@@ -181,7 +181,7 @@ fn fields_of_kind(
     }
 }
 
-/// The packet of these bytes, which follow its length.
+/// Returns the packet that these bytes are, which follow its length.
 pub(crate) fn decode(
     alloc: Global,
     geometry: Geometry,

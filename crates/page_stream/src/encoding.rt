@@ -1,4 +1,4 @@
-//! Packets as bytes.
+//! Packets to bytes.
 
 ghost use Rattle.std.specs.Prelude.{true, ◌≡◌, ◌∷◌, ◌++◌, ◌≤◌, length, OnOk, IfOk, MatchBool};
 ghost use Rattle.std.specs.List.{flat_map};
@@ -35,7 +35,7 @@ fn put_number(out: &mut Vec<u8>, number: u32) -> Result<(), AllocError>
     out.extend_from_slice(&number.to_be_bytes())
 }
 
-/// Puts what each packet begins with, and makes room for the rest of it.
+/// Appends the beginning of a packet, and makes room for the rest of it.
 fn put_head(out: &mut Vec<u8>, length: u32, kind: u8, number: u32) -> Result<(), AllocError>
     ensures { OnOk result (out.new.items ≡ out.old.items ++ (number_bytes length ++ kind ∷ number_bytes number)) }
 {
@@ -66,7 +66,7 @@ fn put_page(out: &mut Vec<u8>, number: u32, page: PageNo, cells: &[u64]) -> Resu
     Ok(())
 }
 
-/// Puts a packet's bytes at the end. An error: there is no memory for them, and some of them may stand there.
+/// Appends the bytes of a packet. Fails only if memory runs out; some of them may then have been appended.
 pub(crate) fn put_packet(out: &mut Vec<u8>, packet: &Packet) -> Result<(), AllocError>
     requires { IsShort packet.now }
     ensures { OnOk result (out.new.items ≡ out.old.items ++ packet_bytes packet.now) }
@@ -86,9 +86,10 @@ pub(crate) fn put_packet(out: &mut Vec<u8>, packet: &Packet) -> Result<(), Alloc
     }
 }
 
-/// The packet's bytes: a length, which counts what follows it, a kind byte, the record number, and the fields. Numbers
-/// take 4 bytes and cells 8, the highest byte first. The packet has no more released pages and cells than a machine has pages and a page has cells, as each
-/// that `fits` some geometry. An error: there is no memory for them.
+/// Returns the bytes of a packet: a length, which counts what follows it, a kind byte, the record number, and the
+/// fields. Numbers take 4 bytes and cells 8, the highest byte first. The packet must not have more released pages than
+/// a machine has pages, nor more cells than a page has; a packet that `fits` some geometry never does. Fails only if
+/// memory runs out.
 pub fn encode(alloc: Global, packet: &Packet) -> Result<Vec<u8>, AllocError>
     requires { IsShort packet.now }
     ensures { IfOk result (λ v. v.items ≡ packet_bytes packet.now) }
@@ -125,8 +126,8 @@ fn contents_fit(cells: u32, values: &[u64]) -> bool
     true
 }
 
-/// Whether a machine of such a geometry sends it, and so the packet has bytes: its record number is at most 1,048,575,
-/// its pages are below the page count, released pages rise, and contents have as many cells as a page.
+/// Returns whether a machine of this geometry sends the packet, so that the packet has bytes: its record number is at
+/// most 1,048,575, its pages are below the page count, released pages rise, and contents have as many cells as a page.
 pub fn fits(geometry: Geometry, packet: &Packet) -> bool
     ensures fits { MatchBool result (Fits geometry packet.now) (Fits geometry packet.now → ⊥) }
     ensures short { result ≡ true → IsShort packet.now }

@@ -1,4 +1,4 @@
-//! Packets that go from a reader to a writer.
+//! Pumping packets from a reader to a writer.
 
 ghost use Rattle.std.specs.Prelude.{◌≡◌, ◌≢◌, ◌+◌, ◌≤◌, ◌++◌, true, false, length, vec_len, OnOk, IfOk, IfErr};
 ghost use Rattle.std.specs.List.{flat_map, AllByRecursion};
@@ -17,22 +17,22 @@ use std::io;
 use std::io::{ErrorKind, Read, Write};
 use thiserror::Error;
 
-/// Why not all packets went over.
+/// Why not all packets were copied.
 #[derive(Clone, Copy, Debug, PartialEq, Eq, Error)]
 pub enum PumpFault {
     /// A read failed.
     #[error("a read failed")]
     Read,
-    /// A write failed, or took nothing.
+    /// A write failed, or wrote nothing.
     #[error("a write failed")]
     Write,
-    /// What was read has a fault: a length, a kind or fields that no packet has.
+    /// The input has a fault: a length, a kind or fields that no packet has.
     #[error("a fault in the packets")]
     Stream,
-    /// So many reads were made, and the input has not ended.
+    /// As many reads were made as allowed, and the input has not ended.
     #[error("too many reads")]
     Turns,
-    /// Memory was refused.
+    /// Memory ran out.
     #[error("out of memory")]
     Memory,
     /// The input ended inside a packet.
@@ -40,7 +40,7 @@ pub enum PumpFault {
     Cut,
 }
 
-// How many bytes are asked for at a time.
+// The number of bytes that are asked for at a time.
 const BUFFER_BYTES: usize = 65_536;
 
 fn is_of_memory(error: &io::Error) -> bool
@@ -50,7 +50,7 @@ fn is_of_memory(error: &io::Error) -> bool
     error.kind() == ErrorKind::OutOfMemory
 }
 
-/// The fault of an error: this one, or that memory was refused.
+/// Returns the fault for an error: this one, or that memory ran out.
 fn fault_of(error: &io::Error, fault: PumpFault) -> PumpFault
     ensures reading { IsOfReading fault → IsOfReading result }
     ensures writing { IsOfWriting fault → IsOfWriting result }
@@ -70,7 +70,7 @@ fn zeroes(alloc: Global, count: usize) -> Result<Vec<u8>, AllocError>
     vec![in alloc; 0u8; count]
 }
 
-/// Writes these bytes, in as many writes as it takes. On a fault the first ones of them were written.
+/// Writes these bytes, in as many writes as it takes. On a fault, the first of them were written.
 fn write_bytes<W: Write>(writer: &mut W, bytes: &[u8]) -> Result<(), PumpFault>
     ensures ok { OnOk result (Appends (W.contents writer.old) (W.contents writer.new) bytes.now) }
     ensures kind { IfErr result IsOfWriting }
@@ -98,7 +98,7 @@ fn bytes_of(alloc: Global, packets: &[Packet]) -> Result<Vec<u8>, AllocError>
     Ok(bytes)
 }
 
-/// Writes these packets. On a fault the first ones of their bytes were written.
+/// Writes these packets. On a fault, the first of their bytes were written.
 fn write_packets<W: Write>(
     alloc: Global,
     writer: &mut W,
@@ -115,7 +115,7 @@ fn write_packets<W: Write>(
     }
 }
 
-/// Gives a piece to a stream, and writes the packets that are whole then, also those ahead of a fault.
+/// Feeds a piece to a stream, and writes the packets that are whole then, including those ahead of a fault.
 fn pass_on<W: Write>(
     alloc: Global,
     stream: &mut Stream,
@@ -144,11 +144,11 @@ fn pass_on<W: Write>(
     }
 }
 
-/// Copies whole packets from a reader to a writer until the input ends, and answers how many they are. It makes at most
-/// so many reads, the one that finds the end among them, and none again: a read or a write that was interrupted failed.
-/// After a fault the packets' bytes were written up to some place; where reading failed, the packets have a fault, the
-/// reads were too few or the input is cut, those of all whole packets that were read. A writer that buffers is not
-/// flushed.
+/// Copies whole packets from a reader to a writer until the input ends, and returns how many they are. It makes at most
+/// this many reads, including the one that finds the end. It retries none: an interrupted read or write counts as
+/// failed. After a fault, the packets' bytes were written up to some place. If a read failed, the packets have a fault,
+/// the reads were too few, or the input is cut, the bytes of all whole packets that were read were written. It does not
+/// flush the writer.
 pub fn pump<R: Read, W: Write>(
     alloc: Global,
     reader: &mut R,

@@ -18,17 +18,18 @@ use thiserror::Error;
 /// What is wrong with a stream.
 #[derive(Clone, Copy, Debug, PartialEq, Eq, Error)]
 pub enum StreamFaultKind {
-    /// A packet's length is not 1 to 262,153, or what is the most for a machine of another size. It is told once 4 bytes
-    /// of a packet are there.
+    /// The length of a packet is not 1 to 262,153, or to the greatest length for a machine of another size. This is
+    /// found as soon as 4 bytes of a packet are there.
     #[error("a packet of a length that none has")]
     Length,
-    /// A packet's kind byte is not 1 to 4. It is told once that byte is there.
+    /// The kind byte of a packet is not 1 to 4. This is found as soon as that byte is there.
     #[error("a packet of a kind that none has")]
     Kind,
-    /// The bytes are not exactly the fields of their kind, within the geometry. It is told once the packet is whole.
+    /// The bytes are not exactly the fields of their kind, within the geometry. This is found as soon as the packet is
+    /// whole.
     #[error("a packet whose fields are none of its kind's")]
     Fields,
-    /// Memory was refused. The stream is as it was.
+    /// Memory ran out. The stream is as it was.
     #[error("out of memory")]
     Memory,
     /// A fault of the first three kinds came before.
@@ -36,8 +37,8 @@ pub enum StreamFaultKind {
     Broken,
 }
 
-/// Why a stream does not go on, and the whole packets of that piece ahead of the fault: none where memory was refused
-/// or a fault came before.
+/// Why a stream stops, and the whole packets of the piece ahead of the fault. There are none if memory ran out or an
+/// earlier call found the fault.
 #[derive(Drop, Error)]
 #[error("{kind}")]
 pub struct StreamFault {
@@ -45,7 +46,7 @@ pub struct StreamFault {
     pub before: Seq<Packet>,
 }
 
-/// Only the kind is shown: packets hold pages.
+/// Shows only the kind, because packets hold pages.
 impl Debug for StreamFault {
     fn fmt<W: fmt::Write>(&self, f: &mut Formatter<W>) -> fmt::Result {
         f.debug_struct("StreamFault")
@@ -54,7 +55,7 @@ impl Debug for StreamFault {
     }
 }
 
-/// What stands at the front of some bytes.
+/// What some bytes begin with.
 #[derive(Drop)]
 enum Front<'a> {
     Packet(Packet, &'a [u8]),
@@ -70,7 +71,7 @@ struct Taken {
     fault: Option<StreamFaultKind>,
 }
 
-/// The length of a packet of such a machine is at most this.
+/// Returns the greatest length of a packet of this machine.
 #[tactic(auto, using(migration_types::specs::Limits::limits_at_most))]
 fn most_length(geometry: Geometry) -> u32
     ensures { result ≡ most_length geometry.size }
@@ -78,7 +79,7 @@ fn most_length(geometry: Geometry) -> u32
     9 + 4 * geometry.size().limits().pages
 }
 
-/// The packet at the front of some bytes, and what follows it, or why there is none.
+/// Returns the packet at the front of some bytes, and what follows it, or why there is none.
 fn front_of(alloc: Global, geometry: Geometry, bytes: &[u8]) -> Result<Front<'_>, AllocError>
     ensures { IfOk result (IsFront geometry bytes.now) }
 {
@@ -107,7 +108,7 @@ fn front_of(alloc: Global, geometry: Geometry, bytes: &[u8]) -> Result<Front<'_>
     }
 }
 
-/// Reads the packets at the front of some bytes, until one is not whole or has a fault.
+/// Reads the packets at the front of some bytes, up to one that is not whole or has a fault.
 fn take_packets(alloc: Global, geometry: Geometry, bytes: &[u8]) -> Result<Taken, AllocError>
     ensures used { IfOk result (λ t. t.used ≤ length bytes.now) }
     ensures stands { IfOk result (λ t. StandsFor geometry bytes.now t.packets.items (drop t.used bytes.now)) }
@@ -139,8 +140,8 @@ fn take_packets(alloc: Global, geometry: Geometry, bytes: &[u8]) -> Result<Taken
     }
 }
 
-/// Reads packets from a stream that comes in pieces. It holds the bytes of a packet that is not whole yet, and after a
-/// fault those from the fault on.
+/// A reader of packets from a stream that comes in pieces. It holds the bytes of a packet that is not whole yet, and
+/// after a fault the bytes from the fault on.
 #[derive(Drop)]
 pub struct Stream {
     alloc: Global,
@@ -158,7 +159,7 @@ impl Model for Stream {
 }
 
 impl Stream {
-    /// A stream of a machine's packets, of which nothing came yet. Takes no memory.
+    /// Returns a stream of a machine's packets, with nothing fed yet. Allocates no memory.
     pub fn new(alloc: Global, geometry: Geometry) -> Self
         ensures { result ≡ record { geometry = geometry; rest = []; is_broken = false } }
     {
@@ -170,17 +171,17 @@ impl Stream {
         }
     }
 
-    /// Whether all that came is whole packets.
+    /// Returns whether everything that was fed is whole packets.
     pub(crate) fn is_between_packets(&self) -> bool
         ensures { MatchBool result (self.now.rest ≡ []) (self.now.rest ≡ [] → ⊥) }
     {
         self.held.is_empty()
     }
 
-    /// Takes the next piece, of any length, and answers the packets that are whole now. What was left and the piece are
-    /// the packets and what is left now. The piece is copied once, and a packet's fields are read once it is whole.
-    /// After a fault of the first three kinds every later call answers `Broken`; want of memory leaves the stream as it
-    /// was.
+    /// Takes the next piece, of any length, and returns the packets that are whole now. The bytes kept before, followed
+    /// by the piece, are these packets followed by the bytes kept now. The piece is copied once, and a packet's fields
+    /// are read once the packet is whole. After a fault of the first three kinds, every later call returns `Broken`. If
+    /// memory runs out, the stream is as it was.
     pub fn feed(&mut self, piece: &[u8]) -> Result<Seq<Packet>, StreamFault>
         ensures taken { IfOk result (λ packets. Takes self.old self.new piece.now packets) }
         ensures going { IfOk result (λ packets. self.new.is_broken ≡ false) }
@@ -213,7 +214,7 @@ impl Stream {
         }
     }
 
-    /// A fault ahead of which no packet came.
+    /// Returns a fault with no packet ahead of it.
     fn refusal(&self, kind: StreamFaultKind) -> StreamFault
         ensures kind { result.kind ≡ kind }
         ensures before { result.before ≡ [] }
@@ -225,9 +226,9 @@ impl Stream {
     }
 }
 
-/// However bytes come, they are read in one way only: two readings of the same bytes have the same packets and the same
-/// rest. What calls of `feed` answer in turn, with what is left at last, stands for all their pieces together, so it
-/// does not matter where these were cut.
+/// A law: bytes are read in one way only, however they are cut into pieces. Two readings of the same bytes have the
+/// same packets and the same rest. The packets that calls of `feed` return in turn, followed by what is kept at last,
+/// are a reading of all their pieces together. Runs nothing.
 pub fn one_reading()
     ensures same { (e : Extent) (bytes : List ℕ) (packets others : List Packet) (rest other : List ℕ) → IsExtent e → IsReading e bytes packets rest → IsReading e bytes others other → (packets ≡ others) × (rest ≡ other) }
     ensures together { (start end : Flow) (pieces : List (List ℕ)) (packets : List Packet) → TakesAll start pieces packets end → StandsFor start.geometry (start.rest ++ concat pieces) packets end.rest }

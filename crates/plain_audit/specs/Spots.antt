@@ -24,7 +24,7 @@ spot_at w page cell = record {
   released = w.ledger page;
 }
 
--- a write, of the page or not, and of the cell or not
+-- the spot after a write, of the page or not, and of the cell or not
 abbrev pub spot_written : Home → Bool → Bool → ℕ → Spot → Spot
 spot_written AtSource is_page is_cell value o = record o { source = if is_page && is_cell then value else o.source; released = if is_page then false else o.released }
 spot_written Nowhere is_page is_cell value o = o
@@ -47,7 +47,7 @@ guest_spot page cell Halt o = record o { home = Nowhere }
 guest_spot page cell (Resume ready) o = record o { home = AtTarget }
 guest_spot page cell _ o = o
 
--- a placement, of the page or not
+-- the spot after a placement, of the page or not
 abbrev pub spot_placed : Bool → ℕ → Spot → Spot
 spot_placed is_page value o = record o { target = if is_page then value else o.target; resident = if is_page then true else o.resident; placed = if is_page then true else o.placed }
 

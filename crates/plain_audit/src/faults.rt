@@ -1,4 +1,4 @@
-//! Faults of pages, plainly and slowly: whether one record has a fault, by looking at each earlier record.
+//! Faults of pages, computed plainly and slowly: whether one record has a fault, by looking at each earlier record.
 
 ghost use Rattle.std.specs.Prelude.{◌≡◌, ◌≤◌, ◌↔◌, IsTrue, length, slice_get};
 ghost use Rattle.migration_types.specs.declared.records.LogName.TheVariants.{Guest, Source, Link, Lane, Pager};
@@ -12,7 +12,7 @@ use crate::flat::{flat_value, halt_place, home_before, is_freed, is_released, is
 use audit_model::{Home, PageReason, is_placement_of};
 use migration_types::{GuestRec, LogName, PageNo, PagerRec, Session, SourceRec};
 
-/// Whether a record of the pager before this place places the page.
+/// Returns whether a record of the pager before this place places the page.
 fn placed_before(session: &Session, place: usize, page: PageNo) -> bool
     ensures { result ≡ earlier (is_placement_of page) session.now.pager place }
 {
@@ -26,7 +26,7 @@ fn placed_before(session: &Session, place: usize, page: PageNo) -> bool
     found
 }
 
-/// Whether it is a look at the page's placement, or at a later one.
+/// Returns whether it is a look at the page's placement, or at a later one.
 fn looks_at(session: &Session, logged: &GuestRec, page: PageNo) -> bool
     ensures { result ≡ looks_at session.now page logged.now }
 {
@@ -36,7 +36,7 @@ fn looks_at(session: &Session, logged: &GuestRec, page: PageNo) -> bool
     }
 }
 
-/// Whether a look before the guest's record of this place covers the page.
+/// Returns whether a look before the guest's record at this place covers the page.
 fn has_looked(session: &Session, place: usize, page: PageNo) -> bool
     requires { place ≤ length session.now.guest }
     ensures { result ≡ has_looked session.now page place }
@@ -48,7 +48,7 @@ fn has_looked(session: &Session, place: usize, page: PageNo) -> bool
     found
 }
 
-/// Whether the guest is at the target before its record of this place, and no look before it covers the page.
+/// Returns whether the guest is at the target before its record at this place, and no look before it covers the page.
 fn is_uncovered(session: &Session, place: usize, page: PageNo) -> bool
     requires { place ≤ length session.now.guest }
     ensures { result ≡ is_uncovered session.now page place }
@@ -56,7 +56,7 @@ fn is_uncovered(session: &Session, place: usize, page: PageNo) -> bool
     matches!(home_before(session, place), Home::AtTarget) && !has_looked(session, place, page)
 }
 
-/// Whether the guest's record of this place reads another value than the flat machine would.
+/// Returns whether the guest's record at this place reads another value than the flat machine would.
 fn is_wrong_read(session: &Session, place: usize) -> bool
     ensures { result ≡ passes (is_wrong_read session.now place) (slice_get session.now.guest place) }
 {
@@ -73,8 +73,8 @@ fn is_wrong_read(session: &Session, place: usize) -> bool
     }
 }
 
-/// Whether an access of the page by the guest's record of this place is early: at the target, to a page that was not
-/// released there before, with no look before it that covers the page.
+/// Returns whether an access of the page by the guest's record at this place is early: at the target, to a page that
+/// was not released there before, with no look before it that covers the page.
 fn is_early_of(session: &Session, place: usize, page: PageNo) -> bool
     requires { place ≤ length session.now.guest }
     ensures { result ≡ is_early_of session.now page place }
@@ -82,7 +82,7 @@ fn is_early_of(session: &Session, place: usize, page: PageNo) -> bool
     !is_freed(session, place, page) && is_uncovered(session, place, page)
 }
 
-/// Whether the guest's record of this place, which is this one, is an early access.
+/// Returns whether the guest's record at this place, which is `logged`, is an early access.
 fn is_early_record(session: &Session, place: usize, logged: &GuestRec) -> bool
     requires { place ≤ length session.now.guest }
     ensures { result ≡ is_early session.now place logged.now }
@@ -94,7 +94,7 @@ fn is_early_record(session: &Session, place: usize, logged: &GuestRec) -> bool
     }
 }
 
-/// Whether the guest's record of this place is an early access.
+/// Returns whether the guest's record at this place is an early access.
 fn is_early(session: &Session, place: usize) -> bool
     ensures { result ≡ passes (is_early session.now place) (slice_get session.now.guest place) }
 {
@@ -104,7 +104,7 @@ fn is_early(session: &Session, place: usize) -> bool
     }
 }
 
-/// Whether the contents are those that the flat machine's page has before the guest's record of this place.
+/// Returns whether the contents are those that the flat machine's page has before the guest's record at this place.
 fn is_flat_page(session: &Session, place: usize, page: PageNo, contents: &[u64]) -> bool
     requires limits { IsSession session.now }
     requires within { place ≤ length session.now.guest }
@@ -122,7 +122,7 @@ fn is_flat_page(session: &Session, place: usize, page: PageNo, contents: &[u64])
     true
 }
 
-/// Whether the source's record of this place sends a page that is released at the halt.
+/// Returns whether the source's record at this place sends a page that is released at the halt.
 fn is_given(session: &Session, place: usize) -> bool
     ensures { result ≡ passes (is_given session.now) (slice_get session.now.source place) }
 {
@@ -132,7 +132,7 @@ fn is_given(session: &Session, place: usize) -> bool
     }
 }
 
-/// Whether the source's record of this place sends other contents than the page has at the halt.
+/// Returns whether the source's record at this place sends other contents than the page has at the halt.
 fn is_stale(session: &Session, place: usize) -> bool
     requires { IsSession session.now }
     ensures { result ≡ passes (is_stale session.now) (slice_get session.now.source place) }
@@ -145,7 +145,7 @@ fn is_stale(session: &Session, place: usize) -> bool
     }
 }
 
-/// Whether the pager's record of this place places a page that was placed before.
+/// Returns whether the pager's record at this place places a page that was placed before.
 fn is_second(session: &Session, place: usize) -> bool
     ensures { result ≡ passes (is_second session.now place) (slice_get session.now.pager place) }
 {
@@ -157,7 +157,7 @@ fn is_second(session: &Session, place: usize) -> bool
     }
 }
 
-/// Whether the pager's record of this place places other contents than the page has at the halt.
+/// Returns whether the pager's record at this place places other contents than the page has at the halt.
 fn is_altered(session: &Session, place: usize) -> bool
     requires { IsSession session.now }
     ensures { result ≡ passes (is_altered session.now) (slice_get session.now.pager place) }
@@ -170,7 +170,7 @@ fn is_altered(session: &Session, place: usize) -> bool
     }
 }
 
-/// Whether the pager's record of this place places zeros for a page that is not released at the halt.
+/// Returns whether the pager's record at this place places zeros for a page that is not released at the halt.
 fn is_unfit(session: &Session, place: usize) -> bool
     ensures { result ≡ passes (is_unfit session.now) (slice_get session.now.pager place) }
 {
@@ -180,8 +180,8 @@ fn is_unfit(session: &Session, place: usize) -> bool
     }
 }
 
-/// Whether the guest's record of this place, which is this one, releases the page at the target as its first touch
-/// there, with no look before it that covers the page.
+/// Returns whether the guest's record at this place, which is `logged`, releases the page at the target as its first
+/// touch there, with no look before it that covers the page.
 fn is_first_release(session: &Session, place: usize, page: PageNo, logged: &GuestRec) -> bool
     requires { place ≤ length session.now.guest }
     ensures { result ≡ is_first_release session.now page place logged.now }
@@ -196,7 +196,8 @@ fn is_first_release(session: &Session, place: usize, page: PageNo, logged: &Gues
     }
 }
 
-/// Whether some record of the guest is such a release.
+/// Returns whether some record of the guest releases the page at the target as its first touch there, with no look
+/// before it that covers the page.
 fn some_release(session: &Session, page: PageNo) -> bool
     ensures { result ≡ some_release session.now page (length session.now.guest) }
 {
@@ -207,14 +208,15 @@ fn some_release(session: &Session, page: PageNo) -> bool
     found
 }
 
-/// Whether a placement of the page by the pager's record of this place is its first, and may come after such a release.
+/// Returns whether a placement of the page by the pager's record at this place is its first, and may come after such a
+/// release.
 fn is_over_of(session: &Session, place: usize, page: PageNo) -> bool
     ensures { result ≡ is_over_of session.now page place }
 {
     !placed_before(session, place, page) && some_release(session, page)
 }
 
-/// Whether the pager's record of this place is such a placement.
+/// Returns whether the pager's record at this place is such a placement.
 fn is_over(session: &Session, place: usize) -> bool
     ensures { result ≡ passes (is_over session.now place) (slice_get session.now.pager place) }
 {
@@ -226,7 +228,7 @@ fn is_over(session: &Session, place: usize) -> bool
     }
 }
 
-/// Whether the record of this log and place has a fault for this reason, by a test.
+/// Returns whether the record at this place of a log passes the test for a fault for this reason.
 fn tests_fault(session: &Session, reason: PageReason, log: LogName, place: usize) -> bool
     requires { IsSession session.now }
     ensures { result ≡ fault_test session.now reason (log, place) }
@@ -254,8 +256,8 @@ fn tests_fault(session: &Session, reason: PageReason, log: LogName, place: usize
     }
 }
 
-/// Whether the record of this log and place has a fault of its page for this reason. A record that is not there has
-/// none.
+/// Returns whether the record at this place of a log has a fault of its page for this reason. A record that does not
+/// exist has none.
 pub fn is_page_fault(session: &Session, reason: PageReason, log: LogName, place: usize) -> bool
     ensures { IsTrue result ↔ IsPageFault session.now reason (log, place) }
 {

@@ -1,5 +1,5 @@
-//! What the guest's log says before one of its records, plainly and slowly, by looking at each earlier record: the flat
-//! machine, the ledger, where the guest is.
+//! What the guest's log says before one of its records, computed plainly and slowly by looking at each earlier record:
+//! the flat machine, the ledger, and where the guest is.
 
 ghost use Rattle.std.specs.Prelude.{◌≡◌, ◌≤◌, length};
 ghost use Rattle.migration_types.specs.Memory.{initial};
@@ -10,7 +10,7 @@ ghost use Rattle.audit_model.specs.Worlds.{touch_after, touched};
 use audit_model::{Home, is_halt};
 use migration_types::{GuestRec, InitPage, PageNo, Session};
 
-/// The value of a cell after a record, where it was `old` before.
+/// Returns the value of a cell after a record, if it was `old` before.
 fn value_after(page: PageNo, cell: u16, logged: &GuestRec, old: u64) -> u64
     ensures { result ≡ cell_after page cell logged.now old }
 {
@@ -38,7 +38,7 @@ fn value_after(page: PageNo, cell: u16, logged: &GuestRec, old: u64) -> u64
     }
 }
 
-/// The value of a cell in the memory that begins with these pages.
+/// Returns the value of a cell in the memory that begins with these pages.
 pub(crate) fn initial_value(init: &[InitPage], page: PageNo, cell: u16) -> u64
     ensures { result ≡ initial init.now page cell }
 {
@@ -53,7 +53,8 @@ pub(crate) fn initial_value(init: &[InitPage], page: PageNo, cell: u16) -> u64
     0
 }
 
-/// The value of a cell on the flat machine before the guest's record of this place. Looks at each record before it.
+/// Returns the value of a cell on the flat machine before the guest's record at this place. Looks at each record before
+/// it.
 pub fn flat_value(session: &Session, place: usize, page: PageNo, cell: u16) -> u64
     requires { place ≤ length session.now.guest }
     ensures { result ≡ flat session.now place page cell }
@@ -65,7 +66,7 @@ pub fn flat_value(session: &Session, place: usize, page: PageNo, cell: u16) -> u
     value
 }
 
-/// Whether a page is released after a record, where it was `old` before.
+/// Returns whether a page is released after a record, if it was `old` before.
 fn released_by(page: PageNo, logged: &GuestRec, old: bool) -> bool
     ensures { result ≡ released_after page logged.now old }
 {
@@ -76,7 +77,7 @@ fn released_by(page: PageNo, logged: &GuestRec, old: bool) -> bool
     }
 }
 
-/// Whether a page is released before the guest's record of this place. Looks at each record before it.
+/// Returns whether a page is released before the guest's record at this place. Looks at each record before it.
 pub fn is_released(session: &Session, place: usize, page: PageNo) -> bool
     requires { place ≤ length session.now.guest }
     ensures { result ≡ in_ledger session.now place page }
@@ -88,7 +89,7 @@ pub fn is_released(session: &Session, place: usize, page: PageNo) -> bool
     released
 }
 
-/// Where the guest is after a record.
+/// Returns where the guest is after a record.
 fn home_by(logged: &GuestRec, old: Home) -> Home
     ensures { result ≡ home_after logged.now old }
 {
@@ -99,7 +100,7 @@ fn home_by(logged: &GuestRec, old: Home) -> Home
     }
 }
 
-/// Where the guest is before its record of this place. Looks at each record before it.
+/// Returns where the guest is before its record at this place. Looks at each record before it.
 pub fn home_before(session: &Session, place: usize) -> Home
     requires { place ≤ length session.now.guest }
     ensures { result ≡ home session.now place }
@@ -111,7 +112,7 @@ pub fn home_before(session: &Session, place: usize) -> Home
     home
 }
 
-/// Whether a page is marked after a record that marks pages at the target alone, where it was `old` before.
+/// Returns whether a page is marked after a record that marks pages only at the target, if it was `old` before.
 fn marked_by(home: Home, marks: bool, old: bool) -> bool
     ensures { result ≡ marked_late home marks old }
 {
@@ -121,7 +122,7 @@ fn marked_by(home: Home, marks: bool, old: bool) -> bool
     }
 }
 
-/// Whether a page was released at the target after a record, where it was `old` before, by where the guest is.
+/// Returns whether a page was released at the target after a record, if it was `old` before, given where the guest is.
 fn freed_by(home: Home, page: PageNo, logged: &GuestRec, old: bool) -> bool
     ensures { result ≡ freed_after home page logged.now old }
 {
@@ -133,7 +134,8 @@ fn freed_by(home: Home, page: PageNo, logged: &GuestRec, old: bool) -> bool
     }
 }
 
-/// Whether the guest has released a page at the target before its record of this place. Looks at each record before it.
+/// Returns whether the guest has released a page at the target before its record at this place. Looks at each record
+/// before it.
 pub fn is_freed(session: &Session, place: usize, page: PageNo) -> bool
     requires { place ≤ length session.now.guest }
     ensures { result ≡ freed session.now place page }
@@ -148,8 +150,8 @@ pub fn is_freed(session: &Session, place: usize, page: PageNo) -> bool
     freed
 }
 
-/// Whether a page was read, written or released at the target after a record, where it was `old` before, by where the
-/// guest is.
+/// Returns whether a page was read, written or released at the target after a record, if it was `old` before, given
+/// where the guest is.
 fn touched_by(home: Home, page: PageNo, logged: &GuestRec, old: bool) -> bool
     ensures { result ≡ touch_after home page logged.now old }
 {
@@ -167,8 +169,8 @@ fn touched_by(home: Home, page: PageNo, logged: &GuestRec, old: bool) -> bool
     }
 }
 
-/// Whether the guest has read, written or released a page at the target before its record of this place. Looks at each
-/// record before it.
+/// Returns whether the guest has read, written or released a page at the target before its record at this place. Looks
+/// at each record before it.
 pub fn is_touched(session: &Session, place: usize, page: PageNo) -> bool
     requires { place ≤ length session.now.guest }
     ensures { result ≡ touched session.now place page }
@@ -183,7 +185,7 @@ pub fn is_touched(session: &Session, place: usize, page: PageNo) -> bool
     touched
 }
 
-/// The place of the guest's halt, or the length of its log where there is none.
+/// Returns the place of the guest's halt, or the length of its log if there is none.
 pub fn halt_place(session: &Session) -> usize
     ensures value { result ≡ at_halt session.now }
     ensures within { result ≤ length session.now.guest }

@@ -1,8 +1,9 @@
-//! What a session's records mean, computed plainly and slowly: whether a record is of the right shape, whether it is a
-//! fault of its page, whether an order is a merging, what the world holds after the first records of an order and
-//! where it breaks. Each program goes by the definitions alone, and looks at all earlier records again for each one.
+//! The meaning of a session's records, computed plainly and slowly: whether a record has the right shape, whether it is
+//! a fault of its page, whether an order is a merging, what the world holds after the first records of an order, and
+//! where the order breaks. Each program follows the definitions alone, and looks at all earlier records again for each
+//! record.
 //!
-//! The commands use none of this: it is what their programs are compared with.
+//! The commands use none of this. Their programs are compared with it.
 #![tactic(auto)]
 
 mod faults;

@@ -1,4 +1,5 @@
-//! Mergings, plainly and slowly: whether each record of an order may follow those before it, by counting these.
+//! Mergings, computed plainly and slowly: whether each record of an order may follow those before it, by counting
+//! these.
 
 ghost use Rattle.std.specs.Prelude.{◌≡◌, ◌<◌, ◌↔◌, IsTrue, length, take, slice_index_or};
 ghost use Rattle.migration_types.specs.Receipts.{Name};
@@ -10,14 +11,14 @@ ghost use Rattle.audit_model.specs.inner.MergingTests.{may, all_taken};
 
 use migration_types::{LogName, Session};
 
-/// Whether the two are the same log.
+/// Returns whether the two logs are the same.
 fn same_log(one: LogName, other: LogName) -> bool
     ensures { result ≡ same_log one other }
 {
     one == other
 }
 
-/// How many of these names are of the log.
+/// Returns how many of these names are of the log.
 fn taken(order: &[(LogName, u32)], log: LogName) -> usize
     ensures { result ≡ cursors_from at_start order.now log }
 {
@@ -30,7 +31,7 @@ fn taken(order: &[(LogName, u32)], log: LogName) -> usize
     count
 }
 
-/// Whether what a record is a receipt for stands among these names.
+/// Returns whether the record that a record is a receipt for is among these names.
 fn is_received(order: &[(LogName, u32)], sent: Option<(LogName, u32)>) -> bool
     ensures { result ≡ is_received (cursors_from at_start order.now) sent }
 {
@@ -40,7 +41,7 @@ fn is_received(order: &[(LogName, u32)], sent: Option<(LogName, u32)>) -> bool
     }
 }
 
-/// Whether the record of this log and place may follow the records of these names.
+/// Returns whether the record at this place of a log may follow the records with these names.
 fn may_follow(session: &Session, order: &[(LogName, u32)], log: LogName, place: u32) -> bool
     ensures { result ≡ may session.now (cursors_from at_start order.now) (log, place) }
 {
@@ -49,7 +50,7 @@ fn may_follow(session: &Session, order: &[(LogName, u32)], log: LogName, place: 
         && is_received(order, session.named((log, place)))
 }
 
-/// Whether these names are as many of each log as it has records.
+/// Returns whether these names are as many of each log as the log has records.
 fn takes_all(session: &Session, order: &[(LogName, u32)]) -> bool
     ensures { result ≡ all_taken session.now (cursors_from at_start order.now) }
 {
@@ -60,7 +61,7 @@ fn takes_all(session: &Session, order: &[(LogName, u32)]) -> bool
         && taken(order, LogName::Pager) == session.len(LogName::Pager)
 }
 
-/// Whether a list of names is a merging of the session's logs. Counts what is before each name.
+/// Returns whether a list of names is a merging of the session's logs. Counts what is before each name.
 pub fn is_merging(session: &Session, order: &[(LogName, u32)]) -> bool
     ensures { IsTrue result ↔ IsMerging session.now order.now }
 {

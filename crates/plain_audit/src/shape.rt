@@ -1,5 +1,5 @@
-//! The right shape, plainly and slowly: whether one record has a fault, by looking at what it names and at each earlier
-//! record of its log.
+//! The right shape, computed plainly and slowly: whether one record has a fault, by looking at what it names and at
+//! each earlier record of its log.
 
 ghost use Rattle.std.specs.Prelude.{◌≡◌, ◌≤◌, length, slice_get};
 ghost use Rattle.migration_types.specs.declared.records.LogName.TheVariants.{Guest, Source, Link, Lane, Pager};
@@ -11,7 +11,7 @@ use audit_model::{
 };
 use migration_types::{GuestRec, LinkRec, LogName, PageNo, PagerRec, Session, SourceRec};
 
-/// Whether a record of the guest before this place is a halt.
+/// Returns whether a record of the guest before this place is a halt.
 fn halted_before(session: &Session, place: usize) -> bool
     requires { place ≤ length session.now.guest }
     ensures { result ≡ earlier is_halt session.now.guest place }
@@ -23,7 +23,7 @@ fn halted_before(session: &Session, place: usize) -> bool
     found
 }
 
-/// Whether a record of the guest before this place is a resume.
+/// Returns whether a record of the guest before this place is a resume.
 fn resumed_before(session: &Session, place: usize) -> bool
     requires { place ≤ length session.now.guest }
     ensures { result ≡ earlier is_resume session.now.guest place }
@@ -35,7 +35,7 @@ fn resumed_before(session: &Session, place: usize) -> bool
     found
 }
 
-/// Whether a record of the source before this place sends the page.
+/// Returns whether a record of the source before this place sends the page.
 fn sent_before(session: &Session, place: usize, page: PageNo) -> bool
     requires { place ≤ length session.now.source }
     ensures { result ≡ earlier (is_send_of page) session.now.source place }
@@ -47,7 +47,7 @@ fn sent_before(session: &Session, place: usize, page: PageNo) -> bool
     found
 }
 
-/// Whether the guest's record of this place stands in a phase that allows it.
+/// Returns whether the phase allows the guest's record at this place.
 fn stands_in_phase(session: &Session, place: usize, logged: &GuestRec) -> bool
     requires { place ≤ length session.now.guest }
     ensures { result ≡ in_phase session.now place logged.now }
@@ -60,7 +60,7 @@ fn stands_in_phase(session: &Session, place: usize, logged: &GuestRec) -> bool
     )
 }
 
-/// Whether the source's record of this place is no second send of its page.
+/// Returns whether the source's record at this place is not a second send of its page.
 fn is_first_send(session: &Session, place: usize, logged: &SourceRec) -> bool
     requires { place ≤ length session.now.source }
     ensures { result ≡ is_first_send session.now place logged.now }
@@ -71,7 +71,7 @@ fn is_first_send(session: &Session, place: usize, logged: &SourceRec) -> bool
     }
 }
 
-/// Whether the guest's record of this place has no fault of shape for this reason.
+/// Returns whether the guest's record at this place has no fault of shape for this reason.
 fn is_right_guest(session: &Session, reason: ShapeReason, place: usize) -> bool
     ensures { result ≡ is_right session.now reason (Guest, place) }
 {
@@ -85,7 +85,7 @@ fn is_right_guest(session: &Session, reason: ShapeReason, place: usize) -> bool
     }
 }
 
-/// Whether the source's record of this place has no fault of shape for this reason.
+/// Returns whether the source's record at this place has no fault of shape for this reason.
 fn is_right_source(session: &Session, reason: ShapeReason, place: usize) -> bool
     ensures { result ≡ is_right session.now reason (Source, place) }
 {
@@ -101,7 +101,7 @@ fn is_right_source(session: &Session, reason: ShapeReason, place: usize) -> bool
     }
 }
 
-/// Whether the link's record of this place has no fault of shape for this reason.
+/// Returns whether the link's record at this place has no fault of shape for this reason.
 fn is_right_link(session: &Session, reason: ShapeReason, place: usize) -> bool
     ensures { result ≡ is_right session.now reason (Link, place) }
 {
@@ -115,7 +115,7 @@ fn is_right_link(session: &Session, reason: ShapeReason, place: usize) -> bool
     }
 }
 
-/// Whether the lane's record of this place has no fault of shape for this reason.
+/// Returns whether the lane's record at this place has no fault of shape for this reason.
 fn is_right_lane(session: &Session, reason: ShapeReason, place: usize) -> bool
     ensures { result ≡ is_right session.now reason (Lane, place) }
 {
@@ -129,7 +129,7 @@ fn is_right_lane(session: &Session, reason: ShapeReason, place: usize) -> bool
     }
 }
 
-/// Whether the pager's record of this place has no fault of shape for this reason.
+/// Returns whether the pager's record at this place has no fault of shape for this reason.
 fn is_right_pager(session: &Session, reason: ShapeReason, place: usize) -> bool
     ensures { result ≡ is_right session.now reason (Pager, place) }
 {
@@ -143,7 +143,8 @@ fn is_right_pager(session: &Session, reason: ShapeReason, place: usize) -> bool
     }
 }
 
-/// Whether the record of this log and place has no fault of shape for this reason. A record that is not there has none.
+/// Returns whether the record at this place of a log has no fault of shape for this reason. A record that does not
+/// exist has none.
 pub fn is_right(session: &Session, reason: ShapeReason, log: LogName, place: usize) -> bool
     ensures { result ≡ is_right session.now reason (log, place) }
 {

@@ -1,5 +1,5 @@
-//! The moving world, plainly and slowly: what it holds at one cell of one page after the first records of an order, by
-//! doing each of these.
+//! The moving world, computed plainly and slowly: what it holds at one cell of one page after the first records of an
+//! order, by doing each of these.
 
 ghost use Rattle.std.specs.Prelude.{◌≡◌, ◌≤◌, ◌↔◌, IsTrue, MatchOption, length, slice_get, slice_index};
 ghost use Rattle.migration_types.specs.Sessions.{IsSession};
@@ -13,8 +13,8 @@ use crate::flat::{flat_value, initial_value};
 use audit_model::Home;
 use migration_types::{GuestRec, LogName, PageNo, PagerRec, Session, SourceRec};
 
-/// What the world holds at one cell of one page: where the guest is, the cell's values at both machines, and whether
-/// the page is resident, placed or touched at the target, and released.
+/// What the world holds at one cell of one page: where the guest is, the cell's value on both machines, whether the
+/// page is resident, placed or touched at the target, and whether it is released.
 #[derive(Clone, Copy, Debug, PartialEq, Eq)]
 pub struct Spot {
     pub home: Home,
@@ -26,7 +26,7 @@ pub struct Spot {
     pub released: bool,
 }
 
-/// After a write, of the page or not, and of the cell or not.
+/// Returns the spot after a write, of the page or not, and of the cell or not.
 fn written(spot: Spot, is_page: bool, is_cell: bool, value: u64) -> Spot
     ensures { result ≡ spot_written spot.home is_page is_cell value spot }
 {
@@ -53,7 +53,7 @@ fn written(spot: Spot, is_page: bool, is_cell: bool, value: u64) -> Spot
     after
 }
 
-/// After a release, of the page or not.
+/// Returns the spot after a release, of the page or not.
 fn released(spot: Spot, is_page: bool) -> Spot
     ensures { result ≡ spot_released spot.home is_page spot }
 {
@@ -77,7 +77,7 @@ fn released(spot: Spot, is_page: bool) -> Spot
     after
 }
 
-/// After a read, of the page or not.
+/// Returns the spot after a read, of the page or not.
 fn read(spot: Spot, is_page: bool) -> Spot
     ensures { result ≡ spot_read spot.home is_page spot }
 {
@@ -88,7 +88,7 @@ fn read(spot: Spot, is_page: bool) -> Spot
     after
 }
 
-/// After a placement, of the page or not.
+/// Returns the spot after a placement, of the page or not.
 fn placed(spot: Spot, is_page: bool, value: u64) -> Spot
     ensures { result ≡ spot_placed is_page value spot }
 {
@@ -101,7 +101,7 @@ fn placed(spot: Spot, is_page: bool, value: u64) -> Spot
     after
 }
 
-/// After a record of the guest.
+/// Returns the spot after a record of the guest.
 fn after_guest(spot: Spot, page: PageNo, cell: u16, logged: &GuestRec) -> Spot
     ensures { result ≡ guest_spot page cell logged.now spot }
 {
@@ -126,7 +126,7 @@ fn after_guest(spot: Spot, page: PageNo, cell: u16, logged: &GuestRec) -> Spot
     }
 }
 
-/// A value of contents, and 0 beyond them.
+/// Returns a value of the contents, or 0 beyond them.
 fn value_at(contents: &[u64], cell: u16) -> u64
     ensures { result ≡ slice_index contents.now cell }
 {
@@ -136,7 +136,7 @@ fn value_at(contents: &[u64], cell: u16) -> u64
     }
 }
 
-/// After a record of the pager.
+/// Returns the spot after a record of the pager.
 fn after_pager(spot: Spot, page: PageNo, cell: u16, logged: &PagerRec) -> Spot
     ensures { result ≡ pager_spot page cell logged.now spot }
 {
@@ -154,7 +154,7 @@ fn after_pager(spot: Spot, page: PageNo, cell: u16, logged: &PagerRec) -> Spot
     }
 }
 
-/// After the record of this log and place.
+/// Returns the spot after the record at this place of a log.
 fn after_record(
     session: &Session,
     spot: Spot,
@@ -178,7 +178,7 @@ fn after_record(
     }
 }
 
-/// What the world holds at one cell of one page after the records of these names. Does each of them.
+/// Returns what the world holds at one cell of one page after the records with these names. Does each of them.
 pub fn spot_after(session: &Session, order: &[(LogName, u32)], page: PageNo, cell: u16) -> Spot
     ensures { result ≡ spot_at (world_after session.now order.now) page cell }
 {
@@ -197,7 +197,7 @@ pub fn spot_after(session: &Session, order: &[(LogName, u32)], page: PageNo, cel
     spot
 }
 
-/// Whether a use of the page finds it: the guest is at the source, or at the target with the page resident.
+/// Returns whether a use of the page finds it: the guest is at the source, or at the target with the page resident.
 fn finds(spot: Spot) -> bool
     ensures { result ≡ finds spot.home spot.resident }
 {
@@ -208,7 +208,7 @@ fn finds(spot: Spot) -> bool
     }
 }
 
-/// The cell's value where the guest is.
+/// Returns the cell's value where the guest is.
 fn value_where_it_is(spot: Spot) -> u64
     ensures { result ≡ value_at spot.home spot.source spot.target }
 {
@@ -218,7 +218,7 @@ fn value_where_it_is(spot: Spot) -> u64
     }
 }
 
-/// Whether the contents are those of the source's page after the records of these names.
+/// Returns whether the contents are those of the source's page after the records of these names.
 fn is_source_page(
     session: &Session,
     order: &[(LogName, u32)],
@@ -241,7 +241,7 @@ fn is_source_page(
     true
 }
 
-/// Whether the demand of a record of the guest holds after the records of these names.
+/// Returns whether the demand of a record of the guest holds after the records of these names.
 fn guest_demand(
     session: &Session,
     order: &[(LogName, u32)],
@@ -268,7 +268,7 @@ fn guest_demand(
     }
 }
 
-/// Whether the demand of a record of the source holds after the records of these names.
+/// Returns whether the demand of a record of the source holds after the records of these names.
 fn source_demand(session: &Session, order: &[(LogName, u32)], logged: &SourceRec) -> bool
     requires { IsSession session.now }
     ensures { result ≡ source_test session.now (world_after session.now order.now) logged.now }
@@ -284,7 +284,7 @@ fn source_demand(session: &Session, order: &[(LogName, u32)], logged: &SourceRec
     }
 }
 
-/// Whether the demand of a record of the pager holds after the records of these names.
+/// Returns whether the demand of a record of the pager holds after the records of these names.
 fn pager_demand(session: &Session, order: &[(LogName, u32)], logged: &PagerRec) -> bool
     requires { IsSession session.now }
     ensures { result ≡ pager_test session.now (world_after session.now order.now) logged.now }
@@ -304,7 +304,7 @@ fn pager_demand(session: &Session, order: &[(LogName, u32)], logged: &PagerRec) 
     }
 }
 
-/// Whether the demand of the record of this log and place holds after the records of these names, by a test.
+/// Returns whether the demand of the record at this place of a log passes its test after the records with these names.
 fn tests_demand(session: &Session, order: &[(LogName, u32)], log: LogName, place: u32) -> bool
     requires { IsSession session.now }
     ensures { result ≡ demand_test session.now (world_after session.now order.now) (log, place) }
@@ -326,7 +326,7 @@ fn tests_demand(session: &Session, order: &[(LogName, u32)], log: LogName, place
     }
 }
 
-/// Whether the demand of the record of this log and place holds after the records of these names.
+/// Returns whether the demand of the record at this place of a log holds after the records with these names.
 pub fn demand_holds(session: &Session, order: &[(LogName, u32)], log: LogName, place: u32) -> bool
     ensures { IsTrue result ↔ Demand session.now (log, place) (world_after session.now order.now) }
 {
@@ -334,7 +334,7 @@ pub fn demand_holds(session: &Session, order: &[(LogName, u32)], log: LogName, p
     tests_demand(session, order, log, place)
 }
 
-/// The first record of an order whose demand fails; none where the order is safe.
+/// Returns the first record of an order whose demand fails, or `None` if the order is safe.
 pub fn first_broken(session: &Session, order: &[(LogName, u32)]) -> Option<(LogName, u32)>
     ensures { MatchOption result (IsSafeOrder session.now order.now) (IsFirstBroken session.now order.now) }
 {

@@ -12,16 +12,19 @@
 //! whose reader goes away, as `head` does, has not failed: the rest is dropped.
 #![tactic(auto)]
 
-ghost use Rattle.std.specs.Prelude.{◌≤◌, length};
+ghost use Rattle.std.specs.Prelude.{◌≤◌};
 
 mod saving;
 
 use crate::saving::{Draft, is_one_file};
-use command_texts::{ACCEPTED, Closable, Fault, TextSource, USAGE, tell};
-use commands::{Targets, run, targets_named};
+use command_texts::{
+    Closable, Console, Fault, STANDARD_OUTPUT, TextSource, USAGE, cause_of, tell, write_or_why,
+};
+use commands::{Reading, Targets, read_words, run};
 use refusal_words::push_quote;
 use std::alloc::{AllocError, Global};
 use std::env::FillError;
+use std::fs::OpenFile;
 use std::io::{ErrorKind, Input, Write};
 use std::net::{Net, TcpListener, TcpStream};
 use std::os::unix::fs::FileTypeExt;
@@ -31,9 +34,6 @@ use std::rt::{Env, Files};
 use std::sync::Wait;
 use std::thread::Threads;
 use std::{env, fs, io, str};
-
-/// The closing line of a text, with the line feeds around it.
-const END: &[u8] = b"\nend\n";
 
 /// The files of the system.
 #[derive(Drop)]
@@ -48,7 +48,11 @@ where
     type Text = R::File;
 
     fn text(&self, name: &str) -> io::Result<R::File> {
-        fs::open(self.rt, name)
+        let file = fs::open(self.rt, name)?;
+        match file.metadata() {
+            Ok(found) if found.is_dir() => Err(io::Error::from(ErrorKind::IsADirectory)),
+            _ => Ok(file),
+        }
     }
 
     fn stays(&self, name: &str) -> bool {
@@ -118,13 +122,14 @@ fn refuse_words<R: Env, E: Write>(rt: &R, alloc: Global, error: &io::Error, erro
     USAGE
 }
 
-// Answers to the words, and writes the answer to this output.
+// Answers to the words, and writes the answer to this output. The table of a window's lines is put into `lines`.
 fn answer<R, O: Write, E: Write>(
     rt: &R,
     alloc: Global,
-    words: &[&str],
+    reading: Reading<'_>,
     output: &mut O,
     errors: &mut E,
+    lines: &mut Option<Vec<u8>>,
 ) -> u8
 where
     R: Threads + Wait + Sync + Net<Listener = TcpListener, Stream = TcpStream> + Files + Input,
@@ -132,70 +137,104 @@ where
     R::Reader: Send,
 {
     let files = Disk { rt };
-    run(rt, alloc, words, &files, &mut rt.reader(), output, errors)
+    let mut console = Console {
+        rt,
+        alloc,
+        texts: &files,
+        input: rt.reader(),
+        output,
+        errors,
+    };
+    run(&mut console, reading, lines)
 }
 
-// Gives a text its name, where it has a file, or else writes it to the output.
-fn keep_or_write<R: Files + RandomSource, O: Write>(
-    rt: &R,
-    alloc: Global,
-    name: Option<&str>,
-    text: &[u8],
-    output: &mut O,
-) -> io::Result<()> {
-    match name {
-        Some(name) => Draft::new(rt, alloc, name, text)?.keep(rt),
-        None => output.write_all(text),
+// Why an answer was not put where it goes.
+fn put_fault<'a>(name: &'a str, error: &io::Error) -> Fault<'a> {
+    if error.kind() == ErrorKind::OutOfMemory {
+        Fault::Memory
+    } else {
+        Fault::Output(name, cause_of(error).words())
     }
 }
 
-// Puts an answer where it goes: into the file of its name or else to the output, and the lines behind it into theirs. Each has
-// all of it or stays as it was, and the file of the lines does where the answer goes nowhere.
-fn put<R: Files + RandomSource, O: Write>(
+// Writes a text that is to get this name.
+fn draft<'a, R: Files + RandomSource>(
     rt: &R,
     alloc: Global,
-    targets: Targets<'_>,
+    name: &'a str,
+    text: &[u8],
+) -> Result<Draft, Fault<'a>> {
+    match Draft::new(rt, alloc, name, text) {
+        Ok(draft) => Ok(draft),
+        Err(error) => Err(put_fault(name, &error)),
+    }
+}
+
+// Gives a text its name.
+fn keep<'a, R: Files>(rt: &R, name: &'a str, draft: Draft) -> Result<(), Fault<'a>> {
+    match draft.keep(rt) {
+        Ok(()) => Ok(()),
+        Err(error) => Err(put_fault(name, &error)),
+    }
+}
+
+// Writes a text to the output.
+fn write<O: Write>(text: &[u8], output: &mut O) -> Result<(), Fault<'static>> {
+    match write_or_why(output, text) {
+        Ok(()) => Ok(()),
+        Err(cause) => Err(Fault::Output(STANDARD_OUTPUT, cause.words())),
+    }
+}
+
+// Gives a text its name, where it has a file, or else writes it to the output.
+fn keep_or_write<'a, R: Files + RandomSource, O: Write>(
+    rt: &R,
+    alloc: Global,
+    name: Option<&'a str>,
     text: &[u8],
     output: &mut O,
-) -> io::Result<()> {
-    let Some(lines) = targets.lines else {
-        return keep_or_write(rt, alloc, targets.output, text, output);
+) -> Result<(), Fault<'a>> {
+    match name {
+        Some(name) => keep(rt, name, draft(rt, alloc, name, text)?),
+        None => write(text, output),
+    }
+}
+
+// What is to be written.
+#[derive(Drop)]
+struct Written {
+    text: Vec<u8>,
+    // The table of a window's lines.
+    table: Option<Vec<u8>>,
+}
+
+// Puts an answer where it goes: into the file of its name or else to the output, and the table of lines into its file. Each has all
+// of it or stays as it was, and the file of the table does where the answer goes nowhere.
+fn put<'a, R: Files + RandomSource, O: Write>(
+    rt: &R,
+    alloc: Global,
+    targets: Targets<'a>,
+    written: &Written,
+    output: &mut O,
+) -> Result<(), Fault<'a>> {
+    let (Some(name), Some(table)) = (targets.lines, &written.table) else {
+        return keep_or_write(rt, alloc, targets.output, &written.text, output);
     };
-    let (session, table) = text.split_at(end_of_session(text));
-    let table = Draft::new(rt, alloc, lines, table)?;
-    match keep_or_write(rt, alloc, targets.output, session, output) {
-        Ok(()) => table.keep(rt),
-        Err(error) => {
+    let table = draft(rt, alloc, name, table)?;
+    match keep_or_write(rt, alloc, targets.output, &written.text, output) {
+        Ok(()) => keep(rt, name, table),
+        Err(fault) => {
             table.remove(rt);
-            Err(error)
+            Err(fault)
         }
     }
 }
 
-// The status once an answer was put where it goes: its own, or that of a fault, which is told.
-fn settled<E: Write>(put: io::Result<()>, status: u8, errors: &mut E) -> u8 {
-    match put {
-        Ok(()) => status,
-        Err(error) if error.kind() == ErrorKind::OutOfMemory => tell(Fault::Memory, errors),
-        Err(_) => tell(Fault::Output, errors),
-    }
-}
-
-// The place after the session that a text begins with, where one does: after its closing line.
-fn end_of_session(text: &[u8]) -> usize
-    ensures { result ≤ length text.now }
-{
-    match text.windows(END.len()).position(|bytes| bytes == END) {
-        Some(at) => text.len().min(at.saturating_add(END.len())),
-        None => text.len(),
-    }
-}
-
-// Answers to the words. Where all is well the answer goes where they say, and else to the output.
+// Answers to the words. The answer goes where they say, where one with its status does, and else to the output.
 fn answer_into<R, O: Write, E: Write>(
     rt: &R,
     alloc: Global,
-    words: &[&str],
+    reading: Reading<'_>,
     targets: Targets<'_>,
     output: &mut O,
     errors: &mut E,
@@ -207,13 +246,13 @@ where
     R::Reader: Send,
 {
     let mut text = Vec::new(alloc);
-    let status = answer(rt, alloc, words, &mut text, errors);
-    let put = if status == ACCEPTED {
-        put(rt, alloc, targets, text.as_slice(), output)
-    } else {
-        output.write_all(text.as_slice())
-    };
-    settled(put, status, errors)
+    let mut table = None;
+    let status = answer(rt, alloc, reading, &mut text, errors, &mut table);
+    let written = Written { text, table };
+    match put(rt, alloc, targets.at(status), &written, output) {
+        Ok(()) => status,
+        Err(fault) => tell(fault, errors),
+    }
 }
 
 // Whether the two files that the words name are one, as far as it can be told.
@@ -244,17 +283,18 @@ where
     R::File: Send,
     R::Reader: Send,
 {
-    let Ok(targets) = targets_named(alloc, words) else {
+    let Ok(reading) = read_words(alloc, words) else {
         return tell(Fault::Memory, errors);
     };
+    let targets = reading.targets();
     if targets.lines.is_none() && targets.output.is_none() {
-        return answer(rt, alloc, words, output, errors);
+        return answer(rt, alloc, reading, output, errors, &mut None);
     }
     match are_one(rt, alloc, targets) {
         Ok(true) => refuse_targets(errors),
         Err(error) if error.kind() == ErrorKind::OutOfMemory => tell(Fault::Memory, errors),
         // Where it cannot be told, it is told by the writing that fails.
-        Ok(false) | Err(_) => answer_into(rt, alloc, words, targets, output, errors),
+        Ok(false) | Err(_) => answer_into(rt, alloc, reading, targets, output, errors),
     }
 }
 

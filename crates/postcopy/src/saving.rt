@@ -57,7 +57,7 @@ fn place_of<F: Files>(files: &F, alloc: Global, name: &str) -> io::Result<Place>
         let leads_to = files.read_link(alloc, at.as_str())?;
         at = at.with_file_name(alloc, leads_to.as_str())?;
     }
-    Err(io::Error::from(ErrorKind::InvalidInput))
+    Err(io::Error::from(ErrorKind::FilesystemLoop))
 }
 
 // Whether two names are those of one folder. The name of the folder that the process is in is empty.

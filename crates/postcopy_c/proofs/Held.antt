@@ -24,7 +24,7 @@ never_incomplete (Reported (report.Faulty line fault order many)) text_len e = o
 -- what is shown has never that kind
 pub not_incomplete : (shown_as : ShownAs) (session before after : List ℕ) (answer : PostcopyAnswer) → IsShownAnswer shown_as session before after answer → answer.kind ≢ 17
 not_incomplete shown_as session before after answer (inl t) e =
-    never_incomplete t.showing.audited _ (sym (ap (λ (n : PostcopyAnswer). n.kind) t.are_numbers) ∙ e)
+    never_incomplete t.audited _ (sym (ap (λ (n : PostcopyAnswer). n.kind) t.are_numbers) ∙ e)
 not_incomplete shown_as session before after answer (inr w) e = omega (arith, ap (λ (n : PostcopyAnswer). n.kind) w.are_numbers, e)
 
 pub by_other : (Has : Type 0) (before after : ℕ) → IsKept before after → (before ≢ 3 → before ≢ 11 → Has) → after ≢ 3 → after ≢ 11 → Has

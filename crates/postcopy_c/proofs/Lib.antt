@@ -1,3 +1,5 @@
 pub mod Clean
+pub mod Zipped
+pub mod Joined
 pub mod Shown
 pub mod Held

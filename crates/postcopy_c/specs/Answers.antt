@@ -24,10 +24,10 @@ pub record IsReplayAnswer (session runs : List ℕ) (answer : PostcopyAnswer) : 
   pub is_outcome : IfOk outcome (IsOutcome session runs)
   pub are_numbers : answer ≡ replay_numbers outcome
 
--- the text stands at the front of the room where it fits, and what stood behind it stays; where it does not fit all stays
-pub record IsPut (text before after : List ℕ) : Type 0 where
-  pub fits : length text ≤ length before → after ≡ text ++ drop (length text) before
-  pub short : length before < length text → after ≡ before
+-- the items stand at the front of the room where they fit, and what stood behind them stays; where they do not fit all stays
+pub record IsPut {X : Type 0} (items before after : List X) : Type 0 where
+  pub fits : length items ≤ length before → after ≡ items ++ drop (length items) before
+  pub short : length before < length items → after ≡ before
 
 -- this is told of an audit: its numbers, with the length of all of its text, and its text in the room
 pub record IsTold (wanted : Wanted) (audited : Audited) (before after : List ℕ) (answer : PostcopyAnswer) : Type 0 where

@@ -1,10 +1,11 @@
 -- What the calls that explain, draw, tell all faults and tell what is missing answer to the bytes that they are handed.
-use Rattle.std.specs.Prelude.{◌≡◌, ◌≢◌, ℕ, ◌<◌, ◌⊎◌, List, [], ◌∷◌, length}
+use Rattle.std.specs.Prelude.{⊤, ◌≡◌, ◌≢◌, ℕ, ◌<◌, ◌⊎◌, List, [], ◌∷◌, length}
+use Rattle.std.specs.List.{AllZip}
 use Rattle.text_lines.specs.Text.{IsSpelling, IsRefusalLine, ended}
 use Rattle.migration_types.specs.Sessions.{Recorded}
 use Rattle.session_log.specs.Grammar.{SpellsSession}
 use Rattle.audit_report.specs.declared.report.Report.{Report}
-use Rattle.audit_report.specs.Reports.{IsReport}
+use Rattle.audit_report.specs.Reports.{IsReport, ReportFits}
 use Rattle.audit_report.specs.RefusalText.{refusal_text}
 use Rattle.audit_report.specs.ReportText.{first_line}
 use Rattle.audit_report.specs.ToldLines.{own}
@@ -21,9 +22,12 @@ use Rattle.order_picture.specs.Svg.{IsPictureText}
 use Rattle.postcopy_c.specs.declared.answer.PostcopyAnswer.{PostcopyAnswer}
 use Rattle.postcopy_c.specs.declared.showing.ShownAs.{ShownAs}
 use Rattle.postcopy_c.specs.declared.showing.ShownAs.TheVariants.{Told, Picture, Lack}
+use Rattle.postcopy_c.specs.declared.showing.Judged.{Judged}
+use Rattle.postcopy_c.specs.declared.showing.Judged.TheVariants as judged
 use Rattle.postcopy_c.specs.declared.showing.Showing.{Showing}
 use Rattle.postcopy_c.specs.Numbers.{audited_numbers, numbers}
 use Rattle.postcopy_c.specs.Answers.{IsPut, WantsMemory}
+use Rattle.postcopy_c.specs.Texts.{AreMeasured, texts_of}
 
 -- what the text is that shows that a text is refused at this line: where the report would be told, the way to tell it there, and
 -- else the line that says so
@@ -49,12 +53,15 @@ IsShownReport (Told form) s report text = Tells form (told.Reported s report) te
 IsShownReport (Picture topic) s report text = IsPictureText s report topic text
 IsShownReport (Lack extent) s report text = IsLackByReport extent s report text
 
--- the report on a session is shown
-pub record IsShowingOf (shown_as : ShownAs) (s : Recorded) (showing : Showing) : Type 0 where
-  pub report : Report
-  pub is_report : IsReport s report
-  pub is_reported : showing.audited ≡ Reported report
-  pub is_text : IsShownReport shown_as s report showing.text.items
+-- what the text is that shows what is judged of a session's text
+abbrev pub IsShownJudged : ShownAs → Judged → List ℕ → Type 0
+IsShownJudged shown_as (judged.Refused line) text = IsShownRefusal shown_as line text
+IsShownJudged shown_as (judged.Reported s report) text = IsShownReport shown_as s.now report.now text
+
+-- where it spells a session, this is its report
+abbrev pub IsRightJudged : Judged → Type 0
+IsRightJudged (judged.Refused line) = ⊤
+IsRightJudged (judged.Reported s report) = IsReport s.now report.now × ReportFits report.now
 
 -- the text shows this audit of the bytes: the line at which they are refused, or the report on the session that they spell
 abbrev pub IsShown : ShownAs → List ℕ → Audited → List ℕ → Type 0
@@ -62,16 +69,30 @@ IsShown shown_as session (Refused line) text = IsRefusalLine SpellsSession sessi
 IsShown shown_as session (Reported report) text =
     (s : Recorded) × IsSpelling SpellsSession s session × IsReport s report × IsShownReport shown_as s report text
 
+-- the report on a session is shown
+pub record IsShowingOf (asked : List ShownAs) (s : Recorded) (showing : Showing) : Type 0 where
+  pub report : Report
+  pub is_report : IsReport s report
+  pub is_reported : showing.audited ≡ Reported report
+  pub are_shown : AllZip (λ shown_as text. IsShownReport shown_as s report text) asked (texts_of showing.texts)
+  pub measured : AreMeasured showing.texts
+
+-- texts that show this audit of the bytes, one for each of what is asked
+abbrev pub AreShown : List ShownAs → List ℕ → Audited → List (List ℕ) → Type 0
+AreShown asked session audited texts = AllZip (λ shown_as text. IsShown shown_as session audited text) asked texts
+
 -- the audit of the bytes is shown
-abbrev pub IsShowing : ShownAs → List ℕ → Showing → Type 0
-IsShowing shown_as session showing = IsShown shown_as session showing.audited showing.text.items
+pub record IsShowing (asked : List ShownAs) (session : List ℕ) (showing : Showing) : Type 0 where
+  pub are_shown : AreShown asked session showing.audited (texts_of showing.texts)
+  pub measured : AreMeasured showing.texts
 
 -- the audit of the bytes is told by its numbers, with the length of the text that shows it, and this text is in the room
 pub record TellsShown (shown_as : ShownAs) (session before after : List ℕ) (answer : PostcopyAnswer) : Type 0 where
-  pub showing : Showing
-  pub is_showing : IsShowing shown_as session showing
-  pub are_numbers : answer ≡ audited_numbers showing.audited (length showing.text.items)
-  pub is_put : IsPut showing.text.items before after
+  pub audited : Audited
+  pub text : List ℕ
+  pub is_shown : IsShown shown_as session audited text
+  pub are_numbers : answer ≡ audited_numbers audited (length text)
+  pub is_put : IsPut text before after
 
 -- what is shown of the bytes is told, or memory was refused
 abbrev pub IsShownAnswer : ShownAs → List ℕ → List ℕ → List ℕ → PostcopyAnswer → Type 0

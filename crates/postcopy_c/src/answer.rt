@@ -2,10 +2,11 @@
 
 ghost use Rattle.std.specs.Prelude.{◌≡◌};
 ghost use Rattle.postcopy_c.specs.Numbers.{audited_numbers, no_memory, numbers, replay_numbers, shape_number, verdict_numbers};
+ghost use Rattle.postcopy_c.specs.Questions.{no_question};
 
 use crate::kinds::{
-    BROKEN, CERT_TEXT, CLEAN, FAULTY, KNOT, NO_MEMORY, NO_MERGING, PAGE, PAGES, RUNS, RUNS_TEXT,
-    SAFE, SESSION_TEXT, SHAPE, YES,
+    BROKEN, CERT_TEXT, CLEAN, FAULTY, KNOT, NO_MEMORY, NO_MERGING, NO_QUESTION, PAGE, PAGES, RUNS,
+    RUNS_TEXT, SAFE, SESSION_TEXT, SHAPE, YES,
 };
 use crate::reasons::{number_of_page, number_of_shape};
 use audit_report::Report;
@@ -56,6 +57,13 @@ pub(crate) fn out_of_memory() -> PostcopyAnswer
     ensures { result ≡ no_memory }
 {
     at_line(NO_MEMORY, 0, 0)
+}
+
+/// The answer where the number of a question is no question's.
+pub(crate) fn unknown_question() -> PostcopyAnswer
+    ensures { result ≡ no_question }
+{
+    at_line(NO_QUESTION, 0, 0)
 }
 
 /// The numbers of a verdict. Those of `Yes` are of no other.

@@ -50,3 +50,6 @@ pub const READ: u32 = 16;
 
 /// Every merging of the session is safe, but it does not tell of a whole migration.
 pub const INCOMPLETE: u32 = 17;
+
+/// The number of a question is no question's. Nothing is said of the session.
+pub const NO_QUESTION: u32 = 18;

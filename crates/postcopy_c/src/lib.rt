@@ -9,19 +9,24 @@ ghost use Rattle.judged_texts.specs.Checked.{SpellsOneSession, OfSpelled, Replay
 ghost use Rattle.judged_texts.specs.Audited.{IsSafeExactlyIf, IsUnsafe};
 ghost use Rattle.postcopy_c.specs.Answers.{IsVerdictAnswer, IsReplayAnswer, IsAuditAnswer};
 ghost use Rattle.postcopy_c.specs.Showings.{IsMissingAnswer, IsShownAnswer, SaysSafe};
+ghost use Rattle.postcopy_c.specs.Questions.{AreAnswers};
 ghost use Rattle.postcopy_c.specs.Refusals.{IsWhy};
 
 mod answer;
+mod asking;
 mod completing;
 mod kinds;
+mod questions;
 mod reasons;
 mod refusals;
 mod showing;
 mod telling;
+mod texts;
 
 use crate::answer::{PostcopyAnswer, replay_answer, verdict_answer};
+use crate::asking::{PostcopyQuestion, tell_answers};
 use crate::completing::tell_missing;
-use crate::kinds::{CLEAN, FAULTY, NO_MEMORY, SESSION_TEXT, YES};
+use crate::kinds::{CLEAN, FAULTY, NO_MEMORY, NO_QUESTION, SESSION_TEXT, YES};
 use crate::refusals::{PostcopyRefusal, tell_why};
 use crate::showing::{ShownAs, tell_shown};
 use crate::telling::tell_audit;
@@ -225,6 +230,27 @@ pub extern "C" fn postcopy_draw_page(
     ensures faulty { result.kind ≡ FAULTY → OfSpelled session.now IsUnsafe }
 {
     tell_shown(alloc, session, ShownAs::Picture(Topic::Page(page)), room)
+}
+
+/// What several questions ask of one session, which is read once and judged once: for each the text of the call that takes this
+/// question alone, each behind the one before. They stand at the front of the room where all of them fit, and their whole length
+/// is answered; the ends have the place where each text ends, where these fit. What does not fit stays as it was. Where the number
+/// of one is no question's, nothing is read and nothing written.
+#[unsafe(no_mangle)]
+pub extern "C" fn postcopy_answers(
+    alloc: Global,
+    session: &[u8],
+    questions: &[PostcopyQuestion],
+    ends: &mut [usize],
+    room: &mut [u8],
+) -> PostcopyAnswer
+    ensures told { AreAnswers questions.now session.now ends.old ends.new room.old room.new result }
+    ensures one_session { result.kind ≢ SESSION_TEXT → result.kind ≢ NO_MEMORY → result.kind ≢ NO_QUESTION → SpellsOneSession session.now }
+    ensures safe { result.kind ≡ CLEAN → OfSpelled session.now IsSafe }
+    ensures exactly { result.kind ≢ NO_MEMORY → result.kind ≢ NO_QUESTION → OfSpelled session.now (IsSafeExactlyIf (result.kind ≡ CLEAN)) }
+    ensures faulty { result.kind ≡ FAULTY → OfSpelled session.now IsUnsafe }
+{
+    tell_answers(alloc, session, questions, ends, room)
 }
 
 /// Why a text is refused as one of a kind: the line, the column, and words on it in one line, which are handed over as the text

@@ -1,17 +1,21 @@
-//! A session shown in words, as a picture or by all of its faults, told by numbers and by a text in the caller's room.
+//! A session shown in words, as a picture or by all of its faults, told by numbers and by texts in the caller's room.
 
 ghost use Rattle.std.specs.Prelude.{◌≡◌, ◌≢◌, length, IfOk};
+ghost use Rattle.std.specs.List.{AllZip, concat};
 ghost use Rattle.audit_model.specs.World.{IsSafe};
 ghost use Rattle.audit_report.specs.Reports.{IsReport, ReportFits};
 ghost use Rattle.judged_texts.specs.Checked.{SpellsOneSession, OfSpelled};
 ghost use Rattle.judged_texts.specs.Audited.{HasReport, FindsClean, FindsFault, IsSafeExactlyIf, IsUnsafe};
 ghost use Rattle.postcopy_c.specs.Numbers.{audited_numbers};
 ghost use Rattle.postcopy_c.specs.Answers.{IsPut};
-ghost use Rattle.postcopy_c.specs.Showings.{IsLackText, IsLackByReport, IsShownRefusal, IsShownReport, IsShowingOf, IsShowing, IsShownAnswer};
+ghost use Rattle.postcopy_c.specs.Texts.{AreMeasured, ends_from, texts_of};
+ghost use Rattle.postcopy_c.specs.Showings.{IsLackByReport, IsLackText, IsRightJudged, IsShowing, IsShowingOf, IsShownAnswer, IsShownJudged, IsShownRefusal, IsShownReport};
+ghost use Rattle.postcopy_c.specs.Questions.{IsToldAll};
 
 use crate::answer::{PostcopyAnswer, audited_answer, out_of_memory};
 use crate::kinds::{CLEAN, FAULTY, NO_MEMORY, SESSION_TEXT};
 use crate::telling::put;
+use crate::texts::Texts;
 use audit_report::{OwnLines, Report, audit_by, print_first_line, print_refused_session};
 use completeness::Extent;
 use judged_texts::Audited;
@@ -35,13 +39,22 @@ pub enum ShownAs {
     Lack(Extent),
 }
 
-/// An audit, and the text that shows it.
+/// What is judged of the text of a session.
+#[derive(Clone, Copy)]
+pub enum Judged<'a> {
+    /// It is refused at this line.
+    Refused(u32),
+    /// It spells a session, which has this report.
+    Reported(&'a Session, &'a Report),
+}
+
+/// An audit, and the texts that show it.
 #[derive(Drop)]
 pub struct Showing {
     /// The audit.
     pub audited: Audited,
-    /// The text.
-    pub text: Vec<u8>,
+    /// The texts.
+    pub texts: Texts,
 }
 
 /// The line that says what a session lacks first, of what this extent asks for, or nothing where it is complete.
@@ -72,7 +85,7 @@ fn lack_by_report(
 }
 
 /// The text that shows a session by its report.
-fn text_of(
+fn text_of_report(
     alloc: Global,
     session: &Session,
     report: &Report,
@@ -90,7 +103,7 @@ fn text_of(
 }
 
 /// The text that shows that a text is refused at this line.
-fn refusal_of(alloc: Global, line: u32, shown_as: ShownAs) -> Result<Vec<u8>, AllocError>
+fn text_of_refusal(alloc: Global, line: u32, shown_as: ShownAs) -> Result<Vec<u8>, AllocError>
     ensures { IfOk result (λ text. IsShownRefusal shown_as line text.items) }
 {
     match shown_as {
@@ -99,24 +112,49 @@ fn refusal_of(alloc: Global, line: u32, shown_as: ShownAs) -> Result<Vec<u8>, Al
     }
 }
 
+/// The text that shows what is judged of a session's text.
+fn text_of(alloc: Global, judged: Judged<'_>, shown_as: ShownAs) -> Result<Vec<u8>, AllocError>
+    requires { IsRightJudged judged }
+    ensures { IfOk result (λ text. IsShownJudged shown_as judged.entry text.items) }
+{
+    match judged {
+        Judged::Refused(line) => text_of_refusal(alloc, line, shown_as),
+        Judged::Reported(session, report) => text_of_report(alloc, session, report, shown_as),
+    }
+}
+
+/// The texts that show what is judged of a session's text, one for each of what is asked.
+fn texts_for(alloc: Global, judged: Judged<'_>, asked: &[ShownAs]) -> Result<Texts, AllocError>
+    requires { IsRightJudged judged }
+    ensures shown { IfOk result (λ held. AllZip (λ shown_as text. IsShownJudged shown_as judged.entry text) asked.now (texts_of held)) }
+    ensures measured { IfOk result AreMeasured }
+{
+    let mut texts = Texts::new(alloc);
+    for shown_as in asked {
+        let text = text_of(alloc, judged, *shown_as)?;
+        texts.push(text)?;
+    }
+    Ok(texts)
+}
+
 /// What is shown of a session that was read. The calling thread alone judges it.
-fn show_session(alloc: Global, session: &Session, shown_as: ShownAs) -> Result<Showing, AllocError>
-    ensures shown { IfOk result (IsShowingOf shown_as session.now) }
+fn show_session(alloc: Global, session: &Session, asked: &[ShownAs]) -> Result<Showing, AllocError>
+    ensures shown { IfOk result (IsShowingOf asked.now session.now) }
     ensures safe { IfOk result (λ showing. FindsClean showing.audited → IsSafe session.now) }
     ensures exactly { IfOk result (λ showing. IsSafeExactlyIf (FindsClean showing.audited) session.now) }
     ensures faulty { IfOk result (λ showing. FindsFault showing.audited → IsUnsafe session.now) }
 {
     let report = audit_by(&Alone, alloc, session)?;
-    let text = text_of(alloc, session, &report, shown_as)?;
+    let texts = texts_for(alloc, Judged::Reported(session, &report), asked)?;
     Ok(Showing {
         audited: Audited::Reported(report),
-        text,
+        texts,
     })
 }
 
 /// What is shown of the session that a text spells.
-fn show_text(alloc: Global, session: &[u8], shown_as: ShownAs) -> Result<Showing, AllocError>
-    ensures showing { IfOk result (IsShowing shown_as session.now) }
+fn show_text(alloc: Global, session: &[u8], asked: &[ShownAs]) -> Result<Showing, AllocError>
+    ensures showing { IfOk result (IsShowing asked.now session.now) }
     ensures one_session { IfOk result (λ showing. HasReport showing.audited → SpellsOneSession session.now) }
     ensures safe { IfOk result (λ showing. FindsClean showing.audited → OfSpelled session.now IsSafe) }
     ensures exactly { IfOk result (λ showing. OfSpelled session.now (IsSafeExactlyIf (FindsClean showing.audited))) }
@@ -124,25 +162,49 @@ fn show_text(alloc: Global, session: &[u8], shown_as: ShownAs) -> Result<Showing
 {
     session_texts_are_unambiguous();
     match read_session(alloc, session) {
-        Ok(recorded) => show_session(alloc, &recorded, shown_as),
+        Ok(recorded) => show_session(alloc, &recorded, asked),
         Err(fault) => {
             let line = fault.refused_line()?;
-            let text = refusal_of(alloc, line, shown_as)?;
+            let texts = texts_for(alloc, Judged::Refused(line), asked)?;
             Ok(Showing {
                 audited: Audited::Refused(line),
-                text,
+                texts,
             })
         }
     }
 }
 
-/// Puts the text that is shown into the room, where it fits, and tells the audit with the length of this text.
-fn put_shown(showing: &Showing, room: &mut [u8]) -> PostcopyAnswer
-    ensures numbers { result ≡ audited_numbers showing.now.audited (length showing.now.text.items) }
-    ensures put { IsPut showing.now.text.items room.old room.new }
+/// Puts the texts that are shown into the room, and their ends beside them, where they fit, and tells the audit with the length
+/// of all texts.
+fn put_shown(showing: &Showing, ends: &mut [usize], room: &mut [u8]) -> PostcopyAnswer
+    requires { AreMeasured showing.now.texts }
+    ensures numbers { result ≡ audited_numbers showing.now.audited (length (concat (texts_of showing.now.texts))) }
+    ensures put { IsPut (concat (texts_of showing.now.texts)) room.old room.new }
+    ensures ends { IsPut (ends_from 0 (texts_of showing.now.texts)) ends.old ends.new }
 {
-    put(&showing.text, room);
-    audited_answer(&showing.audited, showing.text.len())
+    showing.texts.put(room);
+    put(&showing.texts.ends, ends);
+    audited_answer(&showing.audited, showing.texts.whole)
+}
+
+/// Tells all that is asked to be shown of the session that a text spells, which is read once and judged once.
+pub(crate) fn tell_all(
+    alloc: Global,
+    session: &[u8],
+    asked: &[ShownAs],
+    ends: &mut [usize],
+    room: &mut [u8],
+) -> PostcopyAnswer
+    ensures told { IsToldAll asked.now session.now ends.old ends.new room.old room.new result }
+    ensures one_session { result.kind ≢ SESSION_TEXT → result.kind ≢ NO_MEMORY → SpellsOneSession session.now }
+    ensures safe { result.kind ≡ CLEAN → OfSpelled session.now IsSafe }
+    ensures exactly { result.kind ≢ NO_MEMORY → OfSpelled session.now (IsSafeExactlyIf (result.kind ≡ CLEAN)) }
+    ensures faulty { result.kind ≡ FAULTY → OfSpelled session.now IsUnsafe }
+{
+    match show_text(alloc, session, asked) {
+        Ok(showing) => put_shown(&showing, ends, room),
+        Err(_) => out_of_memory(),
+    }
 }
 
 /// Tells what is shown of the session that a text spells.
@@ -158,8 +220,5 @@ pub(crate) fn tell_shown(
     ensures exactly { result.kind ≢ NO_MEMORY → OfSpelled session.now (IsSafeExactlyIf (result.kind ≡ CLEAN)) }
     ensures faulty { result.kind ≡ FAULTY → OfSpelled session.now IsUnsafe }
 {
-    match show_text(alloc, session, shown_as) {
-        Ok(showing) => put_shown(&showing, room),
-        Err(_) => out_of_memory(),
-    }
+    tell_all(alloc, session, &[shown_as], &mut [], room)
 }

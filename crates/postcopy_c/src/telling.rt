@@ -11,12 +11,12 @@ use crate::kinds::{CLEAN, FAULTY, NO_MEMORY, SESSION_TEXT};
 use judged_texts::{Audited, Wanted, audit_text, print_audited};
 use std::alloc::{AllocError, Global};
 
-/// Puts a text at the front of the room where it fits; where it does not the room stays as it was.
-pub(crate) fn put(text: &[u8], room: &mut [u8])
-    ensures { IsPut text.now room.old room.new }
+/// Puts items at the front of the room where they fit; where they do not the room stays as it was.
+pub(crate) fn put<T: Copy>(items: &[T], room: &mut [T])
+    ensures { IsPut items.now room.old room.new }
 {
-    if text.len() <= room.len() {
-        room[..text.len()].copy_from_slice(text);
+    if items.len() <= room.len() {
+        room[..items.len()].copy_from_slice(items);
     }
 }
 

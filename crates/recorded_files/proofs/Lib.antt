@@ -8,3 +8,4 @@ pub mod Taking
 pub mod Refusing
 pub mod Telling
 pub mod Saying
+pub mod Noted

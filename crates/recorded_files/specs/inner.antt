@@ -2,3 +2,4 @@
 pub mod Finding
 pub mod Heads
 pub mod Reaches
+pub mod Noted

@@ -1,4 +1,4 @@
--- What is said of the lines of pages and of records.
+-- What holds of the lines of pages and of records.
 use Rattle.std.specs.Prelude.{◌≡◌, ℕ, ◌≤◌, List, length}
 use Rattle.text_lines.specs.Text.{IsLine}
 
@@ -10,7 +10,7 @@ Tell {X} IsOne line = (r s : X) → IsOne r → IsOne s → line r ≡ line s �
 abbrev pub ArePlain : {X : Type 0} → (X → Type 0) → (X → List ℕ) → Type 0
 ArePlain {X} IsOne line = (r : X) → IsOne r → IsLine (line r)
 
--- no line of a page or a record has more bytes
+-- the greatest number of bytes in a line of a page or of a record
 abbrev pub longest_line : ℕ
 longest_line = 8448
 

@@ -2,7 +2,7 @@
 use Rattle.std.specs.Prelude.{◌≡◌, ℕ, ◌≤◌, List, ◌++◌, Option, length, take}
 use Rattle.std.specs.Io.KnownBytes.{Consumes, IsAtEnd}
 
--- bytes were read behind those at the front of a buffer, and none only where nothing is left
+-- bytes were read after those at the front of a buffer; there is none only if nothing is left
 pub record ReadsBehind (old new : Option (List ℕ)) (before after : List ℕ) (kept filled : ℕ) : Type 0 where
   pub bytes : List ℕ
   pub front : take filled after ≡ take kept before ++ bytes

@@ -1,4 +1,5 @@
--- Recordings: sessions of machines of any size. Their text is a session's, and its numbers have no limit but 2^63.
+-- Recordings: sessions of machines of any size. Their text is a session's text, and their numbers have no limit but
+-- 2^63.
 use Rattle.std.specs.Prelude.{◌≡◌, ℕ, ◌<◌, ◌≤◌, ◌^◌, List, length}
 use Rattle.std.specs.List.{AllByRecursion}
 use Rattle.migration_types.specs.declared.version.Version.{Version}
@@ -13,18 +14,18 @@ use Rattle.migration_types.specs.Pages.{AreInitPages}
 use Rattle.migration_types.specs.Sessions.{Recorded, GuestRecIn, SourceRecIn, LinkRecIn, LaneRecIn, PagerRecIn}
 use Rattle.session_log.specs.Grammar.{session_lines}
 
--- a number of pages, of records, or of a page or a record
+-- a number of a page or a record, or how many there are
 abbrev pub IsCount : ℕ → Type 0
 IsCount n = n < 2 ^ 63
 
--- a machine: of any number of pages, each with as many cells as a page may have
+-- a machine: any number of pages, each with as many cells as a page may have
 pub record IsMachine (e : Extent) : Type 0 where
   pub some_pages : 1 ≤ e.pages
   pub few_pages : IsCount e.pages
   pub some_cells : 1 ≤ e.cells
   pub few_cells : e.cells ≤ most_cells
 
--- a record's numbers are those of a machine of this extent
+-- a record's numbers are within a machine of this extent
 abbrev pub IsGuestRecOf : Extent → GuestRec → Type 0
 IsGuestRecOf e = GuestRecIn (2 ^ 63) e
 
@@ -40,7 +41,7 @@ IsLaneRecOf version = LaneRecIn (2 ^ 63) version
 abbrev pub IsPagerRecOf : Version → Extent → PagerRec → Type 0
 IsPagerRecOf version e = PagerRecIn (2 ^ 63) version e
 
--- a session of a machine of any size, whose text tells one that its version has
+-- a session of a machine of any size, whose text gives a size that its version has
 pub record IsRecording (s : Recorded) : Type 0 where
   pub size : HasSize s.version s.geometry.size
   pub machine : IsMachine s.geometry

@@ -1,4 +1,4 @@
--- What came of a recording so far: lists that grow in the order in which its text has them.
+-- What was read of a recording so far: lists that grow in the order of its text.
 use Rattle.std.specs.Prelude.{◌≡◌, [], ◌∷◌, ◌++◌}
 use Rattle.migration_types.specs.declared.pages.InitPage.{InitPage}
 use Rattle.migration_types.specs.declared.version.Version.{Version}
@@ -10,11 +10,11 @@ use Rattle.migration_types.specs.declared.records.PagerRec.{PagerRec}
 use Rattle.migration_types.specs.Extents.{Extent}
 use Rattle.migration_types.specs.Sessions.{Recorded}
 
--- the machine alone
+-- what was read if only the machine was
 abbrev pub nothing_of : Version → Extent → Recorded
 nothing_of version e = record { version = version; geometry = e; init = []; guest = []; source = []; link = []; lane = []; pager = [] }
 
--- one more page or record, behind those so far
+-- one more page or record, after those so far
 abbrev pub with_init : Recorded → InitPage → Recorded
 with_init d p = record { version = d.version; geometry = d.geometry; init = d.init ++ p ∷ []; guest = d.guest; source = d.source; link = d.link; lane = d.lane; pager = d.pager }
 
@@ -33,7 +33,7 @@ with_lane d r = record { version = d.version; geometry = d.geometry; init = d.in
 abbrev pub with_pager : Recorded → PagerRec → Recorded
 with_pager d r = record { version = d.version; geometry = d.geometry; init = d.init; guest = d.guest; source = d.source; link = d.link; lane = d.lane; pager = d.pager ++ r ∷ [] }
 
--- nothing came of the logs behind this one
+-- nothing was read of the logs after this one
 abbrev pub BeforePager : Recorded → Type 0
 BeforePager d = d.pager ≡ []
 

@@ -1,4 +1,4 @@
--- What going through a text comes to.
+-- The result of going through a text.
 use Rattle.std.specs.Prelude.{◌≡◌, ℕ, List, Option, IfSome}
 use Rattle.text_lines.specs.Text.{IsSpelling, IsRefusalLine}
 use Rattle.migration_types.specs.Sessions.{Recorded}
@@ -6,7 +6,7 @@ use Rattle.recordings.specs.Recordings.{SpellsRecording}
 use Rattle.recordings.specs.declared.RecordingFault.{RecordingFault}
 use Rattle.recordings.specs.declared.RecordingFault.TheVariants.{Line, File, Memory}
 
--- a text, which is what was there where that is known, spells a recording, and all of it was met
+-- A text, which is what was there if that is known, spells a recording, and the visitor met all of it.
 pub record Walks {V : Type 0} (Met : V → Recorded → Type 0) (known : Option (List ℕ)) (visitor : V) : Type 0 where
   pub text : List ℕ
   pub is_known : IfSome known (λ xs. text ≡ xs)
@@ -14,13 +14,13 @@ pub record Walks {V : Type 0} (Met : V → Recorded → Type 0) (known : Option 
   pub spelled : IsSpelling SpellsRecording s text
   pub met : Met visitor s
 
--- a text, which is what was there where that is known, is refused at this line
+-- a text, which is what was there if that is known, is refused at this line
 pub record IsRefusedAt (known : Option (List ℕ)) (line : ℕ) : Type 0 where
   pub text : List ℕ
   pub is_known : IfSome known (λ xs. text ≡ xs)
   pub refused : IsRefusalLine SpellsRecording text line
 
--- of what is not read whole for another reason nothing is told
+-- nothing is said if the text could not be read whole for another reason
 abbrev pub IsRefusedBy : Option (List ℕ) → RecordingFault → Type 0
 IsRefusedBy known (Line line) = IsRefusedAt known line
 IsRefusedBy known File = Unit {0}

@@ -24,7 +24,7 @@ use Rattle.recordings.specs.declared.wide.WideLane.TheVariants.{Down as LaneDown
 use Rattle.recordings.specs.declared.wide.WidePager.{WidePager}
 use Rattle.recordings.specs.declared.wide.WidePager.TheVariants.{Got, Pull, Ready, Fault, Join, Want, Place, Zero, Skip, All}
 
--- a recording's machine has none of its size's limits, but its text tells the size
+-- the extent of a recording's machine: its text gives its size, but the limits of that size do not apply
 abbrev pub extent_of : Machine → Extent
 extent_of m = record { size = m.size; pages = m.pages; cells = m.cells }
 

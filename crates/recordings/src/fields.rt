@@ -9,7 +9,7 @@ use crate::machine::BEYOND;
 use migration_types::Version;
 use text_lines::{after_key, number_last};
 
-/// The number below a bound that a text is.
+/// Returns the number below a bound that the text spells.
 #[inline(always)]
 pub(crate) fn number_whole(text: &[u8], bound: u64) -> Option<u64>
     requires { 0 < bound }
@@ -25,7 +25,7 @@ pub(crate) fn number_whole(text: &[u8], bound: u64) -> Option<u64>
     Some(number)
 }
 
-/// The number below a bound that stands behind a key, where a text is the two.
+/// Returns the number below a bound that follows a key, if the text is these two.
 #[inline(always)]
 pub(crate) fn keyed_whole(text: &[u8], key: &[u8], bound: u64) -> Option<u64>
     requires { 0 < bound }
@@ -38,7 +38,8 @@ pub(crate) fn keyed_whole(text: &[u8], key: &[u8], bound: u64) -> Option<u64>
     number_whole(rest, bound)
 }
 
-/// The number of a record of the lane that stands behind a key, where a text is the two. The second version alone has it.
+/// Returns the number of the lane's record that follows a key, if the text is these two. Only the second version has
+/// it.
 pub(crate) fn lane_number(version: Version, text: &[u8], key: &[u8]) -> Option<u64>
     ensures found { IfSome result (λ n. HasLane version × IsCount n × (text.now ≡ key.now ++ decimal n)) }
     ensures none { IfNone result ((n : ℕ) → HasLane version → IsCount n → text.now ≢ key.now ++ decimal n) }

@@ -31,7 +31,7 @@ const RESUME_KEY: &[u8] = b"resume ";
 
 const SEE_KEY: &[u8] = b"see ";
 
-/// The processor, page, cell and value that a text is.
+/// Returns the processor, page, cell and value that the text spells.
 #[inline(always)]
 fn access_whole(machine: &Machine, text: &[u8]) -> Option<(u8, u64, u16, u64)>
     requires { IsMachine (extent_of machine.now) }
@@ -53,7 +53,7 @@ fn access_whole(machine: &Machine, text: &[u8]) -> Option<(u8, u64, u16, u64)>
     Some((vcpu as u8, page, cell as u16, value))
 }
 
-/// The processor and the page that a text is.
+/// Returns the processor and the page that the text spells.
 #[inline(always)]
 fn vcpu_page_whole(machine: &Machine, text: &[u8]) -> Option<(u8, u64)>
     requires { IsMachine (extent_of machine.now) }
@@ -69,7 +69,7 @@ fn vcpu_page_whole(machine: &Machine, text: &[u8]) -> Option<(u8, u64)>
     Some((vcpu as u8, page))
 }
 
-/// The record that is no read and no write that a line spells.
+/// Returns the record that a line spells, if it is not a read or a write.
 fn read_event(machine: &Machine, line: &[u8]) -> Option<WideGuest>
     requires { IsMachine (extent_of machine.now) }
     ensures found { IfSome result (λ r. IsGuestRecOf (extent_of machine.now) (guest_of r) × (line.now ≡ guest_line (guest_of r))) }
@@ -99,7 +99,7 @@ fn read_event(machine: &Machine, line: &[u8]) -> Option<WideGuest>
     Some(WideGuest::Halt)
 }
 
-/// The record that a line spells.
+/// Returns the record that a line spells.
 fn read_record(machine: &Machine, line: &[u8]) -> Option<WideGuest>
     requires { IsMachine (extent_of machine.now) }
     ensures found { IfSome result (λ r. IsGuestRecOf (extent_of machine.now) (guest_of r) × (line.now ≡ guest_line (guest_of r))) }
@@ -130,7 +130,7 @@ fn read_record(machine: &Machine, line: &[u8]) -> Option<WideGuest>
     read_event(machine, line)
 }
 
-/// Adds a line that is a key, a processor, a page, a cell and a value.
+/// Appends a line that is a key, a processor, a page, a cell and a value.
 #[inline(always)]
 fn push_access(
     out: &mut Vec<u8>,
@@ -150,7 +150,7 @@ fn push_access(
     end_line(out)
 }
 
-/// Adds a line that is a key, a processor and a page.
+/// Appends a line that is a key, a processor and a page.
 #[inline(always)]
 fn push_vcpu_page(out: &mut Vec<u8>, key: &[u8], vcpu: u8, page: u64) -> Result<(), AllocError>
     ensures { OnOk result (out.new.items ≡ out.old.items ++ (key.now ++ vcpu_page_text vcpu page ++ 10 ∷ [])) }
@@ -162,11 +162,11 @@ fn push_vcpu_page(out: &mut Vec<u8>, key: &[u8], vcpu: u8, page: u64) -> Result<
 }
 
 impl WideGuest {
-    /// The record of the guest that a line spells.
+    /// Returns the record of the guest that a line spells.
     ///
     /// # Errors
     ///
-    /// It spells none.
+    /// The line does not spell one.
     pub fn read(machine: &Machine, line: &[u8]) -> Result<WideGuest, FaultKind>
         requires { IsMachine (extent_of machine.now) }
         ensures found { IfOk result (λ r. IsGuestRecOf (extent_of machine.now) (guest_of r) × (line.now ≡ guest_line (guest_of r))) }
@@ -178,7 +178,7 @@ impl WideGuest {
         }
     }
 
-    /// Adds its line, with the line feed. An error: there is no memory for it.
+    /// Appends its line, with the line feed. Fails only if memory runs out.
     pub fn push(&self, out: &mut Vec<u8>) -> Result<(), AllocError>
         ensures { OnOk result (out.new.items ≡ out.old.items ++ (guest_line (guest_of self.now) ++ 10 ∷ [])) }
     {

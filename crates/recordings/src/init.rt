@@ -19,14 +19,14 @@ use text_lines::{FaultKind, after_key, number_then};
 
 const PAGE_KEY: &[u8] = b"page ";
 
-/// Whether all cells are zero.
+/// Returns whether all cells are zero.
 fn are_zeros(cells: &[u64]) -> bool
     ensures { IsTrue result ↔ AreZeros cells.now }
 {
     cells.iter().all(|&value| value == 0)
 }
 
-/// The values of a page's cells, not all of them zero, that a text spells.
+/// Returns the values of a page's cells that the text spells, not all of them zero.
 fn read_init_contents(alloc: Global, text: &[u8], cells: u32) -> Result<Contents, FaultKind>
     ensures found { IfOk result (λ xs. IsInitContent cells xs × (text.now ≡ contents_text xs)) }
     ensures refused { IfErr result (λ kind. kind ≢ FaultKind.Memory → (xs : List ℕ) → IsInitContent cells xs → text.now ≢ contents_text xs) }
@@ -39,11 +39,11 @@ fn read_init_contents(alloc: Global, text: &[u8], cells: u32) -> Result<Contents
 }
 
 impl WideInit {
-    /// The page that does not begin as zeros that a line spells.
+    /// Returns the initial page that a line spells.
     ///
     /// # Errors
     ///
-    /// The number of its page is out of its range, it has not the form of such a line, or there is no memory for the contents.
+    /// The page's number is out of range, the line does not have the right form, or memory runs out.
     pub fn read(alloc: Global, machine: &Machine, line: &[u8]) -> Result<WideInit, FaultKind>
         requires { IsMachine (extent_of machine.now) }
         ensures found { IfOk result (λ p. InitPageFits (extent_of machine.now) (init_of p) × (line.now ≡ page_line (init_of p))) }
@@ -62,7 +62,7 @@ impl WideInit {
         Ok(WideInit { page, cells })
     }
 
-    /// Adds its line, with the line feed. An error: there is no memory for it.
+    /// Appends its line, with the line feed. Fails only if memory runs out.
     pub fn push(&self, out: &mut Vec<u8>) -> Result<(), AllocError>
         ensures { OnOk result (out.new.items ≡ out.old.items ++ (page_line (init_of self.now) ++ 10 ∷ [])) }
     {

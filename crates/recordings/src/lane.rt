@@ -14,11 +14,11 @@ use std::alloc::AllocError;
 use text_lines::{FaultKind, push_keyed};
 
 impl WideLane {
-    /// The record of the lane that a line spells, which the second version alone has.
+    /// Returns the record of the lane that a line spells. Only the second version has one.
     ///
     /// # Errors
     ///
-    /// It spells none.
+    /// The line does not spell one.
     pub fn read(machine: &Machine, line: &[u8]) -> Result<WideLane, FaultKind>
         ensures found { IfOk result (λ r. IsLaneRecOf machine.now.version (lane_of r) × (line.now ≡ lane_line (lane_of r))) }
         ensures refused { IfErr result (λ kind. kind ≢ FaultKind.Memory → (r : LaneRec) → IsLaneRecOf machine.now.version r → line.now ≢ lane_line r) }
@@ -29,7 +29,7 @@ impl WideLane {
         }
     }
 
-    /// Adds its line, with the line feed. An error: there is no memory for it.
+    /// Appends its line, with the line feed. Fails only if memory runs out.
     pub fn push(&self, out: &mut Vec<u8>) -> Result<(), AllocError>
         ensures { OnOk result (out.new.items ≡ out.old.items ++ (lane_line (lane_of self.now) ++ 10 ∷ [])) }
     {

@@ -1,4 +1,4 @@
-//! The laws on recordings and their lines.
+//! The laws about recordings and their lines.
 
 ghost use Rattle.migration_types.specs.Extents.{Extent};
 ghost use Rattle.migration_types.specs.Pages.{InitPageFits};
@@ -10,7 +10,7 @@ ghost use Rattle.audit_model.specs.Fitting.{Fits};
 ghost use Rattle.recordings.specs.Lines.{Tell, ArePlain, AreShort};
 ghost use Rattle.recordings.specs.Recordings.{IsMachine, IsRecording, IsGuestRecOf, IsSourceRecOf, IsLinkRecOf, IsLaneRecOf, IsPagerRecOf};
 
-/// On one machine no two records of a log have the same line, nor have two of its pages. Runs nothing.
+/// A law: on one machine, no two records of a log have the same line, nor do two initial pages. Runs nothing.
 pub fn lines_tell_records()
     ensures init { (e : Extent) → IsMachine e → Tell (InitPageFits e) page_line }
     ensures guest { (e : Extent) → IsMachine e → Tell (IsGuestRecOf e) guest_line }
@@ -20,7 +20,7 @@ pub fn lines_tell_records()
     ensures pager { (version : Version) (e : Extent) → IsMachine e → Tell (IsPagerRecOf version e) pager_line }
 {}
 
-/// No line of a page or of a record has a line feed. Runs nothing.
+/// A law: no line of a page or of a record has a line feed. Runs nothing.
 pub fn lines_are_plain()
     ensures init { (e : Extent) → IsMachine e → ArePlain (InitPageFits e) page_line }
     ensures guest { (e : Extent) → IsMachine e → ArePlain (IsGuestRecOf e) guest_line }
@@ -30,7 +30,7 @@ pub fn lines_are_plain()
     ensures pager { (version : Version) (e : Extent) → IsMachine e → ArePlain (IsPagerRecOf version e) pager_line }
 {}
 
-/// No line of a page or of a record has more than 8,448 bytes. Runs nothing.
+/// A law: no line of a page or of a record has more than 8,448 bytes. Runs nothing.
 pub fn lines_are_short()
     ensures init { (e : Extent) → IsMachine e → AreShort (InitPageFits e) page_line }
     ensures guest { (e : Extent) → IsMachine e → AreShort (IsGuestRecOf e) guest_line }
@@ -40,12 +40,12 @@ pub fn lines_are_short()
     ensures pager { (version : Version) (e : Extent) → IsMachine e → AreShort (IsPagerRecOf version e) pager_line }
 {}
 
-/// A session within its limits is a recording. Runs nothing.
+/// A law: a session within its limits is a recording. Runs nothing.
 pub fn sessions_are_recordings()
     ensures { (s : Recorded) → IsSession s → IsRecording s }
 {}
 
-/// A recording fits its machine. Runs nothing.
+/// A law: a recording fits its machine. Runs nothing.
 pub fn recordings_fit()
     ensures { (s : Recorded) → IsRecording s → Fits s }
 {}

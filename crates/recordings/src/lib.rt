@@ -1,5 +1,5 @@
-//! Recordings: sessions of machines of any size, whose numbers have 64 bits; their lines, and their text, which is read line
-//! by line, and of which nothing is kept.
+//! Recordings: sessions of machines of any size, with numbers of 64 bits; their lines; and their text, which is read
+//! line by line without keeping it.
 #![tactic(auto)]
 
 ghost use Rattle.std.specs.Prelude.{◌≡◌, OnOk, IfErr};
@@ -37,37 +37,38 @@ use walker::Walker;
 pub use walker::move_front;
 pub use wide::{WideGuest, WideInit, WideLane, WideLink, WidePager, WideSource};
 
-/// Why there is no recording.
+/// Why a recording could not be read.
 #[derive(Clone, Copy, Debug, PartialEq, Eq, Error)]
 pub enum RecordingFault {
     /// The line, counted from 1, at which the bytes stop being a recording's text.
     #[error("line {0}: not the text of a recording")]
     Line(u64),
-    /// What was read gave an error, or has too many lines to count.
+    /// A read failed, or there are too many lines to count.
     #[error("the recording was not read")]
     File,
-    /// Memory was refused.
+    /// Memory ran out.
     #[error("out of memory")]
     Memory,
 }
 
-/// No recording's text begins another's, a text is that of one recording, and a recording has one text. Runs nothing.
+/// A law: no recording's text begins another's, a text is that of one recording, and a recording has one text. Runs
+/// nothing.
 pub fn recording_texts_are_unambiguous()
     ensures { IsUnambiguous SpellsRecording }
 {}
 
-/// How many bytes are read at a time, at most.
+/// The greatest number of bytes in one read.
 const PIECE: usize = 1_048_576;
 
-/// Goes through the recording that a reader has left, with a visitor, which meets the machine once its lines came, and each
-/// page and record as its line comes. Nothing is kept but a piece of the text.
+/// Goes through the recording that a reader has left, with a visitor. The visitor meets the machine once its lines are
+/// read, and each page and record as its line is read. Only one piece of the text is kept at a time.
 ///
 /// # Errors
 ///
-/// Where the bytes are no recording's text, the line, counted from 1, at which they stop being one: no recording's text
-/// begins with the lines up to that one. Where the bytes end too early, it is the line that follows their last line feed. A
-/// line of more than 8,448 bytes is refused before it ends. Otherwise that a read failed, or that memory was refused, to
-/// `walk` or to the visitor. By then the visitor may have met some of what came.
+/// If the bytes are no recording's text, the fault is the refusal line, counted from 1: no recording's text begins with
+/// the lines up to that one. If the bytes end too early, it is the line after their last line feed. A line of more than
+/// 8,448 bytes is refused before it ends. Otherwise, a read failed, or memory ran out for `walk` or for the visitor.
+/// The visitor may have met some of the recording by then.
 pub fn walk<R: Read, V: Visitor>(
     alloc: Global,
     reader: &mut R,

@@ -12,17 +12,17 @@ use crate::wide::WideLink;
 use std::alloc::AllocError;
 use text_lines::{FaultKind, push_keyed};
 
-/// How the line of a packet's way down begins.
+/// The beginning of the line of a delivery down.
 pub(crate) const DOWN_KEY: &[u8] = b"down ";
 
 const UP_KEY: &[u8] = b"up ";
 
 impl WideLink {
-    /// The record of the link that a line spells.
+    /// Returns the record of the link that a line spells.
     ///
     /// # Errors
     ///
-    /// It spells none.
+    /// The line does not spell one.
     pub fn read(line: &[u8]) -> Result<WideLink, FaultKind>
         ensures found { IfOk result (λ r. IsLinkRecOf (link_of r) × (line.now ≡ link_line (link_of r))) }
         ensures refused { IfErr result (λ kind. kind ≢ FaultKind.Memory → (r : LinkRec) → IsLinkRecOf r → line.now ≢ link_line r) }
@@ -36,7 +36,7 @@ impl WideLink {
         }
     }
 
-    /// Adds its line, with the line feed. An error: there is no memory for it.
+    /// Appends its line, with the line feed. Fails only if memory runs out.
     pub fn push(&self, out: &mut Vec<u8>) -> Result<(), AllocError>
         ensures { OnOk result (out.new.items ≡ out.old.items ++ (link_line (link_of self.now) ++ 10 ∷ [])) }
     {

@@ -2,11 +2,11 @@
 
 use migration_types::{Size, Version};
 
-/// Numbers of pages and of records, and those of a page and of a record, are below this one.
+/// The bound of a recording's numbers: the numbers of pages and of records, and how many there are, are below it.
 pub const BEYOND: u64 = 1 << 63;
 
-/// How many pages a machine has, and how many cells each page has, with the version and the size that its
-/// text tells. A recording has no limits of its size.
+/// How many pages a machine has, and how many cells each page has, with the version and the size that its text gives.
+/// The limits of that size do not apply to a recording.
 #[derive(Clone, Copy)]
 pub struct Machine {
     pub version: Version,

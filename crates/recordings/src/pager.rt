@@ -38,7 +38,7 @@ const SKIP_KEY: &[u8] = b"skip ";
 
 const ALL: &[u8] = b"all";
 
-/// The page, the number and the contents that a text is.
+/// Returns the page, the number and the contents that the text spells.
 fn placed_whole(
     alloc: Global,
     machine: &Machine,
@@ -58,7 +58,7 @@ fn placed_whole(
     Ok((page, got, contents))
 }
 
-/// The record that is no placement that a line spells.
+/// Returns the record that a line spells, if it is not a placement.
 fn read_notice(machine: &Machine, line: &[u8]) -> Option<WidePager>
     requires { IsMachine (extent_of machine.now) }
     ensures found { IfSome result (λ r. IsPagerRecOf machine.now.version (extent_of machine.now) (pager_of r) × (line.now ≡ pager_line (pager_of r))) }
@@ -95,11 +95,11 @@ fn read_notice(machine: &Machine, line: &[u8]) -> Option<WidePager>
 }
 
 impl WidePager {
-    /// The record of the pager that a line spells.
+    /// Returns the record of the pager that a line spells.
     ///
     /// # Errors
     ///
-    /// It spells none, or there is no memory for the contents.
+    /// The line does not spell one, or memory runs out.
     pub fn read(alloc: Global, machine: &Machine, line: &[u8]) -> Result<WidePager, FaultKind>
         requires { IsMachine (extent_of machine.now) }
         ensures found { IfOk result (λ r. IsPagerRecOf machine.now.version (extent_of machine.now) (pager_of r) × (line.now ≡ pager_line (pager_of r))) }
@@ -119,7 +119,7 @@ impl WidePager {
         }
     }
 
-    /// Adds its line, with the line feed. An error: there is no memory for it.
+    /// Appends its line, with the line feed. Fails only if memory runs out.
     pub fn push(&self, out: &mut Vec<u8>) -> Result<(), AllocError>
         ensures { OnOk result (out.new.items ≡ out.old.items ++ (pager_line (pager_of self.now) ++ 10 ∷ [])) }
     {

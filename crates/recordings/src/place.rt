@@ -1,4 +1,4 @@
-//! Where in a recording's text the next line stands, and what it may be.
+//! The place in a recording's text of the next line, and what that line may be.
 
 ghost use Rattle.std.specs.Prelude.{◌≡◌, ◌≢◌, ◌+◌, ◌<◌, ◌≤◌, ◌^◌, ◌++◌, ℕ, IfOk, OnErr};
 ghost use Rattle.std.specs.Fmt.{decimal};
@@ -19,7 +19,7 @@ use session_log::{
 use std::alloc::Global;
 use text_lines::{CLOSING, FaultKind, after_key, expect_line, read_decimal, read_some};
 
-/// Which line comes next.
+/// The kind of line that comes next.
 #[derive(Clone, Copy, PartialEq, Eq)]
 pub(crate) enum Stage {
     /// The header.
@@ -30,39 +30,40 @@ pub(crate) enum Stage {
     Cells,
     /// The number of pages that do not begin as zeros.
     InitCount,
-    /// One of these pages, or the number of the guest's records behind the last.
+    /// One of these pages, or after the last the number of the guest's records.
     Init,
-    /// A record of the guest, or the number of the source's behind the last.
+    /// A record of the guest, or after the last the number of the source's records.
     Guest,
-    /// A record of the source, or the number of the link's behind the last.
+    /// A record of the source, or after the last the number of the link's records.
     Source,
-    /// A record of the link, or behind the last the number of the pager's, in the second version that of the lane's.
+    /// A record of the link, or after the last the number of the pager's records; in the second version, that of the
+    /// lane's records.
     Link,
-    /// A record of the lane, or the number of the pager's behind the last.
+    /// A record of the lane, or after the last the number of the pager's records.
     Lane,
-    /// A record of the pager, or the closing line behind the last.
+    /// A record of the pager, or after the last the closing line.
     Pager,
-    /// None.
+    /// No line.
     Done,
 }
 
-/// What the lines so far say of those to come.
+/// What the lines so far say about those to come.
 #[derive(Clone, Copy)]
 pub(crate) struct Place {
-    /// What takes memory for the contents of pages.
+    /// Where the contents of pages are allocated.
     pub(crate) alloc: Global,
-    /// The machine, as far as it came.
+    /// The machine, as far as it was read.
     pub(crate) machine: Machine,
-    /// The least page that may come next of those that do not begin as zeros.
+    /// The least number of the next initial page.
     pub(crate) low: u64,
-    /// How many items of the stage's list came.
+    /// How many items of the stage's list were read.
     pub(crate) came: u64,
-    /// How many have yet to come.
+    /// How many are still to come.
     pub(crate) left: u64,
 }
 
 impl Place {
-    /// Takes the next line, has the visitor meet what it says, and answers the stage after it.
+    /// Takes the next line, lets the visitor meet what it says, and returns the stage after it.
     pub(crate) fn step<V: Visitor>(
         &mut self,
         stage: Stage,
@@ -100,7 +101,7 @@ impl Place {
         }
     }
 
-    /// Takes the line behind all that a stage has.
+    /// Takes the line after all lines of a stage.
     fn behind<V: Visitor>(
         &mut self,
         stage: Stage,
@@ -129,7 +130,7 @@ impl Place {
         }
     }
 
-    /// Takes the header, which tells the version and the size.
+    /// Takes the header, which gives the version and the size.
     fn header(&mut self, line: &[u8]) -> Result<Stage, FaultKind>
         ensures found { IfOk result (λ next. (next ≡ Stage.Pages) × (version : Version) × (size : Limited) × (self.new ≡ of_header self.old version size) × HasSize version size × (line.now ≡ header version size)) }
         ensures refused { OnErr result ((version : Version) (size : Limited) → HasSize version size → line.now ≢ header version size) }
@@ -194,7 +195,7 @@ impl Place {
         Ok(log)
     }
 
-    /// Takes the line of an initial page. It has to be above those before it, and leave room for those to come.
+    /// Takes the line of an initial page. Its number must be above those before it, and leave room for those to come.
     fn init<V: Visitor>(&mut self, visitor: &mut V, line: &[u8]) -> Result<Stage, FaultKind>
         requires holds { Holds V.IsNew V.Met Stage.Init self.old visitor.old }
         requires some { self.old.left ≢ 0 }
@@ -306,7 +307,7 @@ impl Place {
         Ok(Stage::Done)
     }
 
-    /// One item more came.
+    /// Counts one more item as read.
     fn pass(&mut self)
         requires some { self.old.left ≢ 0 }
         requires few { self.old.came + self.old.left < 2 ^ 64 }
@@ -317,7 +318,7 @@ impl Place {
     }
 }
 
-/// The number of a line that is a key and a number of pages or records.
+/// Returns the number of a line that is a key and a number of pages or of records.
 fn read_count(line: &[u8], key: &[u8]) -> Result<u64, FaultKind>
     ensures found { IfOk result (λ n. IsCount n × (line.now ≡ key.now ++ decimal n)) }
     ensures refused { OnErr result ((n : ℕ) → IsCount n → line.now ≢ key.now ++ decimal n) }

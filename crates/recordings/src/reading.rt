@@ -11,10 +11,10 @@ use crate::{RecordingFault, Visitor};
 use std::io;
 use std::io::{ErrorKind, Read};
 
-/// How often a read that was interrupted is made again, at most.
+/// How often an interrupted read is retried, at most.
 const MOST_RETRIES: u32 = 1_048_576;
 
-/// Goes through what a reader has left, by way of a buffer.
+/// Goes through what a reader has left, through a buffer.
 pub(crate) fn walk_through<R: Read, V: Visitor>(
     reader: &mut R,
     visitor: &mut V,
@@ -37,12 +37,12 @@ pub(crate) fn walk_through<R: Read, V: Visitor>(
     Err(RecordingFault::File)
 }
 
-/// Reads behind so many bytes at the front of a buffer, and answers how many stand there now. A read that was interrupted
-/// is made again.
+/// Reads into a buffer after this many bytes at its front, and returns how many bytes are there now. Retries an
+/// interrupted read.
 ///
 /// # Errors
 ///
-/// A read failed, or had no memory.
+/// A read failed, or memory ran out for it.
 pub fn read_behind<R: Read>(
     reader: &mut R,
     buffer: &mut [u8],
@@ -66,7 +66,7 @@ pub fn read_behind<R: Read>(
     Err(RecordingFault::File)
 }
 
-/// The fault of an error in reading.
+/// Returns the fault for an error of a read.
 fn fault_of(error: &io::Error) -> RecordingFault
     ensures { (known : Option (List ℕ)) → IsRefusedBy known result }
 {

@@ -32,7 +32,7 @@ const DONE: &[u8] = b"done";
 
 const BACK: &[u8] = b"back";
 
-/// The page and the contents that a text is.
+/// Returns the page and the contents that the text spells.
 fn sent_whole(alloc: Global, machine: &Machine, text: &[u8]) -> Result<(u64, Contents), FaultKind>
     requires { IsMachine (extent_of machine.now) }
     ensures found { IfOk result (λ a. (a.0 < machine.now.pages) × IsContent machine.now.cells a.1 × (text.now ≡ page_text a.0 a.1)) }
@@ -45,7 +45,7 @@ fn sent_whole(alloc: Global, machine: &Machine, text: &[u8]) -> Result<(u64, Con
     Ok((page, contents))
 }
 
-/// The record that is no sending that a line spells.
+/// Returns the record that a line spells, if it is not a sending.
 fn read_step(machine: &Machine, line: &[u8]) -> Option<WideSource>
     ensures found { IfSome result (λ r. IsSourceRecOf (extent_of machine.now) (source_of r) × (line.now ≡ source_line (source_of r))) }
     ensures none { IfNone result ((r : SourceRec) → IsStep r → IsSourceRecOf (extent_of machine.now) r → line.now ≢ source_line r) }
@@ -71,7 +71,7 @@ fn read_step(machine: &Machine, line: &[u8]) -> Option<WideSource>
     Some(WideSource::Back)
 }
 
-/// Whether a line is a `back`, which the large size alone has.
+/// Returns whether a line is a `back`, which only the large size has.
 fn is_back(size: Size, line: &[u8]) -> bool
     ensures { IsTrue result ↔ (HasBack size × (line.now ≡ codes "back")) }
 {
@@ -79,11 +79,11 @@ fn is_back(size: Size, line: &[u8]) -> bool
 }
 
 impl WideSource {
-    /// The record of the source that a line spells.
+    /// Returns the record of the source that a line spells.
     ///
     /// # Errors
     ///
-    /// It spells none, or there is no memory for the contents.
+    /// The line does not spell one, or memory runs out.
     pub fn read(alloc: Global, machine: &Machine, line: &[u8]) -> Result<WideSource, FaultKind>
         requires { IsMachine (extent_of machine.now) }
         ensures found { IfOk result (λ r. IsSourceRecOf (extent_of machine.now) (source_of r) × (line.now ≡ source_line (source_of r))) }
@@ -99,7 +99,7 @@ impl WideSource {
         }
     }
 
-    /// Adds its line, with the line feed. An error: there is no memory for it.
+    /// Appends its line, with the line feed. Fails only if memory runs out.
     pub fn push(&self, out: &mut Vec<u8>) -> Result<(), AllocError>
         ensures { OnOk result (out.new.items ≡ out.old.items ++ (source_line (source_of self.now) ++ 10 ∷ [])) }
     {

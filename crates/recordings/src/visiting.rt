@@ -1,4 +1,4 @@
-//! What goes through a recording.
+//! Visitors, which go through a recording.
 
 ghost use Rattle.std.specs.Prelude.{◌≡◌, length, OnOk};
 ghost use Rattle.migration_types.specs.Sessions.{Recorded as Rec};
@@ -10,15 +10,16 @@ use crate::machine::Machine;
 use crate::wide::{WideGuest, WideInit, WideLane, WideLink, WidePager, WideSource};
 use std::alloc::AllocError;
 
-/// Meets what a recording consists of, in the order in which its text has it: the machine, the pages that do not begin as
-/// zeros, and each log's records with their numbers. An error of any call: there is no memory for what it keeps.
+/// A visitor of a recording. It meets what the recording consists of, in the order of the text: the machine, the pages
+/// that do not begin as zeros, and each log's records with their numbers. Each call fails only if memory runs out for
+/// what the visitor keeps.
 pub trait Visitor {
     ghost use Rattle.migration_types.specs.Sessions.{Recorded};
 
-    /// It met nothing.
+    /// The visitor has met nothing.
     ghost IsNew: { Self → Type 0 };
 
-    /// It met this much of a recording.
+    /// The visitor has met this much of a recording.
     ghost Met: { Self → Recorded → Type 0 };
 
     /// Meets the machine.

@@ -11,10 +11,10 @@ use migration_types::{Size, Version};
 use std::alloc::Global;
 use text_lines::{FaultKind, next_line};
 
-/// A line with more bytes than these belongs to no recording's text.
+/// The greatest number of bytes in a line of a recording's text.
 const LONGEST_LINE: usize = 8_448;
 
-/// Goes through a recording's text: which line comes next, what it may be, and its number.
+/// A walk through a recording's text: the kind of the next line, what it may be, and its number.
 #[derive(Clone, Copy)]
 pub(crate) struct Walker {
     stage: Stage,
@@ -23,7 +23,7 @@ pub(crate) struct Walker {
 }
 
 impl Walker {
-    /// At the first line.
+    /// Returns a walk at the first line.
     pub(crate) fn new(alloc: Global) -> Self
         ensures stage { result.stage ≡ Stage.Header }
         ensures number { result.number ≡ 1 }
@@ -67,7 +67,7 @@ impl Walker {
         }
     }
 
-    /// Takes the whole lines of the bytes, and answers what follows the last.
+    /// Takes the whole lines of the bytes, and returns what follows the last.
     fn lines<'a, V: Visitor>(
         &mut self,
         visitor: &mut V,
@@ -86,8 +86,8 @@ impl Walker {
         Ok(rest)
     }
 
-    /// Takes the whole lines of so many bytes at the front of a buffer, and moves what follows them to the front. Answers
-    /// how many bytes that are.
+    /// Takes the whole lines of this many bytes at the front of a buffer, and moves what follows them to the front.
+    /// Returns how many bytes that is.
     pub(crate) fn take<V: Visitor>(
         &mut self,
         visitor: &mut V,
@@ -110,7 +110,7 @@ impl Walker {
         Ok(kept)
     }
 
-    /// Whether the text may end there, behind so many bytes of a line that has not ended.
+    /// Checks that the text may end there, after this many bytes of a line that has not ended.
     pub(crate) fn end(&self, unended: usize) -> Result<(), RecordingFault>
         ensures ok { OnOk result ((self.now.stage ≡ Stage.Done) × (unended ≡ 0)) }
         ensures refused { IfErr result (λ fault. (fault ≡ RecordingFault.Line self.now.number) × (unended ≡ 0 → self.now.stage ≢ Stage.Done)) }
@@ -122,7 +122,7 @@ impl Walker {
     }
 }
 
-/// The fault of a line.
+/// Returns the fault at a line.
 fn line_fault(number: u64, kind: FaultKind) -> RecordingFault
     ensures { result ≡ line_fault number kind }
 {
@@ -132,7 +132,7 @@ fn line_fault(number: u64, kind: FaultKind) -> RecordingFault
     }
 }
 
-/// Moves the bytes from one place to another to the front.
+/// Moves the bytes between two places to the front.
 pub fn move_front(buffer: &mut [u8], start: usize, end: usize)
     requires order { start ≤ end }
     requires within { end ≤ length buffer.old }

@@ -7,7 +7,7 @@ use session_log::push_contents;
 use std::alloc::AllocError;
 use text_lines::{end_line, push_then};
 
-/// Adds a line that is a key, a page and its contents.
+/// Appends a line that is a key, a page and its contents.
 pub(crate) fn push_page(
     out: &mut Vec<u8>,
     key: &[u8],

@@ -1,4 +1,4 @@
-//! What is wrong with a line that is refused, and where.
+//! What is wrong with a refused line, and where.
 
 ghost use Rattle.std.specs.Prelude.{◌≤◌};
 
@@ -9,23 +9,23 @@ use text_lines::{FaultKind, Refusal};
 /// What is wrong with a line.
 #[derive(Clone, Copy)]
 pub(crate) enum Cause<'a> {
-    /// Nothing: there was no memory to read it.
+    /// Nothing: memory ran out when it was read.
     Memory,
     Special(Special),
-    /// The text ends where a line is wanted.
+    /// The text ends where a line is expected.
     Ends,
-    /// The text ends behind a line that has one of the forms, without its line feed.
+    /// The text ends after a line that has one of the forms, without its line feed.
     Unended,
     Empty,
-    /// It has one of the forms, and breaks the rule.
+    /// The line has one of the forms, and breaks the rule.
     Rule,
-    /// It begins as none of the forms.
+    /// The line does not begin as any of the forms does.
     Other,
-    /// It begins as a form, and stops being so.
+    /// The line begins as a form does, and departs from it later.
     Stops(Fit<'a>),
 }
 
-/// What is wrong with a line that is not empty.
+/// Returns what is wrong with a line that is not empty.
 fn cause_in(refusal: &Refusal) -> Cause<'_> {
     let Some(fit) = best_fit(refusal) else {
         return Cause::Other;
@@ -39,7 +39,7 @@ fn cause_in(refusal: &Refusal) -> Cause<'_> {
     }
 }
 
-/// What is wrong with the line that is refused.
+/// Returns what is wrong with the refused line.
 pub(crate) fn cause_of(refusal: &Refusal) -> Cause<'_> {
     if refusal.fault.kind == FaultKind::Memory {
         return Cause::Memory;
@@ -57,7 +57,7 @@ pub(crate) fn cause_of(refusal: &Refusal) -> Cause<'_> {
     }
 }
 
-/// How many bytes of the line stand before the place where it is wrong.
+/// Returns how many bytes of the line come before the place where it is wrong.
 pub(crate) fn place_of(refusal: &Refusal, cause: &Cause<'_>) -> usize {
     match cause {
         Cause::Stops(fit) if fit.is_of_line() => 0,
@@ -73,7 +73,7 @@ pub(crate) fn place_of(refusal: &Refusal, cause: &Cause<'_>) -> usize {
     }
 }
 
-/// The column at which the line is wrong. Columns count bytes from 1.
+/// Returns the column at which the line is wrong. Columns count bytes from 1.
 pub(crate) fn column_of(refusal: &Refusal, cause: &Cause<'_>) -> usize
     ensures { 1 ≤ result }
 {

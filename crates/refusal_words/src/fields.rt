@@ -1,8 +1,8 @@
-//! The fields of a form, and which words may stand in them.
+//! The fields of a form, and the words that they allow.
 
 use text_lines::{Wanted, read_decimal};
 
-/// The most of a machine, where it is not known how many it has.
+/// The greatest number of pages, used if the machine's own is not known.
 const MOST_PAGES: u32 = 65_536;
 
 const MOST_CELLS: u32 = 512;
@@ -10,22 +10,22 @@ const MOST_CELLS: u32 = 512;
 /// The greatest number of a virtual processor.
 const LAST_PROCESSOR: u64 = 63;
 
-/// The most records of a log, where it is not known how many it may have.
+/// The greatest number of records in a log, used if the log's own limit is not known.
 const MOST_RECORDS: u32 = 1_048_576;
 
-/// How many digits the contents of a cell have.
+/// The number of digits in the contents of a cell.
 const CELL_DIGITS: u32 = 16;
 
-/// How many letters the fates of packets are at most.
+/// The greatest number of letters in a list of delivery outcomes.
 pub(crate) const MOST_FATES: usize = 4_096;
 
-/// That no packet has a fate of its own.
+/// The word for: no packet has a delivery outcome of its own.
 const NO_FATES: &[u8] = b"-";
 
-/// What may become of a packet.
+/// The words of the delivery outcomes.
 const FATES: [&[u8]; 4] = [b"deliver", b"lose", b"repeat", b"back"];
 
-/// What a word of capital letters stands for in a form.
+/// The field that a word of capital letters in a form is.
 #[derive(Clone, Copy)]
 pub(crate) enum Field {
     Processor,
@@ -33,32 +33,32 @@ pub(crate) enum Field {
     Cell,
     Value,
     Record,
-    /// A number within the limits that are wanted.
+    /// A number within the wanted limits.
     Number,
-    /// The greatest of these alone.
+    /// The greatest of these numbers, and no other.
     Exact,
     Contents,
     Fates,
     Fate,
 }
 
-/// The least and the greatest number of a field.
+/// The least and the greatest number that a field allows.
 #[derive(Clone, Copy)]
 pub(crate) struct Range {
     pub(crate) least: u64,
     pub(crate) most: u64,
 }
 
-/// Where a word stops being one of its field.
+/// Where a word stops being allowed in its field.
 #[derive(Clone, Copy)]
 pub(crate) enum Misfit {
-    /// At one of its bytes.
+    /// At this byte.
     Byte(usize),
-    /// It is none as a whole.
+    /// Only as a whole.
     Whole,
 }
 
-/// The field that a word of a form stands for, if it stands for one.
+/// Returns the field that a word of a form is, if it is one.
 pub(crate) fn field_of(slot: &str) -> Option<Field> {
     match slot.as_bytes() {
         b"V" => Some(Field::Processor),
@@ -75,17 +75,17 @@ pub(crate) fn field_of(slot: &str) -> Option<Field> {
     }
 }
 
-/// Whether a word of a form stands for a field.
+/// Returns whether a word of a form is a field.
 fn is_field(slot: &str) -> bool {
     field_of(slot).is_some()
 }
 
-/// Whether a form has a field.
+/// Returns whether a form has a field.
 pub(crate) fn has_field(form: &str) -> bool {
     form.split(' ').any(|slot| is_field(slot))
 }
 
-/// From 0 to one less than a count, or than the most where the count is not known.
+/// Returns the range from 0 to one less than `count`, or than `most` if the count is not known.
 fn below(count: u32, most: u32) -> Range {
     let count = if count == 0 { most } else { count };
     Range {
@@ -98,7 +98,7 @@ fn up_to(most: u64) -> Range {
     Range { least: 0, most }
 }
 
-/// The numbers that may stand in a field, where it is one of numbers.
+/// Returns the numbers that a field allows, if it is a field of numbers.
 pub(crate) fn range_of(field: Field, wanted: &Wanted) -> Option<Range> {
     match field {
         Field::Processor => Some(up_to(LAST_PROCESSOR)),
@@ -118,7 +118,7 @@ pub(crate) fn range_of(field: Field, wanted: &Wanted) -> Option<Range> {
     }
 }
 
-/// How many digits the contents of a page have. None: its cells are not known.
+/// Returns how many digits the contents of a page have, or `None` if the number of cells is not known.
 pub(crate) fn digits_of(wanted: &Wanted) -> Option<u64> {
     if wanted.cells == 0 {
         return None;
@@ -134,7 +134,7 @@ fn is_letter_of_fates(byte: u8) -> bool {
     matches!(byte, b'd' | b'l' | b'r' | b'b')
 }
 
-/// Where bytes stop being such ones: at the first that is none. None: they are such ones.
+/// Returns the first byte that does not fit, or `None` if all do.
 fn stop_at(found: Option<usize>) -> Option<Misfit> {
     match found {
         None => None,
@@ -181,7 +181,7 @@ fn misfit_of_number(word: &[u8], range: Range) -> Option<Misfit> {
     }
 }
 
-/// Where a word stops being one that may stand in a field. None: it may.
+/// Returns where a word stops being allowed in a field, or `None` if it is allowed.
 pub(crate) fn misfit_of(field: Field, word: &[u8], wanted: &Wanted) -> Option<Misfit> {
     if let Some(range) = range_of(field, wanted) {
         return misfit_of_number(word, range);
@@ -201,7 +201,7 @@ fn may_go_on_as_contents(word: &[u8], wanted: &Wanted) -> bool {
     has_room && word.iter().all(|byte| is_digit_of_contents(*byte))
 }
 
-/// Whether a word that does not fit a field may be the front of one that does.
+/// Returns whether a word that does not fit a field may be the beginning of one that does.
 pub(crate) fn may_go_on(field: Field, word: &[u8], wanted: &Wanted) -> bool {
     match field {
         Field::Contents => may_go_on_as_contents(word, wanted),
@@ -210,7 +210,7 @@ pub(crate) fn may_go_on(field: Field, word: &[u8], wanted: &Wanted) -> bool {
     }
 }
 
-/// Whether a word begins as other programs write hexadecimal numbers.
+/// Returns whether a word begins with a prefix by which other programs mark hexadecimal numbers.
 pub(crate) fn begins_as_hexadecimal(word: &[u8]) -> bool {
     word.starts_with(b"0x") || word.starts_with(b"0X")
 }

@@ -1,4 +1,4 @@
-//! The form that a line fits furthest, and where it stops.
+//! The form that a line fits furthest, and where it departs from it.
 
 use crate::fields::{Misfit, field_of, has_field, may_go_on, misfit_of};
 use memchr::memchr;
@@ -6,22 +6,22 @@ use text_lines::{Refusal, Wanted};
 
 const SPACE: u8 = b' ';
 
-/// Where a line stops being in a form.
+/// Where a line departs from a form.
 #[derive(Clone, Copy)]
 pub(crate) enum Stop<'a> {
     /// Nowhere: it has the form.
     Nowhere,
-    /// It ends where the form goes on with this word.
+    /// At its end, where the form continues with this word.
     Missing(&'static str),
-    /// The text ends in the middle of what may be this word of the form.
+    /// At the end of the text, in the middle of what may be this word of the form.
     Cut(&'static str),
-    /// At a word, where the form has another one or a field.
+    /// At a word, where the form has another word or a field.
     Word {
         slot: &'static str,
         word: &'a [u8],
         misfit: Misfit,
     },
-    /// It goes on where the form ends.
+    /// After the end of the form, where the line continues.
     Surplus,
 }
 
@@ -31,13 +31,13 @@ pub(crate) struct Fit<'a> {
     pub(crate) form: &'static str,
     /// How many of the line's words fit.
     pub(crate) words: usize,
-    /// How many bytes stand before the place where it stops.
+    /// How many bytes come before the place where it departs.
     pub(crate) at: usize,
     pub(crate) stop: Stop<'a>,
 }
 
 impl<'a> Fit<'a> {
-    /// The word of the form at which the line stops, where it has one there.
+    /// Returns the word of the form at which the line departs, if it has one there.
     pub(crate) fn slot(&self) -> Option<&'static str> {
         match self.stop {
             Stop::Missing(slot) | Stop::Cut(slot) | Stop::Word { slot, .. } => Some(slot),
@@ -45,7 +45,8 @@ impl<'a> Fit<'a> {
         }
     }
 
-    /// Whether the line as a whole is told as what was found: it stops at a word of a form that has no field.
+    /// Returns whether the message quotes the whole line as what was found: the line departs at a word of a form
+    /// without fields.
     pub(crate) fn is_of_line(&self) -> bool {
         match self.stop {
             Stop::Word { word, .. } => !word.is_empty() && !has_field(self.form),
@@ -53,23 +54,23 @@ impl<'a> Fit<'a> {
         }
     }
 
-    /// Whether the text ends in the middle of a word.
+    /// Returns whether the text ends in the middle of a word.
     pub(crate) fn is_cut(&self) -> bool {
         matches!(self.stop, Stop::Cut(_))
     }
 
-    /// Whether the line fits this form as far as another one.
+    /// Returns whether the line fits this form as far as it fits another.
     pub(crate) fn is_as_far(&self, other: &Fit<'_>) -> bool {
         self.words == other.words && self.is_cut() == other.is_cut()
     }
 
-    /// Whether the line fits this form further than another one.
+    /// Returns whether the line fits this form further than it fits another.
     fn is_further(&self, other: &Fit<'_>) -> bool {
         self.words > other.words || (self.words == other.words && self.is_cut() && !other.is_cut())
     }
 }
 
-/// The first word, and what follows the space after it, if one does.
+/// Returns the first word, and what follows the space after it, if there is one.
 pub(crate) fn first_word(text: &[u8]) -> (&[u8], Option<&[u8]>) {
     match memchr(SPACE, text) {
         None => (text, None),
@@ -77,7 +78,7 @@ pub(crate) fn first_word(text: &[u8]) -> (&[u8], Option<&[u8]>) {
     }
 }
 
-/// Where a word stops being one that may stand where a form has `slot`. None: it may.
+/// Returns where a word stops being allowed at `slot` of a form, or `None` if it is allowed.
 fn misfit_at(slot: &str, word: &[u8], wanted: &Wanted) -> Option<Misfit> {
     match field_of(slot) {
         Some(field) => misfit_of(field, word, wanted),
@@ -86,12 +87,12 @@ fn misfit_at(slot: &str, word: &[u8], wanted: &Wanted) -> Option<Misfit> {
     }
 }
 
-/// How many bytes of a line stand before its last part.
+/// Returns how many bytes of a line come before its last part.
 fn before(line: &[u8], part: &[u8]) -> usize {
     line.len().saturating_sub(part.len())
 }
 
-/// How far a misfit is from the word's first byte.
+/// Returns the distance of a misfit from the word's first byte.
 fn depth(misfit: Misfit) -> usize {
     match misfit {
         Misfit::Byte(at) => at,
@@ -99,7 +100,7 @@ fn depth(misfit: Misfit) -> usize {
     }
 }
 
-/// Whether a word may be the front of one that may stand where a form has `slot`.
+/// Returns whether a word may be the beginning of one that is allowed at `slot` of a form.
 fn is_front(slot: &str, word: &[u8], wanted: &Wanted) -> bool {
     match field_of(slot) {
         Some(field) => may_go_on(field, word, wanted),
@@ -107,7 +108,8 @@ fn is_front(slot: &str, word: &[u8], wanted: &Wanted) -> bool {
     }
 }
 
-/// Where a word stops being one that may stand where a form has `slot`, behind so many of its bytes. None: it may.
+/// Returns where a word stops being allowed at `slot` of a form, after how many of its bytes, or `None` if it is
+/// allowed.
 fn stop_at<'a>(
     refusal: &Refusal,
     slot: &'static str,
@@ -124,7 +126,7 @@ fn stop_at<'a>(
     Some((depth(misfit), Stop::Word { slot, word, misfit }))
 }
 
-/// How a refused line fits a form.
+/// Returns how a refused line fits a form.
 pub(crate) fn fit_of<'a>(refusal: &'a Refusal, form: &'static str) -> Fit<'a> {
     let line = refusal.line.as_slice();
     let mut words = 0usize;
@@ -162,7 +164,7 @@ pub(crate) fn fit_of<'a>(refusal: &'a Refusal, form: &'static str) -> Fit<'a> {
     }
 }
 
-/// The form that a refused line fits furthest, the first of these. None: there is no form.
+/// Returns the form that a refused line fits furthest, the first if there are several, or `None` if there is no form.
 pub(crate) fn best_fit(refusal: &Refusal) -> Option<Fit<'_>> {
     let mut best: Option<Fit<'_>> = None;
     for form in refusal.wanted.forms {

@@ -1,4 +1,4 @@
-//! Why a text is refused, in words for people. They may change, and no program should read them.
+//! Why a text is refused, in words for people. The words may change, so programs should not read them.
 #![tactic(auto)]
 
 ghost use Rattle.std.specs.Prelude.{◌≤◌, IfOk, OnOk};
@@ -28,13 +28,13 @@ pub use quoting::push_quote;
 /// Why a text is refused.
 #[derive(Drop)]
 pub struct Reason {
-    /// Where in its line it is wrong. Columns count bytes from 1.
+    /// The column at which the line is wrong. Columns count bytes from 1.
     pub column: usize,
-    /// What was found there, and what may stand there, in one line and without a line feed.
+    /// What was found there, and what is allowed there, in one line without a line feed.
     pub words: Vec<u8>,
 }
 
-/// Why a text is refused. An error: there is no memory for the words.
+/// Returns why a text is refused. Fails only if memory runs out.
 pub fn reason_of(alloc: Global, refusal: &Refusal) -> Result<Reason, AllocError>
     ensures { IfOk result (λ reason. (1 ≤ reason.column) × IsLine reason.words.items) }
 {
@@ -49,8 +49,8 @@ pub fn reason_of(alloc: Global, refusal: &Refusal) -> Result<Reason, AllocError>
     })
 }
 
-/// Adds why a text is refused, in one line that begins as `NAME:LINE:COLUMN: `: what was found there, and what may stand
-/// there. Columns count bytes from 1. An error: there is no memory for it.
+/// Appends why a text is refused, in one line that begins with `NAME:LINE:COLUMN: `: what was found there, and what is
+/// allowed there. Columns count bytes from 1. Fails only if memory runs out.
 pub fn push_why(out: &mut Vec<u8>, name: &[u8], refusal: &Refusal) -> Result<(), AllocError>
     ensures { OnOk result (AddsPlaced name.now refusal.now.fault.line out.old.items out.new.items) }
 {
@@ -58,8 +58,8 @@ pub fn push_why(out: &mut Vec<u8>, name: &[u8], refusal: &Refusal) -> Result<(),
     push_placed(out, name, refusal.fault.line, reason.column, &reason.words)
 }
 
-/// Adds the same, and below it the line with a mark under the place, each form that the line may have, and what their
-/// fields stand for. An error: there is no memory for it.
+/// Appends what `push_why` appends, and below it the line with a mark under the place, each form that the line may
+/// have, and the meaning of their fields. Fails only if memory runs out.
 pub fn push_why_in_full(out: &mut Vec<u8>, name: &[u8], refusal: &Refusal) -> Result<(), AllocError>
     ensures { OnOk result (AddsPlacedFirst name.now refusal.now.fault.line out.old.items out.new.items) }
 {

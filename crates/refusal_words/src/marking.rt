@@ -1,4 +1,4 @@
-//! A refused line with a mark under the place, and the forms that it may have.
+//! A refused line with a mark under the place, and the forms that are allowed there.
 
 use crate::cause::{Cause, place_of};
 use crate::fields::field_of;
@@ -7,16 +7,17 @@ use crate::words::{push_meaning, push_new};
 use std::alloc::AllocError;
 use text_lines::{Refusal, Wanted};
 
-/// How many columns a line's bytes take at most: 100 with what stands before them, and where more are left out.
+/// The greatest number of columns that a line's bytes take: 100 with what comes before them, and with the mark for what
+/// is left out.
 const ROOM: usize = 96;
 
-/// How many bytes before the place are shown of a line that takes more.
+/// How many bytes before the place are shown of a line that is too long.
 const BEFORE: usize = 20;
 
-/// Begins a line that belongs to the one above it.
+/// The beginning of a line that belongs to the one above it.
 const INDENT: &str = "  ";
 
-/// How many columns bytes take.
+/// Returns how many columns bytes take.
 fn columns(bytes: &[u8]) -> usize {
     let mut sum = 0usize;
     for byte in bytes {
@@ -25,7 +26,7 @@ fn columns(bytes: &[u8]) -> usize {
     sum
 }
 
-/// How many of the first bytes take no more than so many columns.
+/// Returns how many of the first bytes fit into this many columns.
 fn fitting(bytes: &[u8], room: usize) -> usize {
     let mut taken = 0usize;
     let mut count = 0usize;
@@ -46,7 +47,7 @@ fn push_spaces(out: &mut String, count: usize) -> Result<(), AllocError> {
     Ok(())
 }
 
-/// Where the part of a line that is shown begins.
+/// Returns where the shown part of a line begins.
 fn begin_of(line: &[u8], at: usize) -> usize {
     if columns(line) <= ROOM {
         return 0;
@@ -54,7 +55,7 @@ fn begin_of(line: &[u8], at: usize) -> usize {
     at.saturating_sub(BEFORE)
 }
 
-/// Adds a line, cut where it is long, and a mark under the place that has so many bytes before it.
+/// Appends a line, cut if it is long, and a mark under the place after its first `at` bytes.
 fn push_line_marked(out: &mut String, line: &[u8], at: usize) -> Result<(), AllocError> {
     let (before, behind) = line.split_at(at.min(line.len()));
     let (left_out, front) = before.split_at(begin_of(line, before.len()).min(before.len()));
@@ -73,7 +74,7 @@ fn push_line_marked(out: &mut String, line: &[u8], at: usize) -> Result<(), Allo
     out.push_str("^\n")
 }
 
-/// The fields of forms, each once.
+/// Returns the fields of forms, each once.
 fn fields_in(out: &String, forms: &[&'static str]) -> Result<Vec<&'static str>, AllocError> {
     let mut fields = Vec::new(*out.allocator());
     for form in forms {
@@ -98,7 +99,7 @@ fn push_forms(out: &mut String, forms: &[&'static str]) -> Result<(), AllocError
     Ok(())
 }
 
-/// Adds what each field of the forms stands for.
+/// Appends the meaning of each field of the forms.
 fn push_fields(out: &mut String, wanted: &Wanted) -> Result<(), AllocError> {
     let fields = fields_in(out, wanted.forms)?;
     for slot in &fields {
@@ -111,7 +112,7 @@ fn push_fields(out: &mut String, wanted: &Wanted) -> Result<(), AllocError> {
     Ok(())
 }
 
-/// Adds a line with a mark under the place where it is wrong, and the forms that may stand there.
+/// Appends a line with a mark under the place where it is wrong, and the forms that are allowed there.
 pub(crate) fn push_marked(
     out: &mut String,
     refusal: &Refusal,

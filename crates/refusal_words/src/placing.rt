@@ -1,4 +1,4 @@
-//! Where words on a text stand: behind the text's name and a line's number.
+//! The place that a message names: the text's name and a line's number.
 
 ghost use Rattle.std.specs.Prelude.{◌≡◌, ◌∷◌, ◌++◌, OnOk};
 ghost use Rattle.std.specs.Fmt.{decimal};
@@ -8,13 +8,13 @@ ghost use Rattle.refusal_words.specs.Placed.{AddsAt, placed, placed_at};
 use std::alloc::AllocError;
 use text_lines::{next_line, push_line, push_number};
 
-/// What stands behind a name and behind a line's number.
+/// The byte after a name and after a line's number.
 const COLON: u8 = b':';
 
-/// What stands behind a column.
+/// The bytes after a column.
 const BEHIND: &[u8] = b": ";
 
-/// The bytes up to their first line feed.
+/// Returns the bytes up to their first line feed.
 pub(crate) fn first_line(words: &[u8]) -> &[u8]
     ensures { IsLine result.now }
 {
@@ -24,7 +24,7 @@ pub(crate) fn first_line(words: &[u8]) -> &[u8]
     }
 }
 
-/// Adds `NAME:LINE`.
+/// Appends `NAME:LINE`.
 fn push_name_and_line(out: &mut Vec<u8>, name: &[u8], line: u32) -> Result<(), AllocError>
     ensures { OnOk result (out.new.items ≡ out.old.items ++ (name.now ++ 58 ∷ decimal line)) }
 {
@@ -33,7 +33,7 @@ fn push_name_and_line(out: &mut Vec<u8>, name: &[u8], line: u32) -> Result<(), A
     push_number(out, line)
 }
 
-/// Adds words behind `NAME:LINE:COLUMN: `, with a line feed after them.
+/// Appends words after `NAME:LINE:COLUMN: `, and a line feed.
 pub(crate) fn push_placed(
     out: &mut Vec<u8>,
     name: &[u8],
@@ -50,7 +50,7 @@ pub(crate) fn push_placed(
     push_line(out, words)
 }
 
-/// Adds words behind `NAME:LINE: `, with a line feed after them.
+/// Appends words after `NAME:LINE: `, and a line feed.
 fn push_behind(out: &mut Vec<u8>, name: &[u8], line: u32, words: &[u8]) -> Result<(), AllocError>
     ensures { OnOk result (out.new.items ≡ out.old.items ++ placed_at name.now line words.now) }
 {
@@ -59,8 +59,8 @@ fn push_behind(out: &mut Vec<u8>, name: &[u8], line: u32, words: &[u8]) -> Resul
     push_line(out, words)
 }
 
-/// Adds words on a line of the text that has this name, in one line that begins as `NAME:LINE: `: those up to their first line
-/// feed. An error: there is no memory for it.
+/// Appends words about a line of the text with this name, in one line that begins with `NAME:LINE: `. Of the words, it
+/// takes those before their first line feed. Fails only if memory runs out.
 pub fn push_at(out: &mut Vec<u8>, name: &[u8], line: u32, words: &[u8]) -> Result<(), AllocError>
     ensures { OnOk result (AddsAt name.now line out.old.items out.new.items) }
 {

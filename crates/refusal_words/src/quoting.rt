@@ -1,24 +1,24 @@
-//! How bytes of a text are shown.
+//! How the bytes of a text are shown.
 
 use std::alloc::AllocError;
 
-/// How many bytes a quote shows at most.
+/// The greatest number of bytes in a quote.
 const QUOTED: usize = 60;
 
-/// What stands for bytes that are left out.
+/// The mark for bytes that are left out.
 pub(crate) const CUT: &str = "..";
 
-/// Whether a byte is shown as it is.
+/// Returns whether a byte is shown as it is.
 fn is_plain(byte: u8) -> bool {
     byte == b' ' || byte.is_ascii_graphic()
 }
 
-/// How many columns a byte takes where it is shown.
+/// Returns how many columns a byte takes when it is shown.
 pub(crate) fn width(byte: u8) -> usize {
     if is_plain(byte) { 1 } else { 4 }
 }
 
-/// Adds bytes as they are shown: one that is not printable ASCII as `\xNN`.
+/// Appends bytes as they are shown. A byte that is not printable ASCII becomes `\xNN`.
 pub(crate) fn push_shown(out: &mut String, bytes: &[u8]) -> Result<(), AllocError> {
     for byte in bytes {
         let byte = *byte;
@@ -31,7 +31,7 @@ pub(crate) fn push_shown(out: &mut String, bytes: &[u8]) -> Result<(), AllocErro
     Ok(())
 }
 
-/// Adds bytes between quotation marks. Of many it shows the first. An error: there is no memory for it.
+/// Appends bytes between quotation marks. If they are many, it shows the first of them. Fails only if memory runs out.
 pub fn push_quote(out: &mut String, bytes: &[u8]) -> Result<(), AllocError> {
     let (shown, left_out) = bytes.split_at(bytes.len().min(QUOTED));
     out.push('"')?;

@@ -1,4 +1,4 @@
-//! What people often write in a word's place.
+//! Frequent slips in the writing of a word.
 
 use crate::fields::{Field, begins_as_hexadecimal, range_of};
 use text_lines::{Wanted, read_decimal};
@@ -6,7 +6,7 @@ use text_lines::{Wanted, read_decimal};
 /// What is unusual about a word that does not fit.
 #[derive(Clone, Copy)]
 pub(crate) enum Slip {
-    /// A tab, or a space too many.
+    /// A tab, or one space too many.
     Separated,
     /// A number with a sign.
     Signed,
@@ -20,11 +20,11 @@ pub(crate) enum Slip {
     Prefixed,
     /// Contents in capital letters.
     Capitals,
-    /// Contents of so many digits, which are not as many as there have to be.
+    /// Contents of this many digits, which is the wrong number of digits.
     Length(usize),
 }
 
-/// The form of the line that tells how many pages a machine has.
+/// The form of the line that gives a machine's number of pages.
 const PAGES: &str = "pages N";
 
 fn slip_of_number(word: &[u8]) -> Option<Slip> {
@@ -42,7 +42,7 @@ fn slip_of_number(word: &[u8]) -> Option<Slip> {
     }
 }
 
-/// Whether bytes are digits, and not none.
+/// Returns whether the bytes are digits, at least one.
 fn is_digits(bytes: &[u8]) -> bool {
     !bytes.is_empty() && bytes.iter().all(|byte| byte.is_ascii_digit())
 }
@@ -60,7 +60,7 @@ fn slip_of_contents(word: &[u8]) -> Option<Slip> {
     Some(Slip::Length(word.len()))
 }
 
-/// What is unusual about how a word is separated from others.
+/// Returns what is unusual about how a word is separated from its neighbours.
 pub(crate) fn slip_between(word: &[u8]) -> Option<Slip> {
     if word.is_empty() || word.contains(&b'\t') {
         return Some(Slip::Separated);
@@ -68,7 +68,7 @@ pub(crate) fn slip_between(word: &[u8]) -> Option<Slip> {
     None
 }
 
-/// What is unusual about a word that does not fit a field of a form.
+/// Returns what is unusual about a word that does not fit a field of a form.
 pub(crate) fn slip_of(form: &str, field: Field, word: &[u8], wanted: &Wanted) -> Option<Slip> {
     if let Some(slip) = slip_between(word) {
         return Some(slip);
@@ -85,7 +85,7 @@ pub(crate) fn slip_of(form: &str, field: Field, word: &[u8], wanted: &Wanted) ->
     }
 }
 
-/// What is unusual about how the words of a line are separated.
+/// Returns what is unusual about how the words of a line are separated.
 pub(crate) fn slip_of_line(line: &[u8]) -> Option<Slip> {
     if line.contains(&b'\t') || line.starts_with(b" ") {
         return Some(Slip::Separated);

@@ -1,18 +1,18 @@
-//! Files that are no text of this kind at all, and line ends of another kind.
+//! Files that are no text of the wanted kind, and line ends of another kind.
 
 use crate::fitting::first_word;
 use text_lines::{Refusal, Wanted};
 
-/// What a file is, or what ends its lines, where that is the reason why it is refused.
+/// What a file is, or how its lines end, if that is why it is refused.
 #[derive(Clone, Copy)]
 pub(crate) enum Special {
     ByteOrderMark,
     Utf16,
-    /// A compressed file, of this kind with its article.
+    /// A compressed file: its kind, with its article.
     Packed(&'static str),
-    /// A text of another kind than is wanted.
+    /// A text of another kind than the wanted one.
     Swapped { found: Kind, wanted: Kind },
-    /// What an audit wrote, and which text stands behind its first line.
+    /// The output of an audit, and the kind of the text after its first line.
     Report { behind: Option<Kind>, wanted: Kind },
     CarriageReturn,
 }
@@ -36,7 +36,7 @@ impl Kind {
         Kind::Events,
     ];
 
-    /// What the first line of such a text begins with.
+    /// Returns the beginning of the first line of such a text.
     fn key(self) -> &'static [u8] {
         match self {
             Kind::Session => b"postcopy-session ",
@@ -47,7 +47,7 @@ impl Kind {
         }
     }
 
-    /// The kind of the text whose first line this is, in words.
+    /// Returns the words for the kind.
     pub(crate) fn words(self) -> &'static str {
         match self {
             Kind::Session => "a session",
@@ -58,7 +58,7 @@ impl Kind {
         }
     }
 
-    /// The kind of the text that begins with this line.
+    /// Returns the kind of the text that begins with this line.
     fn of(line: &[u8]) -> Option<Kind> {
         for kind in Kind::ALL {
             if line.starts_with(kind.key()) {
@@ -68,14 +68,14 @@ impl Kind {
         None
     }
 
-    /// The kind of text whose first line is wanted.
+    /// Returns the kind of text whose first line is wanted.
     fn wanted(wanted: &Wanted) -> Option<Kind> {
         let form = wanted.forms.first()?;
         Kind::of(form.as_bytes())
     }
 }
 
-/// What compressed files begin with, and their kinds with the article.
+/// The first bytes of compressed files, and their kinds with the article.
 const PACKED: [(&[u8], &str); 5] = [
     (b"\x1f\x8b", "a gzip"),
     (b"\x28\xb5\x2f\xfd", "a zstd"),
@@ -84,7 +84,7 @@ const PACKED: [(&[u8], &str); 5] = [
     (b"PK", "a zip"),
 ];
 
-/// The kind of a compressed file that begins so, with its article.
+/// Returns the kind of a compressed file that begins with this line, with its article.
 fn packed(line: &[u8]) -> Option<&'static str> {
     for (front, kind) in PACKED {
         if line.starts_with(front) {
@@ -94,7 +94,7 @@ fn packed(line: &[u8]) -> Option<&'static str> {
     None
 }
 
-/// The kind of an encoding or of a compressed file that begins so.
+/// Returns the kind of an encoding or of a compressed file that begins with this line.
 fn encoded(line: &[u8]) -> Option<Special> {
     if line.starts_with(b"\xef\xbb\xbf") {
         return Some(Special::ByteOrderMark);
@@ -109,10 +109,10 @@ fn encoded(line: &[u8]) -> Option<Special> {
 /// The whole first line of the report on a clean session.
 const CLEAN: &[u8] = b"clean";
 
-/// What the report on a session with a fault begins with.
+/// The beginning of the report on a session with a fault.
 const FAULTY: &[u8] = b"faulty line ";
 
-/// What reports begin with that are one line alone.
+/// The beginnings of reports that are one line long.
 const LONE: [&[u8]; 4] = [
     b"knot line ",
     b"shape line ",
@@ -120,7 +120,7 @@ const LONE: [&[u8]; 4] = [
     b"incomplete ",
 ];
 
-/// What an audit wrote, where a text begins so.
+/// Returns the output of an audit that a text is, if it begins with this line.
 fn report(line: &[u8], wanted: Kind) -> Option<Special> {
     let behind = if line == CLEAN {
         Some(Kind::Certificate)
@@ -134,7 +134,7 @@ fn report(line: &[u8], wanted: Kind) -> Option<Special> {
     Some(Special::Report { behind, wanted })
 }
 
-/// Whether a line begins with the first word of a form that may stand there.
+/// Returns whether a line begins with the first word of a form that is allowed there.
 fn begins_as_wanted(line: &[u8], wanted: &Wanted) -> bool {
     let (word, _) = first_word(line);
     wanted
@@ -143,7 +143,7 @@ fn begins_as_wanted(line: &[u8], wanted: &Wanted) -> bool {
         .any(|form| first_word(form.as_bytes()).0 == word)
 }
 
-/// A text of another kind than all that may stand there, by its first line.
+/// Returns the text of another kind than every allowed one that begins with this line.
 fn of_another_kind(line: &[u8], wanted: &Wanted) -> Option<Special> {
     if begins_as_wanted(line, wanted) {
         return None;
@@ -163,7 +163,7 @@ fn carriage_return(line: &[u8]) -> Option<Special> {
     }
 }
 
-/// What a file is, or what ends its lines, where that is the reason why it is refused.
+/// Returns what a file is, or how its lines end, if that is why it is refused.
 pub(crate) fn special_of(refusal: &Refusal) -> Option<Special> {
     let line = refusal.line.as_slice();
     if refusal.fault.line == 1 {

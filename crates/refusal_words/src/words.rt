@@ -1,4 +1,4 @@
-//! The sentence on a line that is refused.
+//! The sentence about a refused line.
 
 mod expected;
 mod found;
@@ -13,7 +13,7 @@ pub(crate) use meanings::{push_meaning, push_new};
 use std::alloc::AllocError;
 use text_lines::Refusal;
 
-/// Adds what was found at a line, and what may stand there.
+/// Appends what was found at a line, and what is allowed there.
 pub(crate) fn push_sentence(
     out: &mut String,
     refusal: &Refusal,

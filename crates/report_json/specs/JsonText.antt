@@ -1,5 +1,5 @@
--- The object of JSON that tells what an audit or a check answers: one line, with no space in it, of which "verdict" comes
--- first. Its words are those of the report's first line, so none has a letter that JSON escapes.
+-- The JSON object for the result of an audit or a check: one line, without spaces, with "verdict" as its first field.
+-- Its words are those of the report's first line, so none has a letter that JSON escapes.
 use Rattle.std.specs.Prelude.{ℕ, List, [], ◌∷◌, ◌++◌, Option, Some, None, codes}
 use Rattle.std.specs.Fmt.{decimal}
 use Rattle.std.specs.List.{flat_map}
@@ -50,7 +50,7 @@ listed name written xs = codes ",\"" ++ name ++ codes "\":[" ++ with_commas writ
 abbrev pub runs : List Run → List ℕ
 runs rs = listed (codes "runs") run rs
 
--- what stands before a verdict
+-- what comes before a verdict
 unfoldable pub opening : List ℕ
 opening = codes "{\"verdict\":\""
 
@@ -58,7 +58,7 @@ opening = codes "{\"verdict\":\""
 unfoldable pub begun : List ℕ → List ℕ
 begun name = opening ++ name ++ codes "\""
 
--- the object of a verdict, with what else is told
+-- the object of a verdict, with its other fields
 abbrev pub object : List ℕ → List ℕ → List ℕ
 object name told = begun name ++ told ++ codes "}\n"
 
@@ -70,24 +70,24 @@ at_line name line = object name (number (codes "line") line)
 unfoldable pub record_at : ℕ → LogName → ℕ → List ℕ
 record_at line log place = number (codes "line") line ++ word (codes "log") (log_word log) ++ number (codes "record") place
 
--- a page, where there is one
+-- a page, if there is one
 unfoldable pub page_of : Option ℕ → List ℕ
 page_of None = []
 page_of (Some page) = number (codes "page") page
 
--- what is told of a fault of shape, with its line told so
+-- the fields of a fault of shape, with its line number mapped
 abbrev pub shape_told : (ℕ → ℕ) → ShapeFault → List ℕ
 shape_told tell fault = record_at (tell fault.line) fault.log fault.place ++ word (codes "reason") (shape_word fault.reason)
 
 abbrev pub shape_object : ShapeFault → List ℕ
 shape_object fault = object (codes "shape") (shape_told own fault)
 
--- what is told of the fault of a record, with the runs of an order in which it shows
+-- the fields of a record's fault, with the runs of an order in which it shows
 unfoldable pub fault_told : Recorded → ℕ → PageFault → List Run → List ℕ
 fault_told s line fault order = record_at line fault.log fault.place ++ word (codes "reason") (page_word fault.reason) ++ page_of (page_at s (fault.log, fault.place)) ++ runs order
 
--- The object of a report, up to its end, with its line told so. A knot has the found order up to it, and a clean session the order
--- of its certificate.
+-- The object of a report, without its end, with its line number mapped. A knot has the found order up to it, and a
+-- clean session the order of its certificate.
 unfoldable pub report_begun : (ℕ → ℕ) → Recorded → Report → List ℕ
 report_begun tell s (report.Clean cert) = begun (codes "clean") ++ runs cert.runs
 report_begun tell s (report.Shape fault) = begun (codes "shape") ++ shape_told tell fault
@@ -102,14 +102,14 @@ report_object s report = report_begun own s report ++ codes "}\n"
 unfoldable pub faulty_page : FaultyPage → List ℕ
 faulty_page f = codes "{\"page\":" ++ decimal f.page ++ number (codes "line") f.line ++ word (codes "reason") (page_word f.fault.reason) ++ codes "}"
 
--- the pages with a fault, where the report judges the pages
+-- the pages with a fault, if the report judges the pages
 abbrev pub pages_told : Report → List FaultyPage → List ℕ
 pages_told (report.Clean cert) pages = listed (codes "pages") faulty_page pages
 pages_told (report.Shape fault) pages = []
 pages_told (report.Knot left found) pages = []
 pages_told (report.Faulty line fault order many) pages = listed (codes "pages") faulty_page pages
 
--- the object of a report that tells these pages with a fault
+-- the object of a report that lists these pages with a fault
 abbrev pub all_faults_object : Recorded → Report → List FaultyPage → List ℕ
 all_faults_object s report pages = report_begun own s report ++ pages_told report pages ++ codes "}\n"
 
@@ -123,7 +123,7 @@ verdict_object (verdict.Runs line) = at_line (codes "runs") line
 verdict_object (verdict.Page line) = at_line (codes "page") line
 verdict_object verdict.Yes = object (codes "yes") []
 
--- what is told of what is missing from a session, with a line told so
+-- the fields of what is missing from a session, with a line number mapped
 unfoldable pub missing_told : (ℕ → ℕ) → Recorded → Missing → List ℕ
 missing_told tell s missing.Halt = word (codes "missing") (codes "halt")
 missing_told tell s missing.Returned = word (codes "missing") (codes "returned")
@@ -133,6 +133,6 @@ missing_told tell s missing.All = word (codes "missing") (codes "all")
 missing_told tell s missing.Done = word (codes "missing") (codes "done")
 missing_told tell s (missing.Taken n) = word (codes "missing") (codes "placement") ++ record_at (tell (line_of s (Pager, n))) Pager n
 
--- the object where this is missing from a session
+-- the object that says that this is missing from a session
 abbrev pub missing_object : (ℕ → ℕ) → Recorded → Missing → List ℕ
 missing_object tell s m = object (codes "incomplete") (missing_told tell s m)

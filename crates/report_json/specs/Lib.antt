@@ -1,3 +1,3 @@
--- What an audit or a check answers, as an object of JSON.
+-- The result of an audit or a check, as a JSON object.
 pub mod JsonText
 pub mod RecordsText

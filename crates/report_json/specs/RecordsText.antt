@@ -1,4 +1,4 @@
--- The records that the story of a session names, as an object of JSON has them.
+-- The records that the story of a session names, as a JSON object has them.
 use Rattle.std.specs.Prelude.{ℕ, nat_lt, List, [], ◌∷◌, ◌++◌, Option, Some, None, codes, if◌then◌else◌}
 use Rattle.std.specs.List.{flat_map}
 use Rattle.std.specs.Fmt.{decimal}
@@ -34,11 +34,11 @@ role_word role.Touch = codes "touch"
 role_word role.Resume = codes "resume"
 role_word role.Waits = codes "waits"
 
--- as in {"role":"faulty","log":"guest","record":4,"line":13}
+-- a record with its role, as in {"role":"faulty","log":"guest","record":4,"line":13}
 unfoldable pub told_record : ToldRecord → List ℕ
 told_record r = codes "{\"role\":\"" ++ role_word r.role ++ codes "\"" ++ word (codes "log") (log_word r.log) ++ number (codes "record") r.place ++ number (codes "line") r.line ++ codes "}"
 
--- a record of this number, with its line told so, if there is a number and the session has it
+-- the record of this number, with its line number mapped, if there is a number and the session has the record
 abbrev pub told : (ℕ → ℕ) → Recorded → Role → LogName → Option ℕ → List ToldRecord
 told tell s role log None = []
 told tell s role log (Some n) = if nat_lt n (log_length s log) then record { role = role; log = log; place = n; line = tell (line_of s (log, n)) } ∷ [] else []
@@ -49,7 +49,7 @@ sent_records tell s page handover =
     told tell s role.Changed Guest page.changed ++ told tell s role.Halt Guest handover.halt ++ told tell s role.Sent Source page.sent
     ++ told tell s role.Delivered Link page.delivered ++ told tell s role.Delivered Lane page.by_lane ++ told tell s role.Taken Pager page.got
 
--- what became of it there
+-- what became of a page there
 abbrev pub later_records : (ℕ → ℕ) → Recorded → PageStory → List ToldRecord
 later_records tell s page =
     told tell s role.Placed Pager page.found.placement ++ told tell s role.PlacedAgain Pager page.found.again
@@ -59,7 +59,7 @@ later_records tell s page =
 abbrev pub fault_records : (ℕ → ℕ) → Recorded → FaultStory → List ToldRecord
 fault_records tell s f = told tell s role.Faulty f.fault.log (Some f.fault.place) ++ sent_records tell s f.page f.handover ++ later_records tell s f.page
 
--- the record that has not the right shape, and the first sending of its page, or the resume of its guest
+-- the record that does not have the right shape, and the first sending of its page, or the resume of its guest
 abbrev pub shape_records : (ℕ → ℕ) → Recorded → ShapeStory → List ToldRecord
 shape_records tell s t = told tell s role.Faulty t.fault.log (Some t.fault.place) ++ told tell s role.Sent Source t.sent ++ told tell s role.Resume Guest (resumed_by t)
 
@@ -73,6 +73,6 @@ records_of tell s (story.Knot knot) = waiting_records tell s knot.waits.items
 records_of tell s (story.Faulty f more) = fault_records tell s f
 records_of tell s (story.Clean counts) = []
 
--- the object of a report that tells the records of what happened
+-- the object of a report with the records of its story
 abbrev pub explained_object : (ℕ → ℕ) → Recorded → Report → Explanation → List ℕ
 explained_object tell s report e = report_begun tell s report ++ listed (codes "records") told_record (records_of tell s e) ++ codes "}\n"

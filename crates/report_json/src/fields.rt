@@ -1,4 +1,4 @@
-//! Objects and their fields. Each field begins with its comma, as the verdict stands before it.
+//! Objects and their fields. Each field begins with its comma, because the verdict comes before it.
 
 ghost use Rattle.std.specs.Prelude.{◌≡◌, [], ◌++◌, codes, OnOk};
 ghost use Rattle.report_json.specs.JsonText.{begun, number, object, opening, page_of, record_at, word};
@@ -7,7 +7,7 @@ use migration_types::{LogName, PageNo};
 use std::alloc::AllocError;
 use text_lines::push_number;
 
-/// Adds what stands before a verdict.
+/// Appends what comes before a verdict.
 #[tactic(auto, unfolding(crate::specs::JsonText::opening))]
 fn push_opening(out: &mut Vec<u8>) -> Result<(), AllocError>
     ensures { OnOk result (out.new.items ≡ out.old.items ++ opening) }
@@ -32,7 +32,7 @@ pub(crate) fn end(out: &mut Vec<u8>) -> Result<(), AllocError>
     out.extend_from_slice(b"}\n")
 }
 
-/// Adds the object of a verdict of which nothing else is told.
+/// Appends the object of a verdict without other fields.
 pub(crate) fn push_bare(out: &mut Vec<u8>, verdict: &[u8]) -> Result<(), AllocError>
     ensures { OnOk result (out.new.items ≡ out.old.items ++ object verdict.now []) }
 {
@@ -40,7 +40,7 @@ pub(crate) fn push_bare(out: &mut Vec<u8>, verdict: &[u8]) -> Result<(), AllocEr
     end(out)
 }
 
-/// Adds a number under a name.
+/// Appends a number under a name.
 #[tactic(auto, unfolding(crate::specs::JsonText::number))]
 pub(crate) fn push_number_under(out: &mut Vec<u8>, name: &[u8], n: u64) -> Result<(), AllocError>
     ensures { OnOk result (out.new.items ≡ out.old.items ++ number name.now n) }
@@ -51,7 +51,7 @@ pub(crate) fn push_number_under(out: &mut Vec<u8>, name: &[u8], n: u64) -> Resul
     push_number(out, n)
 }
 
-/// Adds a word under a name.
+/// Appends a word under a name.
 #[tactic(auto, unfolding(crate::specs::JsonText::word))]
 pub(crate) fn push_word_under(out: &mut Vec<u8>, name: &[u8], w: &[u8]) -> Result<(), AllocError>
     ensures { OnOk result (out.new.items ≡ out.old.items ++ word name.now w.now) }
@@ -63,7 +63,7 @@ pub(crate) fn push_word_under(out: &mut Vec<u8>, name: &[u8], w: &[u8]) -> Resul
     out.extend_from_slice(b"\"")
 }
 
-/// Adds a record: its line, its log and its number.
+/// Appends a record: its line, its log and its number.
 #[tactic(auto, unfolding(crate::specs::JsonText::record_at))]
 pub(crate) fn push_record(
     out: &mut Vec<u8>,
@@ -78,7 +78,7 @@ pub(crate) fn push_record(
     push_number_under(out, b"record", u64::from(place))
 }
 
-/// Adds a page, where there is one.
+/// Appends a page, if there is one.
 #[tactic(auto, unfolding(crate::specs::JsonText::page_of))]
 pub(crate) fn push_page(out: &mut Vec<u8>, page: Option<PageNo>) -> Result<(), AllocError>
     ensures { OnOk result (out.new.items ≡ out.old.items ++ page_of page) }

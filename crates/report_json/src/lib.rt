@@ -1,4 +1,5 @@
-//! What an audit or a check answers, as an object of JSON on one line: for programs, where the words of a report are for people.
+//! The result of an audit or a check as a JSON object on one line. Programs read this; the words of a report are for
+//! people.
 #![tactic(auto)]
 
 mod fields;

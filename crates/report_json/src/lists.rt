@@ -11,10 +11,10 @@ use text_lines::push_number;
 
 /// An item of a list.
 pub(crate) trait Item {
-    /// It, as it is written.
+    /// The item as it is written.
     ghost written: { Self → List ℕ };
 
-    /// Adds it.
+    /// Appends the item.
     fn push(&self, out: &mut Vec<u8>) -> Result<(), AllocError>
         ensures { OnOk result (out.new.items ≡ out.old.items ++ written self.now) };
 }
@@ -44,7 +44,7 @@ impl Item for FaultyPage {
     }
 }
 
-/// Adds an item after a comma.
+/// Appends an item after a comma.
 fn push_next<I: Item>(out: &mut Vec<u8>, item: &I) -> Result<(), AllocError>
     ensures { OnOk result (out.new.items ≡ out.old.items ++ (codes "," ++ I.written item.now)) }
 {
@@ -52,7 +52,7 @@ fn push_next<I: Item>(out: &mut Vec<u8>, item: &I) -> Result<(), AllocError>
     item.push(out)
 }
 
-/// Adds more items, each after a comma.
+/// Appends more items, each after a comma.
 fn push_more<I: Item>(out: &mut Vec<u8>, more: &[I]) -> Result<(), AllocError>
     ensures { OnOk result (out.new.items ≡ out.old.items ++ after_commas I.written more.now) }
 {
@@ -62,7 +62,7 @@ fn push_more<I: Item>(out: &mut Vec<u8>, more: &[I]) -> Result<(), AllocError>
     Ok(())
 }
 
-/// Adds items, with commas between them.
+/// Appends items, with commas between them.
 fn push_all<I: Item>(out: &mut Vec<u8>, items: &[I]) -> Result<(), AllocError>
     ensures { OnOk result (out.new.items ≡ out.old.items ++ with_commas I.written items.now) }
 {
@@ -75,7 +75,7 @@ fn push_all<I: Item>(out: &mut Vec<u8>, items: &[I]) -> Result<(), AllocError>
     }
 }
 
-/// Adds a list under a name.
+/// Appends a list under a name.
 #[tactic(auto, unfolding(crate::specs::JsonText::listed))]
 pub(crate) fn push_list_under<I: Item>(
     out: &mut Vec<u8>,
@@ -91,7 +91,7 @@ pub(crate) fn push_list_under<I: Item>(
     out.extend_from_slice(b"]")
 }
 
-/// Adds the runs of an order.
+/// Appends the runs of an order.
 pub(crate) fn push_runs(out: &mut Vec<u8>, order: &[Run]) -> Result<(), AllocError>
     ensures { OnOk result (out.new.items ≡ out.old.items ++ runs order.now) }
 {

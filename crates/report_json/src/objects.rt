@@ -1,4 +1,4 @@
-//! The object of each answer.
+//! The object of each result.
 
 ghost use Rattle.std.specs.Prelude.{◌≡◌, ◌++◌, codes, OnOk};
 ghost use Rattle.completeness.specs.Complete.{IsFirstMissing};
@@ -19,7 +19,7 @@ use page_facts::PageFault;
 use session_story::{Explanation, page_at};
 use std::alloc::{AllocError, Global};
 
-/// Adds the object of a verdict at a line of a text.
+/// Appends the object of a verdict at a line of a text.
 fn push_at_line(out: &mut Vec<u8>, verdict: &[u8], line: u64) -> Result<(), AllocError>
     ensures { OnOk result (out.new.items ≡ out.old.items ++ at_line verdict.now line) }
 {
@@ -28,14 +28,15 @@ fn push_at_line(out: &mut Vec<u8>, verdict: &[u8], line: u64) -> Result<(), Allo
     end(out)
 }
 
-/// Adds the object of a session's text that is refused at this line, told by these lines.
+/// Appends the object that says that a session's text is refused at this line, with its line number from `lines`. Fails
+/// only if memory runs out.
 pub fn push_refused<L: Lines>(out: &mut Vec<u8>, lines: &L, line: u32) -> Result<(), AllocError>
     ensures { OnOk result (out.new.items ≡ out.old.items ++ at_line (codes "session-text") (L.tell lines.now line)) }
 {
     push_at_line(out, b"session-text", lines.line(line))
 }
 
-/// Begins the object of a fault of shape, told by these lines.
+/// Begins the object of a fault of shape, with its line number from `lines`.
 fn begin_shape<L: Lines>(out: &mut Vec<u8>, lines: &L, fault: &ShapeFault) -> Result<(), AllocError>
     ensures { OnOk result (out.new.items ≡ out.old.items ++ (begun (codes "shape") ++ shape_told (L.tell lines.now) fault.now)) }
 {
@@ -44,7 +45,7 @@ fn begin_shape<L: Lines>(out: &mut Vec<u8>, lines: &L, fault: &ShapeFault) -> Re
     push_word_under(out, b"reason", fault.reason.word())
 }
 
-/// Adds the object of a fault of shape.
+/// Appends the object of a fault of shape.
 fn push_shape(out: &mut Vec<u8>, fault: &ShapeFault) -> Result<(), AllocError>
     ensures { OnOk result (out.new.items ≡ out.old.items ++ shape_object fault.now) }
 {
@@ -52,7 +53,7 @@ fn push_shape(out: &mut Vec<u8>, fault: &ShapeFault) -> Result<(), AllocError>
     end(out)
 }
 
-/// Adds what is told of the fault of a record, with the runs of an order in which it shows.
+/// Appends the fields of a record's fault, with the runs of an order in which it shows.
 #[tactic(auto, unfolding(crate::specs::JsonText::fault_told))]
 fn push_fault(
     out: &mut Vec<u8>,
@@ -69,7 +70,7 @@ fn push_fault(
     push_runs(out, order)
 }
 
-/// Begins the object of the report on a session, told by these lines.
+/// Begins the object of the report on a session, with its line numbers from `lines`.
 #[tactic(auto, unfolding(crate::specs::JsonText::report_begun))]
 fn begin_report<L: Lines>(
     out: &mut Vec<u8>,
@@ -102,7 +103,7 @@ fn begin_report<L: Lines>(
     }
 }
 
-/// Adds the object of the report on a session. An error: there is no memory for it.
+/// Appends the object of the report on a session. Fails only if memory runs out.
 pub fn push_report(out: &mut Vec<u8>, session: &Session, report: &Report) -> Result<(), AllocError>
     ensures { OnOk result (out.new.items ≡ out.old.items ++ report_object session.now report.now) }
 {
@@ -110,7 +111,7 @@ pub fn push_report(out: &mut Vec<u8>, session: &Session, report: &Report) -> Res
     end(out)
 }
 
-/// Adds the pages with a fault, where the report judges the pages.
+/// Appends the pages with a fault, if the report judges the pages.
 fn push_pages(out: &mut Vec<u8>, report: &Report, pages: &[FaultyPage]) -> Result<(), AllocError>
     ensures { OnOk result (out.new.items ≡ out.old.items ++ pages_told report.now pages.now) }
 {
@@ -120,9 +121,9 @@ fn push_pages(out: &mut Vec<u8>, report: &Report, pages: &[FaultyPage]) -> Resul
     }
 }
 
-/// Adds the object of the report on a session that tells each page with a fault: that of the report, with these pages where it
-/// is clean or faulty. Of a session that has not the right shape, or no merging, no page is told. An error: there is no memory
-/// for it.
+/// Appends the object of the report on a session that lists each page with a fault: that of the report, with these
+/// pages if it is clean or faulty. No page is listed for a session that does not have the right shape, or has no
+/// merging. Fails only if memory runs out.
 pub fn push_all_faults(
     out: &mut Vec<u8>,
     session: &Session,
@@ -136,10 +137,10 @@ pub fn push_all_faults(
     end(out)
 }
 
-/// Adds the object of the report on a session that tells the records of what happened, each with its role: that of the report,
-/// with the records that its story names, told by these lines. Of a fault these are the faulty record and those of its page's story, of a fault of
-/// shape the record and the first sending of its page, of a knot the records that wait for one another, in their order, and of
-/// a clean session none. An error: there is no memory for it.
+/// Appends the object of the report on a session with the records of its story, each with its role, and with the line
+/// numbers from `lines`. For a fault, these are the faulty record and the records of its page's story; for a fault of
+/// shape, the record and the first sending of its page; for a knot, the records that wait for one another, in order;
+/// and for a clean session, none. Fails only if memory runs out.
 pub fn push_explained<L: Lines>(
     alloc: Global,
     out: &mut Vec<u8>,
@@ -156,7 +157,7 @@ pub fn push_explained<L: Lines>(
     end(out)
 }
 
-/// Adds the object of a verdict on a certificate. An error: there is no memory for it.
+/// Appends the object of a verdict on a certificate. Fails only if memory runs out.
 pub fn push_verdict(out: &mut Vec<u8>, verdict: Verdict) -> Result<(), AllocError>
     ensures { OnOk result (out.new.items ≡ out.old.items ++ verdict_object verdict) }
 {
@@ -171,7 +172,7 @@ pub fn push_verdict(out: &mut Vec<u8>, verdict: Verdict) -> Result<(), AllocErro
     }
 }
 
-/// Adds that a page is missing.
+/// Appends that a page is missing.
 fn push_missing_page(out: &mut Vec<u8>, page: PageNo) -> Result<(), AllocError>
     ensures { OnOk result (out.new.items ≡ out.old.items ++ (word (codes "missing") (codes "page") ++ number (codes "page") page)) }
 {
@@ -179,7 +180,7 @@ fn push_missing_page(out: &mut Vec<u8>, page: PageNo) -> Result<(), AllocError>
     push_number_under(out, b"page", u64::from(page.number()))
 }
 
-/// Adds that the placement of what the pager took by this record of it is missing.
+/// Appends that the placement of the packet that this record of the pager took is missing.
 fn push_missing_placement(out: &mut Vec<u8>, line: u64, n: u32) -> Result<(), AllocError>
     ensures { OnOk result (out.new.items ≡ out.old.items ++ (word (codes "missing") (codes "placement") ++ record_at line LogName.Pager n)) }
 {
@@ -187,7 +188,7 @@ fn push_missing_placement(out: &mut Vec<u8>, line: u64, n: u32) -> Result<(), Al
     push_record(out, line, LogName::Pager, n)
 }
 
-/// Adds what is told of what is missing from a session.
+/// Appends the fields of what is missing from a session.
 #[tactic(auto, unfolding(crate::specs::JsonText::missing_told))]
 fn push_lack<L: Lines>(
     out: &mut Vec<u8>,
@@ -212,7 +213,8 @@ fn push_lack<L: Lines>(
     }
 }
 
-/// Adds the object where this is missing from a session, told by these lines. An error: there is no memory for it.
+/// Appends the object that says that this is missing from a session, with its line number from `lines`. Fails only if
+/// memory runs out.
 pub fn push_missing<L: Lines>(
     out: &mut Vec<u8>,
     lines: &L,

@@ -12,10 +12,10 @@ use session_story::{
 };
 use std::alloc::{AllocError, Global};
 
-/// What a record is in the story of a session.
+/// The role of a record in the story of a session.
 #[derive(Clone, Copy)]
 pub(crate) enum Role {
-    /// It has a fault, or not the right shape.
+    /// It has a fault, or does not have the right shape.
     Faulty,
     /// The last change of the page before the halt.
     Changed,
@@ -25,11 +25,11 @@ pub(crate) enum Role {
     Sent,
     /// The first delivery of what was sent, by the link or by the lane.
     Delivered,
-    /// The pager takes what was delivered.
+    /// The record by which the pager took what was delivered.
     Taken,
     /// The first placement.
     Placed,
-    /// The second.
+    /// The second placement.
     PlacedAgain,
     /// The first look that reaches a placement.
     Look,
@@ -37,12 +37,12 @@ pub(crate) enum Role {
     Touch,
     /// The resume of a guest that the source started again.
     Resume,
-    /// It waits for the next of a knot.
+    /// A record that waits for the next one of a knot.
     Waits,
 }
 
 impl Role {
-    /// The word of a role.
+    /// Returns the word of a role.
     fn word(self) -> &'static [u8]
         ensures { result.now ≡ role_word self }
     {
@@ -69,7 +69,7 @@ pub(crate) struct ToldRecord {
     pub role: Role,
     pub log: LogName,
     pub place: u32,
-    /// Its line, as it is told.
+    /// The line number that is printed for it.
     pub line: u64,
 }
 
@@ -88,7 +88,7 @@ impl Item for ToldRecord {
     }
 }
 
-/// Takes in the record of this number, where the session has it.
+/// Adds the record of this number, if the session has it.
 fn take_at<L: Lines>(
     records: &mut Vec<ToldRecord>,
     session: &Session,
@@ -111,7 +111,7 @@ fn take_at<L: Lines>(
     Ok(())
 }
 
-/// Takes in the record of this number, if there is one.
+/// Adds the record of this number, if there is one.
 fn take<L: Lines>(
     records: &mut Vec<ToldRecord>,
     session: &Session,
@@ -128,7 +128,7 @@ fn take<L: Lines>(
     }
 }
 
-/// Takes in how a page came to the target.
+/// Adds the records that say how a page came to the target.
 fn take_sent<L: Lines>(
     records: &mut Vec<ToldRecord>,
     session: &Session,
@@ -188,7 +188,7 @@ fn take_sent<L: Lines>(
     )
 }
 
-/// Takes in what became of a page at the target.
+/// Adds the records that say what became of a page at the target.
 fn take_later<L: Lines>(
     records: &mut Vec<ToldRecord>,
     session: &Session,
@@ -232,7 +232,7 @@ fn take_later<L: Lines>(
     )
 }
 
-/// Takes in the records of a fault and of its page.
+/// Adds the records of a fault and of its page.
 fn take_fault<L: Lines>(
     records: &mut Vec<ToldRecord>,
     session: &Session,
@@ -254,7 +254,7 @@ fn take_fault<L: Lines>(
     take_later(records, session, lines, &story.page)
 }
 
-/// Takes in the record that has not the right shape, and the first sending of its page, or the resume of its guest.
+/// Adds the record that does not have the right shape, and the first sending of its page, or the resume of its guest.
 fn take_shape<L: Lines>(
     records: &mut Vec<ToldRecord>,
     session: &Session,
@@ -290,7 +290,7 @@ fn take_shape<L: Lines>(
     )
 }
 
-/// Takes in the records that wait for one another.
+/// Adds the records that wait for one another.
 fn take_waits<L: Lines>(
     records: &mut Vec<ToldRecord>,
     session: &Session,
@@ -312,7 +312,7 @@ fn take_waits<L: Lines>(
     Ok(())
 }
 
-/// The records that the story of a session names. An error: there is no memory for them.
+/// Returns the records that the story of a session names. Fails only if memory runs out.
 pub(crate) fn records_of<L: Lines>(
     alloc: Global,
     session: &Session,

@@ -1,11 +1,12 @@
--- Which pages are resident: placed, where, and what was seen of the placements; or released there before.
+-- Which pages are resident: those that were placed, with the number of each placement, and those that the guest
+-- released while they were absent. Also which placements a look has shown.
 use Rattle.std.specs.Prelude.{◌≡◌, ℕ, ◌==◌, nat_le, nat_lt, max, List, Bool, true, false, ◌||◌, is_some, Option, Some, None, slice_index_or, if◌then◌else◌}
 use Rattle.migration_types.specs.Extents.{Extent}
 use Rattle.migration_types.specs.PageSets.{Pages}
 use Rattle.residency.specs.declared.Presence.{Presence}
 use Rattle.residency.specs.declared.Presence.TheVariants.{Absent, Placed, Freed}
 
--- the number of each page's placement, where it was placed
+-- the number of each page's placement, if it was placed
 abbrev pub Placements : Type 0
 Placements = ℕ → Option ℕ
 
@@ -17,13 +18,13 @@ no_placement page = None
 abbrev pub with_placement : ℕ → ℕ → Placements → Placements
 with_placement placed number placements page = if placed == page then Some number else placements page
 
--- a machine's geometry, what each page is, page 0 first, and the frontier
+-- a machine's geometry, the state of each page, page 0 first, and the frontier
 pub record Places : Type 0 where
   pub geometry : Extent
   pub pages : List Presence
   pub frontier : Option ℕ
 
--- what a page is; pages beyond the machine are absent
+-- the state of a page; pages beyond the machine are absent
 abbrev pub presence : Places → ℕ → Presence
 presence p page = if nat_lt page p.geometry.pages then slice_index_or p.pages page Absent else Absent
 
@@ -45,11 +46,11 @@ placements p page = number_of (presence p page)
 abbrev pub freed : Places → Pages
 freed p page = is_freed (presence p page)
 
--- whether a page is resident, by its placement and by whether it was so released
+-- whether a page is resident, by its placement and by whether it was released while absent
 abbrev pub is_resident : Option ℕ → Bool → Bool
 is_resident placed released = is_some placed || released
 
--- the frontier that was raised to at least this number
+-- the frontier, raised to at least this number
 abbrev pub raised : ℕ → Option ℕ → Option ℕ
 raised number None = Some number
 raised number (Some most) = Some (max most number)
@@ -59,7 +60,7 @@ abbrev pub is_covered : Option ℕ → Option ℕ → Bool
 is_covered (Some number) (Some most) = nat_le number most
 is_covered _ _ = false
 
--- the same geometry, with these placements, these pages released and this frontier
+-- the same geometry, with these placements, these released pages and this frontier
 pub record IsWith (before after : Places) (all : Placements) (released : Pages) (frontier : Option ℕ) : Type 0 where
   pub geometry : after.geometry ≡ before.geometry
   pub placements_are : placements after ≡ all

@@ -1,5 +1,5 @@
-//! Which pages of a machine are resident at the target: placed, by which record of the pager, and which placements were
-//! seen; or released there while they were absent.
+//! Which pages of a machine are resident at the target: those that were placed, each with the pager's record that
+//! placed it, and those that the guest released there while they were absent. Also which placements a look has shown.
 #![tactic(auto)]
 
 ghost use Rattle.std.specs.Prelude.{◌≡◌, ◌<◌, ◌||◌, IfOk, None, false, is_some, replicate};
@@ -10,10 +10,10 @@ use migration_types::{Geometry, PageNo};
 use std::alloc::{AllocError, Global};
 use std::marker::Model;
 
-/// What a page is at the target.
+/// The state of a page at the target.
 #[derive(Clone, Copy, Debug, PartialEq, Eq)]
 pub enum Presence {
-    /// It is not there.
+    /// The page is not there.
     Absent,
     /// The pager placed it by its record of this number.
     Placed(u32),
@@ -22,12 +22,12 @@ pub enum Presence {
 }
 
 /// The pages that are resident at the target: those that were placed, each with the number of the pager's record that
-/// placed it, and those that the guest released while they were absent. And the frontier: the highest number of a record
-/// that the target has seen. Only `new` takes memory, one block.
+/// placed it, and those that the guest released while they were absent. Also the frontier: the highest number of a
+/// pager's record that a look has shown. Only `new` allocates memory, one block.
 #[derive(Drop)]
 pub struct Residency {
     geometry: Geometry,
-    /// What each page is, page 0 first.
+    /// The state of each page, page 0 first.
     pages: Vec<Presence>,
     frontier: Option<u32>,
 }
@@ -46,8 +46,7 @@ impl Model for Residency {
 impl Residency {
     ghost use Rattle.residency.specs.Placements.{placements, freed, no_placement, with_placement, is_resident, raised, is_covered, IsWith};
 
-    /// The residency of a machine whose pages are absent, with no frontier. An error: there is no memory for
-    /// it.
+    /// Returns the residency of a machine whose pages are absent, with no frontier. Fails only if memory runs out.
     pub fn new(alloc: Global, geometry: Geometry) -> Result<Residency, AllocError>
         ensures geometry { IfOk result (λ r. r.geometry ≡ geometry) }
         ensures placements { IfOk result (λ r. placements r ≡ no_placement) }
@@ -62,7 +61,7 @@ impl Residency {
         })
     }
 
-    /// Whether a page is resident.
+    /// Returns whether a page is resident.
     pub fn resident(&self, page: PageNo) -> bool
         requires { page < self.now.geometry.pages }
         ensures { result ≡ is_resident (placements self.now page) (freed self.now page) }
@@ -70,7 +69,7 @@ impl Residency {
         !matches!(self.pages[page.index()], Presence::Absent)
     }
 
-    /// The number of the pager's record that placed a page. None: the page was not placed.
+    /// Returns the number of the pager's record that placed a page, or `None` if the page was not placed.
     pub fn placed_at(&self, page: PageNo) -> Option<u32>
         requires { page < self.now.geometry.pages }
         ensures { result ≡ placements self.now page }
@@ -81,7 +80,7 @@ impl Residency {
         }
     }
 
-    /// Places an absent page, by the pager's record of this number. The other pages and the frontier stay as they are.
+    /// Places an absent page with the pager's record of this number. The other pages and the frontier stay as they are.
     pub fn mark(&mut self, page: PageNo, pager_at: u32)
         requires page { page < self.old.geometry.pages }
         requires absent { is_resident (placements self.old page) (freed self.old page) ≡ false }
@@ -91,8 +90,8 @@ impl Residency {
         self.pages[page.index()] = Presence::Placed(pager_at);
     }
 
-    /// Makes an absent page resident that the guest releases: no record of the pager places it, and it is covered. The
-    /// other pages and the frontier stay as they are. Takes no memory.
+    /// Makes an absent page resident because the guest releases it. No record of the pager places it, and it is
+    /// covered. The other pages and the frontier stay as they are. Allocates no memory.
     pub fn release(&mut self, page: PageNo)
         requires page { page < self.old.geometry.pages }
         requires absent { is_resident (placements self.old page) (freed self.old page) ≡ false }
@@ -102,14 +101,14 @@ impl Residency {
         self.pages[page.index()] = Presence::Freed;
     }
 
-    /// The frontier: the highest number of a pager's record that was seen. None: none was seen.
+    /// Returns the frontier, the highest number of a pager's record that was seen, or `None` if none was seen.
     pub fn frontier(&self) -> Option<u32>
         ensures { result ≡ self.now.frontier }
     {
         self.frontier
     }
 
-    /// Raises the frontier to at least this number: it never falls. The placements stay as they are.
+    /// Raises the frontier to at least this number. The frontier never falls. The placements stay as they are.
     pub fn saw(&mut self, number: u32)
         ensures { IsWith self.old self.new
             (placements self.old) (freed self.old) (raised number self.old.frontier) }
@@ -120,7 +119,7 @@ impl Residency {
         });
     }
 
-    /// Whether a page was placed by a record at or below the frontier, or was released while it was absent.
+    /// Returns whether a page was placed by a record at or below the frontier, or was released while it was absent.
     pub fn covers(&self, page: PageNo) -> bool
         requires { page < self.now.geometry.pages }
         ensures { result ≡ (is_covered (placements self.now page) self.now.frontier || freed self.now page) }
@@ -132,7 +131,7 @@ impl Residency {
         }
     }
 
-    /// The machine's geometry.
+    /// Returns the machine's geometry.
     pub fn geometry(&self) -> Geometry
         ensures { result ≡ self.now.geometry }
     {
@@ -140,7 +139,7 @@ impl Residency {
     }
 }
 
-/// So many absent pages.
+/// Returns this many absent pages. Fails only if memory runs out.
 fn no_pages(alloc: Global, count: usize) -> Result<Vec<Presence>, AllocError>
     ensures { IfOk result (λ v. v.items ≡ replicate count Absent) }
 {

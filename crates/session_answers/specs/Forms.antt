@@ -1,4 +1,4 @@
--- How it is told what is judged of a session's text.
+-- The forms of an answer about a session's text.
 use Rattle.std.specs.Prelude.{◌≡◌, ℕ, List, codes}
 use Rattle.migration_types.specs.Sessions.{Recorded}
 use Rattle.faulty_pages.specs.declared.FaultyPage.{FaultyPage}
@@ -21,12 +21,12 @@ use Rattle.session_answers.specs.declared.forms.Form.TheVariants as form
 use Rattle.session_answers.specs.declared.forms.Story.{Story}
 use Rattle.session_answers.specs.declared.forms.Story.TheVariants as story
 
--- in lines: what is wanted of the report
+-- lines: the wanted part of the report
 abbrev pub TellsWanted : Wanted → Judged → List ℕ → Type 0
 TellsWanted wanted (Refused line) text = text ≡ refusal_text line
 TellsWanted wanted (Reported s report) text = text ≡ wanted_text wanted report
 
--- in an object of JSON
+-- a JSON object
 abbrev pub TellsRefusalObject : ℕ → List ℕ → Type 0
 TellsRefusalObject line text = text ≡ at_line (codes "session-text") line
 
@@ -34,36 +34,36 @@ abbrev pub TellsObject : Judged → List ℕ → Type 0
 TellsObject (Refused line) text = TellsRefusalObject line text
 TellsObject (Reported s report) text = text ≡ report_object s report
 
--- in an object, with the records of what happened, and its lines told so
+-- an object, with the records of the story, and its line numbers mapped
 pub record TellsRecords (tell : ℕ → ℕ) (s : Recorded) (report : Report) (text : List ℕ) : Type 0 where
   pub explanation : Explanation
   pub is_explanation : IsExplanation s report explanation
   pub is_text : text ≡ explained_object tell s report explanation
 
--- what happened, with its lines told so: on a topic in words, after the first line, or in an object
+-- the story, with its line numbers mapped: words on a topic, after the first line, or an object
 abbrev pub TellsStory : (ℕ → ℕ) → Story → Judged → List ℕ → Type 0
 TellsStory tell (story.Words topic) (Refused line) text = IsRefusedText (tell line) text
 TellsStory tell (story.Words topic) (Reported s report) text = IsToldText tell s report topic text
 TellsStory tell story.Object (Refused line) text = TellsRefusalObject (tell line) text
 TellsStory tell story.Object (Reported s report) text = TellsRecords tell s report text
 
--- the text that these words make of the pages with a fault, where the report judges the pages
+-- the text that these words make of the pages with a fault, if the report judges the pages
 pub record TellsPages (words : List FaultyPage → List ℕ) (s : Recorded) (report : Report) (text : List ℕ) : Type 0 where
   pub pages : List FaultyPage
   pub are_faulty : JudgesPages report → AreFaultyPages s pages
   pub is_text : text ≡ words pages
 
--- with each page that has a fault, in lines
+-- lines, with each page that has a fault
 abbrev pub TellsAllFaults : Judged → List ℕ → Type 0
 TellsAllFaults (Refused line) text = text ≡ refusal_text line
 TellsAllFaults (Reported s report) text = TellsPages (all_faults_text report) s report text
 
--- and in an object
+-- an object, with each page that has a fault
 abbrev pub TellsAllFaultsObject : Judged → List ℕ → Type 0
 TellsAllFaultsObject (Refused line) text = TellsRefusalObject line text
 TellsAllFaultsObject (Reported s report) text = TellsPages (all_faults_object s report) s report text
 
--- in this form, with the lines of the session's own text
+-- the text in this form, with the line numbers of the session's own text
 abbrev pub Tells : Form → Judged → List ℕ → Type 0
 Tells (Lines wanted) = TellsWanted wanted
 Tells AllFaults = TellsAllFaults

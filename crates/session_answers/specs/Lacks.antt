@@ -1,4 +1,4 @@
--- How it is told what a session lacks.
+-- The forms in which a lack of a session is written.
 use Rattle.std.specs.Prelude.{◌≡◌, ℕ, List}
 use Rattle.migration_types.specs.Sessions.{Recorded}
 use Rattle.completeness.specs.Complete.{Lacks}
@@ -14,25 +14,26 @@ use Rattle.session_answers.specs.declared.forms.Story.TheVariants as story
 use Rattle.session_answers.specs.declared.forms.LackForm.{LackForm}
 use Rattle.session_answers.specs.declared.forms.LackForm.TheVariants.{Line, Words, Object}
 
--- a line, and an object
+-- the line, and the object
 abbrev pub line_of : (ℕ → ℕ) → Recorded → Missing → List ℕ
 line_of tell s m = missing_text tell s m
 
 abbrev pub object_of : (ℕ → ℕ) → Recorded → Missing → List ℕ
 object_of tell s m = missing_object tell s m
 
--- the ways to tell that a session lacks something, with its lines told so: a line, the line with words after it, and an object
+-- the text in this form that says that a session lacks something, with its line numbers mapped: a line, the line with
+-- words after it, or an object
 abbrev pub TellsLack : (ℕ → ℕ) → LackForm → Recorded → Missing → List ℕ → Type 0
 TellsLack tell Line s m text = text ≡ line_of tell s m
 TellsLack tell Words s m text = IsLackingText tell s m text
 TellsLack tell Object s m text = text ≡ object_of tell s m
 
--- the way to tell it where it is told in this form what happened
+-- the form of a lack that goes with this form of a story
 abbrev pub story_lack : Story → LackForm
 story_lack (story.Words topic) = Words
 story_lack story.Object = Object
 
--- and where a report is told in this form
+-- the form of a lack that goes with this form of a report
 abbrev pub lack_form : Form → LackForm
 lack_form (form.Lines wanted) = Line
 lack_form form.AllFaults = Line
@@ -40,7 +41,7 @@ lack_form form.Object = Object
 lack_form form.AllFaultsObject = Object
 lack_form (form.Story told) = story_lack told
 
--- a text tells the first thing that is missing, of what this extent asks for
+-- a text says the first thing that is missing, of what this extent requires
 pub record IsLack (tell : ℕ → ℕ) (extent : Extent) (form : LackForm) (s : Recorded) (text : List ℕ) : Type 0 where
   pub lacking : Missing
   pub lacks : Lacks extent s lacking

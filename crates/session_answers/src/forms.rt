@@ -1,4 +1,4 @@
-//! How a session is told.
+//! The forms of an answer about a session.
 
 ghost use Rattle.std.specs.Prelude.{◌≡◌};
 ghost use Rattle.session_answers.specs.Lacks.{lack_form, story_lack};
@@ -7,43 +7,43 @@ use completeness::Extent;
 use judged_texts::Wanted;
 use session_story::Topic;
 
-/// How it is told what happened in a session.
+/// The form in which the story of a session is written.
 #[derive(Clone, Copy)]
 pub enum Story {
-    /// In words after the first line of the report, of this topic.
+    /// Words on this topic, after the first line of the report.
     Words(Topic),
-    /// In the object of the report, with the records of what happened, each with its role.
+    /// The object of the report, with the records of the story, each with its role.
     Object,
 }
 
-/// How the report on a session is told.
+/// The form in which the report on a session is written.
 #[derive(Clone, Copy)]
 pub enum Form {
-    /// In lines: what is wanted of the report.
+    /// Lines: the wanted part of the report.
     Lines(Wanted),
-    /// In lines, with each page that has a fault.
+    /// Lines, with each page that has a fault.
     AllFaults,
-    /// In an object of JSON.
+    /// A JSON object.
     Object,
-    /// In an object, with each page that has a fault.
+    /// A JSON object, with each page that has a fault.
     AllFaultsObject,
-    /// With what happened.
+    /// The story of the session.
     Story(Story),
 }
 
-/// How it is told what a session lacks.
+/// The form in which a lack of a session is written.
 #[derive(Clone, Copy)]
 pub enum LackForm {
-    /// In a line.
+    /// A line.
     Line,
-    /// In a line, with words after it.
+    /// A line, with words after it.
     Words,
-    /// In an object of JSON.
+    /// A JSON object.
     Object,
 }
 
 impl Story {
-    /// How it is told in this form what a session lacks.
+    /// Returns the form of a lack that goes with this form.
     pub fn of_lack(self) -> LackForm
         ensures { result ≡ story_lack self }
     {
@@ -55,7 +55,7 @@ impl Story {
 }
 
 impl Form {
-    /// How it is told in this form what a session lacks.
+    /// Returns the form of a lack that goes with this form.
     pub fn of_lack(self) -> LackForm
         ensures { result ≡ lack_form self }
     {
@@ -67,11 +67,11 @@ impl Form {
     }
 }
 
-/// What is asked of a session.
+/// What is asked about a session.
 #[derive(Clone, Copy)]
 pub struct Ask {
-    /// How its report is told.
+    /// The form of its report.
     pub form: Form,
-    /// How much of a migration it has to tell of, where that is asked.
+    /// How much of a migration it must tell, if that is asked.
     pub complete: Option<Extent>,
 }

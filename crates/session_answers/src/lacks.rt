@@ -1,4 +1,4 @@
-//! What a session lacks, told.
+//! What a session lacks, in words or as an object.
 
 ghost use Rattle.std.specs.Prelude.{◌≡◌, IfOk, MatchOption};
 ghost use Rattle.completeness.specs.Complete.{IsComplete, IsFirstMissing};
@@ -12,7 +12,8 @@ use report_json::push_missing as push_missing_object;
 use session_story::print_missing;
 use std::alloc::{AllocError, Global};
 
-/// The line that tells that a session lacks this, by these lines.
+/// Returns the line that says that a session lacks this, with its line numbers from `lines`. Fails only if memory runs
+/// out.
 fn line_of<L: Lines>(
     alloc: Global,
     lines: &L,
@@ -27,7 +28,8 @@ fn line_of<L: Lines>(
     Ok(text)
 }
 
-/// The object that tells that a session lacks this, by these lines.
+/// Returns the object that says that a session lacks this, with its line numbers from `lines`. Fails only if memory
+/// runs out.
 fn object_of<L: Lines>(
     alloc: Global,
     lines: &L,
@@ -42,7 +44,8 @@ fn object_of<L: Lines>(
     Ok(text)
 }
 
-/// The text that tells, in this form and by these lines, that a session lacks this. An error: there is no memory for it.
+/// Returns the text that says in this form that a session lacks this, with its line numbers from `lines`. Fails only if
+/// memory runs out.
 pub fn print_lack<L: Lines>(
     alloc: Global,
     lines: &L,
@@ -60,8 +63,8 @@ pub fn print_lack<L: Lines>(
     }
 }
 
-/// The text that tells, in this form and by these lines, what a session lacks first of what this extent asks for, if it lacks
-/// something. An error: there is no memory for it.
+/// Returns the text that says in this form what a session lacks first of what this extent requires, if it lacks
+/// something, with its line numbers from `lines`. Fails only if memory runs out.
 pub fn print_lack_of<L: Lines>(
     alloc: Global,
     lines: &L,

@@ -1,4 +1,4 @@
-//! What is answered of a session: its report, told in each form that there is, and what it lacks.
+//! Answers about a session: its report, in each form that there is, and what it lacks.
 #![tactic(auto)]
 
 mod forms;

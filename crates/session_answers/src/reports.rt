@@ -1,4 +1,4 @@
-//! The report on a session, told in a form.
+//! The report on a session, written in a form.
 
 ghost use Rattle.std.specs.Prelude.{◌≡◌, IfOk};
 ghost use Rattle.faulty_pages.specs.FaultyPages.{AreFaultyPages};
@@ -17,7 +17,7 @@ use page_facts::Judges;
 use report_json::{push_all_faults, push_report};
 use std::alloc::{AllocError, Global};
 
-/// No page: the session with this report is clean.
+/// Returns no page, because the session with this report is clean.
 fn no_pages(alloc: Global, _session: &Session, _cert: &Cert) -> Vec<FaultyPage>
     requires { IsCleanWith _session.now _cert.now }
     ensures { AreFaultyPages _session.now result.items }
@@ -26,7 +26,7 @@ fn no_pages(alloc: Global, _session: &Session, _cert: &Cert) -> Vec<FaultyPage>
     Vec::new(alloc)
 }
 
-/// The pages with a fault, where the report judges the pages, and else none.
+/// Returns the pages with a fault, if the report judges the pages, and otherwise none.
 fn pages_of<J: Judges<Faults>>(
     judges: &J,
     alloc: Global,
@@ -44,7 +44,7 @@ fn pages_of<J: Judges<Faults>>(
     }
 }
 
-/// The report with each page that has a fault, in lines.
+/// Returns the report with each page that has a fault, in lines.
 fn all_faults<J: Judges<Faults>>(
     judges: &J,
     alloc: Global,
@@ -59,7 +59,7 @@ fn all_faults<J: Judges<Faults>>(
     print_all_faults(alloc, report, &pages)
 }
 
-/// The object of the report.
+/// Returns the object of the report.
 fn object_of(alloc: Global, session: &Session, report: &Report) -> Result<Vec<u8>, AllocError>
     ensures { IfOk result (λ text. TellsObject (Reported session.now report.now) text.items) }
 {
@@ -68,7 +68,7 @@ fn object_of(alloc: Global, session: &Session, report: &Report) -> Result<Vec<u8
     Ok(object)
 }
 
-/// The object of the report with each page that has a fault.
+/// Returns the object of the report with each page that has a fault.
 fn all_faults_object<J: Judges<Faults>>(
     judges: &J,
     alloc: Global,
@@ -85,8 +85,8 @@ fn all_faults_object<J: Judges<Faults>>(
     Ok(object)
 }
 
-/// The text that tells the report on a session in this form. Who judges the pages is asked where each page with a fault is told,
-/// and the report has one. An error: there is no memory for it.
+/// Returns the text of the report on a session in this form. Asks the judges about the pages only if the form lists
+/// each page with a fault, and the report has one. Fails only if memory runs out.
 pub fn print_told<J: Judges<Faults>>(
     judges: &J,
     alloc: Global,
@@ -108,7 +108,8 @@ pub fn print_told<J: Judges<Faults>>(
     }
 }
 
-/// The text that tells in this form that a session's text is refused at this line. An error: there is no memory for it.
+/// Returns the text that says in this form that a session's text is refused at this line. Fails only if memory runs
+/// out.
 pub fn print_refusal(alloc: Global, line: u32, form: Form) -> Result<Vec<u8>, AllocError>
     ensures { IfOk result (λ text. Tells form (Refused line) text.items) }
 {

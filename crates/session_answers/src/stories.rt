@@ -1,4 +1,4 @@
-//! What happened in a session, told in a form.
+//! The story of a session, written in a form.
 
 ghost use Rattle.std.specs.Prelude.{IfOk};
 ghost use Rattle.audit_report.specs.Reports.{IsReport};
@@ -12,7 +12,8 @@ use report_json::{push_explained, push_refused};
 use session_story::{explain, print_refused, print_topic};
 use std::alloc::{AllocError, Global};
 
-/// The object of the report with the records of what happened, told by these lines.
+/// Returns the object of the report with the records of the story, with its line numbers from `lines`. Fails only if
+/// memory runs out.
 fn object_of_story<L: Lines>(
     alloc: Global,
     lines: &L,
@@ -28,8 +29,8 @@ fn object_of_story<L: Lines>(
     Ok(object)
 }
 
-/// The text that tells in this form what happened in a session with this report, by these lines. An error: there is no memory for
-/// it.
+/// Returns the story of a session with this report in this form, with its line numbers from `lines`. Fails only if
+/// memory runs out.
 pub fn print_story<L: Lines>(
     alloc: Global,
     lines: &L,
@@ -46,7 +47,8 @@ pub fn print_story<L: Lines>(
     }
 }
 
-/// The object of a session's text that is refused at this line, told by these lines.
+/// Returns the object that says that a session's text is refused at this line, with its line number from `lines`. Fails
+/// only if memory runs out.
 pub(crate) fn object_of_refusal<L: Lines>(
     alloc: Global,
     lines: &L,
@@ -59,8 +61,8 @@ pub(crate) fn object_of_refusal<L: Lines>(
     Ok(object)
 }
 
-/// The text that tells in this form that a session's text is refused at this line, by these lines. An error: there is no memory for
-/// it.
+/// Returns the text that says in this form that a session's text is refused at this line, with its line number from
+/// `lines`. Fails only if memory runs out.
 pub fn print_story_refusal<L: Lines>(
     alloc: Global,
     lines: &L,

@@ -1,4 +1,4 @@
--- The core: what it holds, and what it stands for in the events.
+-- The core: what it holds, and what that is in the events.
 use Rattle.std.specs.Prelude.{false, List, []}
 use Rattle.migration_types.specs.Receipts.{Name}
 use Rattle.migration_types.specs.declared.size.Size.TheVariants.{Small}
@@ -13,7 +13,7 @@ use Rattle.session_core.specs.declared.state.State.TheVariants.{Before as Before
 abbrev pub no_books : Books
 no_books = (start (record { version = One; geometry = record { size = Small; pages = 0; cells = 0 }; init = []; pivots = 0; window = 0; has_lane = false; vcpus = [] })).books
 
--- the books; inside a halt nothing is held, which no caller of a core sees
+-- the books; inside a halt, nothing is held, which no caller of a core sees
 abbrev pub books_of : State → Books
 books_of (BeforeHalt h) = Before (home_of h)
 books_of (AfterHalt a) = After (away_of a)

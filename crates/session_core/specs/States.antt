@@ -1,4 +1,4 @@
--- A migration before its halt and from it on: what it holds, and what that stands for in the events.
+-- A migration before its halt and from it on: what it holds, and what that is in the events.
 use Rattle.std.specs.Prelude.{◌≡◌, List, is_some, map}
 use Rattle.std.specs.List.{AllByRecursion}
 use Rattle.migration_types.specs.declared.version.Version.{Version}
@@ -13,7 +13,7 @@ use Rattle.target_side.specs.Kept.{Kept, part_of as target_of, geometry_of}
 use Rattle.target_side.specs.PagerLists.{PagerLists, part_of as pager_of}
 use Rattle.migration_model.specs.Books.{Vcpu, Scripted, BooksBefore, BooksAfter, books_before}
 
--- what a script says to the events
+-- a virtual processor of the script, as the events see it
 abbrev pub vcpu_of : Scheduled → Vcpu
 vcpu_of vcpu = record { before_move = vcpu.before_move; after_move = vcpu.after_move }
 
@@ -26,7 +26,7 @@ pub record BeforeLists : Type 0 where
   pub vcpus : List Vcpu
   pub guest : GuestKept
 
--- from the halt on: the same, and the four books
+-- from the halt on: the script, what each virtual processor has left to do, and the four books
 pub record AfterLists : Type 0 where
   pub script : Scenario
   pub vcpus : List Vcpu
@@ -35,7 +35,7 @@ pub record AfterLists : Type 0 where
   pub pager : PagerLists
   pub target : Kept
 
--- what they stand for
+-- what they are in the events
 abbrev pub home_of : BeforeLists → BooksBefore
 home_of h = books_before (scripted_of h.script) h.vcpus (guest_of h.guest)
 
@@ -52,8 +52,8 @@ away_of a = record {
   target = target_of a.target;
 }
 
--- the machine has what a virtual processor has left to do, and what it releases after its move, scripts of this version
--- may
+-- The machine has what a virtual processor has left to do. If it releases a page after its move, scripts of this
+-- version allow that.
 pub record LeftFits (version : Version) (e : Extent) (vcpu : Vcpu) : Type 0 where
   pub before_move : AllByRecursion (OpFits e) vcpu.before_move
   pub after_move : AllByRecursion (LateOpFits version e) vcpu.after_move

@@ -22,7 +22,7 @@ use std::mem::drop;
 use target_side::{Access, PagerBook, TargetBook};
 
 /// A migration from its halt on: the books of the source, the link, the pager and the target, and what each virtual
-/// processor has left to do of a script. Contracts see the script, what is left, and the books.
+/// processor of a script has left to do. Contracts see the script, what is left, and the books.
 #[derive(Drop)]
 pub struct AfterHalt<'a> {
     pub(crate) alloc: Global,
@@ -47,10 +47,10 @@ impl<'a> Model for AfterHalt<'a> {
 impl<'a> AfterHalt<'a> {
     ghost use Rattle.book_events.specs.Logs.{logs_in};
 
-    /// An event on these books, which are then what the definition of the event makes of them; what arrived is of the
-    /// script's machine. One that finds nothing to do, as a halt once more, changes nothing. `CoreFault::LogFull` only
-    /// where a log has no room for the event's records, and `CoreFault::Memory` where memory is refused; on an error
-    /// nothing changes.
+    /// Carries out an event on these books, which changes them as the event's definition says. Packets that have
+    /// arrived must be of the script's machine. An event that finds nothing to do, such as another halt, changes
+    /// nothing. The error is `CoreFault::LogFull` only if a log has no room for the event's records, and
+    /// `CoreFault::Memory` if memory runs out. On an error, nothing changes.
     pub fn event(&mut self, event: Event) -> Result<(), CoreFault>
         requires { IsOrderly (away_of self.old) }
         ensures ok { OnOk result (away_of self.new ≡ away_event event (away_of self.old)) }
@@ -82,7 +82,7 @@ impl<'a> AfterHalt<'a> {
         Ok(())
     }
 
-    /// Whether each log has room for what an event appends. Takes no memory.
+    /// Returns whether each log has room for what an event appends. Allocates no memory.
     pub fn look(&self, event: Event) -> Result<(), CoreFault>
         ensures room { OnOk result (has_room (session_after (away_event event (away_of self.now))) ≡ true) }
         ensures full { OnErr result (has_room (session_after (away_event event (away_of self.now))) ≡ false) }
@@ -108,7 +108,7 @@ impl<'a> AfterHalt<'a> {
         }
     }
 
-    /// Whether the guest's log has room for what a virtual processor's next operation after its move appends.
+    /// Returns whether the guest's log has room for what a virtual processor's next operation after its move appends.
     fn look_to_step(&self, vcpu: u8) -> Result<(), CoreFault>
         ensures room { OnOk result (has_room (session_after (away_event (Event.GuestStep vcpu) (away_of self.now))) ≡ true) }
         ensures full { OnErr result (has_room (session_after (away_event (Event.GuestStep vcpu) (away_of self.now))) ≡ false) }
@@ -124,8 +124,8 @@ impl<'a> AfterHalt<'a> {
         self.target.look_to_access(vcpu, &op)
     }
 
-    /// A virtual processor's next operation after its move: once the guest has resumed it is done, or a read or a write
-    /// misses its page.
+    /// Carries out a virtual processor's next operation after its move: once the guest has resumed, it is done, or a
+    /// read or a write misses its page.
     fn guest_step(&mut self, vcpu: u8) -> Result<(), CoreFault>
         ensures ok { OnOk result (away_of self.new ≡ away_event (Event.GuestStep vcpu) (away_of self.old)) }
         ensures script { self.new.script ≡ self.old.script }
@@ -145,7 +145,7 @@ impl<'a> AfterHalt<'a> {
         Ok(())
     }
 
-    /// What was recorded so far, lent.
+    /// Returns what was recorded so far, lent.
     pub fn logs(&self) -> LentLogs<'_>
         ensures { result ≡ logs_in (session_after (away_of self.now)) }
     {
@@ -157,8 +157,8 @@ impl<'a> AfterHalt<'a> {
         )
     }
 
-    /// What was recorded so far, copied, where it is within the limits of a session. An error: there is no memory for
-    /// it.
+    /// Returns what was recorded so far, copied, if it is within the limits of a session. Fails only if memory runs
+    /// out.
     pub fn session(&self) -> Result<Session, AllocError>
         requires { IsSession (session_after (away_of self.now)) }
         ensures { IfOk result (λ s. s ≡ session_after (away_of self.now)) }
@@ -168,8 +168,8 @@ impl<'a> AfterHalt<'a> {
         Ok(Session::new(self.script.version(), self.source.geometry(), init, logs))
     }
 
-    /// What was recorded, where it is within the limits of a session; nothing of it is copied but the initial pages. An
-    /// error: there is no memory for these.
+    /// Returns what was recorded, if it is within the limits of a session. Copies nothing but the initial pages. Fails
+    /// only if memory runs out.
     pub fn into_session(self) -> Result<Session, AllocError>
         requires { IsSession (session_after (away_of self)) }
         ensures { IfOk result (λ s. s ≡ session_after (away_of self.entry)) }
@@ -183,7 +183,7 @@ impl<'a> AfterHalt<'a> {
         }
     }
 
-    /// The same, with the initial pages that the script says. Takes no memory.
+    /// Returns what was recorded, with the initial pages of the script. Allocates no memory.
     fn into_recorded(self, init: Seq<InitPage>) -> Session
         requires init { init ≡ self.script.init }
         requires limits { IsSession (session_after (away_of self)) }
@@ -196,7 +196,7 @@ impl<'a> AfterHalt<'a> {
         Session::new(version, geometry, init, logs)
     }
 
-    /// Tells callers what it keeps: all is of the script's machine, and each log is within its limit.
+    /// States the invariant: all is of the script's machine, and each log is within its limit. Runs nothing.
     pub fn keeps_limits(&self)
         ensures kept { IsAfter self.now }
         ensures room { has_room (session_after (away_of self.now)) ≡ true }

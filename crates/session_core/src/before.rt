@@ -22,7 +22,7 @@ use std::alloc::{AllocError, Global};
 use std::marker::Model;
 use target_side::{GuestBook, PagerBook};
 
-/// A migration before its halt: the guest's book, and what each virtual processor has left to do of a script. Contracts
+/// A migration before its halt: the guest's book, and what each virtual processor of a script has left to do. Contracts
 /// see the script, what is left, and the guest's book.
 #[derive(Drop)]
 pub struct BeforeHalt<'a> {
@@ -43,7 +43,7 @@ impl<'a> Model for BeforeHalt<'a> {
 }
 
 impl<'a> BeforeHalt<'a> {
-    /// The guest of a script before its first operation. An error: there is no memory for it.
+    /// Returns the guest of a script before its first operation. Fails only if memory runs out.
     #[tactic(auto, using(crate::proofs::Operations::script_is))]
     pub fn start(alloc: Global, script: &'a Script) -> Result<BeforeHalt<'a>, AllocError>
         ensures books { IfOk result (λ h. Before (home_of h) ≡ (start (scripted_of script.now)).books) }
@@ -61,8 +61,9 @@ impl<'a> BeforeHalt<'a> {
         })
     }
 
-    /// An event other than the halt: a virtual processor's next operation before its move; all others change nothing.
-    /// `CoreFault::LogFull` where the guest's log has no room for the record. On an error nothing changes.
+    /// Carries out an event other than the halt: a virtual processor's next operation before its move. All other events
+    /// change nothing. The error is `CoreFault::LogFull` if the guest's log has no room for the record. On an error,
+    /// nothing changes.
     pub fn event(&mut self, event: Event) -> Result<(), CoreFault>
         requires { event ≡ Event.Halt → ⊥ }
         ensures ok { OnOk result (Before (home_of self.new) ≡ home_event event (home_of self.old)) }
@@ -75,7 +76,7 @@ impl<'a> BeforeHalt<'a> {
         }
     }
 
-    /// Whether each log has room for what an event appends. Takes no memory.
+    /// Returns whether each log has room for what an event appends. Allocates no memory.
     pub fn look(&self, event: Event) -> Result<(), CoreFault>
         ensures room { OnOk result (has_room (session_of (home_event event (home_of self.now))) ≡ true) }
         ensures full { OnErr result (has_room (session_of (home_event event (home_of self.now))) ≡ false) }
@@ -91,7 +92,7 @@ impl<'a> BeforeHalt<'a> {
         }
     }
 
-    /// Whether the guest's log has room for what a virtual processor's next operation before its move appends.
+    /// Returns whether the guest's log has room for what a virtual processor's next operation before its move appends.
     fn look_to_step(&self, vcpu: u8) -> Result<(), CoreFault>
         ensures room { OnOk result (has_room (session_before (home_step vcpu (slice_get (home_of self.now).vcpus vcpu) (home_of self.now))) ≡ true) }
         ensures full { OnErr result (has_room (session_before (home_step vcpu (slice_get (home_of self.now).vcpus vcpu) (home_of self.now))) ≡ false) }
@@ -107,7 +108,7 @@ impl<'a> BeforeHalt<'a> {
         self.guest.look_to_access(vcpu, &op)
     }
 
-    /// Whether the guest's log has room for the halt's record, where each virtual processor is at its move.
+    /// Returns whether the guest's log has room for the halt's record, if each virtual processor is at its move.
     fn look_to_halt(&self) -> Result<(), CoreFault>
         ensures room { OnOk result (has_room (session_of (home_event Event.Halt (home_of self.now))) ≡ true) }
         ensures full { OnErr result (has_room (session_of (home_event Event.Halt (home_of self.now))) ≡ false) }
@@ -120,9 +121,9 @@ impl<'a> BeforeHalt<'a> {
         Ok(())
     }
 
-    /// A virtual processor does its next operation before its move, which is recorded. One that is at its move, and a
-    /// number that is none of the script's virtual processors, does nothing. `CoreFault::LogFull` where the guest's log
-    /// has no room for the record. On an error nothing changes.
+    /// Carries out a virtual processor's next operation before its move, and records it. Does nothing if the virtual
+    /// processor is at its move, or if the script has no virtual processor of this number. The error is
+    /// `CoreFault::LogFull` if the guest's log has no room for the record. On an error, nothing changes.
     fn guest_step(&mut self, vcpu: u8) -> Result<(), CoreFault>
         ensures ok { OnOk result (home_of self.new ≡ home_step vcpu (slice_get (home_of self.old).vcpus vcpu) (home_of self.old)) }
         ensures script { self.new.script ≡ self.old.script }
@@ -140,15 +141,16 @@ impl<'a> BeforeHalt<'a> {
         Ok(())
     }
 
-    /// Whether each virtual processor is at its move, and so the guest may be halted.
+    /// Returns whether each virtual processor is at its move, so that the guest may be halted.
     pub fn all_at_move(&self) -> bool
         ensures { result ≡ all_at_move (home_of self.now).vcpus }
     {
         self.vcpus.iter().all(|left| left.before_move.is_empty())
     }
 
-    /// The guest is halted, which is recorded, and the source tells the target of it. `CoreFault::LogFull` where the
-    /// guest's log has no room for the record. On an error all comes back as it was.
+    /// Halts the guest and records this, and the source offers the state to the target. The error is
+    /// `CoreFault::LogFull` if the guest's log has no room for the record. On an error, everything comes back as it
+    /// was.
     pub fn halt(self) -> Result<AfterHalt<'a>, (BeforeHalt<'a>, CoreFault)>
         ensures ok { IfOk result (λ a. away_of a ≡ halted (home_of self.entry)) }
         ensures script { IfOk result (λ a. a.script ≡ self.entry.script) }
@@ -161,7 +163,7 @@ impl<'a> BeforeHalt<'a> {
         }
     }
 
-    /// The same, with the pager's book before its first event.
+    /// Halts the guest, given the pager's book before its first event.
     fn halted(self, pager: PagerBook) -> Result<AfterHalt<'a>, (BeforeHalt<'a>, CoreFault)>
         requires { pager_of pager ≡ new_pager self.script.geometry }
         ensures ok { IfOk result (λ a. away_of a ≡ halted (home_of self.entry)) }
@@ -199,15 +201,15 @@ impl<'a> BeforeHalt<'a> {
         }
     }
 
-    /// What was recorded so far, lent: the guest's log.
+    /// Returns what was recorded so far, lent: the guest's log.
     pub fn logs(&self) -> LentLogs<'_>
         ensures { result ≡ logs_in (session_before (home_of self.now)) }
     {
         LentLogs::of_guest(self.guest.guest_log())
     }
 
-    /// What was recorded so far, copied, where it is within the limits of a session. An error: there is no memory for
-    /// it.
+    /// Returns what was recorded so far, copied, if it is within the limits of a session. Fails only if memory runs
+    /// out.
     pub fn session(&self) -> Result<Session, AllocError>
         requires { IsSession (session_before (home_of self.now)) }
         ensures { IfOk result (λ s. s ≡ session_before (home_of self.now)) }
@@ -217,8 +219,8 @@ impl<'a> BeforeHalt<'a> {
         Ok(Session::new(self.script.version(), self.guest.geometry(), init, logs))
     }
 
-    /// What was recorded, where it is within the limits of a session; nothing of it is copied but the initial pages. An
-    /// error: there is no memory for these.
+    /// Returns what was recorded, if it is within the limits of a session. Copies nothing but the initial pages. Fails
+    /// only if memory runs out.
     pub fn into_session(self) -> Result<Session, AllocError>
         requires { IsSession (session_before (home_of self)) }
         ensures { IfOk result (λ s. s ≡ session_before (home_of self.entry)) }
@@ -235,7 +237,7 @@ impl<'a> BeforeHalt<'a> {
         Ok(Session::new(script.version(), geometry, init, logs))
     }
 
-    /// Tells callers what it keeps: all is of the script's machine, and the log is within its limit.
+    /// States the invariant: all is of the script's machine, and the log is within its limit. Runs nothing.
     pub fn keeps_limits(&self)
         ensures kept { IsBefore self.now }
         ensures room { has_room (session_before (home_of self.now)) ≡ true }

@@ -18,11 +18,12 @@ use migration_types::{LogName, Session};
 use std::alloc::{AllocError, Global};
 use std::marker::Model;
 
-/// All books of a migration that follows a script, and the recorded order: the names of the records in the order in
-/// which they were appended. Contracts see it as the machine of the events.
+/// The core: all books of a migration that follows a script, and the recorded order, which has the names of the records
+/// in the order in which they were appended. Contracts see it as the machine of the events.
 ///
-/// It is always one that a script and events lead to, none of them refused. So what it has recorded is a session in its
-/// limits, of the right shape and with no fault of a page, and its recorded order is a merging of it.
+/// A core is always one that some events reach from a script's start, none of them refused. So what it has recorded is
+/// a session within its limits, of the right shape and with no fault of a page, and its recorded order is a merging of
+/// it.
 #[derive(Drop)]
 pub struct Core<'a> {
     state: State<'a>,
@@ -41,7 +42,7 @@ impl<'a> Model for Core<'a> {
 }
 
 impl<'a> Core<'a> {
-    /// The core at a script's start: nothing is recorded. An error: there is no memory for it.
+    /// Returns the core at a script's start, with nothing recorded. Fails only if memory runs out.
     pub fn start(alloc: Global, script: &'a Script) -> Result<Core<'a>, AllocError>
         ensures { IfOk result (λ core. machine_of core ≡ start (scripted_of script.now)) }
     {
@@ -52,9 +53,9 @@ impl<'a> Core<'a> {
         })
     }
 
-    /// An event. The books and the recorded order are then what the event makes of them. `CoreFault::LogFull` exactly
-    /// where the event needs more records than a log has room for, which is looked at before memory is asked for;
-    /// `CoreFault::Memory` where it has room, and memory is refused. On an error nothing changes.
+    /// Carries out an event. The event's definition says how the books and the recorded order change. The error is
+    /// `CoreFault::LogFull` exactly when the event needs more records than a log has room for, which is checked before
+    /// memory is allocated, and otherwise `CoreFault::Memory`. On an error, nothing changes.
     pub fn step(&mut self, event: Event) -> Result<(), CoreFault>
         ensures ok { OnOk result (step event (machine_of self.old) ≡ Some (machine_of self.new)) }
         ensures full { IsErrOf result CoreFault.LogFull → step event (machine_of self.old) ≡ None }
@@ -64,7 +65,7 @@ impl<'a> Core<'a> {
         step_books(&mut self.state, &mut self.order, event)
     }
 
-    /// What was recorded so far, copied. An error: there is no memory for it.
+    /// Returns what was recorded so far, copied. Fails only if memory runs out.
     pub fn session(&self) -> Result<Session, AllocError>
         ensures recorded { IfOk result (λ s. s ≡ session_of (machine_of self.now).books) }
         ensures promised { IfOk result (λ s. IsPromised s (machine_of self.now).order) }
@@ -73,7 +74,7 @@ impl<'a> Core<'a> {
         self.state.session()
     }
 
-    /// What was recorded; nothing of it is copied but the initial pages. An error: there is no memory for these.
+    /// Returns what was recorded. Copies nothing but the initial pages. Fails only if memory runs out.
     pub(crate) fn into_session(self) -> Result<Session, AllocError>
         ensures recorded { IfOk result (λ s. s ≡ session_of (machine_of self.entry).books) }
         ensures promised { IfOk result (λ s. IsPromised s (machine_of self.entry).order) }
@@ -82,8 +83,8 @@ impl<'a> Core<'a> {
         self.state.into_session()
     }
 
-    /// Tells callers what every core keeps: some script and events lead to it, and so what it has recorded is
-    /// faultless, and its recorded order is a merging of it.
+    /// States the invariant of every core: some events reach it from a script's start, so what it has recorded is
+    /// faultless, and its recorded order is a merging of it. Runs nothing.
     pub fn keeps_promise(&self)
         ensures reached { IsReached (machine_of self.now) }
         ensures promised { IsPromised (session_of (machine_of self.now).books) (machine_of self.now).order }

@@ -10,7 +10,7 @@ use migration_events::Op;
 use std::alloc::{AllocError, Global};
 use std::marker::Model;
 
-/// What a virtual processor has left to do before its move and after it, of a script that is borrowed.
+/// What a virtual processor of a borrowed script has left to do, before its move and after it.
 #[derive(Drop)]
 pub(crate) struct Left<'a> {
     pub(crate) before_move: &'a [Op],
@@ -26,7 +26,7 @@ impl<'a> Model for Left<'a> {
 }
 
 impl<'a> Left<'a> {
-    /// Nothing was done.
+    /// Returns what is left at the start, which is everything.
     fn whole(vcpu: &'a Vcpu) -> Left<'a>
         ensures { result ≡ vcpu_of vcpu.now }
     {
@@ -36,7 +36,8 @@ impl<'a> Left<'a> {
         }
     }
 
-    /// The next operation before the move, and what is left behind it. `None`: it is at its move.
+    /// Returns the next operation before the move, and what is left after it, or `None` if the virtual processor is at
+    /// its move.
     pub(crate) fn early(&self) -> Option<(Op, Left<'a>)>
         ensures { option_map (λ n. next n.0 n.1) result ≡ early self.now }
     {
@@ -50,7 +51,7 @@ impl<'a> Left<'a> {
         ))
     }
 
-    /// The next operation after the move, and what is left behind it. `None`: there is none.
+    /// Returns the next operation after the move, and what is left after it, or `None` if there is none.
     pub(crate) fn late(&self) -> Option<(Op, Left<'a>)>
         ensures { option_map (λ n. next n.0 n.1) result ≡ late self.now }
     {
@@ -65,7 +66,7 @@ impl<'a> Left<'a> {
     }
 }
 
-/// At the start all is left. An error: there is no memory for it.
+/// Returns what the virtual processors have left at the start, which is everything. Fails only if memory runs out.
 pub(crate) fn all_left<'a>(alloc: Global, vcpus: &'a [Vcpu]) -> Result<Vec<Left<'a>>, AllocError>
     ensures { IfOk result (λ left. left.items ≡ map vcpu_of vcpus.now) }
 {

@@ -1,5 +1,5 @@
-//! The core of a host: all books of a migration, and the recorded order, which events lead on one after another. What a
-//! core has recorded is faultless, whatever a script says and whatever events come.
+//! The core of a host: all books of a migration, and the recorded order. Events advance it, one after another. What a
+//! core has recorded is faultless, for every script and all events.
 #![tactic(auto)]
 
 mod after;

@@ -9,11 +9,11 @@ ghost use Rattle.session_core.specs.Names.{length_in, names_between};
 
 use migration_types::{LOG_COUNT, LogName, logs};
 
-/// An event appends to all logs at most so many records, to each at most two.
+/// The greatest number of records that an event appends to all logs together; at most two go to one log.
 pub const MOST_NAMES: usize = 2 * LOG_COUNT;
 
-/// Appends the names of the records by which the logs have grown, at most two each, for which there is room. The lengths
-/// are in the order of the logs.
+/// Appends the names of the new records of the logs, at most two for each log, for which there must be room. The
+/// lengths are in the order of the logs.
 pub fn push_names(order: &mut Vec<(LogName, u32)>, old: [usize; LOG_COUNT], new: [usize; LOG_COUNT])
     requires room { vec_len order.old + 2 * length logs ≤ vec_capacity order.old }
     requires grows { (log : Log) → length_in new log ≤ length_in old log + 2 }
@@ -25,7 +25,7 @@ pub fn push_names(order: &mut Vec<(LogName, u32)>, old: [usize; LOG_COUNT], new:
     }
 }
 
-/// Appends the names of the records of a log between two places, for which there is room.
+/// Appends the names of the records of a log between two places, for which there must be room.
 fn push_run(order: &mut Vec<(LogName, u32)>, log: LogName, from: usize, to: usize)
     requires room { vec_len order.old + (to - from) ≤ vec_capacity order.old }
     requires few { to ≤ most_records }

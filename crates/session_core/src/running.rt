@@ -1,4 +1,4 @@
-//! A script with a list of events.
+//! Running a script with a list of events.
 
 ghost use Rattle.std.specs.Prelude.{◌≡◌, Some, None, IfOk, OnOk, IsErrOf};
 ghost use Rattle.session_core.specs.States.{scripted_of};
@@ -14,12 +14,12 @@ use migration_types::Session;
 use std::alloc::Global;
 use std::mem::drop;
 
-/// What a script and a list of events record, from the script's start.
+/// Returns what a script and a list of events record, from the script's start.
 ///
 /// # Errors
 ///
-/// `CoreFault::LogFull` where an event needs more records than a log has room for, `CoreFault::Memory` where memory is
-/// refused.
+/// `CoreFault::LogFull` if an event needs more records than a log has room for, and `CoreFault::Memory` if memory runs
+/// out.
 pub fn run(alloc: Global, script: &Script, events: &[Event]) -> Result<Session, CoreFault>
     ensures recorded { IfOk result (IsRecordedBy (scripted_of script.now) events.now) }
     ensures full { IsErrOf result CoreFault.LogFull → outcome events.now (start (scripted_of script.now)) ≡ None }
@@ -34,7 +34,7 @@ pub fn run(alloc: Global, script: &Script, events: &[Event]) -> Result<Session, 
     }
 }
 
-/// Events, one after another, until one is refused.
+/// Carries out events, one after another, until one is refused.
 fn step_all(core: &mut Core<'_>, events: &[Event]) -> Result<(), CoreFault>
     ensures ok { OnOk result (outcome events.now (machine_of core.old) ≡ Some (machine_of core.new)) }
     ensures full { IsErrOf result CoreFault.LogFull → outcome events.now (machine_of core.old) ≡ None }

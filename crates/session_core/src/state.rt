@@ -1,4 +1,4 @@
-//! A migration before its halt or from it on, and each event on it.
+//! A migration before its halt or from it on, and the events on it.
 
 ghost use Rattle.std.specs.Prelude.{◌≡◌, true, false, IfOk, OnOk, OnErr, IsErrOf};
 ghost use Rattle.migration_types.specs.Sessions.{IsSession};
@@ -24,13 +24,13 @@ pub enum State<'a> {
     Before(BeforeHalt<'a>),
     /// The guest has halted at the source.
     After(AfterHalt<'a>),
-    /// Nothing is held, which is so inside a halt alone.
+    /// Nothing is held, which happens only inside a halt.
     Halting,
 }
 
 impl<'a> State<'a> {
-    /// An event on the books, which are then what the event makes of them. `CoreFault::LogFull` where a log has no room
-    /// for its records. On an error nothing changes.
+    /// Carries out an event on the books, which changes them as the event's definition says. The error is
+    /// `CoreFault::LogFull` if a log has no room for its records. On an error, nothing changes.
     pub fn event(&mut self, event: Event) -> Result<(), CoreFault>
         requires held { IsHeld self.old }
         requires orderly { AreOrderly (books_of self.old) }
@@ -49,7 +49,7 @@ impl<'a> State<'a> {
         }
     }
 
-    /// Whether each log has room for what an event appends. Takes no memory.
+    /// Returns whether each log has room for what an event appends. Allocates no memory.
     pub fn look(&self, event: Event) -> Result<(), CoreFault>
         requires { IsHeld self.now }
         ensures room { OnOk result (has_room (session_of (books_event event (books_of self.now))) ≡ true) }
@@ -63,7 +63,7 @@ impl<'a> State<'a> {
         }
     }
 
-    /// The guest's halt, where it has not halted.
+    /// Carries out the guest's halt, if the guest has not halted.
     fn halt(&mut self) -> Result<(), CoreFault>
         requires held { IsHeld self.old }
         ensures held { IsHeld self.new }
@@ -76,7 +76,7 @@ impl<'a> State<'a> {
         answer
     }
 
-    /// How many records each log has, in the order of the logs.
+    /// Returns how many records each log has, in the order of the logs.
     pub fn lengths(&self) -> [usize; LOG_COUNT]
         ensures { result ≡ lengths_of (logs_in (session_of (books_of self.now))) }
     {
@@ -87,8 +87,8 @@ impl<'a> State<'a> {
         }
     }
 
-    /// What was recorded so far, copied, where it is within the limits of a session. An error: there is no memory for
-    /// it.
+    /// Returns what was recorded so far, copied, if it is within the limits of a session. Fails only if memory runs
+    /// out.
     pub fn session(&self) -> Result<Session, AllocError>
         requires held { IsHeld self.now }
         requires limits { IsSession (session_of (books_of self.now)) }
@@ -101,8 +101,8 @@ impl<'a> State<'a> {
         }
     }
 
-    /// What was recorded, where it is within the limits of a session; nothing of it is copied but the initial pages. An
-    /// error: there is no memory for these.
+    /// Returns what was recorded, if it is within the limits of a session. Copies nothing but the initial pages. Fails
+    /// only if memory runs out.
     pub fn into_session(self) -> Result<Session, AllocError>
         requires held { IsHeld self }
         requires limits { IsSession (session_of (books_of self)) }
@@ -115,7 +115,7 @@ impl<'a> State<'a> {
         }
     }
 
-    /// Tells callers that each log is within its limit.
+    /// States that each log is within its limit. Runs nothing.
     pub fn keeps_limits(&self)
         ensures { has_room (session_of (books_of self.now)) ≡ true }
     {
@@ -127,7 +127,7 @@ impl<'a> State<'a> {
     }
 }
 
-/// What is there after the guest's halt, and whether the halt was refused, which leaves what was there.
+/// Returns the state after the guest's halt, and whether the halt was refused, which leaves the state as it was.
 fn halted<'a>(state: State<'a>) -> (State<'a>, Result<(), CoreFault>)
     requires held { IsHeld state }
     ensures held { IsHeld result.0 }
@@ -142,7 +142,7 @@ fn halted<'a>(state: State<'a>) -> (State<'a>, Result<(), CoreFault>)
     }
 }
 
-/// The same, where the guest has not halted.
+/// Returns the state after the guest's halt, and whether the halt was refused, for a guest that has not halted.
 fn halted_before<'a>(before: BeforeHalt<'a>) -> (State<'a>, Result<(), CoreFault>)
     ensures held { IsHeld result.0 }
     ensures ok { OnOk result.1 (books_of result.0 ≡ home_event Event.Halt (home_of before.entry)) }

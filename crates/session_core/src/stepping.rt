@@ -1,4 +1,4 @@
-//! An event on the books and on the recorded order.
+//! Events on the books and on the recorded order.
 
 ghost use Rattle.std.specs.Prelude.{◌≡◌, Some, None, true, is_some, OnOk, OnErr, IsErrOf};
 ghost use Rattle.migration_model.specs.Events.{step};
@@ -11,8 +11,8 @@ use crate::state::State;
 use migration_events::Event;
 use migration_types::LogName;
 
-/// An event on the books; the names of the records that it appends are appended to the order. Whether the logs have room
-/// is looked at before memory is asked for. On an error nothing changes.
+/// Carries out an event on the books, and appends the names of its records to the order. Whether the logs have room is
+/// checked before memory is allocated. On an error, nothing changes.
 pub fn step_books(
     state: &mut State<'_>,
     order: &mut Vec<(LogName, u32)>,

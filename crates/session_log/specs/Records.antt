@@ -1,5 +1,5 @@
--- The lines of the parties' records. Numbers are in decimal form with no leading zero, one space (32) parts them, and
--- CONTENTS has sixteen hexadecimal digits, in lower case, for each cell of a page. NUMBER is the number of another record.
+-- The lines of the parties' records. Numbers are in decimal, with no leading zero. One space (32) separates them.
+-- CONTENTS has sixteen lower-case hexadecimal digits for each cell of a page. NUMBER is the number of another record.
 --     the guest's log                  the source's log         the pager's log
 --     r VCPU PAGE CELL VALUE           halted NUMBER            got NUMBER
 --     w VCPU PAGE CELL VALUE           state                    ready
@@ -41,7 +41,7 @@ page_text page contents = decimal page ++ 32 ∷ contents_text contents
 abbrev pub placed_text : ℕ → ℕ → List ℕ → List ℕ
 placed_text page got contents = decimal page ++ 32 ∷ (decimal got ++ 32 ∷ contents_text contents)
 
--- how the line with the number of a log's records begins, for each log
+-- the beginning of the line with the number of a log's records, for each log
 abbrev pub guest_key : List ℕ
 guest_key = codes "guest "
 

@@ -1,4 +1,4 @@
--- What serves proofs alone.
+-- Definitions that only proofs use.
 pub mod Forms
 pub mod Held
 pub mod InitPages

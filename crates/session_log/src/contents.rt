@@ -1,4 +1,4 @@
-//! A page's contents in hexadecimal, where they take memory.
+//! A page's contents in hexadecimal, for pages whose contents take memory.
 
 ghost use Rattle.std.specs.Prelude.{◌≡◌, ◌≢◌, ◌*◌, List, ℕ, IfOk, IfErr};
 ghost use Rattle.text_lines.specs.Contents.{contents_text};
@@ -7,7 +7,8 @@ ghost use Rattle.migration_types.specs.Contents.{IsContent};
 use std::alloc::Global;
 use text_lines::{FaultKind, read_cell};
 
-/// The values of a page's cells that a text spells, cell 0 first. A text of another length takes no memory.
+/// Returns the values of a page's cells that a text spells, cell 0 first. Allocates no memory for a text of the wrong
+/// length.
 pub(crate) fn read_contents(alloc: Global, text: &[u8], cells: u32) -> Result<Vec<u64>, FaultKind>
     ensures found { IfOk result (λ v. IsContent cells v.items × (text.now ≡ contents_text v.items)) }
     ensures refused { IfErr result (λ kind. kind ≢ FaultKind.Memory → (xs : List ℕ) → IsContent cells xs → text.now ≢ contents_text xs) }

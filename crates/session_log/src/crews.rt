@@ -1,4 +1,4 @@
-//! Who takes the pages and the records of a session many at once.
+//! Pools of workers that take many pages and records of a session at once.
 
 use crate::guest::GuestLines;
 use crate::lane::LaneLines;
@@ -11,7 +11,7 @@ use migration_types::{GuestRec, InitPage, LaneRec, LinkRec, PagerRec, SourceRec}
 use std::thread::Threads;
 use text_lines::{Alone, ItemCrew, Team, take_parts};
 
-/// A crew that takes the initial pages and the records of each log.
+/// A pool of workers that takes the initial pages and the records of each log.
 pub(crate) trait SessionCrew: ItemCrew<InitLines>
     + ItemCrew<Records<GuestLines>>
     + ItemCrew<Records<SourceLines>>

@@ -1,4 +1,4 @@
-//! Fields that several records' lines have.
+//! Fields that the lines of several records have.
 
 ghost use Rattle.std.specs.Prelude.{◌≡◌, ◌≢◌, ◌<◌, ◌≤◌, [], ◌++◌, List, ℕ, IfSome, IsSomeAnd, IfOk, IfErr};
 ghost use Rattle.std.specs.Fmt.{decimal};
@@ -13,7 +13,8 @@ use migration_types::{Contents, PageNo, Size};
 use std::alloc::Global;
 use text_lines::{FaultKind, after_key, number_last, read_cell};
 
-/// The number of a record behind a key at the front, and what follows. Nothing follows where the text is theirs alone.
+/// Returns the number of a record after a key at the front, and what follows. Nothing follows if the text is these
+/// alone.
 #[inline(always)]
 pub(crate) fn numbered_then<'a>(size: Size, text: &'a [u8], key: &[u8]) -> Option<(u32, &'a [u8])>
     ensures found { IfSome result (λ found. IsNumber size found.0 × (text.now ≡ key.now ++ (decimal found.0 ++ found.1.now))) }
@@ -23,7 +24,8 @@ pub(crate) fn numbered_then<'a>(size: Size, text: &'a [u8], key: &[u8]) -> Optio
     Some((number as u32, rest))
 }
 
-/// A page of so many behind a key at the front, and what follows. Nothing follows where the text is theirs alone.
+/// Returns a page, of this many, after a key at the front, and what follows. Nothing follows if the text is these
+/// alone.
 #[inline(always)]
 pub(crate) fn page_then<'a>(text: &'a [u8], key: &[u8], pages: u32) -> Option<(PageNo, &'a [u8])>
     requires some { 0 < pages }
@@ -35,7 +37,7 @@ pub(crate) fn page_then<'a>(text: &'a [u8], key: &[u8], pages: u32) -> Option<(P
     Some((PageNo::new(page as u32), rest))
 }
 
-/// The values of a page's cells that a text spells, cell 0 first. Those of one cell take no memory.
+/// Returns the values of a page's cells that a text spells, cell 0 first. Allocates no memory for a page of one cell.
 pub fn read_page_contents(alloc: Global, text: &[u8], cells: u32) -> Result<Contents, FaultKind>
     ensures found { IfOk result (λ xs. IsContent cells xs × (text.now ≡ contents_text xs)) }
     ensures refused { IfErr result (λ kind. kind ≢ FaultKind.Memory → (xs : List ℕ) → IsContent cells xs → text.now ≢ contents_text xs) }
@@ -50,8 +52,8 @@ pub fn read_page_contents(alloc: Global, text: &[u8], cells: u32) -> Result<Cont
     Ok(Contents::from_vec(values))
 }
 
-/// The values of a page's cells, of which there are so many, at the front, and what follows. Nothing follows where the
-/// text is theirs alone. Those of one cell take no memory.
+/// Returns the values of a page's cells, this many of them, at the front, and what follows. Nothing follows if the text
+/// is these alone. Allocates no memory for a page of one cell.
 #[inline(always)]
 pub(crate) fn contents_then(
     alloc: Global,

@@ -6,22 +6,22 @@ pub(crate) const SECOND_HEADER: &[u8] = b"postcopy-session 2";
 
 pub(crate) const THIRD_HEADER: &[u8] = b"postcopy-session 3";
 
-/// How the header is written.
+/// The forms of the header.
 pub(crate) const HEADER_FORMS: &[&str] = &[
     "postcopy-session 1",
     "postcopy-session 2",
     "postcopy-session 3",
 ];
 
-/// How the line with the number of pages begins.
+/// The beginning of the line with the number of pages.
 pub const PAGES_KEY: &[u8] = b"pages ";
 
-/// How the line with the number of cells begins.
+/// The beginning of the line with the number of cells.
 pub const CELLS_KEY: &[u8] = b"cells ";
 
-/// How the line with the number of initial pages begins.
+/// The beginning of the line with the number of initial pages.
 pub const INIT_KEY: &[u8] = b"init ";
 
-// An initial page.
+// The beginning of the line of an initial page.
 
 pub(crate) const PAGE_KEY: &[u8] = b"page ";

@@ -14,13 +14,13 @@ use migration_types::{LaneRec, Size};
 use std::alloc::AllocError;
 use text_lines::{FaultKind, push_keyed};
 
-/// How the line with the number of the lane's records begins.
+/// The beginning of the line with the number of the lane's records.
 pub const LANE_KEY: &[u8] = b"lane ";
 
-/// How the lane's records are written.
+/// The forms of the lane's records.
 pub(crate) const LANE_FORMS: &[&str] = &["down I"];
 
-/// The lines of the lane's log, which only the second version has, on a machine of this size.
+/// The lines of the lane's log, which only the second version has, for a machine of this size.
 #[derive(Clone, Copy)]
 pub(crate) struct LaneLines(pub Size);
 

@@ -1,4 +1,4 @@
-//! The lines that say how large a machine is.
+//! The lines that give the size of a machine.
 
 ghost use Rattle.std.specs.Prelude.{◌≡◌, ◌≢◌, ◌≤◌, ◌++◌, ℕ, IfOk, OnErr, IfErr};
 ghost use Rattle.std.specs.Fmt.{decimal};
@@ -10,7 +10,7 @@ use crate::keys::{CELLS_KEY, PAGES_KEY};
 use migration_types::{Geometry, MOST_CELLS, Size};
 use text_lines::{FaultKind, Wanted, read_keyed, read_some};
 
-/// The number of pages that a line says, 1 to as many as a machine of this size may have.
+/// Returns the number of pages that a line gives, from 1 to as many as a machine of this size may have.
 pub fn read_pages(size: Size, line: &[u8]) -> Result<u32, FaultKind>
     ensures found { IfOk result (λ n. (1 ≤ n) × (n ≤ (limits size).pages) × (line.now ≡ pages_key ++ decimal n)) }
     ensures refused { OnErr result ((n : ℕ) → 1 ≤ n → n ≤ (limits size).pages → line.now ≢ pages_key ++ decimal n) }
@@ -18,13 +18,13 @@ pub fn read_pages(size: Size, line: &[u8]) -> Result<u32, FaultKind>
     read_some(line, PAGES_KEY, size.limits().pages)
 }
 
-/// What may stand where the number of pages does.
+/// Returns what is allowed at the line with the number of pages.
 pub fn wanted_pages(size: Size) -> Wanted {
     Wanted::one("the number of pages", &["pages N"]).within(1, size.limits().pages)
 }
 
-/// The number of cells of each of so many pages that a line says, 1 to 512, and in all at most as many as a machine of this
-/// size may have.
+/// Returns the number of cells in each page that a line gives, from 1 to 512. All pages together have at most as many
+/// cells as a machine of this size may have.
 pub fn read_cells(size: Size, line: &[u8], pages: u32) -> Result<u32, FaultKind>
     ensures found { IfOk result (λ n. IsExtent (record { size = size; pages = pages; cells = n }) × (line.now ≡ cells_key ++ decimal n)) }
     ensures refused { OnErr result ((n : ℕ) → IsExtent (record { size = size; pages = pages; cells = n }) → line.now ≢ cells_key ++ decimal n) }
@@ -36,14 +36,14 @@ pub fn read_cells(size: Size, line: &[u8], pages: u32) -> Result<u32, FaultKind>
     }
 }
 
-/// What may stand where the number of cells does.
+/// Returns what is allowed at the line with the number of cells.
 pub fn wanted_cells(size: Size) -> Wanted {
     Wanted::one("the number of cells", &["cells N"])
         .within(1, MOST_CELLS)
         .under(few_cells(size))
 }
 
-/// How many cells a machine has at most.
+/// Returns the words for the greatest number of cells of a machine.
 fn few_cells(size: Size) -> &'static str {
     match size {
         Size::Small => "the cells of all pages are at most 1,048,576",

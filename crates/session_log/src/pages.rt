@@ -1,4 +1,4 @@
-//! Lines of the initial memory's pages.
+//! Lines of the pages of the initial memory.
 
 ghost use Rattle.std.specs.Prelude.{◌≡◌, ◌≢◌, ◌≤◌, ◌<◌, ◌↔◌, List, ℕ, IsTrue, IfOk, IfErr};
 ghost use Rattle.text_lines.specs.Contents.{contents_text};
@@ -16,7 +16,7 @@ use migration_types::{Contents, InitPage, PageNo};
 use std::alloc::{AllocError, Global};
 use text_lines::{Counted, FaultKind, LineForm, Wanted, after_key, next_line, number_then};
 
-/// The page that a line spells, for a page from `low` to `high` with so many cells, not all of them zero.
+/// Returns the page that a line spells, from `low` to `high`, with this many cells, not all of them zero.
 pub(crate) fn read_page(
     alloc: Global,
     line: &[u8],
@@ -44,7 +44,7 @@ pub(crate) fn read_page(
     })
 }
 
-/// The values of a page's cells, not all of them zero, that a text spells.
+/// Returns the values of a page's cells, not all of them zero, that a text spells.
 fn read_init_content(alloc: Global, text: &[u8], cells: u32) -> Result<Contents, FaultKind>
     ensures found { IfOk result (λ xs. IsInitContent cells xs × (text.now ≡ contents_text xs)) }
     ensures refused { IfErr result (λ kind. kind ≢ FaultKind.Memory → (xs : List ℕ) → IsInitContent cells xs → text.now ≢ contents_text xs) }
@@ -59,14 +59,14 @@ fn read_init_content(alloc: Global, text: &[u8], cells: u32) -> Result<Contents,
     Ok(values)
 }
 
-/// Whether all cells are zero.
+/// Returns whether all cells are zero.
 fn are_zeros(cells: &[u64]) -> bool
     ensures { IsTrue result ↔ AreZeros cells.now }
 {
     cells.iter().all(|&value| value == 0)
 }
 
-/// The least number that a page behind these may have.
+/// Returns the least number that a page after these may have.
 pub(crate) fn next_page(before: &[InitPage]) -> u32
     ensures { result ≡ next_from 0 before.now }
 {
@@ -76,13 +76,13 @@ pub(crate) fn next_page(before: &[InitPage]) -> u32
     }
 }
 
-/// What may stand where the number of initial pages of so many does.
+/// Returns what is allowed at the line with the number of initial pages, of a machine with this many pages.
 pub fn wanted_init_count(pages: u32) -> Wanted {
     Wanted::one("the number of initial pages", &["init N"]).within(0, pages)
 }
 
-/// What may stand where the next initial page of a machine with so many pages does: pages rise, and each leaves room for
-/// those to come.
+/// Returns what is allowed at the line of the next initial page, of a machine with this many pages. Page numbers rise,
+/// and each leaves room for those to come.
 pub fn wanted_init_page(init: &Counted<InitPage>, pages: u32) -> Wanted {
     let most = pages.saturating_sub(init.left());
     Wanted::one("an initial page", &["page N HEX"])
@@ -90,7 +90,7 @@ pub fn wanted_init_page(init: &Counted<InitPage>, pages: u32) -> Wanted {
         .under("no page has contents of zeros alone")
 }
 
-/// The lines of the initial pages, of which the next is at most the page `high`.
+/// The lines of the initial pages. The next page is at most `high`.
 #[derive(Clone, Copy)]
 pub struct InitLines {
     pub sizes: Sizes,

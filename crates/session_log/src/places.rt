@@ -1,4 +1,4 @@
-//! Where records stand in a session's text.
+//! The lines of records in a session's text.
 
 ghost use Rattle.std.specs.Prelude.{◌≡◌, ◌<◌, ◌-◌, slice_get};
 ghost use Rattle.migration_types.specs.Sessions.{line_of, log_length};
@@ -6,8 +6,8 @@ ghost use Rattle.session_log.specs.Grammar.{session_lines, record_line};
 
 use migration_types::{LogName, Session};
 
-/// Tells callers that at the line that `migration_types::line_of` answers, counted from 1, a session's text has the
-/// record: the one at a place, counted from 0, of a log.
+/// A law: the line that `migration_types::line_of` returns, counted from 1, is the line of the record in a session's
+/// text. The record's place in its log counts from 0. Runs nothing.
 #[tactic(auto, using(crate::proofs::RecordLines::line_at))]
 pub fn has_its_line(session: &Session, log: LogName, place: u32)
     requires { place < log_length session.now log }

@@ -1,31 +1,32 @@
-//! Lines of a log's records, whatever the log.
+//! Lines of a log's records, for any log.
 
 ghost use Rattle.std.specs.Prelude.{◌≡◌, ◌≢◌, [], ◌∷◌, ◌++◌, List, ℕ, IfOk, IfErr, IfSome, OnOk};
 
 use std::alloc::AllocError;
 use text_lines::{FaultKind, LineForm, after_end};
 
-/// How the records of a log are written, whatever stands before them.
+/// The form of a log's records, which does not depend on the records before.
 pub(crate) trait RecordForm: Sync + Drop {
     type Record: Send + Drop;
 
     /// The line of a record.
     ghost spell: { Self.Record → List ℕ };
 
-    /// What a form has to be, as one for a machine within its limits.
+    /// What every form must satisfy, such as having a machine within its limits.
     ghost IsForm: { Self → Type 0 };
 
-    /// A record may stand there.
+    /// The record is allowed in the log.
     ghost Fits: { Self → Self.Record → Type 0 };
 
-    /// The record at the front, and what follows. Nothing follows where the text is its line alone.
+    /// Returns the record at the front, and what follows. Nothing follows if the text is that line alone.
     fn record_then<'a>(&self, text: &'a [u8]) -> Result<(Self::Record, &'a [u8]), FaultKind>
         requires { IsForm self.now }
         ensures found { IfOk result (λ found. Fits self.now found.0 × (text.now ≡ spell found.0 ++ found.1.now)) }
         ensures refused { IfErr result (λ kind. kind ≢ FaultKind.Memory → (r : Self.Record) → Fits self.now r → text.now ≢ spell r) }
         ensures whole { IfOk result (λ found. (r : Self.Record) → Fits self.now r → text.now ≡ spell r → found.1.now ≡ []) };
 
-    /// The record at the front of a text of whole lines, and what follows its line. It may answer `None` at any text.
+    /// Returns the record at the front of a text of whole lines, and what follows its line. May return `None` for any
+    /// text.
     #[inline(always)]
     fn front<'a>(&self, text: &'a [u8]) -> Option<(Self::Record, &'a [u8])>
         requires { IsForm self.now }
@@ -35,7 +36,7 @@ pub(crate) trait RecordForm: Sync + Drop {
         Some((record, after_end(rest)?))
     }
 
-    /// Adds the line of a record.
+    /// Appends the line of a record.
     fn push(rec: &Self::Record, out: &mut Vec<u8>) -> Result<(), AllocError>
         ensures { OnOk result (out.new.items ≡ out.old.items ++ (spell rec.now ++ 10 ∷ [])) };
 }

@@ -1,4 +1,4 @@
-//! The line of a record, by what the record consists of.
+//! The line of a record, made from what the record consists of.
 
 ghost use Rattle.std.specs.Prelude.{◌≡◌, ◌++◌, None, OnOk};
 ghost use Rattle.migration_types.specs.declared.records.GuestRec.{GuestRec};
@@ -14,7 +14,7 @@ use migration_types::{Field, Row};
 use std::alloc::AllocError;
 use text_lines::push_number;
 
-/// A record's line is its word, with a space before each of its fields and before its contents.
+/// A law: a record's line is its word, with a space before each of its fields and before its contents.
 pub fn lines_follow()
     ensures guest { (r : GuestRec) → guest_line r ≡ row_line (guest_row r) None }
     ensures source { (r : SourceRec) → source_line r ≡ row_line (source_row r) (source_contents r) }
@@ -23,7 +23,7 @@ pub fn lines_follow()
     ensures pager { (r : PagerRec) → pager_line r ≡ row_line (pager_row r) (pager_contents r) }
 {}
 
-/// Adds each field behind a space.
+/// Appends each field after a space.
 #[tactic(auto, using(crate::proofs::RowLines::first_text))]
 fn push_fields(out: &mut Vec<u8>, fields: &[Field]) -> Result<(), AllocError>
     ensures { OnOk result (out.new.items ≡ out.old.items ++ fields_text fields.now None) }
@@ -35,7 +35,7 @@ fn push_fields(out: &mut Vec<u8>, fields: &[Field]) -> Result<(), AllocError>
     Ok(())
 }
 
-/// Adds the line of a record, without its contents. An error: there is no memory for it.
+/// Appends the line of a record, without its contents. Fails only if memory runs out.
 pub fn push_row(out: &mut Vec<u8>, row: &Row) -> Result<(), AllocError>
     ensures { OnOk result (out.new.items ≡ out.old.items ++ row_line row.now None) }
 {

@@ -1,4 +1,4 @@
-//! What a session's text has by its version and its size.
+//! What the version and the size decide in a session's text.
 
 ghost use Rattle.std.specs.Prelude.{◌≡◌, ◌≢◌, [], ◌++◌, IfSome, IfNone, OnOk};
 ghost use Rattle.migration_types.specs.declared.version.Version.{Version as Of};
@@ -14,8 +14,8 @@ use migration_types::{Session, Size, Version};
 use std::alloc::AllocError;
 use text_lines::{is_line, push_counted};
 
-/// The first line of the text of a session of this version and size. There is no session of the first version and the large
-/// size, and so no line.
+/// Returns the first line of the text of a session of this version and size. It is empty for the first version with the
+/// large size, which no session has.
 pub fn session_header(version: Version, size: Size) -> &'static [u8]
     ensures { result.now ≡ header version size }
 {
@@ -27,7 +27,7 @@ pub fn session_header(version: Version, size: Size) -> &'static [u8]
     }
 }
 
-/// The version and the size whose sessions have this first line.
+/// Returns the version and the size whose sessions have this first line.
 #[tactic(auto, using(crate::proofs::ByVersion::no_header))]
 pub fn read_header(line: &[u8]) -> Option<(Version, Size)>
     ensures found { IfSome result (λ told. HasSize told.0 told.1 × (line.now ≡ header told.0 told.1)) }
@@ -45,7 +45,7 @@ pub fn read_header(line: &[u8]) -> Option<(Version, Size)>
     None
 }
 
-/// Adds the lines of the lane's log, where the version has it.
+/// Appends the lines of the lane's log, if the version has one.
 pub(crate) fn push_lane(out: &mut Vec<u8>, session: &Session) -> Result<(), AllocError>
     ensures { OnOk result (out.new.items ≡ out.old.items ++ ended (with_lane session.now.version session.now.lane [])) }
 {

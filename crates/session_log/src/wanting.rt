@@ -1,4 +1,4 @@
-//! What may stand at each line of a session's text.
+//! What is allowed at each line of a session's text.
 
 ghost use Rattle.session_log.specs.inner.Held.{Live};
 ghost use Rattle.session_log.specs.inner.Steps.{draft_of};
@@ -16,7 +16,7 @@ use migration_types::{Size, Version};
 use text_lines::Wanted;
 
 impl Parts {
-    /// What may stand at the next line.
+    /// Returns what is allowed at the next line.
     pub(crate) fn wanted_at(&self, stage: Stage) -> Wanted
         requires { Live stage (draft_of self.now) }
     {
@@ -30,7 +30,7 @@ impl Parts {
             .of_logs(self.sizes.size.limits().records)
     }
 
-    /// The next item of a stage's list.
+    /// Expects the next item of a stage's list.
     fn wanted_item(&self, stage: Stage) -> Wanted {
         match stage {
             Stage::Init => wanted_init_page(&self.init, self.sizes.pages),
@@ -43,7 +43,7 @@ impl Parts {
         }
     }
 
-    /// The line behind all that a stage has.
+    /// Expects the line after all lines of a stage.
     fn wanted_behind(&self, stage: Stage) -> Wanted {
         match stage {
             Stage::Header => Wanted::one("the header of a session", HEADER_FORMS),
@@ -63,17 +63,17 @@ impl Parts {
         }
     }
 
-    /// The number of a log's records.
+    /// Expects the number of a log's records.
     fn records_of(&self, what: &'static str, forms: &'static [&'static str]) -> Wanted {
         Wanted::one(what, forms).within(0, self.sizes.size.limits().records)
     }
 
-    /// The number of the pager's records.
+    /// Expects the number of the pager's records.
     fn wanted_pager_count(&self) -> Wanted {
         self.records_of("the number of the pager's records", &["pager N"])
     }
 
-    /// The same, in a stage's list or behind its last item.
+    /// Adds the place in a stage's list, or after its last item.
     fn in_list(&self, stage: Stage, wanted: Wanted) -> Wanted {
         let at = self.count_line(stage);
         match stage {
@@ -87,7 +87,7 @@ impl Parts {
         }
     }
 
-    /// The line that says how many items a stage's list has.
+    /// Returns the line that gives the number of items in a stage's list.
     fn count_line(&self, stage: Stage) -> u32 {
         let init = 4;
         let guest = line_behind(init, self.init.came());
@@ -110,7 +110,7 @@ impl Parts {
     }
 }
 
-/// Which sessions have more pages than those of a size.
+/// Returns the words for the sessions that have more pages than those of a size.
 fn more_pages(size: Size) -> &'static str {
     match size {
         Size::Small => "postcopy-session 3 has up to 16777216",
@@ -118,7 +118,7 @@ fn more_pages(size: Size) -> &'static str {
     }
 }
 
-/// The line behind a list's items, where its number stands at this line.
+/// Returns the line after a list's items, whose number is at this line.
 fn line_behind(count_line: u32, items: u32) -> u32 {
     count_line.saturating_add(items).saturating_add(1)
 }

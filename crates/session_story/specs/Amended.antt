@@ -1,4 +1,5 @@
--- What stands in a faulty record beside what is right, which uses of its page are told, and whether each order shows it.
+-- What is wrong in a faulty record and what would be right, which uses of its page the story tells, and whether each
+-- order shows the fault.
 use Rattle.std.specs.Prelude.{ℕ, Bool, false, ◌==◌, ◌&&◌, ◌||◌, List, Option, Some, None, slice_get}
 use Rattle.migration_types.specs.declared.records.LogName.TheVariants.{Guest, Source, Pager}
 use Rattle.migration_types.specs.declared.records.GuestRec.{GuestRec}
@@ -21,7 +22,7 @@ use Rattle.session_story.specs.declared.topics.Told.{Told}
 use Rattle.session_story.specs.Concerned.{given_in}
 use Rattle.session_story.specs.Topics.{fault_in, page_in}
 
--- the value of a cell in contents, if there are some
+-- the value of a cell in contents, if there are any
 abbrev pub cell_in : Option (List ℕ) → ℕ → Option ℕ
 cell_in None cell = None
 cell_in (Some contents) cell = slice_get contents cell
@@ -30,14 +31,14 @@ abbrev pub read_value : GuestRec → Option ℕ
 read_value (Read vcpu page cell value) = Some value
 read_value rec = None
 
--- the value that a record has: a read the one that it gives, a record with contents that of the cell
+-- the value that a record has: for a read, the one that it gives; for a record with contents, that of the cell
 abbrev pub value_at : Recorded → Name → ℕ → Option ℕ
 value_at s (Guest, n) cell = if_there read_value (slice_get s.guest n)
 value_at s (Source, n) cell = cell_in (if_there source_contents (slice_get s.source n)) cell
 value_at s (Pager, n) cell = cell_in (if_there pager_contents (slice_get s.pager n)) cell
 value_at s name cell = None
 
--- what is told of a cell, if something is
+-- what the story says about a cell, if anything
 abbrev pub held_in : Detail → Option Held
 held_in (Instead held) = held
 held_in (Other held) = held
@@ -55,7 +56,7 @@ abbrev pub amended_for : Recorded → Option FaultStory → Option Amended
 amended_for s None = None
 amended_for s (Some story) = amended_in s story (held_in story.detail)
 
--- the value that is wrong in the faulty record, and the right one
+-- the wrong value in the faulty record, and the right one
 abbrev pub amended_by : Recorded → Told → Option Amended
 amended_by s told = amended_for s (fault_in told)
 
@@ -69,7 +70,7 @@ abbrev pub is_number : Option ℕ → ℕ → Bool
 is_number None n = false
 is_number (Some m) n = m == n
 
--- whether the guest's record of this number is told of
+-- whether the story of a fault tells the guest's record of this number
 abbrev pub tells_in : FaultStory → ℕ → Bool
 tells_in story n =
     (same_log story.fault.log Guest && (story.fault.place == n))
@@ -82,7 +83,7 @@ abbrev pub tells_for : Option FaultStory → ℕ → Bool
 tells_for None n = false
 tells_for (Some story) n = tells_in story n
 
--- whether the guest's record of this number is told of in what became of a page
+-- whether the story of a page tells the guest's record of this number
 abbrev pub tells_on : Option PageTold → ℕ → Bool
 tells_on None n = false
 tells_on (Some t) n = is_number t.story.changed n || is_number t.story.found.touch n
@@ -90,7 +91,7 @@ tells_on (Some t) n = is_number t.story.changed n || is_number t.story.found.tou
 abbrev pub tells_of : Told → ℕ → Bool
 tells_of told n = tells_for (fault_in told) n || tells_on (page_in told) n
 
--- whether every order of the records shows the fault that is told
+-- whether every order of the records shows the fault of the story
 abbrev pub is_always_wrong : Explanation → Bool
 is_always_wrong (told.Faulty story more) = story.in_every_order
 is_always_wrong other = false

@@ -1,4 +1,4 @@
--- The other record that is told of a fault: the one that it concerns.
+-- The other record in the story of a fault: the one that the fault concerns.
 use Rattle.std.specs.Prelude.{ℕ, ◌==◌, Bool, false, List, [], ◌∷◌, Option, Some, None, slice_get, if◌then◌else◌}
 use Rattle.migration_types.specs.declared.records.LogName.{LogName}
 use Rattle.migration_types.specs.declared.records.LogName.TheVariants.{Guest, Source, Pager}
@@ -28,7 +28,7 @@ abbrev pub named_in : LogName → Option ℕ → Option Name
 named_in log None = None
 named_in log (Some n) = Some (log, n)
 
--- the number of the guest's record that gave a cell the value that is told of
+-- the number of the guest's record that gave a cell its value in the story
 abbrev pub given_in : Detail → Option ℕ
 given_in (Instead (Some held)) = held.by
 given_in (Other (Some held)) = held.by
@@ -37,9 +37,10 @@ given_in detail = None
 abbrev pub giver_of : Detail → Option Name
 giver_of detail = named_in Guest (given_in detail)
 
--- Of a fault with this reason: of a wrong value what gave the right one, of a page that must not be sent, or not be
--- placed as zeros, its last change before the halt, of an early use or a second placement the first placement, of other
--- contents than were sent the `send`, and of a placement over a release this release.
+-- The record that a fault with this reason concerns. For a wrong value, the record that gave the right one. For a page
+-- that must not be sent, or not be placed as zeros, its last change before the halt. For an early use or a second
+-- placement, the first placement. For other contents than were sent, the `send`. For a placement over a release, this
+-- release.
 abbrev pub concerned_for : PageReason → FaultStory → Option Name
 concerned_for page.Read story = giver_of story.detail
 concerned_for page.Stale story = giver_of story.detail
@@ -53,7 +54,7 @@ concerned_for page.Over story = named_in Guest story.page.found.touch
 abbrev pub concerned_by : FaultStory → Option Name
 concerned_by story = concerned_for story.fault.reason story
 
--- the record that the fields name first, if they name one
+-- the first record that the fields name, if they name one
 abbrev pub named_among : List Field → Option Name
 named_among [] = None
 named_among (field.Number log n ∷ fields) = Some (log, n)
@@ -76,8 +77,8 @@ abbrev pub is_number : ℕ → Option ℕ → Bool
 is_number n None = false
 is_number n (Some m) = m == n
 
--- The record of the handover that the guest's record n has to heed: a second halt or resume the first, the first resume the
--- halt, what needs the target the resume, and anything else the halt.
+-- The record of the handover that the guest's record n must take into account: for a second halt or resume, the first;
+-- for the first resume, the halt; for what needs the target, the resume; and for anything else, the halt.
 abbrev pub heeded : Handover → ℕ → Option GuestRec → Option ℕ
 heeded h n (Some (guest.Resume ready)) = if is_number n h.resume then h.halt else h.resume
 heeded h n (Some (guest.Miss vcpu page)) = h.resume
@@ -92,7 +93,7 @@ resumed_for reason h = None
 abbrev pub resumed_by : ShapeStory → Option ℕ
 resumed_by story = resumed_for story.fault.reason story.handover
 
--- of a record with this fault of its shape
+-- the record that this fault of a record's shape concerns
 abbrev pub shape_concerned_for : Recorded → ShapeReason → ShapeStory → Option Name
 shape_concerned_for s shape.Phases story = named_in Guest (heeded story.handover story.fault.place (slice_get s.guest story.fault.place))
 shape_concerned_for s shape.Named story = named_by s (story.fault.log, story.fault.place)
@@ -107,7 +108,7 @@ abbrev pub concerned_in : Option FaultStory → Option Name
 concerned_in None = None
 concerned_in (Some story) = concerned_by story
 
--- the record that is told besides the faulty one, as the one that its fault concerns
+-- the record that the story tells besides the faulty one, because the fault concerns it
 abbrev pub concerned_of : Recorded → Told → Option Name
 concerned_of s (told.Report (explained.Shape story)) = shape_concerned_by s story
 concerned_of s t = concerned_in (fault_in t)

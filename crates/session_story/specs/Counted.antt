@@ -1,4 +1,4 @@
--- How many pages came in which way, and how much else there is of a session.
+-- The counts of a session: how many pages came in which way, and how many records there are of some kinds.
 use Rattle.std.specs.Prelude.{◌≡◌, ℕ, Bool, true, false, not, ◌==◌, ◌&&◌, ◌||◌, List, length, Option, Some, None, slice_get}
 use Rattle.migration_types.specs.declared.cert.Entry.{Entry}
 use Rattle.migration_types.specs.declared.cert.Entry.TheVariants.{Nothing, Source, Balloon}
@@ -48,7 +48,7 @@ abbrev pub is_skip : PagerRec → Bool
 is_skip (Skip got) = true
 is_skip _ = false
 
--- the page that the pager's record asks for, that a delivery up asks for, and that the source is asked for
+-- the page that the pager's record asks for, that a delivery up asks for, and that a record asks the source for
 abbrev pub wanted : PagerRec → Option ℕ
 wanted (Want page) = Some page
 wanted _ = None
@@ -61,21 +61,21 @@ abbrev pub asked_for : Recorded → SourceRec → Option ℕ
 asked_for s (Ask up) = if_there (brought s) (slice_get s.link up)
 asked_for s _ = None
 
--- whether the page is asked for behind the source's record, by whether it was before: an `ask` asks for it, and its `send`
--- answers that
+-- whether the page is asked for after the source's record, given whether it was before: an `ask` asks for it, and its
+-- `send` answers that
 abbrev pub asked_after : Recorded → ℕ → SourceRec → Bool → Bool
 asked_after s page r asked = passes (λ p. p == page) (asked_for s r) || (asked && not (is_send_of page r))
 
--- whether an `ask` for the page stands before the source's record n, and no `send` between answered it
+-- whether an `ask` for the page comes before the source's record n, with no `send` between that answers it
 abbrev pub was_asked : Recorded → ℕ → ℕ → Bool
 was_asked s page n = before (asked_after s page) false s.source n
 
--- a `send` that does not answer a question for its page
+-- whether this is a `send` that does not answer a request for its page
 abbrev pub is_push : Recorded → ℕ → SourceRec → Bool
 is_push s n (Send page content) = not (was_asked s page n)
 is_push s n _ = false
 
--- the counts of a session, by its records and by the entries of its certificate
+-- the counts of a session, given its records and the entries of its certificate
 pub record IsCounts (s : Recorded) (entries : List Entry) (c : Counts) : Type 0 where
   pub unmoved : c.unmoved ≡ how_many (λ m. is_unmoved) entries (length entries)
   pub fresh : c.fresh ≡ how_many (λ m. is_fresh) entries (length entries)

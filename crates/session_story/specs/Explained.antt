@@ -1,4 +1,4 @@
--- What is told of a session, by the report on it.
+-- The story of the report on a session.
 use Rattle.std.specs.Prelude.{◌≡◌, ℕ, ◌+◌, ◌<◌, Bool, true, false, not, ◌&&◌, nat_le, is_some, Decides, List, length, MatchOption, Option, Some, None, slice_get, slice_index}
 use Rattle.migration_types.specs.declared.records.LogName.{LogName}
 use Rattle.migration_types.specs.declared.records.LogName.TheVariants.{Guest}
@@ -40,7 +40,7 @@ use Rattle.session_story.specs.declared.explaining.Explanation.{Explanation}
 use Rattle.session_story.specs.declared.explaining.Explanation.TheVariants as told
 use Rattle.cert_check.specs.declared.verdict.ShapeFault.{ShapeFault}
 
--- where these contents are not the page's at the halt, the first cell of them that is not
+-- if these contents differ from the page's at the halt, the first cell that differs
 abbrev pub IsOtherIn : Recorded → ℕ → List ℕ → Option Held → Type 0
 IsOtherIn s page content held =
     MatchOption held ((c : ℕ) → c < s.geometry.cells → slice_index content c ≡ flat s (at_halt s) page c) (IsOther s page content)
@@ -49,9 +49,9 @@ IsOtherIn s page content held =
 abbrev pub IsLookBeforeTouch : Recorded → ℕ → Option Look → Type 0
 IsLookBeforeTouch s page look = (first : ℕ) → first_before (is_late_touch s page) s.guest (length s.guest) ≡ Some first → IsFurthestLook s first look
 
--- What is told besides: of a wrong read what one machine gives, of an early access the look that reached furthest
--- before it, of contents that are not the page's the first cell that is not, of a placement over a release the look
--- that reached furthest before this release.
+-- What the story says besides. For a wrong read, what one machine gives. For an early access, the look that reached
+-- furthest before it. For contents that are not the page's, the first cell that differs. For a placement over a
+-- release, the look that reached furthest before this release.
 abbrev pub IsDetail : Recorded → PageReason → LogName → ℕ → ℕ → Detail → Type 0
 IsDetail s WrongRead log n page (Instead held) = (vcpu cell value : ℕ) → slice_get s.guest n ≡ Some (Read vcpu page cell value) → MatchOption held ⊥ (IsInstead s n page cell)
 IsDetail s Early log n page (Seen look) = IsFurthestLook s n look
@@ -63,14 +63,14 @@ IsDetail s Twice log n page Plain = Unit {0}
 IsDetail s Unfit log n page Plain = Unit {0}
 IsDetail s reason log n page detail = ⊥
 
--- the first `send` of the page has other contents than the page has at the halt, at this cell first
+-- The first `send` of the page has contents that differ from the page's at the halt, first at this cell.
 pub record IsWrongSend (s : Recorded) (page : ℕ) (w : Wrong) : Type 0 where
   pub content : List ℕ
   pub is_first : first_before (λ m. is_send_of page) s.source (length s.source) ≡ Some w.place
   pub sends : slice_get s.source w.place ≡ Some (Send page content)
   pub other : IsOther s page content w.held
 
--- the first placement of the page is a `place` with other contents than the page has at the halt, at this cell first
+-- The first placement of the page is a `place` whose contents differ from the page's at the halt, first at this cell.
 pub record IsWrongPlacement (s : Recorded) (page : ℕ) (w : Wrong) : Type 0 where
   pub got : ℕ
   pub content : List ℕ
@@ -78,14 +78,14 @@ pub record IsWrongPlacement (s : Recorded) (page : ℕ) (w : Wrong) : Type 0 whe
   pub places : slice_get s.pager w.place ≡ Some (Place page got content)
   pub other : IsOther s page content w.held
 
--- there is no such `send`, and no such placement
+-- there is no such `send`; there is no such placement
 abbrev pub IsSentRight : Recorded → ℕ → Type 0
 IsSentRight s page = (w : Wrong) → IsWrongSend s page w → ⊥
 
 abbrev pub IsPlacedRight : Recorded → ℕ → Type 0
 IsPlacedRight s page = (w : Wrong) → IsWrongPlacement s page w → ⊥
 
--- the page is never placed, and its first use at the target, which makes it no zeros, needs it
+-- whether the page is never placed, and is needed by its first use at the target, which is not a release
 abbrev pub unplaced : Option ℕ → Option ℕ → Bool → Bool
 unplaced placement touch releases = not (is_some placement) && is_some touch && not releases
 
@@ -99,8 +99,8 @@ first_touch s page = first_before (is_late_touch s page) s.guest (length s.guest
 abbrev pub IsUnplaced : Recorded → ℕ → Type 0
 IsUnplaced s page = unplaced (first_before (λ m. is_placement_of page) s.pager (length s.pager)) (first_touch s page) (releases_at s (first_touch s page)) ≡ true
 
--- What went wrong with a page first: its sending; where that is right its placement, whose contents are then not those
--- that were sent; or that it has none.
+-- What first went wrong with a page: its sending; or, if that is right, its placement, whose contents then differ from
+-- those that were sent; or that it has no placement.
 abbrev pub IsWrong : Recorded → ℕ → Cause → Type 0
 IsWrong s page (Sent w) = IsWrongSend s page w
 IsWrong s page (Placed w) = IsSentRight s page × IsWrongPlacement s page w
@@ -115,30 +115,30 @@ abbrev pub is_read : PageReason → Bool
 is_read WrongRead = true
 is_read _ = false
 
--- it is a wrong read at the target, and this went wrong with its page first
+-- this is a wrong read at the target, and this first went wrong with its page
 pub record IsCause (s : Recorded) (reason : PageReason) (n page : ℕ) (c : Cause) : Type 0 where
   pub reads : is_read reason ≡ true
   pub is_late : is_used_by (first_touch s page) n ≡ true
   pub wrong : IsWrong s page c
 
--- the cause that is told, or there is none
+-- the cause in the story, or there is none
 abbrev pub IsToldCause : Recorded → PageReason → ℕ → ℕ → Option Cause → Type 0
 IsToldCause s reason n page cause = MatchOption cause ((c : Cause) → IsCause s reason n page c → ⊥) (IsCause s reason n page)
 
--- Whether each order shows a fault: an early use where in none a placement of its page stands before it, a placement over
--- a release where in none a placement of the page stands before this release, and any other fault.
+-- Whether each order shows a fault. An early use: if no order has a placement of its page before it. A placement over a
+-- release: if no order has a placement of the page before this release. Any other fault: always.
 abbrev pub IsInEveryOrder : Recorded → PageReason → ℕ → ℕ → Type 0
 IsInEveryOrder s Early n page = (order : List Name) → IsMerging s order → UnplacedBefore s order page (Guest, n)
 IsInEveryOrder s Over n page = (release : ℕ) → first_touch s page ≡ Some release → (order : List Name) → IsMerging s order → UnplacedBefore s order page (Guest, release)
 IsInEveryOrder s reason n page = Unit {0}
 
--- Of a session of the right shape it is told that each order shows the fault exactly where each does, and in each the
--- demand at the faulty record fails then.
+-- For a session of the right shape, the story says that each order shows the fault exactly when each does, and then the
+-- demand at the faulty record fails in each.
 pub record IsToldOfOrders (s : Recorded) (f : FaultStory) : Type 0 where
   pub exactly : IsRightShape s → Decides f.in_every_order (IsInEveryOrder s f.fault.reason f.fault.place f.page.page)
   pub breaks : IsRightShape s → f.in_every_order ≡ true → (order : List Name) → IsMerging s order → BreaksAt s order (f.fault.log, f.fault.place)
 
--- the story of a fault of a page: what became of the page, and what is told of the fault
+-- The story of a fault of a page: the story of the page, and what the story says about the fault.
 pub record IsFaultStory (s : Recorded) (f : FaultStory) : Type 0 where
   pub is_of : page_at s (f.fault.log, f.fault.place) ≡ Some f.page.page
   pub page : IsPageStory s f.page.page f.page
@@ -147,18 +147,18 @@ pub record IsFaultStory (s : Recorded) (f : FaultStory) : Type 0 where
   pub cause : IsToldCause s f.fault.reason f.fault.place f.page.page f.cause
   pub orders : IsToldOfOrders s f
 
--- the story of the report's fault, which is the session's first of a page and stands at this line
+-- The story of the report's fault, which is the session's first fault of a page and is at this line.
 pub record IsReportedStory (s : Recorded) (line : ℕ) (fault : PageFault) (f : FaultStory) : Type 0 where
   pub is_line : line ≡ line_of s (fault.log, fault.place)
   pub is_fault : f.fault ≡ fault
   pub is_first : IsFirstPageFault s fault.reason (fault.log, fault.place)
   pub story : IsFaultStory s f
 
--- so many pages have a fault beside the one of the session's first
+-- this many pages have a fault besides that of the session's first fault
 abbrev pub AreMoreFaulty : Recorded → ℕ → Type 0
 AreMoreFaulty s more = AreManyFaulty s (more + 1)
 
--- the first record that has not the right shape, and what was of its kind before
+-- the first record that does not have the right shape, and the earlier records of its kind
 pub record IsShapeStory (s : Recorded) (fault : ShapeFault) (t : ShapeStory) : Type 0 where
   pub is_line : fault.line ≡ line_of s (fault.log, fault.place)
   pub is_fault : t.fault ≡ fault
@@ -166,7 +166,7 @@ pub record IsShapeStory (s : Recorded) (fault : ShapeFault) (t : ShapeStory) : T
   pub handover : IsHandover s t.handover
   pub sent : t.sent ≡ sent_before s (fault.log, fault.place)
 
--- what is told of a session with this report
+-- the story of a session with this report
 abbrev pub IsExplanation : Recorded → Report → Explanation → Type 0
 IsExplanation s (report.Shape fault) (told.Shape story) = IsShapeStory s fault story
 IsExplanation s (report.Knot left found) (told.Knot knot) = IsCircle s knot

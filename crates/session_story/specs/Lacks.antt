@@ -1,4 +1,4 @@
--- The sentences that tell what a session lacks that tells of no whole migration.
+-- The sentences about what a session lacks that does not tell of a whole migration.
 use Rattle.std.specs.Prelude.{ℕ, List, [], ◌∷◌, ◌++◌, length, Option, Some, None}
 use Rattle.std.specs.Option.{option_map}
 use Rattle.migration_types.specs.declared.records.LogName.TheVariants.{Guest, Source, Link, Lane, Pager}
@@ -16,12 +16,12 @@ use Rattle.session_story.specs.Sentences.{listed}
 use Rattle.session_story.specs.declared.sentences.Sentence.{Sentence}
 use Rattle.session_story.specs.declared.sentences.Sentence.TheVariants as say
 
--- the first of these records that is there
+-- the first of these records that exists
 abbrev pub or_else : Option Name → Option Name → Option Name
 or_else None other = other
 or_else (Some name) other = Some name
 
--- how far a page came: to the pager, or else to a delivery of the link, or of the lane, or to the source's sending
+-- how far a page came: to the pager, or else to a delivery by the link, or by the lane, or to the source's sending
 abbrev pub furthest : Option ℕ → Option ℕ → Option ℕ → Option ℕ → Option Name
 furthest got delivered by_lane sent =
     or_else (named_in Pager got) (or_else (named_in Link delivered) (or_else (named_in Lane by_lane) (named_in Source sent)))
@@ -42,7 +42,7 @@ started_of back = option_map (λ n. say.StartedAgainAt n) back
 abbrev pub said_of : Option ℕ → Option Sentence
 said_of said = option_map (λ n. say.SaidAt n) said
 
--- what a session lacks
+-- the sentences about what a session lacks
 unfoldable pub lack_told : Recorded → Missing → List Sentence
 lack_told s missing.Halt = say.NeverHalted ∷ []
 lack_told s missing.Returned = say.Returned ∷ [] ++ listed (started_of (first_before (λ m. is_back) s.source (length s.source)))

@@ -4,11 +4,11 @@ use Rattle.migration_types.specs.declared.records.GuestRec.TheVariants.{See}
 use Rattle.migration_types.specs.Sessions.{Recorded}
 use Rattle.session_story.specs.declared.looks.Look.{Look}
 
--- no look stands before guest record n
+-- there is no look before guest record n
 abbrev pub HasNoLook : Recorded → ℕ → Type 0
 HasNoLook s n = (m k : ℕ) → m < n → slice_get s.guest m ≡ Some (See k) → ⊥
 
--- of the looks before guest record n the one at the greatest record of the pager, and of several the first
+-- of the looks before guest record n, the one at the greatest record of the pager, and the first if there are several
 pub record IsGreatestLook (s : Recorded) (n : ℕ) (l : Look) : Type 0 where
   pub is_look : slice_get s.guest l.place ≡ Some (See l.placement)
   pub is_before : l.place < n

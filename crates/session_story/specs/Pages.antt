@@ -25,7 +25,7 @@ changes page (Write vcpu p cell value) = p == page
 changes page (Release vcpu p) = p == page
 changes page _ = false
 
--- whether guest record n reads or writes some page behind the record of this number
+-- whether guest record n reads or writes some page after the record of this number
 abbrev pub is_access_after : ℕ → ℕ → GuestRec → Bool
 is_access_after resume n (Read vcpu p cell value) = nat_lt resume n
 is_access_after resume n (Write vcpu p cell value) = nat_lt resume n
@@ -49,8 +49,8 @@ pub record IsHandover (s : Recorded) (h : Handover) : Type 0 where
   pub resume : h.resume ≡ first_before (λ m. is_resume) s.guest (length s.guest)
 
 -- The last change of the page before the halt, its `send`, the first delivery of that packet by the link and by the
--- lane, the first record of the pager that takes one, and what the logs say of the page's placements, of its uses and
--- of the looks at it.
+-- lane, the first record of the pager that takes one, and what the logs say about the page's placements, its uses and
+-- the looks at it.
 pub record IsPageStory (s : Recorded) (page : ℕ) (t : PageStory) : Type 0 where
   pub page_is : t.page ≡ page
   pub changed : t.changed ≡ last_before (λ m. changes page) s.guest (at_halt s)
@@ -60,12 +60,12 @@ pub record IsPageStory (s : Recorded) (page : ℕ) (t : PageStory) : Type 0 wher
   pub got : t.got ≡ first_before (λ m r. delivers s (is_send_of page) m) s.pager (length s.pager)
   pub found : IsFindings s page t.found
 
--- the number, where it is below n
+-- the number, if it is below n
 abbrev pub below : ℕ → Option ℕ → Option ℕ
 below n None = None
 below n (Some m) = if nat_lt m n then Some m else None
 
--- where source record n is a `send`, the first one of its page, if that stands before it
+-- if source record n is a `send`, the first one of its page, if that comes before it
 abbrev pub sent_before_by : List SourceRec → ℕ → Option SourceRec → Option ℕ
 sent_before_by source n (Some (Send page content)) = below n (first_before (λ m. is_send_of page) source (length source))
 sent_before_by source n _ = None

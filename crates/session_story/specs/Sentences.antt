@@ -1,4 +1,4 @@
--- The sentences that tell what happened in a session: which, one after the other, of which records, and with which numbers.
+-- The sentences of stories: which, in which order, about which records, and with which numbers.
 use Rattle.std.specs.Prelude.{ℕ, Bool, true, false, not, ◌==◌, ◌+◌, ◌&&◌, ◌||◌, nat_lt, is_some, List, [], ◌∷◌, ◌++◌, Option, Some, None, length, slice_get, if◌then◌else◌}
 use Rattle.std.specs.Option.{option_map}
 use Rattle.migration_types.specs.declared.records.LogName.{LogName}
@@ -52,11 +52,11 @@ listed (Some sentence) = sentence ∷ []
 
 -- ---- contents that are not the page's
 
--- what a record has in a cell where its page has something else at the halt, if it has contents
+-- what a record has in a cell whose value in the page is another at the halt, if it has contents
 abbrev pub contents_of : Recorded → Name → Held → Option Sentence
 contents_of s name at_halt = option_map (λ value. say.Contents name value at_halt) (value_at s name at_halt.cell)
 
--- the first sending of what this record of the source sends
+-- the first sending of the page that this record of the source sends
 abbrev pub repeated_by : ℕ → Option SourceRec → ℕ
 repeated_by n (Some (Again sending)) = sending
 repeated_by n _ = n
@@ -64,7 +64,7 @@ repeated_by n _ = n
 abbrev pub first_sending : Recorded → ℕ → ℕ
 first_sending s n = repeated_by n (slice_get s.source n)
 
--- of a `place`, what the first sending of what it came with has in a cell
+-- for a `place`, what the first sending of its page has in a cell
 abbrev pub origin_at : Recorded → ℕ → ℕ → ℕ → Option Sentence
 origin_at s got cell sending = option_map (λ value. say.SentWith got value sending) (value_at s (Source, sending) cell)
 
@@ -85,8 +85,8 @@ abbrev pub place_of : Option Look → Option ℕ
 place_of None = None
 place_of (Some look) = Some look.place
 
--- what is wrong with an early use, by the page's first placement, the look before the use that reaches furthest, and the
--- first look that reaches the placement
+-- what is wrong with an early use, given the page's first placement, the look before the use that reaches furthest, and
+-- the first look that reaches the placement
 unfoldable pub early_told : Option ℕ → Option Look → Option ℕ → List Sentence
 early_told None seen look = say.NotThere ∷ []
 early_told (Some placement) seen look = say.Unreached placement ∷ say.FurthestLook (place_of seen) ∷ say.LateForUse look ∷ []
@@ -101,7 +101,7 @@ unfoldable pub unseen_told : FaultStory → LogName → Option Look → List Sen
 unseen_told f Pager seen = over_told f.fault.place f.page.found.touch seen f.page.found.look
 unseen_told f _ seen = early_told f.page.found.placement seen f.page.found.look
 
--- what is wrong where nothing else is told, by the page's last change before the halt and its first placement
+-- what is wrong if there is nothing else to say, given the page's last change before the halt and its first placement
 unfoldable pub plain_told : PageReason → Option ℕ → Option ℕ → List Sentence
 plain_told page.Given changed placement = say.ReleasedAtHalt ∷ say.ChangedLast changed ∷ []
 plain_told page.Unfit changed placement = say.NotReleasedAtHalt ∷ say.ChangedLast changed ∷ []
@@ -119,7 +119,7 @@ wrong_told s f _ = plain_told f.fault.reason f.page.changed f.page.found.placeme
 unfoldable pub faulty_told : Recorded → FaultStory → List Sentence
 faulty_told s f = say.Wrong (f.fault.log, f.fault.place) ∷ [] ++ wrong_told s f f.detail
 
--- what went wrong with the page of a wrong read before, where that is told
+-- what went wrong before with the page of a wrong read, if the story has that
 unfoldable pub first_told : Recorded → Name → Held → List Sentence
 first_told s name at_halt = say.WrongFirst name ∷ [] ++ contents_told s name at_halt
 
@@ -142,7 +142,7 @@ abbrev pub is_pull : PagerRec → Bool
 is_pull (Pull down) = true
 is_pull _ = false
 
--- whether the lane's delivery of a page is told: the pager takes this one, or there is no other
+-- whether the story tells the lane's delivery of a page: the pager takes this one, or there is no other
 abbrev pub is_by_lane : Recorded → Option ℕ → Option ℕ → Bool
 is_by_lane s None delivered = not (is_some delivered)
 is_by_lane s (Some got) delivered = passes is_pull (slice_get s.pager got)
@@ -160,16 +160,16 @@ way_told s page halt =
 abbrev pub again_of : PageStory → Option Sentence
 again_of page = option_map (λ n. say.SecondPlacement n) page.found.again
 
--- what became of it there
+-- what became of a page at the target
 unfoldable pub use_told : PageStory → List Sentence
 use_told page = say.FirstLook page.found.look ∷ say.FirstUse page.found.releases page.found.touch ∷ []
 
 unfoldable pub story_told : Recorded → PageStory → Handover → List Sentence
 story_told s page handover = way_told s page handover.halt ++ listed (again_of page) ++ use_told page
 
--- ---- a record that has not the right shape
+-- ---- a record that does not have the right shape
 
--- what it names, if it names a record
+-- the record that it names, if it names one
 abbrev pub names_of : Recorded → Name → Option Sentence
 names_of s name = option_map (λ named. say.Names name named) (named_by s name)
 
@@ -185,7 +185,7 @@ rule_of s t shape.Start = Some (say.Begins (t.fault.log, t.fault.place))
 rule_of s t shape.SecondSend = second_of t.sent
 rule_of s t shape.Both = None
 
--- the resume of a guest that the source starts again, and its first access behind that
+-- the resume of a guest that the source starts again, and its first access after that
 abbrev pub both_told : Recorded → Option ℕ → List Sentence
 both_told s None = []
 both_told s (Some resume) = say.ResumedToo resume ∷ say.FirstAccess (first_before (is_access_after resume) s.guest (length s.guest)) ∷ []
@@ -195,7 +195,7 @@ shape_told s t = say.Misshapen (t.fault.log, t.fault.place) ∷ [] ++ listed (ru
 
 -- ---- records that wait for one another
 
--- one for each of these, the first of which has this index
+-- one sentence for each of these records, the first of which has this index
 abbrev pub waits_told : Knot → ℕ → List Waiting → List Sentence
 waits_told knot i [] = []
 waits_told knot i (w ∷ waits) = say.Waits w (next_in knot i) ∷ waits_told knot (i + 1) waits
@@ -205,12 +205,12 @@ knot_told knot = say.NoOrder ∷ [] ++ waits_told knot 0 knot.waits.items
 
 -- ---- a clean session
 
--- pages that were not placed; of the second version those that were released at the target are told apart
+-- pages that were not placed; in the second version, those that were released at the target are counted apart
 unfoldable pub unplaced_told : Version → Counts → List Sentence
 unplaced_told One c = say.UnplacedPages c.unmoved ∷ []
 unplaced_told Two c = say.FreshPages c.fresh ∷ say.OtherPages c.unmoved ∷ []
 
--- deliveries of the lane, where it has some
+-- deliveries of the lane, if it has some
 abbrev pub lane_of : ℕ → Option Sentence
 lane_of n = if nat_lt 0 n then Some (say.LanePackets n) else None
 
@@ -227,7 +227,7 @@ more_of n = if n == 0 then None else Some (say.MoreFaulty n)
 unfoldable pub faulty_page_told : Recorded → FaultStory → ℕ → List Sentence
 faulty_page_told s f more = fault_told s f ++ (order_of f ∷ []) ++ story_told s f.page f.handover ++ listed (more_of more)
 
--- what happened in a session
+-- the story of a report
 unfoldable pub explained_told : Recorded → Explanation → List Sentence
 explained_told s (explained.Shape t) = shape_told s t
 explained_told s (explained.Knot knot) = knot_told knot
@@ -236,8 +236,8 @@ explained_told s (explained.Clean counts) = counts_told s.version counts
 
 -- ---- a page, or the record at a line
 
--- whether it is known which orders show a fault of a page: the report has one that shows its own, and where there are orders
--- at all, each shows a fault that every one shows
+-- Whether it is known which orders show a fault of a page. The report has an order that shows its own fault. If there
+-- are orders at all, each of them shows a fault that every order shows.
 abbrev pub is_shown : Report → FaultStory → Bool
 is_shown (report.Faulty line fault order many) f =
     f.in_every_order || (same_log fault.log f.fault.log && (fault.place == f.fault.place))
@@ -253,7 +253,7 @@ first_fault_told s r (Some f) = fault_told s f ++ listed (shown_of r f)
 abbrev pub verdict_of : PageTold → Sentence
 verdict_of t = say.Verdict t.story.page (is_some t.fault)
 
--- what became of a page
+-- the story of a page
 unfoldable pub page_told : Recorded → Report → PageTold → List Sentence
 page_told s r t = verdict_of t ∷ [] ++ first_fault_told s r t.fault ++ story_told s t.story t.handover
 
@@ -261,12 +261,12 @@ unfoldable pub page_topic : Recorded → Report → ℕ → Option PageTold → 
 page_topic s r number None = say.NoPage number s.geometry.pages ∷ []
 page_topic s r number (Some t) = page_told s r t
 
--- which record stands at a line, and what is wrong with its shape, where that is told
+-- the record at a line, and what is wrong with its shape, if the story has that
 unfoldable pub record_told : Recorded → Name → Option ShapeStory → List Sentence
 record_told s name None = say.Stands name ∷ []
 record_told s name (Some t) = shape_told s t
 
--- what became of the page of a record, where it is about one
+-- the story of the page that a record is about, if it is about one
 unfoldable pub its_page_told : Recorded → Report → Option PageTold → List Sentence
 its_page_told s r None = []
 its_page_told s r (Some t) = page_told s r t
@@ -275,13 +275,13 @@ unfoldable pub line_topic : Recorded → Report → ℕ → Option LineTold → 
 line_topic s r line None = say.NoRecord line ∷ []
 line_topic s r line (Some t) = record_told s (t.log, t.place) t.shape ++ its_page_told s r t.page
 
--- what is told of a session with this report
+-- the story of a session with this report
 unfoldable pub told_in_full : Recorded → Report → Told → List Sentence
 told_in_full s r (told.Report e) = explained_told s e
 told_in_full s r (told.Page number t) = page_topic s r number t
 told_in_full s r (told.Line line t) = line_topic s r line t
 
--- ---- what is told first: what is wrong, or that nothing is
+-- ---- the first sentences: what is wrong, or that nothing is
 
 unfoldable pub explained_first : Recorded → Explanation → List Sentence
 explained_first s (explained.Shape t) = shape_told s t

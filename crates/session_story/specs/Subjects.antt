@@ -19,7 +19,7 @@ use Rattle.migration_types.specs.Rows.{Consists}
 use Rattle.session_story.specs.declared.subjects.About.{About}
 use Rattle.session_story.specs.declared.subjects.About.TheVariants.{Page, Record, Nothing}
 
--- a use, a release or a miss is about its page, a look about what the placement is about
+-- a use, a release or a miss is about its page, and a look is about what the placement is about
 abbrev pub guest_about : GuestRec → About
 guest_about (Read vcpu page cell value) = Page page
 guest_about (Write vcpu page cell value) = Page page
@@ -29,7 +29,7 @@ guest_about Halt = Nothing
 guest_about (Resume ready) = Nothing
 guest_about (See placement) = Record Pager placement
 
--- a repeat is about what was sent, a question about what the delivery is about
+-- a repeat is about what was sent, and a question about what the delivery is about
 abbrev pub source_about : SourceRec → About
 source_about (Halted halt) = Nothing
 source_about State = Nothing
@@ -63,7 +63,7 @@ abbrev pub about_in : {X : Type 0} → (X → About) → Option X → About
 about_in f None = Nothing
 about_in f (Some rec) = f rec
 
--- what the record of this name is about
+-- what the record with this name is about
 abbrev pub about : Recorded → Name → About
 about s (Guest, n) = about_in guest_about (slice_get s.guest n)
 about s (Source, n) = about_in source_about (slice_get s.source n)
@@ -90,11 +90,11 @@ page_by next (Page page) = Some page
 page_by next (Record log place) = next (log, place)
 page_by next Nothing = None
 
--- the page that a record is about, itself or by way of so many other records
+-- the page that a record is about, found in at most this many steps from record to record
 abbrev pub page_within : ℕ → Recorded → Name → Option ℕ
 page_within zero s name = None
 page_within (suc steps) s name = page_by (page_within steps s) (about s name)
 
--- the page that a record is about: what came and was dropped is about what was got, delivered, and sent again
+-- The page that a record is about. A packet that was dropped is about what was taken, delivered, and sent again.
 abbrev pub page_of : Recorded → Name → Option ℕ
 page_of s name = page_within 5 s name

@@ -1,4 +1,4 @@
--- The text that tells what happened in a session.
+-- The text of the story of a session.
 use Rattle.std.specs.Prelude.{◌≡◌, ℕ, List, [], ◌∷◌, ◌++◌}
 use Rattle.text_lines.specs.Text.{ended}
 use Rattle.migration_types.specs.Sessions.{Recorded}
@@ -17,30 +17,30 @@ use Rattle.session_story.specs.Sentences.{told_in_full}
 use Rattle.session_story.specs.Topics.{IsTold}
 use Rattle.session_story.specs.Writing.{AreWritten, IsLine}
 
--- these are the words of exactly the sentences that tell what is told on this topic
+-- these are the words of exactly the sentences of the story on this topic
 pub record AreWordsOn (IsWritten : Sentence → List ℕ → Type 0) (s : Recorded) (r : Report) (topic : Topic) (words : List ℕ) : Type 0 where
   pub told : Told
   pub is_told : IsTold s r topic told
   pub written : AreWritten IsWritten (told_in_full s r told) words
 
--- The text is the first line of the report, with its line told so, and then the words of what is told on this topic, each sentence
--- on a line of its own.
+-- The text is the first line of the report, with its line number mapped, and then the words of the story on this topic,
+-- each sentence on a line of its own.
 pub record IsToldText (tell : ℕ → ℕ) (s : Recorded) (r : Report) (topic : Topic) (text : List ℕ) : Type 0 where
   pub words : List ℕ
   pub are_words : AreWordsOn (λ _. IsLine) s r topic words
   pub text_is : text ≡ ended (first_line_by tell r ∷ []) ++ words
 
--- the text on the report
+-- the text of the story of the report
 abbrev pub IsExplainedText : Recorded → Report → List ℕ → Type 0
 IsExplainedText s r text = IsToldText own s r topic.Report text
 
--- the line that says what is missing, with its line told so, and then the words of what the session lacks
+-- the line that says what is missing, with its line number mapped, and then the words about what the session lacks
 pub record IsLackingText (tell : ℕ → ℕ) (s : Recorded) (m : Missing) (text : List ℕ) : Type 0 where
   pub words : List ℕ
   pub written : AreWritten (λ _. IsLine) (missing_told s m) words
   pub text_is : text ≡ missing_text tell s m ++ words
 
--- the line that says where a text is refused, and then a line on what that means
+-- the line that says where a text is refused, and then a line about what that means
 pub record IsRefusedText (line : ℕ) (text : List ℕ) : Type 0 where
   pub words : List ℕ
   pub is_line : IsLine words

@@ -1,4 +1,4 @@
--- What is told of a session on a topic: its report, a page, or a line of its text.
+-- The story of a session on a topic: its report, a page, or a line of its text.
 use Rattle.std.specs.Prelude.{◌≡◌, ◌≢◌, ℕ, ◌<◌, ◌≤◌, Option, Some, None, MatchOption}
 use Rattle.migration_types.specs.Sessions.{Recorded}
 use Rattle.page_facts.specs.PageFaults.{IsClean, IsFirstFault}
@@ -24,48 +24,48 @@ pub record IsFirstFaultStory (s : Recorded) (page : ℕ) (f : FaultStory) : Type
   pub is_first : IsFirstFault s page f.fault
   pub story : IsFaultStory s f
 
--- what became of the page, with the story of its first fault, or it has none
+-- the story of the page, with the story of its first fault, if it has one
 pub record IsPageTold (s : Recorded) (page : ℕ) (t : PageTold) : Type 0 where
   pub story : IsPageStory s page t.story
   pub handover : IsHandover s t.handover
   pub fault : MatchOption t.fault (IsClean s page) (IsFirstFaultStory s page)
 
--- the machine has a page of this number, and this is told of it, or it has none
+-- the machine has a page of this number, and this is its story; or it has no such page
 abbrev pub IsToldOfPage : Recorded → ℕ → Option PageTold → Type 0
 IsToldOfPage s number None = s.geometry.pages ≤ number
 IsToldOfPage s number (Some t) = (number < s.geometry.pages) × IsPageTold s number t
 
--- where a record is about a page, this is told of the page
+-- if a record is about a page, this is the story of the page
 abbrev pub IsToldOfItsPage : Recorded → Option ℕ → Option PageTold → Type 0
 IsToldOfItsPage s None told = told ≡ None
 IsToldOfItsPage s (Some page) None = ⊥
 IsToldOfItsPage s (Some page) (Some t) = IsPageTold s page t
 
--- where the report's fault of shape stands at this line, its story
+-- if the report's fault of shape is at this line, its story
 abbrev pub IsShapeTold : Recorded → Report → ℕ → Option ShapeStory → Type 0
 IsShapeTold s (report.Shape fault) line shape = MatchOption shape (fault.line ≢ line) (λ t. (fault.line ≡ line) × IsShapeStory s fault t)
 IsShapeTold s _ line shape = shape ≡ None
 
--- the record at this line, the story of what is wrong with its shape, where the report says so, and what is told of its page
+-- the record at this line, the story of what is wrong with its shape, if the report says so, and the story of its page
 pub record IsLineTold (s : Recorded) (r : Report) (line : ℕ) (t : LineTold) : Type 0 where
   pub is_at : IsAtLineOf s t.log line t.place
   pub shape : IsShapeTold s r line t.shape
   pub page : IsToldOfItsPage s (page_of s (t.log, t.place)) t.page
 
--- a record stands at this line, and this is told of it, or none does
+-- there is a record at this line, and this is its story; or there is none
 abbrev pub IsToldOfLine : Recorded → Report → ℕ → Option LineTold → Type 0
 IsToldOfLine s r line t = MatchOption t (HasNoRecord s line) (IsLineTold s r line)
 
--- what is told of a session with this report, on a topic
+-- the story of a session with this report, on a topic
 abbrev pub IsTold : Recorded → Report → Topic → Told → Type 0
 IsTold s r topic.Report (told.Report explanation) = IsExplanation s r explanation
 IsTold s r (topic.Page number) (told.Page n t) = (n ≡ number) × IsToldOfPage s number t
 IsTold s r (topic.Line line) (told.Line n t) = (n ≡ line) × IsToldOfLine s r line t
 IsTold s r _ _ = ⊥
 
--- ---- in what is told
+-- ---- parts of a story
 
--- what is told of a page, if it is of one
+-- the story of a page, if there is one
 abbrev pub page_of_line : Option LineTold → Option PageTold
 page_of_line None = None
 page_of_line (Some t) = t.page
@@ -75,7 +75,7 @@ page_in (told.Report explanation) = None
 page_in (told.Page number t) = t
 page_in (told.Line line t) = page_of_line t
 
--- the story of the fault that is told, if one is: the report's, or the first of the page
+-- the story of the fault, if there is one: the report's, or the first of the page
 abbrev pub fault_reported : Explanation → Option FaultStory
 fault_reported (explained.Faulty story more) = Some story
 fault_reported other = None

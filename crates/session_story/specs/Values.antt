@@ -1,4 +1,4 @@
--- What one machine that never moved has in a cell, and which record gave it.
+-- The value of a cell on one machine that never moved, and the record that gave it.
 use Rattle.std.specs.Prelude.{◌≡◌, ◌≢◌, ℕ, ◌<◌, Bool, false, ◌==◌, ◌&&◌, List, slice_index}
 use Rattle.migration_types.specs.declared.records.GuestRec.{GuestRec}
 use Rattle.migration_types.specs.declared.records.GuestRec.TheVariants.{Write, Release}
@@ -23,7 +23,7 @@ pub record IsInstead (s : Recorded) (n page cell : ℕ) (h : Held) : Type 0 wher
   pub cell_is : h.cell ≡ cell
   pub held : IsHeld s n page h
 
--- the first cell in which these contents are not the page's at the halt, and what the page has there
+-- the first cell in which these contents differ from the page's at the halt, and what the page has there
 pub record IsOther (s : Recorded) (page : ℕ) (content : List ℕ) (h : Held) : Type 0 where
   pub below : h.cell < s.geometry.cells
   pub differs : slice_index content h.cell ≢ h.value

@@ -6,12 +6,12 @@ use Rattle.audit_model.specs.FoundOrder.{IsKnot}
 use Rattle.session_story.specs.declared.waits.Waiting.{Waiting}
 use Rattle.session_story.specs.declared.waits.Knot.{Knot}
 
--- what a record waits for stands in the other's log, and is the other or comes after it
+-- what a record waits for is in the other's log, and is the other or comes after it
 pub record WaitsFor (w other : Waiting) : Type 0 where
   pub log : other.log ≡ w.sent_log
   pub place : other.place ≤ w.sent_place
 
--- the one that stands behind the record of this index, or else the one at which the circle begins
+-- the record after the one of this index, or else the one at which the circle begins
 abbrev pub or_back : Knot → Option Waiting → Option Waiting
 or_back k None = slice_get k.waits.items k.back
 or_back k (Some next) = Some next
@@ -19,8 +19,8 @@ or_back k (Some next) = Some next
 abbrev pub next_in : Knot → ℕ → Option Waiting
 next_in k i = if nat_lt i (length k.waits.items) then or_back k (slice_get k.waits.items (i + 1)) else None
 
--- Records of which each is a receipt for one that comes no earlier than the next of them. The first stands at the line
--- of the knot. The last waits for one of them, and from that one on they go round in a circle.
+-- Records each of which is a receipt for one that comes no earlier than the next of them. The first is at the line of
+-- the knot. The last waits for one of them, and from that one on they form a circle.
 pub record IsCircle (s : Recorded) (k : Knot) : Type 0 where
   pub some : 0 < length k.waits.items
   pub starts : (w : Waiting) → slice_get k.waits.items 0 ≡ Some w → IsKnot s (line_of s (w.log, w.place))

@@ -1,4 +1,4 @@
--- Sentences that are put into words, one after the other.
+-- Putting sentences into words, in order.
 use Rattle.std.specs.Prelude.{◌≡◌, ℕ, List, [], ◌∷◌, ◌++◌}
 use Rattle.session_story.specs.declared.sentences.Sentence.{Sentence}
 
@@ -6,11 +6,11 @@ use Rattle.session_story.specs.declared.sentences.Sentence.{Sentence}
 abbrev pub IsBehind : List ℕ → List ℕ → Type 0
 IsBehind old new = (words : List ℕ) × (new ≡ old ++ words)
 
--- some words are added, of which this holds
+-- this appends some words, for which the property holds
 abbrev pub Adds : (List ℕ → Type 0) → List ℕ → List ℕ → Type 0
 Adds P old new = (words : List ℕ) × P words × (new ≡ old ++ words)
 
--- the words of sentences: those of the first, and behind them those of the others
+-- the words of these sentences: those of the first, and then those of the others
 abbrev pub AreWritten : (Sentence → List ℕ → Type 0) → List Sentence → List ℕ → Type 0
 AreWritten IsWritten [] words = words ≡ []
 AreWritten IsWritten (sentence ∷ sentences) words =

@@ -1,5 +1,5 @@
-//! What stands in a faulty record beside what is right, which uses of its page are told, and whether every order shows
-//! it.
+//! What is wrong in a faulty record and what would be right, which uses of its page the story tells, and whether every
+//! order shows the fault.
 
 ghost use Rattle.std.specs.Prelude.{◌≡◌, slice_get};
 ghost use Rattle.audit_model.specs.Names.{if_there};
@@ -22,7 +22,7 @@ pub struct Amended {
     pub right: u64,
 }
 
-/// The value of a cell in the contents of a record, if it is there and has contents.
+/// Returns the value of a cell in the contents of a record, if the record exists and has contents.
 fn value_in<R: Record>(log: &[R], place: usize, cell: u16) -> Option<u64>
     ensures { result ≡ cell_in (if_there R.contents (slice_get log.now place)) cell }
 {
@@ -35,7 +35,7 @@ fn value_in<R: Record>(log: &[R], place: usize, cell: u16) -> Option<u64>
     }
 }
 
-/// The value that a read gives.
+/// Returns the value that a read gives.
 fn read_value(guest: &[GuestRec], place: usize) -> Option<u64>
     ensures { result ≡ if_there read_value (slice_get guest.now place) }
 {
@@ -45,7 +45,8 @@ fn read_value(guest: &[GuestRec], place: usize) -> Option<u64>
     }
 }
 
-/// The value that a record has: a read the one that it gives, a record with contents that of the cell.
+/// Returns the value that a record has: for a read, the one that it gives; for a record with contents, that of the
+/// cell.
 pub(crate) fn value_at(session: &Session, name: Name, cell: u16) -> Option<u64>
     ensures { result ≡ value_at session.now name cell }
 {
@@ -58,7 +59,7 @@ pub(crate) fn value_at(session: &Session, name: Name, cell: u16) -> Option<u64>
     }
 }
 
-/// What is told of a cell, if something is.
+/// Returns what the story says about a cell, if anything.
 fn held_in(detail: &Detail) -> Option<Held>
     ensures { result ≡ held_in detail.now }
 {
@@ -68,7 +69,7 @@ fn held_in(detail: &Detail) -> Option<Held>
     }
 }
 
-/// The value that is wrong in a faulty record, and the right one.
+/// Returns the wrong value in a faulty record, and the right one, if its fault is a wrong value.
 fn amended_for(session: &Session, fault: &Option<FaultStory>) -> Option<Amended>
     ensures { result ≡ amended_for session.now fault.now }
 {
@@ -84,15 +85,15 @@ fn amended_for(session: &Session, fault: &Option<FaultStory>) -> Option<Amended>
     }
 }
 
-/// The value that is wrong in the faulty record that is told of, and the right one; none where its fault is no wrong
-/// value. Takes no memory.
+/// Returns the wrong value in the faulty record of the story, and the right one, or `None` if its fault is not a wrong
+/// value. Allocates no memory.
 pub fn amended_by(session: &Session, told: &Told) -> Option<Amended>
     ensures { result ≡ amended_by session.now told.now }
 {
     amended_for(session, &told.fault())
 }
 
-/// A wrong value, if there is one, beside what a cell should have.
+/// Returns a wrong value, if there is one, with what the cell should have.
 fn amended_with(page: PageNo, held: Held, wrong: Option<u64>) -> Option<Amended>
     ensures { result ≡ amended_with page held wrong }
 {
@@ -107,7 +108,7 @@ fn amended_with(page: PageNo, held: Held, wrong: Option<u64>) -> Option<Amended>
     }
 }
 
-/// The guest's record that gave the page what went wrong with it before.
+/// Returns the guest's record that gave the page what first went wrong with it.
 fn cause_in(cause: &Option<Cause>) -> Option<u32>
     ensures { result ≡ cause_in cause.now }
 {
@@ -117,7 +118,7 @@ fn cause_in(cause: &Option<Cause>) -> Option<u32>
     }
 }
 
-/// Whether it is this number, if there is one.
+/// Returns whether it is this number, if there is one.
 fn is_number(one: Option<u32>, place: u32) -> bool
     ensures { result ≡ is_number one place }
 {
@@ -127,7 +128,7 @@ fn is_number(one: Option<u32>, place: u32) -> bool
     }
 }
 
-/// Whether the guest's record of this number is told of.
+/// Returns whether the story of a fault tells the guest's record of this number.
 fn tells_in(story: &FaultStory, place: u32) -> bool
     ensures { result ≡ tells_in story.now place }
 {
@@ -138,7 +139,7 @@ fn tells_in(story: &FaultStory, place: u32) -> bool
                     || is_number(cause_in(&story.cause), place))))
 }
 
-/// Whether the guest's record of this number is told of in the story of a fault.
+/// Returns whether the story of a fault, if there is one, tells the guest's record of this number.
 fn tells_for(fault: &Option<FaultStory>, place: u32) -> bool
     ensures { result ≡ tells_for fault.now place }
 {
@@ -148,7 +149,7 @@ fn tells_for(fault: &Option<FaultStory>, place: u32) -> bool
     }
 }
 
-/// Whether the guest's record of this number is told of in what became of a page.
+/// Returns whether the story of a page, if there is one, tells the guest's record of this number.
 fn tells_on(page: &Option<PageTold>, place: u32) -> bool
     ensures { result ≡ tells_on page.now place }
 {
@@ -160,15 +161,15 @@ fn tells_on(page: &Option<PageTold>, place: u32) -> bool
     }
 }
 
-/// Whether the guest's record of this number is told of: the page's last change before the halt, its first use at the
-/// target, what gave a cell the value that is told of, or the faulty record itself. Takes no memory.
+/// Returns whether the story tells the guest's record of this number: as the page's last change before the halt, its
+/// first use at the target, the record that gave a cell its value, or the faulty record itself. Allocates no memory.
 pub fn tells_of(told: &Told, place: u32) -> bool
     ensures { result ≡ tells_of told.now place }
 {
     tells_for(&told.fault(), place) || tells_on(&told.page(), place)
 }
 
-/// Whether every order of the records shows the fault that is told. Takes no memory.
+/// Returns whether every order of the records shows the fault of the story. Allocates no memory.
 pub fn is_always_wrong(told: &Explanation) -> bool
     ensures { result ≡ is_always_wrong told.now }
 {

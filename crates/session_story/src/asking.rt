@@ -1,4 +1,4 @@
-//! The sendings that the source was not asked for.
+//! Sendings that nobody asked the source for.
 
 ghost use Rattle.std.specs.Prelude.{◌≡◌, ◌<◌, ℕ, length, IfOk};
 ghost use Rattle.migration_types.specs.Sessions.{IsSession, SourceRecFits};
@@ -11,7 +11,7 @@ use migration_types::{LinkRec, PageNo, PagerRec, Session, SourceRec};
 use page_store::Table;
 use std::alloc::{AllocError, Global};
 
-/// The page that a record of the pager asks for.
+/// Returns the page that a record of the pager asks for.
 fn wanted(rec: &PagerRec) -> Option<PageNo>
     ensures { result ≡ wanted rec.now }
 {
@@ -21,7 +21,7 @@ fn wanted(rec: &PagerRec) -> Option<PageNo>
     }
 }
 
-/// The page that a delivery up asks for.
+/// Returns the page that a delivery up asks for.
 fn brought(session: &Session, rec: &LinkRec) -> Option<PageNo>
     ensures { result ≡ brought session.now rec.now }
 {
@@ -31,7 +31,7 @@ fn brought(session: &Session, rec: &LinkRec) -> Option<PageNo>
     }
 }
 
-/// The page that the source is asked for by its record.
+/// Returns the page that a record asks the source for.
 fn asked_for(session: &Session, rec: &SourceRec) -> Option<PageNo>
     ensures { result ≡ asked_for session.now rec.now }
 {
@@ -41,7 +41,7 @@ fn asked_for(session: &Session, rec: &SourceRec) -> Option<PageNo>
     }
 }
 
-/// Whether a record sends a page that is not asked for.
+/// Returns whether a record sends a page that is not asked for.
 fn is_unasked(asked: &Table<bool>, _session: &Session, rec: &SourceRec) -> bool
     requires pages { pages_of asked.now ≡ _session.now.geometry.pages }
     requires fits { SourceRecFits _session.now.geometry rec.now }
@@ -53,7 +53,7 @@ fn is_unasked(asked: &Table<bool>, _session: &Session, rec: &SourceRec) -> bool
     }
 }
 
-/// Marks the page that the source is asked for by a record, and unmarks the one that it sends.
+/// Marks the page that a record asks the source for, and unmarks the page that it sends.
 fn take_record(asked: &mut Table<bool>, session: &Session, rec: &SourceRec)
     requires pages { pages_of asked.old ≡ session.now.geometry.pages }
     requires fits { SourceRecFits session.now.geometry rec.now }
@@ -67,8 +67,8 @@ fn take_record(asked: &mut Table<bool>, session: &Session, rec: &SourceRec)
     }
 }
 
-/// How many pages the source sent unasked. Takes one pass over its log, and memory for a mark of each page, which is the
-/// only error.
+/// Returns how many pages the source sent unasked. Makes one pass over its log, and allocates memory for a mark for
+/// each page. Fails only if memory runs out.
 pub(crate) fn count_of_pushes(alloc: Global, session: &Session) -> Result<u32, AllocError>
     ensures { IfOk result (λ count. count ≡ how_many (is_push session.now) session.now.source (length session.now.source)) }
 {

@@ -1,4 +1,4 @@
-//! The other record that is told of a fault: the one that it concerns.
+//! The other record in the story of a fault: the one that the fault concerns.
 
 ghost use Rattle.std.specs.Prelude.{◌≡◌, slice_get};
 ghost use Rattle.session_story.specs.Concerned.{concerned_in, concerned_of, heeded, is_number, named_among, named_by, named_in, resumed_by, shape_concerned_by};
@@ -14,7 +14,7 @@ use migration_types::{Field, GuestRec, LogName, Session};
 /// A record, by its log and its number there.
 pub type Name = (LogName, u32);
 
-/// The record of this number in a log, if there is a number.
+/// Returns the record of this number in a log, if there is a number.
 pub(crate) fn named_in(log: LogName, place: Option<u32>) -> Option<Name>
     ensures { result ≡ named_in log place }
 {
@@ -24,7 +24,7 @@ pub(crate) fn named_in(log: LogName, place: Option<u32>) -> Option<Name>
     }
 }
 
-/// The record that fields name first, if they name one.
+/// Returns the first record that fields name, if they name one.
 fn named_among(fields: &[Field]) -> Option<Name>
     ensures { result ≡ named_among fields.now }
 {
@@ -37,7 +37,7 @@ fn named_among(fields: &[Field]) -> Option<Name>
     None
 }
 
-/// The record that a record names, if it names one.
+/// Returns the record that a record names, if it names one.
 pub(crate) fn named_by(session: &Session, name: Name) -> Option<Name>
     ensures { result ≡ named_by session.now name }
 {
@@ -47,7 +47,7 @@ pub(crate) fn named_by(session: &Session, name: Name) -> Option<Name>
     }
 }
 
-/// Whether the number is this one.
+/// Returns whether the number is this one.
 fn is_number(n: u32, number: Option<u32>) -> bool
     ensures { result ≡ is_number n number }
 {
@@ -57,7 +57,7 @@ fn is_number(n: u32, number: Option<u32>) -> bool
     }
 }
 
-/// The record of the handover that the guest's record of this number has to heed.
+/// Returns the record of the handover that the guest's record of this number must take into account.
 fn heeded(handover: &Handover, n: u32, rec: Option<GuestRec>) -> Option<u32>
     ensures { result ≡ heeded handover.now n rec }
 {
@@ -70,8 +70,8 @@ fn heeded(handover: &Handover, n: u32, rec: Option<GuestRec>) -> Option<u32>
     }
 }
 
-/// The resume of a guest that the source starts again, by its number in the guest's log; none of another fault of a record's
-/// shape.
+/// Returns the resume of a guest that the source starts again, by its number in the guest's log, or `None` for any
+/// other fault of a record's shape.
 pub fn resumed_by(story: &ShapeStory) -> Option<u32>
     ensures { result ≡ resumed_by story.now }
 {
@@ -81,7 +81,7 @@ pub fn resumed_by(story: &ShapeStory) -> Option<u32>
     }
 }
 
-/// The other record that a fault of a record's shape concerns.
+/// Returns the other record that a fault of a record's shape concerns.
 fn shape_concerned_by(session: &Session, story: &ShapeStory) -> Option<Name>
     ensures { result ≡ shape_concerned_by session.now story.now }
 {
@@ -98,7 +98,7 @@ fn shape_concerned_by(session: &Session, story: &ShapeStory) -> Option<Name>
     }
 }
 
-/// The record that a fault of a page concerns, if one is told.
+/// Returns the record that a fault of a page concerns, if the story has one.
 fn concerned_in(fault: &Option<FaultStory>) -> Option<Name>
     ensures { result ≡ concerned_in fault.now }
 {
@@ -108,8 +108,8 @@ fn concerned_in(fault: &Option<FaultStory>) -> Option<Name>
     }
 }
 
-/// The record that is told besides the faulty one, as the one that its fault concerns, by log and number; none where
-/// there is no fault, or none is told. Takes no memory.
+/// Returns the record that the story tells besides the faulty one, because the fault concerns it, by log and number.
+/// Returns `None` if there is no fault, or no such record. Allocates no memory.
 pub fn concerned_of(session: &Session, told: &Told) -> Option<(LogName, u32)>
     ensures { result ≡ concerned_of session.now told.now }
 {

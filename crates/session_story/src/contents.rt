@@ -1,4 +1,4 @@
-//! Contents that are not those that a page has at the halt.
+//! Contents that differ from those of a page at the halt.
 
 ghost use Rattle.std.specs.Prelude.{◌≡◌, ◌<◌, IfOk, MatchOption, slice_get};
 ghost use Rattle.std.specs.List.{AllByRecursion};
@@ -10,16 +10,16 @@ use crate::values::{Held, other_of};
 use migration_types::{PageNo, Record, Session};
 use std::alloc::{AllocError, Global};
 
-/// Contents of a page that are not those that it had at the halt.
+/// Contents of a page that differ from those that it had at the halt.
 #[derive(Clone, Copy, Debug, PartialEq, Eq)]
 pub struct Wrong {
     /// The number of the record that has them.
     pub place: u32,
-    /// The first cell that is another, with what the page has there at the halt.
+    /// The first cell that differs, with what the page has there at the halt.
     pub held: Held,
 }
 
-/// The first cell in which the contents of a record, if it has any, are not the page's at the halt.
+/// Returns the first cell in which the contents of a record, if it has any, differ from the page's at the halt.
 pub(crate) fn other_at<R: Record>(
     alloc: Global,
     session: &Session,
@@ -40,7 +40,7 @@ pub(crate) fn other_at<R: Record>(
     }
 }
 
-/// The record of this number, if there is one, where its contents are not the page's at the halt.
+/// Returns the record of this number, if there is one and its contents differ from the page's at the halt.
 pub(crate) fn wrong_at<R: Record>(
     alloc: Global,
     session: &Session,

@@ -1,4 +1,4 @@
-//! How much there is of each thing in a session.
+//! The counts of a session.
 
 ghost use Rattle.std.specs.Prelude.{◌≤◌, length, IfOk};
 ghost use Rattle.migration_types.specs.Limits.{most_pages};
@@ -10,7 +10,7 @@ use crate::scans::count_of;
 use migration_types::{Entry, Session};
 use std::alloc::{AllocError, Global};
 
-/// How many pages came in which way, by a certificate, and how many records there are of some kinds.
+/// How many pages came in which way, according to a certificate, and how many records there are of some kinds.
 #[derive(Clone, Copy, Debug, PartialEq, Eq)]
 pub struct Counts {
     /// Pages that were neither placed nor used at the target.
@@ -25,11 +25,11 @@ pub struct Counts {
     pub misses: u32,
     /// First sendings of pages.
     pub sends: u32,
-    /// Those of them that answered no question for their page.
+    /// First sendings that did not answer a request for their page.
     pub pushes: u32,
     /// Repeats of what was sent.
     pub repeats: u32,
-    /// Misses that waited for a page that was asked for already.
+    /// Misses that waited for a page that the pager had already asked for.
     pub waits: u32,
     /// Deliveries that the pager dropped.
     pub dropped: u32,
@@ -37,8 +37,9 @@ pub struct Counts {
     pub by_lane: u32,
 }
 
-/// How many pages came in which way, by the entries of a certificate, and how many records there are of some kinds.
-/// Takes a few passes over the logs, and memory for a mark of each page, which is the only error.
+/// Returns how many pages came in which way, according to the entries of a certificate, and how many records there are
+/// of some kinds. Makes a few passes over the logs, and allocates memory for a mark for each page. Fails only if memory
+/// runs out.
 pub(crate) fn counts_of(
     alloc: Global,
     session: &Session,

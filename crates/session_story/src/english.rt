@@ -1,7 +1,7 @@
-//! Sentences in English words.
+//! Sentences in English.
 //!
-//! The words are constants of the code, and no clause says which they are: what a reader of a clause has to know is which
-//! sentences are told, and that memory is the only error.
+//! The words are constants of the code, and no clause says which they are. A clause says which sentences the story has,
+//! and that it fails only if memory runs out.
 
 ghost use Rattle.std.specs.Prelude.{◌≡◌, OnOk, string_bytes};
 ghost use Rattle.migration_types.specs.Receipts.{log_word};
@@ -28,14 +28,14 @@ use std::alloc::AllocError;
 pub(crate) const NO_TEXT: &str =
     "This is no text of a session: no such text begins as this one does up to that line, or this one ends there too early.";
 
-/// What puts sentences into English words.
+/// A writer that puts sentences into English.
 #[derive(Clone, Copy)]
 pub struct English<'a, L> {
-    /// How lines are told.
+    /// The line numbers that are printed.
     pub lines: &'a L,
 }
 
-/// The words that a session's records are told in, and how their lines are told.
+/// The words for a session's records, with the line numbers that are printed.
 #[derive(Clone, Copy)]
 struct Teller<'a, L> {
     session: &'a Session,
@@ -44,16 +44,18 @@ struct Teller<'a, L> {
 
 /// A part of a sentence.
 enum Part<'a> {
-    /// Where a record stands, as in "line 13 (guest 6)"; of one that is not there its log and its number alone.
+    /// The place of a record, as in "line 13 (guest 6)", or only its log and its number if it does not exist.
     Place(Name),
-    /// Where a record stands and what it says, as in "line 8 (guest 1): the guest is halted at the source", without contents.
+    /// The place of a record and what it says, without contents, as in "line 8 (guest 1): the guest is halted at the
+    /// source".
     Record(Name),
-    /// Which record one that waits has to come after, and, where that is not the next that waits but comes after it, the next.
+    /// The record that a waiting one must come after. If that is not the next waiting record, but comes after it, also
+    /// the next.
     Wait(&'a Waiting, &'a Waiting),
 }
 
 impl<L: Lines> English<'_, L> {
-    /// What tells of a session's records.
+    /// Returns the words for a session's records.
     fn teller<'a>(&'a self, session: &'a Session) -> Teller<'a, L> {
         Teller {
             session,
@@ -61,7 +63,7 @@ impl<L: Lines> English<'_, L> {
         }
     }
 
-    /// Adds the words of a part of a sentence. An error: there is no memory for them.
+    /// Appends the words of a part of a sentence. Fails only if memory runs out.
     fn push_part(
         &self,
         out: &mut String,
@@ -95,7 +97,7 @@ impl<L: Lines> Writer for English<'_, L> {
 }
 
 impl<L: Lines> Teller<'_, L> {
-    /// Adds the words of a part of a sentence.
+    /// Appends the words of a part of a sentence.
     fn push_part(&self, out: &mut String, part: Part<'_>) -> Result<(), AllocError> {
         match part {
             Part::Place(name) => self.push_place(out, name),
@@ -104,7 +106,7 @@ impl<L: Lines> Teller<'_, L> {
         }
     }
 
-    /// Adds the words of a sentence.
+    /// Appends the words of a sentence.
     fn push_words(&self, out: &mut String, sentence: &Sentence) -> Result<(), AllocError> {
         match *sentence {
             Sentence::Wrong(name) => self.push_wrong(out, name),
@@ -185,7 +187,7 @@ impl<L: Lines> Teller<'_, L> {
         }
     }
 
-    /// Adds words and a record, as a sentence.
+    /// Appends words and a record, as a sentence.
     fn push_with_record(
         &self,
         out: &mut String,
@@ -197,7 +199,8 @@ impl<L: Lines> Teller<'_, L> {
         out.push_str(".")
     }
 
-    /// Adds words and the record of this number in a log, as a sentence, or where there is none the sentence that says so.
+    /// Appends words and the record of this number in a log, as a sentence, or if there is none, the sentence that says
+    /// so.
     fn push_with_record_or(
         &self,
         out: &mut String,
@@ -212,7 +215,7 @@ impl<L: Lines> Teller<'_, L> {
         }
     }
 
-    /// Adds words and where a record stands, as a sentence.
+    /// Appends words and the place of a record, as a sentence.
     fn push_with_place(&self, out: &mut String, words: &str, name: Name) -> Result<(), AllocError> {
         out.push_str(words)?;
         self.push_place(out, name)?;
@@ -220,18 +223,18 @@ impl<L: Lines> Teller<'_, L> {
     }
 }
 
-/// The word of a log, as its section of a session's text has it.
+/// Returns the word of a log, as its section of a session's text has it.
 pub fn log_word(log: LogName) -> &'static str
     ensures { result.now ≡ log_word log }
 {
     log.word()
 }
 
-/// What puts sentences into words by the lines of a session's own text.
+/// The writer with the line numbers of a session's own text.
 pub(crate) const BY_OWN_LINES: English<'static, OwnLines> = English { lines: &OwnLines };
 
-/// Adds where a record stands, as in "line 13 (guest 6)", by the lines of the session's own text; of one that is not there its
-/// log and its number alone. An error: there is no memory for it.
+/// Appends the place of a record, as in "line 13 (guest 6)", with the line numbers of the session's own text, or only
+/// its log and its number if it does not exist. Fails only if memory runs out.
 pub fn push_place(
     out: &mut String,
     session: &Session,
@@ -243,8 +246,9 @@ pub fn push_place(
     BY_OWN_LINES.push_part(out, session, Part::Place((log, place)))
 }
 
-/// Adds where a record stands and what it says, as in "line 8 (guest 1): the guest is halted at the source", by the lines of the
-/// session's own text. Contents are left out. The words have no letter that XML escapes. An error: there is no memory for them.
+/// Appends the place of a record and what it says, without contents, as in "line 8 (guest 1): the guest is halted at
+/// the source", with the line numbers of the session's own text. The words have no letter that XML escapes. Fails only
+/// if memory runs out.
 pub fn push_record(
     out: &mut String,
     session: &Session,
@@ -256,8 +260,8 @@ pub fn push_record(
     BY_OWN_LINES.push_part(out, session, Part::Record((log, place)))
 }
 
-/// Adds which record one that waits has to come after, by the lines of the session's own text, and, where that is not the next
-/// that waits but comes after it, the next. An error: there is no memory for it.
+/// Appends the record that a waiting one must come after, with the line numbers of the session's own text. If that is
+/// not the next waiting record, but comes after it, also appends the next. Fails only if memory runs out.
 pub fn push_wait(
     out: &mut String,
     session: &Session,

@@ -1,4 +1,4 @@
-//! What happened in a session.
+//! The story of a report.
 
 ghost use Rattle.std.specs.Prelude.{◌≡◌, IfOk};
 ghost use Rattle.audit_model.specs.FirstFault.{IsFirstPageFault};
@@ -15,24 +15,24 @@ use migration_types::{Cert, Session};
 use page_facts::PageFault;
 use std::alloc::{AllocError, Global};
 
-/// What happened in a session: what its report names, with the records that it came from.
+/// The story of a report: what it names, with the records that led to it.
 #[derive(Debug, Drop)]
 pub enum Explanation {
-    /// A record that has not the right shape.
+    /// A record that does not have the right shape.
     Shape(ShapeStory),
-    /// There is no order of the records: some wait for one another.
+    /// No order of the records exists, because some wait for one another.
     Knot(Knot),
     /// A fault of a page.
     Faulty {
         story: FaultStory,
-        /// So many other pages have a fault too.
+        /// How many other pages have a fault too.
         more: usize,
     },
-    /// It is clean.
+    /// The session is clean.
     Clean(Counts),
 }
 
-/// The counts of a clean session.
+/// Returns the counts of a clean session.
 fn clean_counts(alloc: Global, session: &Session, cert: &Cert) -> Result<Counts, AllocError>
     ensures { IfOk result (IsCounts session.now cert.now.entries) }
 {
@@ -40,7 +40,7 @@ fn clean_counts(alloc: Global, session: &Session, cert: &Cert) -> Result<Counts,
     counts_of(alloc, session, cert.entries())
 }
 
-/// How many pages have a fault beside the one of the session's first, where so many have one.
+/// Returns how many pages have a fault besides that of the session's first fault, if this many have one.
 fn more_faulty(session: &Session, fault: &PageFault, pages: usize) -> usize
     requires first { IsFirstPageFault session.now fault.now.reason (fault.now.log, fault.now.place) }
     requires many { AreManyFaulty session.now pages }
@@ -50,8 +50,8 @@ fn more_faulty(session: &Session, fault: &PageFault, pages: usize) -> usize
     pages - 1
 }
 
-/// What happened in a session, by the report on it. Takes a few passes over each log, and as much memory as an audit
-/// does and one machine more, which is the only error.
+/// Returns the story of the report on a session. Makes a few passes over each log, and allocates as much memory as an
+/// audit does, and for one more page. Fails only if memory runs out.
 pub fn explain(alloc: Global, session: &Session, report: &Report) -> Result<Explanation, AllocError>
     requires { IsReport session.now report.now }
     ensures { IfOk result (IsExplanation session.now report.now) }

@@ -1,4 +1,4 @@
-//! The story of a faulty record: of one with a fault of its page, and of one that has not the right shape.
+//! The story of a faulty record: one with a fault of its page, or one that does not have the right shape.
 
 ghost use Rattle.std.specs.Prelude.{◌≡◌, ◌<◌, ℕ, IfOk, Some};
 ghost use Rattle.migration_types.specs.Sessions.{log_length, line_of};
@@ -23,17 +23,17 @@ use migration_types::{LogName, PageNo, Paged, Session, SourceRec};
 use page_facts::PageFault;
 use std::alloc::{AllocError, Global};
 
-/// What is told of a faulty record besides its page's story.
+/// What the story says about a faulty record besides its page's story.
 #[derive(Clone, Copy, Debug, PartialEq, Eq)]
 pub enum Detail {
-    /// Of a wrong read: what one machine that never moved gives.
+    /// For a wrong read: what one machine that never moved gives.
     Instead(Option<Held>),
-    /// Of an early access, and of a placement over a release: the look before that access, or before that release, that
-    /// reached furthest, if there is one.
+    /// For an early access, and for a placement over a release: the look that reached furthest before that access, or
+    /// before that release, if there is one.
     Seen(Option<Look>),
-    /// Of contents that are not the page's: the first cell that is not, with what the page has there at the halt.
+    /// For contents that are not the page's: the first cell that differs, with what the page has there at the halt.
     Other(Option<Held>),
-    /// Of other faults nothing.
+    /// For other faults: nothing.
     Plain,
 }
 
@@ -56,14 +56,14 @@ pub struct FaultStory {
     pub page: PageStory,
     pub handover: Handover,
     pub detail: Detail,
-    /// Of a wrong read at the target: what went wrong with its page before, if anything did.
+    /// For a wrong read at the target: what went wrong with its page before, if anything did.
     pub cause: Option<Cause>,
-    /// Whether every order of the records shows it. Of a session that has not the right shape it says nothing.
+    /// Whether every order of the records shows it. If the session does not have the right shape, this means nothing.
     pub in_every_order: bool,
 }
 
-/// The page that a record is of; none of the link's and the lane's records, which are of the page of what they deliver.
-/// Takes no memory.
+/// Returns the page of a record, or `None` if it has none. A record of the link or of the lane has the page of what it
+/// delivers. Allocates no memory.
 pub fn page_at(session: &Session, log: LogName, place: u32) -> Option<PageNo>
     ensures { result ≡ page_at session.now (log, place) }
 {
@@ -76,7 +76,7 @@ pub fn page_at(session: &Session, log: LogName, place: u32) -> Option<PageNo>
     }
 }
 
-/// The look before a page's first use at the target that reached furthest.
+/// Returns the look before a page's first use at the target that reached furthest.
 pub(crate) fn look_before(session: &Session, page: &PageStory) -> Option<Look>
     requires { IsPageStory session.now page.now.page page.now }
     ensures { IsLookBeforeTouch session.now page.now.page result }
@@ -87,7 +87,7 @@ pub(crate) fn look_before(session: &Session, page: &PageStory) -> Option<Look>
     }
 }
 
-/// Whether the guest has used a page at the target once this record of it is done.
+/// Returns whether the guest has used a page at the target by the time this record of it is done.
 fn is_used_by(page: &PageStory, place: u32) -> bool
     ensures { result ≡ is_used_by page.now.found.touch place }
 {
@@ -97,14 +97,15 @@ fn is_used_by(page: &PageStory, place: u32) -> bool
     }
 }
 
-/// Whether the pager never places a page that the guest uses at the target, where its first use is no release.
+/// Returns whether the pager never places a page that the guest uses at the target, and whose first use there is not a
+/// release.
 fn is_unplaced(page: &PageStory) -> bool
     ensures { result ≡ is_unplaced page.now.found }
 {
     page.found.placement.is_none() && page.found.touch.is_some() && !page.found.releases
 }
 
-/// What went wrong with the page of a wrong read at the target before it: the first of what may have.
+/// Returns what went wrong with the page of a wrong read at the target before it: the first cause that applies.
 fn cause_of(
     alloc: Global,
     session: &Session,
@@ -141,7 +142,7 @@ fn cause_of(
     }
 }
 
-/// The story of a fault of a page, of which this became, with the report on the session.
+/// Returns the story of a fault of a page, given the page's story and the report on the session.
 pub(crate) fn story_of_fault(
     alloc: Global,
     session: &Session,
@@ -170,8 +171,8 @@ pub(crate) fn story_of_fault(
     })
 }
 
-/// The first fault of a session, which its report names, with the story of its page. Takes a few passes over each log,
-/// and as much memory as judging does and one machine more, which is the only error.
+/// Returns the first fault of a session, which its report names, with the story of its page. Makes a few passes over
+/// each log, and allocates as much memory as judging does, and for one more page. Fails only if memory runs out.
 pub(crate) fn fault_at(
     alloc: Global,
     session: &Session,
@@ -190,17 +191,17 @@ pub(crate) fn fault_at(
     story_of_fault(alloc, session, report, fault, &story)
 }
 
-/// The first record that has not the right shape.
+/// The first record that does not have the right shape.
 #[derive(Clone, Copy, Debug, PartialEq, Eq)]
 pub struct ShapeStory {
-    /// The record, and why it has not.
+    /// The record, and why it does not have the right shape.
     pub fault: ShapeFault,
     pub handover: Handover,
-    /// Where the record is a `send`, the first one of its page, if that stands before it.
+    /// If the record is a `send`: the first one of its page, if that comes before it.
     pub sent: Option<u32>,
 }
 
-/// The number, where it is below a place.
+/// Returns the number, if it is below a place.
 fn below(place: u32, number: Option<u32>) -> Option<u32>
     ensures { result ≡ below place number }
 {
@@ -210,7 +211,7 @@ fn below(place: u32, number: Option<u32>) -> Option<u32>
     }
 }
 
-/// Where the record is a `send`, the first one of its page, if that stands before it.
+/// Returns the first `send` of the record's page, if the record is a `send` and that comes before it.
 fn sent_before(session: &Session, log: LogName, place: u32) -> Option<u32>
     ensures { result ≡ sent_before session.now (log, place) }
 {
@@ -223,7 +224,8 @@ fn sent_before(session: &Session, log: LogName, place: u32) -> Option<u32>
     }
 }
 
-/// The first record of a session that has not the right shape. Takes a few passes over the logs, and no memory.
+/// Returns the first record of a session that does not have the right shape. Makes a few passes over the logs, and
+/// allocates no memory.
 pub(crate) fn shape_at(session: &Session, fault: &ShapeFault) -> ShapeStory
     requires { IsShapeFault session.now fault.now }
     ensures { IsShapeStory session.now fault.now result }

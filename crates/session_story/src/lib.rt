@@ -1,5 +1,5 @@
-//! What happened in a recorded session, in plain words: a fault with the records that it came from, a circle of records
-//! that wait for one another, or how a clean session went; and what became of a page or of a record that is named.
+//! The story of a recorded session, in plain words: a fault with the records that led to it, a circle of records that
+//! wait for one another, or how a clean session went; and the story of a page or of a record that the caller names.
 #![tactic(auto)]
 
 mod amends;

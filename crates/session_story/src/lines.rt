@@ -6,8 +6,8 @@ ghost use Rattle.session_story.specs.Places.{HasNoneOf, HasNoRecord, IsAtLineOf}
 
 use migration_types::{LogName, Session, line_of};
 
-/// The line at which a session's text has the record of this number in a log; none where the log has no such record.
-/// Takes no memory.
+/// Returns the line of the record of this number in a log, or `None` if the log has no such record. Allocates no
+/// memory.
 pub fn line_at(session: &Session, log: LogName, place: u32) -> Option<u32>
     ensures { MatchOption result (log_length session.now log ≤ place) (λ line. IsAtLineOf session.now log line place) }
 {
@@ -18,7 +18,7 @@ pub fn line_at(session: &Session, log: LogName, place: u32) -> Option<u32>
     }
 }
 
-/// The record of a log at this line, if one stands there.
+/// Returns the record of a log at this line, if there is one.
 #[tactic(auto, using(migration_types::proofs::Sectioned::line_from))]
 fn record_in(session: &Session, log: LogName, line: u32) -> Option<(LogName, u32)>
     ensures { MatchOption result (HasNoneOf session.now line log) (λ name. IsAtLineOf session.now name.0 line name.1) }
@@ -30,8 +30,8 @@ fn record_in(session: &Session, log: LogName, line: u32) -> Option<(LogName, u32
     Some((log, line - first))
 }
 
-/// The record that stands at this line of a session's text, by its log and its number there; none where the line tells
-/// no record. Takes no memory.
+/// Returns the record at this line of a session's text, by its log and its number there, or `None` if there is no
+/// record at the line. Allocates no memory.
 pub fn record_on(session: &Session, line: u32) -> Option<(LogName, u32)>
     ensures { MatchOption result (HasNoRecord session.now line) (λ name. IsAtLineOf session.now name.0 line name.1) }
 {

@@ -12,11 +12,11 @@ use migration_types::{GuestRec, Session};
 pub struct Look {
     /// The number of the guest's record that is the look.
     pub place: u32,
-    /// The number of the pager's record at which it looks.
+    /// The number of the pager's record that it looks at.
     pub placement: u32,
 }
 
-/// The look that reaches furthest, after this record of the guest.
+/// Returns the look that reaches furthest, after this record of the guest.
 fn looked(rec: &GuestRec, n: u32, best: Option<Look>) -> Option<Look>
     ensures { result ≡ looked n rec.now best }
 {
@@ -39,8 +39,8 @@ fn looked(rec: &GuestRec, n: u32, best: Option<Look>) -> Option<Look>
     }
 }
 
-/// The look before this record of the guest that reaches furthest, the first of several; none where there is no look.
-/// Takes no memory.
+/// Returns the look before this record of the guest that reaches furthest, the first if there are several, or `None` if
+/// there is no look. Allocates no memory.
 pub(crate) fn greatest_look(session: &Session, to: usize) -> Option<Look>
     requires { to ≤ length session.now.guest }
     ensures { MatchOption result (HasNoLook session.now to) (IsGreatestLook session.now to) }

@@ -18,8 +18,8 @@ use audit_report::{Report, depends_on};
 use migration_types::{LogName, Session};
 use page_facts::{Findings, PageFault};
 
-/// The use of a page, and the placement that has to stand before it, of a fault that an order shows where it does not: of
-/// an early use of a page that is placed, and of a placement over a release.
+/// Returns the use of a page, and the placement that must come before it, for a fault that an order shows if it does
+/// not: an early use of a page that is placed, or a placement over a release.
 fn late_for(fault: &PageFault, found: &Findings) -> Option<(u32, u32)>
     ensures { result ≡ late_for fault.now.reason fault.now.place found.now }
 {
@@ -35,8 +35,8 @@ fn late_for(fault: &PageFault, found: &Findings) -> Option<(u32, u32)>
     }
 }
 
-/// Whether every order of the records shows a fault of a page: where its placement has to stand before a use, it does
-/// where the placement depends on that use. Takes one pass over the records, and no memory.
+/// Returns whether every order of the records shows a fault of a page. If its placement must come before a use, every
+/// order does if the placement depends on that use. Makes one pass over the records, and allocates no memory.
 pub(crate) fn in_every_order(
     session: &Session,
     report: &Report,

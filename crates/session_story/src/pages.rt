@@ -13,7 +13,7 @@ use migration_types::{PageNo, Session};
 use page_facts::{Findings, findings_for, halt_place};
 use std::alloc::{AllocError, Global};
 
-/// The guest's records of its move.
+/// The guest's records of the handover.
 #[derive(Clone, Copy, Debug, PartialEq, Eq)]
 pub struct Handover {
     /// Its first halt.
@@ -36,11 +36,11 @@ pub struct PageStory {
     pub by_lane: Option<u32>,
     /// The pager's first `got` or `pull` of such a delivery.
     pub got: Option<u32>,
-    /// What the logs say of its placements, of its uses at the target and of the looks at it.
+    /// What the logs say about its placements, its uses at the target and the looks at it.
     pub found: Findings,
 }
 
-/// The guest's halt and its resume. Takes no memory.
+/// Returns the guest's halt and its resume. Allocates no memory.
 pub(crate) fn handover_of(session: &Session) -> Handover
     ensures { IsHandover session.now result }
 {
@@ -51,7 +51,7 @@ pub(crate) fn handover_of(session: &Session) -> Handover
     }
 }
 
-/// The guest's last write or release of a page before the halt. Takes no memory.
+/// Returns the guest's last write or release of a page before the halt. Allocates no memory.
 pub(crate) fn last_change(session: &Session, page: PageNo) -> Option<u32>
     ensures { result ≡ last_before (λ m. changes page) session.now.guest (at_halt session.now) }
 {
@@ -65,7 +65,7 @@ pub(crate) fn last_change(session: &Session, page: PageNo) -> Option<u32>
     )
 }
 
-/// The source's `send` of a page, the first of several. Takes no memory.
+/// Returns the source's `send` of a page, the first if there are several. Allocates no memory.
 pub(crate) fn send_of(session: &Session, page: PageNo) -> Option<u32>
     ensures { result ≡ first_before (λ m. is_send_of page) session.now.source (length session.now.source) }
 {
@@ -73,7 +73,8 @@ pub(crate) fn send_of(session: &Session, page: PageNo) -> Option<u32>
     first_of(session, &SourceQuestion::SendOf(page), session.source())
 }
 
-/// The story of a page. Takes a few passes over each log, and as much memory as judging does, which is the only error.
+/// Returns the story of a page. Makes a few passes over each log, and allocates as much memory as judging does. Fails
+/// only if memory runs out.
 pub(crate) fn story_of(
     alloc: Global,
     session: &Session,

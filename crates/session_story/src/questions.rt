@@ -1,4 +1,4 @@
-//! What is asked of the records of each log, and of a certificate's entries.
+//! The questions about the records of each log, and about a certificate's entries.
 
 ghost use Rattle.std.specs.Prelude.{◌≡◌};
 ghost use Rattle.session_story.specs.Values.{sets};
@@ -9,7 +9,7 @@ use crate::scans::Question;
 use audit_model::{delivers_send, is_halt, is_miss, is_resume, is_send_of, sends};
 use migration_types::{Entry, GuestRec, LaneRec, LinkRec, PageNo, PagerRec, Session, SourceRec};
 
-/// What is asked of a record of the guest.
+/// A question about a record of the guest.
 #[derive(Clone, Copy)]
 pub(crate) enum GuestQuestion {
     Halt,
@@ -19,11 +19,11 @@ pub(crate) enum GuestQuestion {
     Changes(PageNo),
     /// Whether it writes the cell, or releases its page.
     Sets(PageNo, u16),
-    /// Whether it reads or writes some page behind the record of this number.
+    /// Whether it reads or writes some page after the record of this number.
     AccessAfter(u32),
 }
 
-/// What is asked of a record of the source.
+/// A question about a record of the source.
 #[derive(Clone, Copy)]
 pub(crate) enum SourceQuestion {
     /// Whether it sends the page for the first time.
@@ -34,21 +34,21 @@ pub(crate) enum SourceQuestion {
     Back,
 }
 
-/// What is asked of a record of the link.
+/// A question about a record of the link.
 #[derive(Clone, Copy)]
 pub(crate) enum LinkQuestion {
     /// Whether it delivers the page's `send`, or a repeat of it.
     Carries(PageNo),
 }
 
-/// What is asked of a record of the lane.
+/// A question about a record of the lane.
 #[derive(Clone, Copy)]
 pub(crate) enum LaneQuestion {
     /// Whether it delivers the page's `send`, or a repeat of it.
     Carries(PageNo),
 }
 
-/// What is asked of a record of the pager.
+/// A question about a record of the pager.
 #[derive(Clone, Copy)]
 pub(crate) enum PagerQuestion {
     /// Whether it takes the page's `send`, or a repeat of it.
@@ -58,7 +58,7 @@ pub(crate) enum PagerQuestion {
     All,
 }
 
-/// What is asked of an entry of a certificate.
+/// A question about an entry of a certificate.
 #[derive(Clone, Copy)]
 pub(crate) enum EntryQuestion {
     Unmoved,
@@ -67,7 +67,7 @@ pub(crate) enum EntryQuestion {
     Zeroed,
 }
 
-/// Whether a record writes or releases the page.
+/// Returns whether a record writes or releases the page.
 fn changes(rec: &GuestRec, page: PageNo) -> bool
     ensures { result ≡ changes page rec.now }
 {
@@ -78,7 +78,7 @@ fn changes(rec: &GuestRec, page: PageNo) -> bool
     }
 }
 
-/// Whether a record writes the cell, or releases its page.
+/// Returns whether a record writes the cell, or releases its page.
 fn sets(rec: &GuestRec, page: PageNo, cell: u16) -> bool
     ensures { result ≡ sets page cell rec.now }
 {
@@ -93,7 +93,7 @@ fn sets(rec: &GuestRec, page: PageNo, cell: u16) -> bool
     }
 }
 
-/// Whether the record of this number reads or writes some page behind another.
+/// Returns whether the record of this number reads or writes some page after another record.
 fn is_access_after(rec: &GuestRec, n: usize, resume: u32) -> bool
     ensures { result ≡ is_access_after resume n rec.now }
 {
@@ -103,7 +103,7 @@ fn is_access_after(rec: &GuestRec, n: usize, resume: u32) -> bool
     }
 }
 
-/// Whether a record of the link delivers the page's `send`, or a repeat of it.
+/// Returns whether a record of the link delivers the page's `send`, or a repeat of it.
 fn carries(session: &Session, rec: &LinkRec, page: PageNo) -> bool
     ensures { result ≡ carries session.now page rec.now }
 {
@@ -113,7 +113,7 @@ fn carries(session: &Session, rec: &LinkRec, page: PageNo) -> bool
     }
 }
 
-/// Whether a record of the lane delivers the page's `send`, or a repeat of it.
+/// Returns whether a record of the lane delivers the page's `send`, or a repeat of it.
 fn lane_carries(session: &Session, rec: &LaneRec, page: PageNo) -> bool
     ensures { result ≡ lane_carries session.now page rec.now }
 {

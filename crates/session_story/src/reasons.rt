@@ -1,5 +1,5 @@
-//! What the reason of a page's fault says: what is told besides the page's story, whether a cause comes first, and which
-//! other record is concerned.
+//! What the reason of a page's fault decides: what the story says besides the page's story, whether a cause comes
+//! first, and which other record is concerned.
 
 ghost use Rattle.std.specs.Prelude.{◌≡◌, ◌<◌, IfOk};
 ghost use Rattle.migration_types.specs.Sessions.{log_length};
@@ -17,7 +17,7 @@ use audit_model::PageReason;
 use migration_types::{LogName, Session};
 use std::alloc::{AllocError, Global};
 
-/// What is told of a faulty record besides its page's story.
+/// Returns what the story says about a faulty record besides its page's story.
 pub(crate) fn detail_of(
     alloc: Global,
     session: &Session,
@@ -51,7 +51,7 @@ pub(crate) fn detail_of(
     }
 }
 
-/// Whether it is a wrong read.
+/// Returns whether it is a wrong read.
 pub(crate) fn is_read(reason: PageReason) -> bool
     ensures { result ≡ is_read reason }
 {
@@ -67,7 +67,7 @@ pub(crate) fn is_read(reason: PageReason) -> bool
     }
 }
 
-/// The number of the guest's record that gave a cell the value that is told of, if one did.
+/// Returns the number of the guest's record that gave a cell its value in the story, if one did.
 pub(crate) fn given_in(detail: &Detail) -> Option<u32>
     ensures { result ≡ given_in detail.now }
 {
@@ -77,8 +77,8 @@ pub(crate) fn given_in(detail: &Detail) -> Option<u32>
     }
 }
 
-/// The other record that a fault of a page concerns: of a wrong value what gave the right one, of what comes twice the
-/// first, and of what must not be what rules it out.
+/// Returns the other record that a fault of a page concerns: for a wrong value, the record that gave the right one; for
+/// a repetition, the first record; for a record that must not exist, the record that rules it out.
 pub(crate) fn concerned_by(story: &FaultStory) -> Option<Name>
     ensures { result ≡ concerned_by story.now }
 {

@@ -1,4 +1,4 @@
-//! Passes over a log that ask one thing of each record.
+//! Passes over a log that ask one question about each record.
 
 ghost use Rattle.std.specs.Prelude.{◌≡◌, ◌<◌, ◌≤◌, ℕ, Bool, length};
 ghost use Rattle.migration_types.specs.Limits.{longest_log};
@@ -8,20 +8,20 @@ ghost use Rattle.session_story.specs.Scans.{last_before, how_many};
 
 use migration_types::Session;
 
-/// What is asked of a record at its place in a log.
+/// A question about a record at its place in a log.
 pub(crate) trait Question {
     type Record;
 
-    /// Whether the record of this number is one of those that are sought.
+    /// Whether the answer for the record of this number is yes.
     ghost holds: { Self → Recorded → ℕ → Self.Record → Bool };
 
-    /// Whether the record of this number is one of those that are sought. Takes no memory.
+    /// Returns whether the answer for the record of this number is yes. Allocates no memory.
     fn holds(&self, session: &Session, n: usize, rec: &Self::Record) -> bool
         requires { n < longest_log }
         ensures { result ≡ holds self.now session.now n rec.now };
 }
 
-/// The place of the first record that is sought.
+/// Returns the place of the first record for which the answer is yes.
 pub(crate) fn first_of<Q: Question>(
     session: &Session,
     question: &Q,
@@ -38,7 +38,7 @@ pub(crate) fn first_of<Q: Question>(
     None
 }
 
-/// The place of the last record before this one that is sought.
+/// Returns the place of the last record before this one for which the answer is yes. Searches backwards.
 pub(crate) fn last_of<Q: Question>(
     session: &Session,
     question: &Q,
@@ -49,16 +49,17 @@ pub(crate) fn last_of<Q: Question>(
     requires within { to ≤ length log.now }
     ensures { result ≡ last_before (Q.holds question.now session.now) log.now to }
 {
-    let mut last = None;
-    for n in 0..to {
-        if question.holds(session, n, &log[n]) {
-            last = Some(n as u32);
+    let mut left = to;
+    while left > 0 {
+        left -= 1;
+        if question.holds(session, left, &log[left]) {
+            return Some(left as u32);
         }
     }
-    last
+    None
 }
 
-/// How many records are sought.
+/// Returns for how many records the answer is yes.
 pub(crate) fn count_of<Q: Question>(session: &Session, question: &Q, log: &[Q::Record]) -> u32
     requires { length log.now ≤ longest_log }
     ensures { result ≡ how_many (Q.holds question.now session.now) log.now (length log.now) }

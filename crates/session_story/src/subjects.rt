@@ -1,32 +1,39 @@
 //! What a record is about.
 
-ghost use Rattle.std.specs.Prelude.{◌≡◌};
+ghost use Rattle.std.specs.Prelude.{◌≡◌, ℕ, Some};
+ghost use Rattle.page_facts.specs.PageFaults.{page_at};
 ghost use Rattle.migration_types.specs.Receipts.{Name as Named};
 ghost use Rattle.migration_types.specs.Rows.{row_of};
 ghost use Rattle.migration_types.specs.Sessions.{Recorded};
 ghost use Rattle.session_story.specs.Subjects.{about, about_among, about_by, page_of};
 
 use crate::concerns::Name;
+use crate::faults::page_at;
 use migration_types::{Field, LogName, PageNo, Session};
 
 /// What a record is about.
 #[derive(Clone, Copy)]
 pub(crate) enum About {
     Page(PageNo),
-    /// What the record of this log and number is about.
+    /// The subject of the record of this log and number.
     Record(LogName, u32),
     Nothing,
 }
 
-/// From a record that was dropped to the page, the way is by what was got, delivered, sent again and sent.
+/// The greatest number of steps from a record to its page: a dropped packet was taken, delivered, sent again and sent.
 const MOST_STEPS: u32 = 5;
 
-/// What a record is about follows from what it consists of.
+/// A law: what a record is about follows from what it consists of.
 fn subjects_follow()
     ensures { (s : Recorded) (name : Named) → about s name ≡ about_by (row_of s name) }
 {}
 
-/// What fields are about: the first page, or the first record that is not of the handover.
+/// States that a record of a page is about that page.
+fn pages_are_subjects()
+    ensures { (s : Recorded) (name : Named) (page : ℕ) → page_at s name ≡ Some page → page_of s name ≡ Some page }
+{}
+
+/// Returns what fields are about: the first page, or the first record that is not of the handover.
 fn about_among(fields: &[Field]) -> About
     ensures { result ≡ about_among fields.now }
 {
@@ -40,7 +47,7 @@ fn about_among(fields: &[Field]) -> About
     About::Nothing
 }
 
-/// What the record of this name is about.
+/// Returns what the record with this name is about.
 fn subject(session: &Session, name: Name) -> About
     ensures { result ≡ about session.now name }
 {
@@ -51,11 +58,15 @@ fn subject(session: &Session, name: Name) -> About
     }
 }
 
-/// The page that a record is about, itself or by way of the records that it names; none where it is about no page. Takes
-/// no memory.
+/// Returns the page that a record is about, directly or through the records that it names, or `None` if it is about no
+/// page. Allocates no memory.
 pub fn page_of(session: &Session, name: (LogName, u32)) -> Option<PageNo>
     ensures { result ≡ page_of session.now name }
 {
+    pages_are_subjects();
+    if let Some(page) = page_at(session, name.0, name.1) {
+        return Some(page);
+    }
     let mut at = name;
     let mut steps = MOST_STEPS;
     while steps > 0 {

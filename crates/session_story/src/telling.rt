@@ -1,4 +1,4 @@
-//! The text that tells what happened in a session.
+//! Writing the story of a session.
 
 ghost use Rattle.std.specs.Prelude.{IfOk, OnOk, string_bytes};
 ghost use Rattle.audit_report.specs.Reports.{IsReport};
@@ -19,8 +19,8 @@ use completeness::Missing;
 use migration_types::Session;
 use std::alloc::{AllocError, Global};
 
-/// What is told of a session on a topic, in a writer's words. Takes a few passes over each log, and as much memory as an
-/// audit does and one machine more, which is the only error.
+/// Returns the story of a session on a topic, in a writer's words. Makes a few passes over each log, and allocates as
+/// much memory as an audit does, and for one more page. Fails only if memory runs out.
 pub fn words_on<W: Writer>(
     alloc: Global,
     writer: &W,
@@ -38,8 +38,9 @@ pub fn words_on<W: Writer>(
     Ok(words)
 }
 
-/// What is told of a session on a topic, in words, after the first line of the report on it, told by these lines. Each line ends
-/// with LF. Takes a few passes over each log, and as much memory as an audit does and one machine more, which is the only error.
+/// Returns the story of a session on a topic, in words, after the first line of the report on it, with its line numbers
+/// from `lines`. Each line ends with LF. Makes a few passes over each log, and allocates as much memory as an audit
+/// does, and for one more page. Fails only if memory runs out.
 pub fn print_topic<L: Lines>(
     alloc: Global,
     lines: &L,
@@ -57,8 +58,8 @@ pub fn print_topic<L: Lines>(
     Ok(text)
 }
 
-/// What happened in a session, in words, after the first line of the report on it: what [`print_topic`] has of the report, by the
-/// lines of the session's own text.
+/// Returns the story of the report on a session, in words, after the report's first line, as [`print_topic`] does, with
+/// the line numbers of the session's own text. Fails only if memory runs out.
 pub fn print_explained(
     alloc: Global,
     session: &Session,
@@ -70,8 +71,9 @@ pub fn print_explained(
     print_topic(alloc, &OwnLines, session, report, Topic::Report)
 }
 
-/// What a clean session lacks, in words, after the line that says it, told by these lines. Each line ends with LF. Takes a few
-/// passes over each log, and as much memory as an audit does, which is the only error.
+/// Returns what a clean session lacks, in words, after the line that says it, with its line numbers from `lines`. Each
+/// line ends with LF. Makes a few passes over each log, and allocates as much memory as an audit does. Fails only if
+/// memory runs out.
 pub fn print_missing<L: Lines>(
     alloc: Global,
     lines: &L,
@@ -90,8 +92,8 @@ pub fn print_missing<L: Lines>(
     Ok(text)
 }
 
-/// That a text is refused at this line, as an audit tells it, by these lines, and what that means. An error: there is no memory
-/// for it.
+/// Returns the line that says that a text is refused at this line, as an audit writes it, with its line number from
+/// `lines`, and what that means. Fails only if memory runs out.
 pub fn print_refused<L: Lines>(alloc: Global, lines: &L, line: u32) -> Result<Vec<u8>, AllocError>
     ensures { IfOk result (λ text. IsRefusedText (L.tell lines.now line) text.items) }
 {
@@ -102,8 +104,8 @@ pub fn print_refused<L: Lines>(alloc: Global, lines: &L, line: u32) -> Result<Ve
     Ok(text)
 }
 
-/// Adds what is told first, each sentence on a line of its own: what is wrong, or that nothing is. An error: there is no
-/// memory for it.
+/// Appends the first sentences of a story, each on a line of its own: what is wrong, or that nothing is. Fails only if
+/// memory runs out.
 pub fn push_summary(out: &mut String, session: &Session, told: &Told) -> Result<(), AllocError>
     ensures { OnOk result (Adds (AreWritten (λ _. IsLine) (told_first session.now told.now)) (string_bytes out.old) (string_bytes out.new)) }
 {

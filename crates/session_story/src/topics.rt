@@ -1,4 +1,4 @@
-//! What is told of a session on a topic: its report, a page, or a line of its text.
+//! The story of a session on a topic: its report, a page, or a line of its text.
 
 ghost use Rattle.std.specs.Prelude.{◌≡◌, ◌<◌, IfOk, MatchOption};
 ghost use Rattle.page_facts.specs.PageFaults.{IsClean};
@@ -17,18 +17,18 @@ use migration_types::{LogName, PageNo, Session};
 use page_facts::fault_of;
 use std::alloc::{AllocError, Global};
 
-/// Of what is told.
+/// The topic of a story.
 #[derive(Clone, Copy, Debug, PartialEq, Eq)]
 pub enum Topic {
-    /// Of what the report names.
+    /// What the report names.
     Report,
-    /// Of the page of this number.
+    /// The page of this number.
     Page(u32),
-    /// Of the record at this line of the session's text, counted from 1, and of its page.
+    /// The record at this line of the session's text, counted from 1, and its page.
     Line(u32),
 }
 
-/// What became of a page.
+/// The story of a page, with its fault.
 #[derive(Clone, Copy, Debug, PartialEq, Eq)]
 pub struct PageTold {
     pub story: PageStory,
@@ -37,31 +37,31 @@ pub struct PageTold {
     pub fault: Option<FaultStory>,
 }
 
-/// A record, and what became of its page.
+/// A record, and the story of its page.
 #[derive(Clone, Copy, Debug, PartialEq, Eq)]
 pub struct LineTold {
     pub log: LogName,
     /// The record's number in its log.
     pub place: u32,
-    /// What is wrong with its shape, where it is the record that the report names for that.
+    /// What is wrong with its shape, if the report names it for that.
     pub shape: Option<ShapeStory>,
-    /// What became of the page that it is about, itself or by way of the records that it names, if it is about one.
+    /// The story of the page that it is about, directly or through the records that it names, if it is about one.
     pub page: Option<PageTold>,
 }
 
-/// What is told of a session.
+/// The story of a session on a topic.
 #[derive(Debug, Drop)]
 pub enum Told {
-    /// What its report names.
+    /// The story of the report.
     Report(Explanation),
-    /// The page of this number; nothing where the machine has no such page.
+    /// The story of the page of this number, or `None` if the machine has no such page.
     Page(u32, Option<PageTold>),
-    /// The record at this line; nothing where the line tells no record.
+    /// The story of the record at this line, or `None` if there is no record at the line.
     Line(u32, Option<LineTold>),
 }
 
 impl Told {
-    /// What is told of a page, if it is of one. Takes no memory.
+    /// Returns the story of a page, if this is one. Allocates no memory.
     pub fn page(&self) -> Option<PageTold>
         ensures { result ≡ page_in self.now }
     {
@@ -75,7 +75,7 @@ impl Told {
         }
     }
 
-    /// The story of the fault that is told, if one is: the report's, or the first of the page. Takes no memory.
+    /// Returns the story of the fault, if there is one: the report's, or the first of the page. Allocates no memory.
     pub fn fault(&self) -> Option<FaultStory>
         ensures { result ≡ fault_in self.now }
     {
@@ -89,7 +89,7 @@ impl Told {
     }
 }
 
-/// The story of the report's fault of a page, if it names one.
+/// Returns the story of the report's fault of a page, if it names one.
 fn fault_reported(explanation: &Explanation) -> Option<FaultStory>
     ensures { result ≡ fault_reported explanation.now }
 {
@@ -99,7 +99,7 @@ fn fault_reported(explanation: &Explanation) -> Option<FaultStory>
     }
 }
 
-/// A page's first fault, with its story; none where the page has no fault.
+/// Returns a page's first fault, with its story, or `None` if the page has no fault.
 fn first_fault_of(
     alloc: Global,
     session: &Session,
@@ -116,7 +116,7 @@ fn first_fault_of(
     }
 }
 
-/// What became of a page.
+/// Returns the story of a page, with its fault.
 fn page_told(
     alloc: Global,
     session: &Session,
@@ -136,8 +136,8 @@ fn page_told(
     })
 }
 
-/// What became of the page of this number; none where the machine has no such page. Takes a few passes over each log,
-/// and as much memory as judging does and one machine more, which is the only error.
+/// Returns the story of the page of this number, or `None` if the machine has no such page. Makes a few passes over
+/// each log, and allocates as much memory as judging does, and for one more page. Fails only if memory runs out.
 pub(crate) fn told_of_page(
     alloc: Global,
     session: &Session,
@@ -155,7 +155,7 @@ pub(crate) fn told_of_page(
     Ok(Some(told))
 }
 
-/// What became of the page that a record is about, if it is about one.
+/// Returns the story of the page that a record is about, if it is about one.
 fn told_of_its_page(
     alloc: Global,
     session: &Session,
@@ -173,7 +173,7 @@ fn told_of_its_page(
     }
 }
 
-/// What is wrong with the shape of the record at this line, where it is the one that the report names for that.
+/// Returns what is wrong with the shape of the record at this line, if the report names it for that.
 fn shape_told(session: &Session, report: &Report, line: u32) -> Option<ShapeStory>
     requires { IsReport session.now report.now }
     ensures { IsShapeTold session.now report.now line result }
@@ -190,8 +190,8 @@ fn shape_told(session: &Session, report: &Report, line: u32) -> Option<ShapeStor
     }
 }
 
-/// The record at this line of a session's text, and what became of its page; none where the line tells no record. Takes
-/// as much as [`told_of_page`].
+/// Returns the record at this line of a session's text, and the story of its page, or `None` if there is no record at
+/// the line. Makes as many passes and allocates as much as [`told_of_page`].
 pub(crate) fn told_of_line(
     alloc: Global,
     session: &Session,
@@ -213,8 +213,8 @@ pub(crate) fn told_of_line(
     }))
 }
 
-/// What is told of a session on a topic, with the report on it. Takes a few passes over each log, and as much memory as
-/// an audit does and one machine more, which is the only error.
+/// Returns the story of a session on a topic, given the report on it. Makes a few passes over each log, and allocates
+/// as much memory as an audit does, and for one more page. Fails only if memory runs out.
 pub fn tell(
     alloc: Global,
     session: &Session,

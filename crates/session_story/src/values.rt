@@ -1,56 +1,108 @@
-//! What one machine that never moved has in a cell.
+//! The value of a cell on one machine that never moved.
 
-ghost use Rattle.std.specs.Prelude.{◌≡◌, ◌≤◌, ◌<◌, ℕ, IfOk, MatchOption, Some, length, slice_get, slice_index};
+ghost use Rattle.std.specs.Prelude.{◌≡◌, ◌≤◌, ◌<◌, ℕ, IfOk, MatchOption, Some, length, set, slice_get, slice_index};
 ghost use Rattle.migration_types.specs.declared.records.GuestRec.TheVariants.{Read};
-ghost use Rattle.migration_types.specs.Sessions.{IsSession};
-ghost use Rattle.audit_model.specs.Flat.{flat, at_halt};
-ghost use Rattle.flat_machine.specs.Machines.{IsFlat};
+ghost use Rattle.migration_types.specs.Memory.{initial};
+ghost use Rattle.audit_model.specs.Flat.{cell_after, flat, at_halt};
 ghost use Rattle.session_story.specs.Values.{IsHeld, IsInstead, IsOther};
-ghost use Rattle.session_story.specs.inner.Cells.{AreSame, IsFirstOther};
+ghost use Rattle.session_story.specs.inner.Cells.{AreSame, IsFirstOther, IsPage};
 
 use crate::questions::GuestQuestion;
 use crate::scans::last_of;
-use flat_machine::Machine;
 use migration_types::{GuestRec, PageNo, Session};
 use page_facts::halt_place;
 use std::alloc::{AllocError, Global};
 
-/// What one machine that never moved has in a cell.
+/// The value of a cell on one machine that never moved.
 #[derive(Clone, Copy, Debug, PartialEq, Eq)]
 pub struct Held {
     pub cell: u16,
     pub value: u64,
-    /// The guest's last record before that wrote the cell or released its page; none where the cell is as at the start.
+    /// The guest's last record before that wrote the cell or released its page, or `None` if the cell is as at the
+    /// start.
     pub by: Option<u32>,
 }
 
-/// One machine that never moved, before this record of the guest.
-fn machine_at(alloc: Global, session: &Session, to: usize) -> Result<Machine, AllocError>
-    requires { to ≤ length session.now.guest }
-    ensures { IfOk result (IsFlat session.now to) }
+/// Returns the values that a page begins with, cell 0 first. Fails only if memory runs out.
+fn cells_at_start(alloc: Global, session: &Session, page: PageNo) -> Result<Vec<u64>, AllocError>
+    requires { page < session.now.geometry.pages }
+    ensures { IfOk result (λ cells. IsPage cells.items (initial session.now.init page) session.now.geometry.cells) }
 {
     session.keeps_limits();
-    let guest = session.guest();
-    let mut machine = Machine::start(alloc, session)?;
-    for n in 0..to {
-        machine.step(&guest[n]);
+    let init = session.init();
+    for given in init {
+        if given.page.number() == page.number() {
+            return given.cells.as_slice().to_vec(alloc);
+        }
     }
-    Ok(machine)
+    vec![in alloc; 0u64; session.geometry().cells() as usize]
 }
 
-/// What the machine before this record of the guest has in a cell.
-fn held_in(session: &Session, machine: &Machine, page: PageNo, cell: u16, to: usize) -> Held
-    requires limits { IsSession session.now }
+/// Gives a cell a value if the page has that cell.
+fn write(cells: &mut Vec<u64>, cell: u16, value: u64)
+    ensures { cells.new.items ≡ set cells.old.items cell value }
+{
+    if let Some(there) = cells.get_mut(cell as usize) {
+        *there = value;
+    }
+}
+
+/// Changes a page's cells as one machine does at this record of the guest.
+fn change(cells: &mut Vec<u64>, page: PageNo, rec: &GuestRec)
+    ensures { (values : ℕ → ℕ) (count : ℕ) → IsPage cells.old.items values count → IsPage cells.new.items (λ c. cell_after page c rec.now (values c)) count }
+{
+    match *rec {
+        GuestRec::Write {
+            page: written,
+            cell,
+            value,
+            ..
+        } => {
+            if written.number() == page.number() {
+                write(cells, cell, value);
+            }
+        }
+        GuestRec::Release { page: released, .. } => {
+            if released.number() == page.number() {
+                cells.fill(0);
+            }
+        }
+        _ => {}
+    }
+}
+
+/// Returns the values that a page has on one machine that never moved, before this record of the guest, cell 0 first.
+/// Fails only if memory runs out.
+fn cells_before(
+    alloc: Global,
+    session: &Session,
+    page: PageNo,
+    to: usize,
+) -> Result<Vec<u64>, AllocError>
     requires page { page < session.now.geometry.pages }
+    requires within { to ≤ length session.now.guest }
+    ensures { IfOk result (λ cells. IsPage cells.items (flat session.now to page) session.now.geometry.cells) }
+{
+    let guest = session.guest();
+    let mut cells = cells_at_start(alloc, session, page)?;
+    for n in 0..to {
+        change(&mut cells, page, &guest[n]);
+    }
+    Ok(cells)
+}
+
+/// Returns what the page with these values has in a cell, before this record of the guest.
+fn held_in(session: &Session, cells: &[u64], page: PageNo, cell: u16, to: usize) -> Held
     requires cell { cell < session.now.geometry.cells }
     requires within { to ≤ length session.now.guest }
-    requires machine { IsFlat session.now to machine.now }
+    requires cells { IsPage cells.now (flat session.now to page) session.now.geometry.cells }
     ensures cell { result.cell ≡ cell }
     ensures held { IsHeld session.now to page result }
 {
+    session.keeps_limits();
     Held {
         cell,
-        value: machine.frames.read(page, cell),
+        value: cells[cell as usize],
         by: last_of(
             session,
             &GuestQuestion::Sets(page, cell),
@@ -60,8 +112,9 @@ fn held_in(session: &Session, machine: &Machine, page: PageNo, cell: u16, to: us
     }
 }
 
-/// What one machine that never moved gives in place of a read: the guest's record of this number; none where it is no
-/// read. Takes one pass over the guest's log, and memory for a machine, which is the only error.
+/// Returns what one machine that never moved gives instead of a read, which is the guest's record of this number, or
+/// `None` if that is not a read. Makes one pass over the guest's log, and allocates memory for one page. Fails only if
+/// memory runs out.
 pub(crate) fn instead_of(
     alloc: Global,
     session: &Session,
@@ -74,36 +127,29 @@ pub(crate) fn instead_of(
     let GuestRec::Read { page, cell, .. } = session.guest()[n] else {
         return Ok(None);
     };
-    let machine = machine_at(alloc, session, n)?;
-    Ok(Some(held_in(session, &machine, page, cell, n)))
+    let cells = cells_before(alloc, session, page, n)?;
+    Ok(Some(held_in(session, &cells, page, cell, n)))
 }
 
-/// The first cell in which these contents are not those of the machine's page before this record of the guest.
-fn first_other(
-    session: &Session,
-    machine: &Machine,
-    page: PageNo,
-    contents: &[u64],
-    to: usize,
-) -> Option<u16>
-    requires limits { IsSession session.now }
-    requires page { page < session.now.geometry.pages }
-    requires machine { IsFlat session.now to machine.now }
+/// Returns the first cell in which these contents differ from the values of a page.
+fn first_other(session: &Session, contents: &[u64], cells: &[u64]) -> Option<u16>
     requires contents { length contents.now ≡ session.now.geometry.cells }
-    ensures { MatchOption result (AreSame contents.now (flat session.now to page) session.now.geometry.cells) (IsFirstOther contents.now (flat session.now to page) session.now.geometry.cells) }
+    requires cells { length cells.now ≡ session.now.geometry.cells }
+    ensures { MatchOption result (AreSame contents.now (slice_index cells.now) session.now.geometry.cells) (IsFirstOther contents.now (slice_index cells.now) session.now.geometry.cells) }
 {
-    let cells = session.geometry().cells();
-    for index in 0..cells {
-        let cell = index as u16;
-        if contents[index as usize] != machine.frames.read(page, cell) {
-            return Some(cell);
+    session.keeps_limits();
+    let count = session.geometry().cells();
+    for index in 0..count {
+        if contents[index as usize] != cells[index as usize] {
+            return Some(index as u16);
         }
     }
     None
 }
 
-/// The first cell in which these contents are not the page's at the halt, with what the page has there; none where they
-/// are the page's. Takes one pass over the guest's log, and memory for a machine, which is the only error.
+/// Returns the first cell in which these contents differ from the page's at the halt, with what the page has there, or
+/// `None` if they are the page's. Makes one pass over the guest's log, and allocates memory for one page. Fails only if
+/// memory runs out.
 pub(crate) fn other_of(
     alloc: Global,
     session: &Session,
@@ -116,9 +162,9 @@ pub(crate) fn other_of(
 {
     session.keeps_limits();
     let halt = halt_place(session.guest());
-    let machine = machine_at(alloc, session, halt)?;
-    match first_other(session, &machine, page, contents, halt) {
-        Some(cell) => Ok(Some(held_in(session, &machine, page, cell, halt))),
+    let cells = cells_before(alloc, session, page, halt)?;
+    match first_other(session, contents, &cells) {
+        Some(cell) => Ok(Some(held_in(session, &cells, page, cell, halt))),
         None => Ok(None),
     }
 }

@@ -15,7 +15,7 @@ use merge_runs::Taken;
 use migration_types::{LogName, Session};
 use std::alloc::{AllocError, Global};
 
-/// A record that waits for one of another log: it is a receipt for it.
+/// A record that waits for a record of another log, because it is a receipt for it.
 #[derive(Clone, Copy, Debug, PartialEq, Eq)]
 pub struct Waiting {
     pub log: LogName,
@@ -23,22 +23,22 @@ pub struct Waiting {
     pub place: u32,
     /// The log of the record that it waits for.
     pub sent_log: LogName,
-    /// The number of that one.
+    /// The number of that record.
     pub sent_place: u32,
 }
 
 /// Records that wait for one another.
 #[derive(Debug, Drop)]
 pub struct Knot {
-    /// Each is a receipt for the next, or for a record that comes after it in its log.
+    /// Each record is a receipt for the next, or for a record that comes after the next in its log.
     pub waits: Vec<Waiting>,
-    /// The index of the one that the last waits for: from it on they go round in a circle.
+    /// The index of the record that the last one waits for. From it on, the records form a circle.
     pub back: usize,
 }
 
 impl Knot {
-    /// The one that the record of this index waits for: the next, and of the last the one at which the circle begins; none
-    /// where there is no such index. Takes no memory.
+    /// Returns the record that the record of this index waits for: the next, or for the last, the one at which the
+    /// circle begins. Returns `None` if there is no such index. Allocates no memory.
     pub fn next(&self, index: usize) -> Option<Waiting>
         ensures { result ≡ next_in self.now index }
     {
@@ -53,7 +53,7 @@ impl Knot {
     }
 }
 
-/// The next record of a log, where it is a receipt.
+/// Returns the next record of a log, if it is a receipt.
 fn next_of(session: &Session, taken: &Taken, log: LogName) -> Option<Waiting>
     requires limits { IsSession session.now }
     requires left { cursors_of taken.now log < log_length session.now log }
@@ -71,7 +71,7 @@ fn next_of(session: &Session, taken: &Taken, log: LogName) -> Option<Waiting>
     }
 }
 
-/// The records that wait for one another from a log's next record on, where no next record is ready.
+/// Returns the records that wait for one another, from a log's next record on, if no next record is ready.
 fn circle_from(
     alloc: Global,
     session: &Session,
@@ -99,8 +99,8 @@ fn circle_from(
     Ok(Knot { waits, back })
 }
 
-/// The records of a knot that wait for one another, from the one at the knot's line on. Looks at one record of each log,
-/// and takes memory for what these wait for, which is the only error.
+/// Returns the records of a knot that wait for one another, from the one at the knot's line on. Looks at one record of
+/// each log, and allocates memory for what these wait for. Fails only if memory runs out.
 pub(crate) fn circle_of(
     alloc: Global,
     session: &Session,

@@ -1,4 +1,4 @@
-//! What puts sentences into words.
+//! Writers, which put sentences into words.
 
 ghost use Rattle.std.specs.Prelude.{◌≡◌, ℕ, List, OnOk, string_bytes};
 ghost use Rattle.migration_types.specs.Sessions.{Recorded};
@@ -8,14 +8,14 @@ use crate::sentences::Sentence;
 use migration_types::Session;
 use std::alloc::AllocError;
 
-/// What puts sentences into words.
+/// A writer, which puts sentences into words.
 pub trait Writer {
     ghost use Rattle.session_story.specs.declared.sentences.Sentence.{Sentence};
 
-    /// Whether these are words of a sentence on a session.
+    /// Whether these are the words of a sentence about a session.
     ghost is_written: { Self → Recorded → Sentence → List ℕ → Type 0 };
 
-    /// Adds the words of a sentence on a session. An error: there is no memory for them.
+    /// Appends the words of a sentence about a session. Fails only if memory runs out.
     fn push_sentence(
         &self,
         out: &mut String,
@@ -25,7 +25,7 @@ pub trait Writer {
         ensures { OnOk result (Adds (is_written self.now session.now sentence.now) (string_bytes out.old) (string_bytes out.new)) };
 }
 
-/// Adds the words of exactly these sentences, one after the other. An error: there is no memory for them.
+/// Appends the words of exactly these sentences, in order. Fails only if memory runs out.
 pub(crate) fn push_sentences<W: Writer>(
     writer: &W,
     out: &mut String,

@@ -19,7 +19,7 @@ pub record GuestPart : Type 0 where
 abbrev pub new_guest : Extent → List InitPage → GuestPart
 new_guest geometry init = record { geometry = geometry; log = []; memory = initial init; ledger = no_page }
 
--- an operation at the source
+-- an operation of a virtual processor at the source
 abbrev pub guest_access : ℕ → Op → GuestPart → GuestPart
 guest_access v (ReadCell p c) b = record b { log = b.log ++ Read v p c (b.memory p c) ∷ [] }
 guest_access v (WriteCell p c x) b = record b {

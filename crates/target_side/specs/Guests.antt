@@ -1,4 +1,4 @@
--- What the guest's book keeps.
+-- The invariant of the guest's book.
 use Rattle.std.specs.Prelude.{◌≡◌, ◌≤◌, List, [], length}
 use Rattle.std.specs.List.{AllByRecursion}
 use Rattle.migration_types.specs.declared.pages.InitPage.{InitPage}
@@ -19,16 +19,16 @@ pub record GuestKept : Type 0 where
   pub frames : Frames
   pub ledger : Marks
 
--- what a book stands for in the events
+-- the part of the events that a book stands for
 abbrev pub part_of : GuestKept → GuestPart
 part_of b = record { geometry = b.frames.geometry; log = b.log; memory = memory_of b.frames; ledger = released b.ledger }
 
--- what is recorded, in the first version, of a machine where the guest's log alone has records
+-- what is recorded, in the first version, of a machine if only the guest's log has records
 abbrev pub guest_session : Extent → List InitPage → List GuestRec → Recorded
 guest_session geometry init log = record { version = One; geometry = geometry; init = init; guest = log; source = []; link = []; lane = []; pager = [] }
 
--- The log has reads, writes and releases alone, of pages and cells of the machine, and is within its limit. From some
--- initial pages, the frames are those of one machine that never moved, and the released pages those of the log.
+-- The log has only reads, writes and releases, of pages and cells of the machine, and is within its limit. For some
+-- initial pages, the frames are those of one machine that never moved, and the released pages are those of the log.
 pub record IsGuestBook (b : GuestKept) : Type 0 where
   pub few : length b.log ≤ most_records
   pub own : AllByRecursion (IsBeforeHalt b.frames.geometry) b.log

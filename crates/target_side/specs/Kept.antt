@@ -1,4 +1,4 @@
--- What contracts see of a target's book.
+-- What contracts see of the target's book.
 use Rattle.std.specs.Prelude.{◌≡◌, ℕ, Bool, false, ◌<◌, ◌≤◌, List, ◌++◌, length, map, slice_index_or}
 use Rattle.std.specs.List.{AllByRecursion}
 use Rattle.migration_types.specs.declared.records.GuestRec.{GuestRec}
@@ -11,7 +11,7 @@ use Rattle.target_side.specs.declared.Missing.{Missing}
 use Rattle.target_side.specs.TargetPart.{TargetPart}
 use Rattle.target_side.specs.History.{Happening, Did}
 
--- what the target holds: the part's lists, and its functions as lists
+-- the state of the target: the lists of the part, and its functions as lists
 pub record Held : Type 0 where
   pub log : List GuestRec
   pub is_resumed : Bool
@@ -38,7 +38,7 @@ part_held h = record {
   unsettled = h.unsettled;
 }
 
--- the book: what the target holds, and its history
+-- the book: the state of the target, and its history
 pub record Kept : Type 0 where
   pub held : Held
   pub history : List Happening
@@ -49,13 +49,13 @@ part_of k = part_held k.held
 abbrev pub geometry_of : Kept → Extent
 geometry_of k = k.held.frames.geometry
 
--- of the log and the history, each has grown by these records of the guest
+-- the log and the history have each grown by these records of the guest
 pub record HaveGrown (old new : Kept) : Type 0 where
   pub records : List GuestRec
   pub log : new.held.log ≡ old.held.log ++ records
   pub history : new.history ≡ old.history ++ map Did records
 
--- one machine's frames, residency and marks, misses and pages of it, and a log within its limit
+-- the frames, residency, marks, misses and pages are of one machine, and the log is within its limit
 pub record IsSized (e : Extent) (h : Held) : Type 0 where
   pub few : length h.log ≤ most_records
   pub frames : h.frames.geometry ≡ e

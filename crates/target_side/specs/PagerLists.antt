@@ -1,4 +1,4 @@
--- The pager's book as its contracts see it, and what it keeps of its own log.
+-- The pager's book as contracts see it, and what follows from its own log.
 use Rattle.std.specs.Prelude.{◌≡◌, ℕ, ◌<◌, ◌≤◌, Bool, true, List, [], length, Option, Some, None, slice_get}
 use Rattle.std.specs.List.{AllByRecursion, list_any}
 use Rattle.migration_types.specs.declared.records.PagerRec.{PagerRec}
@@ -13,7 +13,7 @@ use Rattle.page_stream.specs.declared.Packet.TheVariants.{State as StatePacket, 
 use Rattle.target_side.specs.declared.Incoming.{Incoming}
 use Rattle.target_side.specs.PagerPart.{PagerPart}
 
--- the pager's book, its maps as tables with a value for each page
+-- the pager's book, with its maps as tables that have a value for each page
 pub record PagerLists : Type 0 where
   pub geometry : Extent
   pub log : List PagerRec
@@ -25,7 +25,7 @@ pub record PagerLists : Type 0 where
   pub waiting : List Waiting
   pub wants : Values (Option ℕ)
 
--- its part of each event speaks of maps
+-- the part of the events that the book stands for, which has maps
 abbrev pub part_of : PagerLists → PagerPart
 part_of b = record {
   geometry = b.geometry;
@@ -39,25 +39,25 @@ part_of b = record {
   wants = values b.wants;
 }
 
--- a packet that the source of such a machine sends has its pages and its cells
+-- a packet that the source of this machine sends has its pages and its cells
 abbrev pub IsPacketOf : Extent → Packet → Type 0
 IsPacketOf e (StatePacket n released) = AllByRecursion (λ p. p < e.pages) released
 IsPacketOf e (PagePacket n p content) = (p < e.pages) × (length content ≡ e.cells)
 IsPacketOf e (WantPacket n p) = Unit {0}
 IsPacketOf e (AllPacket n) = Unit {0}
 
--- the log is empty until the state has come, and begins with it
+-- the log is empty until the state has come, and then begins with it
 abbrev pub HasBegun : Option (List ℕ) → List PagerRec → Type 0
 HasBegun None log = log ≡ []
 HasBegun (Some released) log = ((down : ℕ) × (slice_get log 0 ≡ Some (Got down))) × (slice_get log 1 ≡ Some Ready)
 
--- a page of the machine, which came with a record of this log
+-- a page of the machine, which a record of this log took
 pub record HasCome (e : Extent) (log : List PagerRec) (x : Incoming) : Type 0 where
   pub page : x.page < e.pages
   pub cells : length x.contents ≡ e.cells
   pub got : passes is_taking (slice_get log x.got) ≡ true
 
--- a packet of the record that it names
+-- the packet of the record that it names
 abbrev pub IsSaid : Extent → List PagerRec → Packet → Type 0
 IsSaid e log (StatePacket n released) = ⊥
 IsSaid e log (PagePacket n p content) = ⊥
@@ -68,8 +68,8 @@ IsSaid e log (AllPacket n) = slice_get log n ≡ Some All
 abbrev pub IsWanted : Extent → (ℕ → Option ℕ) → Waiting → Type 0
 IsWanted e wants x = (x.page < e.pages) × ((n : ℕ) × (wants x.page ≡ Some n))
 
--- What the book says is what its log says: a page is marked as placed just where the log places it, what has come and
--- what is asked for names its record, and each page that is waited for was wanted.
+-- The book says what its log says: a page is marked as placed exactly when the log places it, what has come and what is
+-- asked for names its record, and each page that is waited for was wanted.
 pub record IsTied (b : PagerPart) : Type 0 where
   pub inbox : AllByRecursion (HasCome b.geometry b.log) b.inbox
   pub outbox : AllByRecursion (IsSaid b.geometry b.log) b.outbox
@@ -77,12 +77,12 @@ pub record IsTied (b : PagerPart) : Type 0 where
   pub waiting : AllByRecursion (IsWanted b.geometry b.wants) b.waiting
   pub placed : (p : ℕ) → b.placed p ≡ list_any (is_placement_of p) b.log
 
--- each `want` of a page is the one that is told of the page, or an earlier one
+-- each `want` of a page is the one that the book has for the page, or an earlier one
 abbrev pub AreLast : List PagerRec → (ℕ → Option ℕ) → Type 0
 AreLast log wants = (p m : ℕ) → slice_get log m ≡ Some (Want p) → (n : ℕ) × ((wants p ≡ Some n) × (m ≤ n))
 
--- The log is within its limit and begins with the state, the book says what the log says, and of each page that was ever
--- wanted it tells the last `want`.
+-- The log is within its limit and begins with the state. The book says what the log says, and it has the last `want` of
+-- each page that was ever wanted.
 pub record IsKept (b : PagerPart) : Type 0 where
   pub few : length b.log ≤ most_records
   pub begun : HasBegun b.released b.log

@@ -1,4 +1,4 @@
--- The pager's book, and its part of each event; some are parts of both the pager's and the target's book.
+-- The pager's book, and its part of each event. Some events are parts of both the pager's and the target's book.
 use Rattle.std.specs.Prelude.{ℕ, ◌==◌, Bool, false, ◌||◌, List, [], ◌∷◌, ◌++◌, length, Option, Some, None, if◌then◌else◌}
 use Rattle.std.specs.List.{range_with_len, list_any}
 use Rattle.migration_types.specs.declared.records.PagerRec.{PagerRec}
@@ -15,8 +15,8 @@ use Rattle.target_side.specs.declared.Missing.{Missing}
 use Rattle.target_side.specs.declared.Incoming.{Incoming}
 
 -- The pager's log, the pages that the source released once the state has come, the placed pages, those that the guest
--- released at the target before they came, as far as they are settled, the pages that have come, the wants that are not
--- offered yet, who waits for which page, and the number of each page's last `want`.
+-- released at the target before they came, as far as they are cancelled, the pages that have come, the wants that are
+-- not offered yet, who waits for which page, and the number of each page's last `want`.
 pub record PagerPart : Type 0 where
   pub geometry : Extent
   pub log : List PagerRec
@@ -59,7 +59,7 @@ pops_first down (PagePacket n p content) b = b
 pops_first down (WantPacket n p) b = b
 pops_first down (AllPacket n) b = b
 
--- once the state has come, this record says what is taken: a page, or another state, which is dropped
+-- a packet after the state has come, recorded by this receipt: a page is taken, and another state is dropped
 abbrev pub takes : PagerRec → Packet → PagerPart → PagerPart
 takes r (StatePacket n released) b = record b { log = (b.log ++ r ∷ []) ++ Skip (length b.log) ∷ [] }
 takes r (PagePacket n p content) b = record b {
@@ -84,7 +84,7 @@ pulls_by (Some released) down packet b = takes (Pull down) packet b
 abbrev pub pager_pull : ℕ → Packet → PagerPart → PagerPart
 pager_pull down packet b = pulls_by b.released down packet b
 
--- pages that the guest released at the target before they came: nobody waits for them any more
+-- the pages that the guest released at the target before they came are cancelled: nobody waits for them any more
 abbrev pub settles : List ℕ → PagerPart → PagerPart
 settles [] b = b
 settles (p ∷ ps) b = settles ps (record b { settled = with_page p b.settled; waiting = without p b.waiting })
@@ -97,7 +97,7 @@ abbrev pub is_released : Option (List ℕ) → ℕ → Bool
 is_released None page = false
 is_released (Some released) page = is_listed page released
 
--- a page is wanted, by the next record
+-- the next record wants a page
 abbrev pub wants_page : ℕ → PagerPart → PagerPart
 wants_page p b = record b { log = b.log ++ Want p ∷ []; wants = with_value p (Some (length b.log)) b.wants }
 
@@ -132,7 +132,7 @@ abbrev pub faults : List Missing → PagerPart → TargetPart → Paged
 faults [] b t = record { pager = b; target = t; woken = [] }
 faults (x ∷ rest) b t = fault_at x.page x.vcpu (record b { log = b.log ++ Fault x.number ∷ [] }) (with_misses rest t)
 
--- before the state has come no miss is taken
+-- before the state has come, no miss is taken
 abbrev pub faults_by : Option (List ℕ) → List Missing → PagerPart → TargetPart → Paged
 faults_by None misses b t = record { pager = b; target = t; woken = [] }
 faults_by (Some released) misses b t = faults misses b t
@@ -175,7 +175,7 @@ delivers_by (Some released) b t =
 abbrev pub deliver : PagerPart → TargetPart → Paged
 deliver b t = delivers_by b.released (settles t.unsettled b) (with_settled t)
 
--- PagerTick: the least owed page that is neither placed nor settled
+-- PagerTick: the least owed page that is neither placed nor cancelled
 abbrev pub first_absent : List ℕ → List ℕ → Pages → Option ℕ
 first_absent [] released there = None
 first_absent (p ∷ ps) released there = if is_listed p released || there p then first_absent ps released there else Some p

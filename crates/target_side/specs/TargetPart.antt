@@ -14,7 +14,7 @@ use Rattle.target_side.specs.declared.Access.TheVariants.{Done, Missed, Waiting}
 
 -- The guest's log, whether the guest runs at the target, the target's memory, the placed pages, those that were absent
 -- when the guest released them, the greatest placement that was seen, the misses that the pager has not taken, the
--- virtual processors whose miss stands, and the pages so released that the pager has not settled.
+-- virtual processors with a pending miss, and the pages released while absent that the pager has not cancelled.
 pub record TargetPart : Type 0 where
   pub log : List GuestRec
   pub is_resumed : Bool
@@ -26,7 +26,7 @@ pub record TargetPart : Type 0 where
   pub standing : Pages
   pub unsettled : List ℕ
 
--- the book after the halt, over the guest's log until then
+-- the book after the halt, with the guest's log until then
 abbrev pub halted_target : List GuestRec → TargetPart
 halted_target log = record {
   log = log ++ Halt ∷ [];
@@ -44,7 +44,7 @@ pub record Accessed : Type 0 where
   pub book : TargetPart
   pub access : Access
 
--- a look at the page's placement, where the frontier does not cover it
+-- a look at the page's placement, if the frontier does not cover it
 abbrev pub looks : ℕ → TargetPart → TargetPart
 looks k b = if is_covered (Some k) b.frontier then b else record b { log = b.log ++ See k ∷ []; frontier = Some k }
 
@@ -54,7 +54,7 @@ does v (ReadCell p c) b = record b { log = b.log ++ Read v p c (b.memory p c) �
 does v (WriteCell p c x) b = record b { log = b.log ++ Write v p c x ∷ []; memory = with_cell p c x b.memory }
 does v (ReleasePage p) b = record b { log = b.log ++ Release v p ∷ []; memory = with_zeros p b.memory }
 
--- a miss, unless one stands
+-- a miss, unless one is pending
 abbrev pub misses_page : ℕ → ℕ → TargetPart → Accessed
 misses_page v p b =
     if b.standing v
@@ -68,24 +68,24 @@ misses_page v p b =
       access = Missed;
     }
 
--- an absent page that is released is resident from then on, and the pager has to settle it
+-- an absent page that is released is resident from then on, and the pager must cancel it
 abbrev pub frees : ℕ → TargetPart → TargetPart
 frees p b = record b { freed = with_page p b.freed; unsettled = b.unsettled ++ p ∷ [] }
 
--- the operation is done over what a change leaves, and a miss of the virtual processor no longer stands
+-- the operation is carried out after a change, and the virtual processor then has no pending miss
 abbrev pub done_over : (TargetPart → TargetPart) → ℕ → Op → TargetPart → Accessed
 done_over change v op b = record {
   book = does v op (change (record b { standing = without_page v b.standing }));
   access = Done (answer_of op b.memory);
 }
 
--- on an absent page: a read or a write misses it, a release makes it resident
+-- an operation on an absent page: a read or a write misses it, and a release makes it resident
 abbrev pub lacks : ℕ → Op → TargetPart → Accessed
 lacks v (ReadCell p c) b = misses_page v p b
 lacks v (WriteCell p c x) b = misses_page v p b
 lacks v (ReleasePage p) b = done_over (frees p) v (ReleasePage p) b
 
--- by the page's placement, and by whether it was absent and released
+-- an operation, given the page's placement, and whether the page was absent and released
 abbrev pub accesses : ℕ → Op → Option ℕ → Bool → TargetPart → Accessed
 accesses v op (Some k) is_freed b = done_over (looks k) v op b
 accesses v op None true b = done_over (λ c. c) v op b
@@ -99,7 +99,7 @@ target_access v op b = if b.is_resumed then accesses v op (b.placed (page_in op)
 abbrev pub resumes : TargetPart → TargetPart
 resumes b = record b { log = b.log ++ Resume 1 ∷ []; is_resumed = true }
 
--- a page is placed with this content, or as zeros, by the pager's record of this number
+-- the pager's record of this number places a page, with this content or as zeros
 abbrev pub with_placed : ℕ → ℕ → List ℕ → TargetPart → TargetPart
 with_placed page number content b = record b { memory = with_content page content b.memory; placed = with_placement page number b.placed }
 
@@ -110,6 +110,6 @@ with_zeroed page number b = record b { memory = with_zeros page b.memory; placed
 abbrev pub with_misses : List Missing → TargetPart → TargetPart
 with_misses misses b = record b { misses = misses }
 
--- the pager has settled all pages that were absent when they were released
+-- the pager has cancelled all pages that were absent when they were released
 abbrev pub settled : TargetPart → TargetPart
 settled b = record b { unsettled = [] }

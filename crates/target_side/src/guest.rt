@@ -1,4 +1,4 @@
-//! The guest's book, its part of each event, and the halt, which parts it.
+//! The guest's book, its part of each event, and the halt, which splits it.
 
 ghost use Rattle.std.specs.Prelude.{◌≡◌, ◌<◌, ◌≤◌, length, IfOk, IfErr, OnOk, OnErr, IsErrOf};
 ghost use Rattle.std.specs.List.{AllByRecursion};
@@ -26,9 +26,9 @@ use page_stream::Packet;
 use std::alloc::{AllocError, Global};
 use std::marker::Model;
 
-/// The machine as long as the guest is at the source, and the guest's log, which has its reads, writes and releases, at
-/// most 1,048,576. The frames are those of one machine that never moved, and the ledger has the pages that were
-/// released and not written since. Contracts see the book as the guest's part of the events.
+/// The guest's book: the machine as long as the guest is at the source, and the guest's log of its reads, writes and
+/// releases, at most 1,048,576. The frames are those of one machine that never moved, and the ledger has the pages that
+/// were released and not written since. Contracts see the book as the guest's part of the events.
 #[derive(Drop)]
 pub struct GuestBook {
     alloc: Global,
@@ -49,8 +49,8 @@ impl Model for GuestBook {
 impl GuestBook {
     ghost use Rattle.target_side.specs.Guests.{part_of, IsGuestBook};
 
-    /// A machine that begins with these pages, and with zeros elsewhere; of a page that is given twice the first
-    /// counts. Nothing is recorded, and no page released. An error: there is no memory for it.
+    /// Returns a book for a machine that begins with these pages, and with zeros elsewhere. If a page is given twice,
+    /// the first counts. Nothing is recorded, and no page is released. Fails only if memory runs out.
     pub fn new(
         alloc: Global,
         geometry: Geometry,
@@ -68,9 +68,9 @@ impl GuestBook {
         })
     }
 
-    /// Does an operation of a virtual processor, records it and answers it: by the value read, the value written, or 0
-    /// for a release. `TargetFault::LogFull` exactly where the log has no room for the record, `TargetFault::Memory` where
-    /// it has. On an error nothing changes.
+    /// Carries out an operation of a virtual processor and records it. Returns the value read, the value written, or 0
+    /// for a release. The error is `TargetFault::LogFull` exactly when the log has no room for the record, and
+    /// otherwise `TargetFault::Memory`. On an error, nothing changes.
     pub fn access(&mut self, v: u8, op: Op) -> Result<u64, TargetFault>
         requires { OpFits self.old.frames.geometry op }
         ensures part { OnOk result (part_of self.new ≡ guest_access v op (part_of self.old)) }
@@ -85,7 +85,7 @@ impl GuestBook {
         Ok(done.answer)
     }
 
-    /// Whether the log has room for the record of an operation of a virtual processor. Takes no memory.
+    /// Returns whether the log has room for the record of an operation of a virtual processor. Allocates no memory.
     pub fn look_to_access(&self, v: u8, op: &Op) -> Result<(), TargetFault>
         ensures room { OnOk result (length (guest_access v op.now (part_of self.now)).log ≤ most_records) }
         ensures full { OnErr result (most_records < length (guest_access v op.now (part_of self.now)).log) }
@@ -96,7 +96,7 @@ impl GuestBook {
         look_for_room(log, 1)
     }
 
-    /// Whether the log has room for the record of the halt. Takes no memory.
+    /// Returns whether the log has room for the record of the halt. Allocates no memory.
     pub fn look_to_halt(&self) -> Result<(), TargetFault>
         ensures room { OnOk result (length (halted_target self.now.log).log ≤ most_records) }
         ensures full { OnErr result (most_records < length (halted_target self.now.log).log) }
@@ -105,11 +105,12 @@ impl GuestBook {
         look_for_room(&self.log, 1)
     }
 
-    /// Halts the guest, which is recorded: the frames and the ledger go to the source's book, which keeps at most so
-    /// many pivots, 1 to 16, and the log to the target's; with them comes the packet of the processor state, which is
-    /// to be offered. The target's book has room for each page of the machine that the pager may have to settle, so a
-    /// release there takes memory for its record alone. `TargetFault::LogFull` exactly where the log has no room for the
-    /// record, `TargetFault::Memory` where it has. On an error the book comes back as it was.
+    /// Halts the guest and records this. The frames and the ledger go to the source's book, which keeps at most this
+    /// many pivots, 1 to 16, and the log goes to the target's book. Returns both with the packet of the processor
+    /// state, which must be offered to the link. The target's book has room for each page of the machine that the pager
+    /// may have to cancel, so a release there allocates memory only for its record. The error is `TargetFault::LogFull`
+    /// exactly when the log has no room for the record, and otherwise `TargetFault::Memory`. On an error, the book
+    /// comes back as it was.
     pub fn halt(
         self,
         pivots: u32,
@@ -163,29 +164,29 @@ impl GuestBook {
         }
     }
 
-    /// The guest's log.
+    /// Returns the guest's log.
     pub fn guest_log(&self) -> &[GuestRec]
         ensures { result.now ≡ self.now.log }
     {
         &self.log
     }
 
-    /// Gives up the guest's log.
+    /// Returns the guest's log, and consumes the book.
     pub fn into_log(self) -> Vec<GuestRec>
         ensures { result.items ≡ self.log }
     {
         self.log
     }
 
-    /// The machine's geometry.
+    /// Returns the machine's geometry.
     pub fn geometry(&self) -> Geometry
         ensures { result ≡ self.now.frames.geometry }
     {
         self.machine.frames.geometry()
     }
 
-    /// Tells callers what every book keeps: its log has reads, writes and releases alone, at most 1,048,576, its frames
-    /// are those of one machine that never moved, and its ledger has the released pages.
+    /// States the invariant of every book: its log has only reads, writes and releases, at most 1,048,576, its frames
+    /// are those of one machine that never moved, and its ledger has the released pages. Runs nothing.
     pub fn keeps_limits(&self)
         ensures { IsGuestBook self.now }
     {
@@ -193,14 +194,14 @@ impl GuestBook {
     }
 }
 
-/// What an operation records, and its answer.
+/// The record of an operation, and its answer.
 #[derive(Clone, Copy)]
 struct Performed {
     rec: GuestRec,
     answer: u64,
 }
 
-/// Does an operation of a virtual processor on a machine.
+/// Carries out an operation of a virtual processor on a machine.
 fn perform(machine: &mut Machine, v: u8, op: Op) -> Performed
     requires frames { OpFits machine.old.frames.geometry op }
     requires ledger { machine.old.ledger.geometry ≡ machine.old.frames.geometry }

@@ -1,6 +1,6 @@
-//! The target's side of a migration: the guest's book until the halt, its machine and the guest's log; the target's book from
-//! the halt on, the guest's log, the frames, and the history of what was done to them; and the pager's book, with its calls
-//! on the target's book, which is handed on.
+//! The target's side of a migration: the guest's book until the halt, which has the machine and the guest's log; the
+//! target's book from the halt on, which has the guest's log, the frames, and the history of what was done to them; and
+//! the pager's book, some of whose calls take the target's book as well.
 #![tactic(auto)]
 
 mod guest;
@@ -16,14 +16,14 @@ use migration_types::{Contents, PageNo};
 pub use pager::PagerBook;
 pub use target::TargetBook;
 
-/// What an operation at the target comes to.
+/// The result of an operation at the target.
 #[derive(Clone, Copy, Debug, PartialEq, Eq)]
 pub enum Access {
     /// It was done, with this answer.
     Done(u64),
     /// Its page was missed.
     Missed,
-    /// A miss of the virtual processor stands, or the guest has not resumed.
+    /// The virtual processor has a pending miss, or the guest has not resumed.
     Waiting,
 }
 
@@ -38,7 +38,7 @@ pub struct Missing {
     pub page: PageNo,
 }
 
-/// A page that has come, with the number of its record.
+/// A page that has come and is not placed yet, with the number of the record that took it.
 #[derive(Drop)]
 pub struct Incoming {
     pub got: u32,

@@ -1,11 +1,11 @@
-//! Records of the log.
+//! Appending records to the log.
 
 ghost use Rattle.std.specs.Prelude.{◌≡◌, ◌+◌, ◌<◌, [], ◌∷◌, ◌++◌, length, vec_len, vec_capacity};
 ghost use Rattle.migration_types.specs.Limits.{most_records};
 
 use migration_types::PagerRec;
 
-/// Appends a record, for which there is room, and answers its number.
+/// Appends a record, for which there must be room, and returns its number.
 pub(crate) fn append(log: &mut Vec<PagerRec>, rec: PagerRec) -> u32
     requires room { vec_len log.old < vec_capacity log.old }
     requires few { length log.old.items < most_records }

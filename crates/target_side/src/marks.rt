@@ -1,4 +1,4 @@
-//! Marks of pages.
+//! Marks for pages.
 
 ghost use Rattle.std.specs.Prelude.{◌≡◌, ℕ, ◌<◌, ◌≤◌, ◌||◌, false, true};
 ghost use Rattle.std.specs.List.{AllByRecursion};
@@ -20,7 +20,7 @@ pub(crate) fn mark_all(marks: &mut Table<bool>, pages: &[PageNo])
     }
 }
 
-/// The least page from a number on that is marked in none of three tables, or the page count where there is none.
+/// Returns the least page from a number on that is marked in none of three tables, or the page count if there is none.
 pub(crate) fn first_unmarked(
     one: &Table<bool>,
     other: &Table<bool>,

@@ -1,4 +1,4 @@
-//! The pager's book, and the calls on it alone.
+//! The pager's book, and the calls that need only it.
 
 ghost use Rattle.std.specs.Prelude.{◌≡◌, ◌<◌, [], ◌∷◌, ◌++◌, length, slice_get, is_some, Some, IfOk, vec_len, vec_capacity};
 ghost use Rattle.std.specs.Option.{option_map};
@@ -27,9 +27,9 @@ mod ticks;
 /// released at the target before they came, those that have come, its packets that are not offered yet, who waits for
 /// which page, and the number of the last `want` of each page.
 ///
-/// Its log has at most 1,048,576 records. It is empty until the state has come, and begins with its `got` and `ready`
-/// from then on. A page is marked as placed just where the log places it. Each page that has come names its `got` or
-/// `pull`, each packet its own record, and each page that is waited for was wanted.
+/// Its log has at most 1,048,576 records. It is empty until the state has come, and then begins with the state's `got`
+/// and `ready`. A page is marked as placed exactly when the log places it. Each page that has come names its `got` or
+/// `pull`, each packet names its own record, and each page that is waited for was wanted.
 #[derive(Drop)]
 pub struct PagerBook {
     alloc: Global,
@@ -37,12 +37,12 @@ pub struct PagerBook {
     log: Vec<PagerRec>,
     /// The released pages, once the state has come.
     released: Option<Shared<PageNo>>,
-    /// The same pages, as marks.
+    /// The released pages, as marks.
     marks: Table<bool>,
     placed: Table<bool>,
-    /// The pages that the guest released at the target before they came, as far as they are settled.
+    /// The pages that the guest released at the target before they came, as far as they are cancelled.
     settled: Table<bool>,
-    /// Each page below this one is released, placed or settled.
+    /// Each page below this one is released, placed or cancelled.
     bound: u32,
     inbox: VecDeque<Incoming>,
     outbox: VecDeque<Packet>,
@@ -62,7 +62,7 @@ impl Model for PagerBook {
 }
 
 impl PagerBook {
-    /// The book before the state has come: nothing is recorded. An error: there is no memory for its tables.
+    /// Returns the book before the state has come, with nothing recorded. Fails only if memory runs out for its tables.
     pub fn new(alloc: Global, geometry: Geometry) -> Result<PagerBook, AllocError>
         ensures { IfOk result (λ b. part_of b ≡ new_pager geometry) }
     {
@@ -88,43 +88,44 @@ impl PagerBook {
         })
     }
 
-    /// How many pages and cells the machine has.
+    /// Returns the machine's geometry.
     pub fn geometry(&self) -> Geometry
         ensures { result ≡ self.now.geometry }
     {
         self.geometry
     }
 
-    /// Its log.
+    /// Returns its log.
     pub fn pager_log(&self) -> &[PagerRec]
         ensures { result.now ≡ self.now.log }
     {
         self.log.as_slice()
     }
 
-    /// Gives up its log.
+    /// Returns its log, and consumes the book.
     pub fn into_log(self) -> Vec<PagerRec>
         ensures { result.items ≡ self.log }
     {
         self.log
     }
 
-    /// Tells callers what every book keeps: its log has at most 1,048,576 records and begins with the state, what has
-    /// come, what is asked for, who waits and what is placed follow from it, and of each page its last `want` is told.
+    /// States the invariant of every book: its log has at most 1,048,576 records and begins with the state. What has
+    /// come, what is asked for, who waits and what is placed follow from the log, and the book has the last `want` of
+    /// each page. Runs nothing.
     pub fn keeps_limits(&self)
         ensures { IsKept (part_of self.now) }
     {
         let _log = &self.log;
     }
 
-    /// Whether the state has come, with which the log begins.
+    /// Returns whether the state has come, with which the log begins.
     pub fn is_ready(&self) -> bool
         ensures { result ≡ is_some self.now.released }
     {
         self.released.is_some()
     }
 
-    /// The oldest page of those that have come and are not placed yet. None: there is none.
+    /// Returns the oldest page that has come and is not placed yet, or `None` if there is none.
     pub fn next_page(&self) -> Option<PageNo>
         ensures { result ≡ option_map (λ x. x.page) (slice_get self.now.inbox 0) }
     {
@@ -132,7 +133,8 @@ impl PagerBook {
         Some(incoming.page)
     }
 
-    /// Takes the oldest packet that is not offered yet. None: there is none. Takes no memory.
+    /// Removes and returns the oldest packet that is not offered yet, or returns `None` if there is none. Allocates no
+    /// memory.
     pub fn flush(&mut self) -> Option<Packet>
         ensures { record { book = part_of self.new; packet = result } ≡ pager_flush (part_of self.old) }
     {
@@ -140,7 +142,7 @@ impl PagerBook {
     }
 }
 
-/// Records that a page is wanted, for which there is room, and answers the record's number.
+/// Records that a page is wanted, for which there must be room, and returns the record's number.
 fn want_page(log: &mut Vec<PagerRec>, wants: &mut Table<Option<u32>>, page: PageNo) -> u32
     requires room { vec_len log.old < vec_capacity log.old }
     requires few { length log.old.items < most_records }

@@ -1,4 +1,4 @@
-//! What the target holds, and what its part of each event makes of it.
+//! The state of the target, and its part of each event.
 
 ghost use Rattle.std.specs.Prelude.{◌≡◌, ℕ, [], ◌∷◌, ◌++◌, ◌<◌, ◌≤◌, ◌+◌, Some, None, false, replicate, vec_len, vec_capacity, length, IfOk, IfErr, OnOk, OnErr, IsErrOf};
 ghost use Rattle.migration_types.specs.Limits.{most_records};
@@ -20,10 +20,10 @@ use residency::Residency;
 use std::alloc::{AllocError, Global};
 use std::collections::VecDeque;
 
-/// A virtual processor's number, as an index, is below this one.
+/// A bound on the number of a virtual processor, as an index.
 const MARKS: usize = 256;
 
-/// What the target holds.
+/// The state of the target.
 #[derive(Drop)]
 pub(crate) struct State {
     /// The guest's log.
@@ -34,15 +34,15 @@ pub(crate) struct State {
     pub(crate) places: Residency,
     /// The misses that the pager has not taken, the oldest first.
     pub(crate) misses: VecDeque<Missing>,
-    /// A mark for each virtual processor whose miss stands.
+    /// A mark for each virtual processor that has a pending miss.
     pub(crate) standing: Vec<bool>,
-    /// The pages that were absent when the guest released them and that the pager has not settled, the oldest first.
+    /// The pages that were absent when the guest released them and that the pager has not cancelled, the oldest first.
     pub(crate) unsettled: Vec<PageNo>,
 }
 
 impl State {
-    /// The target at the halt, whose record the guest's log gains. It has no page. On an error the log comes back as it
-    /// was: it has no room for the record, or there is no memory.
+    /// Returns the state at the halt, whose record the guest's log gains. It has no page. On an error, the log comes
+    /// back as it was: it has no room for the record, or memory runs out.
     pub(crate) fn halted(
         alloc: Global,
         geometry: Geometry,
@@ -77,7 +77,7 @@ impl State {
         })
     }
 
-    /// An operation of a virtual processor.
+    /// Carries out an operation of a virtual processor.
     pub(crate) fn access(&mut self, vcpu: u8, op: &Op) -> Result<Access, TargetFault>
         requires sized { IsSized (held self.old).frames.geometry (held self.old) }
         requires fits { OpFits (held self.old).frames.geometry op.now }
@@ -103,7 +103,7 @@ impl State {
         }
     }
 
-    /// How many records an operation of a virtual processor appends.
+    /// Returns how many records an operation of a virtual processor appends.
     pub(crate) fn records_of_access(&self, vcpu: u8, op: &Op) -> usize
         requires sized { IsSized (held self.now).frames.geometry (held self.now) }
         requires fits { OpFits (held self.now).frames.geometry op.now }
@@ -126,7 +126,7 @@ impl State {
         }
     }
 
-    /// How many records appends what misses a page: none where a miss of the virtual processor stands.
+    /// Returns how many records a miss of a page appends: none if the virtual processor has a pending miss.
     fn records_of_miss(&self, vcpu: u8) -> usize
         requires { IsSized (held self.now).frames.geometry (held self.now) }
         ensures few { result ≤ 1 }
@@ -139,7 +139,7 @@ impl State {
         }
     }
 
-    /// An operation on a page that was absent when the guest released it.
+    /// Carries out an operation on a page that was absent when the guest released it.
     fn again(&mut self, vcpu: u8, op: &Op) -> Result<Access, TargetFault>
         requires sized { IsSized (held self.old).frames.geometry (held self.old) }
         requires fits { OpFits (held self.old).frames.geometry op.now }
@@ -153,7 +153,7 @@ impl State {
         Ok(Access::Done(self.act(vcpu, op)))
     }
 
-    /// A release of an absent page, which the pager has to settle.
+    /// Releases an absent page, which the pager must then cancel.
     fn free(&mut self, vcpu: u8, op: &Op) -> Result<Access, TargetFault>
         requires sized { IsSized (held self.old).frames.geometry (held self.old) }
         requires fits { OpFits (held self.old).frames.geometry op.now }
@@ -174,7 +174,7 @@ impl State {
         Ok(Access::Done(self.act(vcpu, op)))
     }
 
-    /// A virtual processor misses a page, unless a miss of it stands.
+    /// Records that a virtual processor misses a page, unless it has a pending miss.
     fn miss(&mut self, vcpu: u8, page: PageNo) -> Result<Access, TargetFault>
         requires sized { IsSized (held self.old).frames.geometry (held self.old) }
         requires page { page < (held self.old).frames.geometry.pages }
@@ -199,7 +199,7 @@ impl State {
         Ok(Access::Missed)
     }
 
-    /// An operation on a page that the pager's record of this number placed.
+    /// Carries out an operation on a page that the pager's record of this number placed.
     fn perform(&mut self, vcpu: u8, op: &Op, number: u32) -> Result<Access, TargetFault>
         requires sized { IsSized (held self.old).frames.geometry (held self.old) }
         requires fits { OpFits (held self.old).frames.geometry op.now }
@@ -219,7 +219,7 @@ impl State {
         Ok(Access::Done(self.act(vcpu, op)))
     }
 
-    /// A look at a placement above the frontier.
+    /// Records a look at a placement above the frontier.
     fn look(&mut self, number: u32)
         requires room { vec_len self.old.log < vec_capacity self.old.log }
         requires unseen { is_covered (Some number) self.old.places.frontier ≡ false }
@@ -231,7 +231,7 @@ impl State {
         self.places.saw(number);
     }
 
-    /// The operation itself, on a resident page. A miss of the virtual processor no longer stands.
+    /// Carries out the operation itself, on a resident page. The virtual processor then has no pending miss.
     fn act(&mut self, vcpu: u8, op: &Op) -> u64
         requires sized { IsSized (held self.old).frames.geometry (held self.old) }
         requires fits { OpFits (held self.old).frames.geometry op.now }
@@ -271,7 +271,7 @@ impl State {
         }
     }
 
-    /// The guest runs at the target from now on.
+    /// Lets the guest run at the target from now on.
     pub(crate) fn resume(&mut self) -> Result<(), TargetFault>
         requires { length self.old.log.items ≤ most_records }
         ensures part { OnOk result (part_held (held self.new) ≡ resumes (part_held (held self.old))) }
@@ -286,7 +286,7 @@ impl State {
         Ok(())
     }
 
-    /// A page is placed with these cells.
+    /// Places a page with these cells.
     pub(crate) fn place(&mut self, page: PageNo, number: u32, cells: &[u64])
         requires frames { page < (held self.old).frames.geometry.pages }
         requires places { page < (held self.old).places.geometry.pages }
@@ -300,7 +300,7 @@ impl State {
         self.places.mark(page, number);
     }
 
-    /// The pager has settled all pages that were absent when they were released.
+    /// Takes note that the pager has cancelled all pages that were absent when they were released.
     pub(crate) fn settle(&mut self)
         ensures part { part_held (held self.new) ≡ settled (part_held (held self.old)) }
         ensures log { self.new.log ≡ self.old.log }
@@ -309,7 +309,7 @@ impl State {
         self.unsettled.clear();
     }
 
-    /// A page is placed as zeros.
+    /// Places a page as zeros.
     pub(crate) fn zero(&mut self, page: PageNo, number: u32)
         requires frames { page < (held self.old).frames.geometry.pages }
         requires places { page < (held self.old).places.geometry.pages }
@@ -323,7 +323,7 @@ impl State {
     }
 }
 
-/// The frames, the residency and the marks of a target with no page.
+/// Returns the frames, the residency and the marks of a target with no page. Fails only if memory runs out.
 fn nothing_placed(
     alloc: Global,
     geometry: Geometry,
@@ -342,7 +342,7 @@ fn nothing_placed(
     Ok((frames, places, standing))
 }
 
-/// No mark is set.
+/// Returns marks, none of them set. Fails only if memory runs out.
 fn no_marks(alloc: Global) -> Result<Vec<bool>, AllocError>
     ensures { IfOk result (λ v. v.items ≡ replicate 256 false) }
 {

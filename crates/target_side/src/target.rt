@@ -1,4 +1,4 @@
-//! The book, with its history.
+//! The target's book, with its history.
 
 ghost use Rattle.std.specs.Prelude.{◌≡◌, ℕ, ◌<◌, ◌≤◌, [], ◌∷◌, ◌++◌, length, map, drop, slice_get, None, false, IfSome, IfOk, IfErr, OnOk, OnErr, IsErrOf};
 ghost use Rattle.std.specs.List.{AllByRecursion};
@@ -19,7 +19,7 @@ use page_store::Store;
 use std::alloc::{AllocError, Global};
 use std::marker::Model;
 
-/// A page that the pager placed.
+/// A placement by the pager.
 #[derive(Drop)]
 struct Placement {
     /// How many records the guest's log had then.
@@ -31,8 +31,8 @@ struct Placement {
     contents: Contents,
 }
 
-/// The target's book, from the halt on: what the target holds, and its history. Contracts see both. The history is not
-/// stored a second time: it is the guest's log with the placements between its records.
+/// The target's book, from the halt on: its state and its history. Contracts see both. The history is not stored a
+/// second time: it is the guest's log with the placements between its records.
 #[derive(Drop)]
 pub struct TargetBook {
     state: State,
@@ -54,10 +54,10 @@ impl Model for TargetBook {
 }
 
 impl TargetBook {
-    /// The book at the halt, whose record the guest's log gains: no page was placed, and the guest does not run yet.
-    /// The log holds what the guest did at the source, reads, writes and releases alone. `TargetFault::LogFull` exactly
-    /// where the log has no room for the record, `TargetFault::Memory` where it has, and there is no memory for the
-    /// record, the frames and the tables. On an error the log comes back as it was.
+    /// Returns the book at the halt, whose record the guest's log gains. No page was placed, and the guest does not run
+    /// yet. The log must hold what the guest did at the source, only reads, writes and releases. The error is
+    /// `TargetFault::LogFull` exactly when the log has no room for the record, and otherwise `TargetFault::Memory`, if
+    /// memory runs out for the record, the frames and the tables. On an error, the log comes back as it was.
     pub fn halted(
         alloc: Global,
         geometry: Geometry,
@@ -80,12 +80,12 @@ impl TargetBook {
         })
     }
 
-    /// An operation of a virtual processor. Before the guest resumes it waits. On an absent page a read or a write misses,
-    /// once, and then waits until the page is resident; a release makes the page resident as zeros, and the pager has to
-    /// settle it. On a page that was placed it is done and recorded, after a look at the placement where the guest saw
-    /// none so late; on a page that was absent when it was released, it is done and recorded at once.
-    /// `TargetFault::LogFull` exactly where the log has no room for the records, `TargetFault::Memory` where it has, and
-    /// there is no memory for them. On an error nothing changes.
+    /// Carries out an operation of a virtual processor. Before the guest resumes, the operation waits. On an absent
+    /// page, a read or a write misses the page, once, and then waits until the page is resident. A release makes an
+    /// absent page resident as zeros, and the pager must cancel it. On a placed page, the operation is carried out and
+    /// recorded, after a look at the placement if the guest has looked at none so late. On a page that was absent when
+    /// it was released, it is carried out and recorded at once. The error is `TargetFault::LogFull` exactly when the
+    /// log has no room for the records, and otherwise `TargetFault::Memory`. On an error, nothing changes.
     pub fn access(&mut self, vcpu: u8, op: Op) -> Result<Access, TargetFault>
         requires { OpFits (geometry_of self.old) op }
         ensures part { IfOk result (λ a. record { book = part_of self.new; access = a } ≡ target_access vcpu op (part_of self.old)) }
@@ -98,7 +98,7 @@ impl TargetBook {
         self.state.access(vcpu, &op)
     }
 
-    /// Whether the log has room for what an operation of a virtual processor appends. Takes no memory.
+    /// Returns whether the log has room for what an operation of a virtual processor appends. Allocates no memory.
     pub fn look_to_access(&self, vcpu: u8, op: &Op) -> Result<(), TargetFault>
         requires { OpFits (geometry_of self.now) op.now }
         ensures room { OnOk result (length (target_access vcpu op.now (part_of self.now)).book.log ≤ most_records) }
@@ -109,8 +109,8 @@ impl TargetBook {
         look_for_room(&self.state.log, more)
     }
 
-    /// The guest resumes at the target, which is recorded. `TargetFault::LogFull` exactly where the log has no room for
-    /// the record, `TargetFault::Memory` where it has, and there is no memory for it. On an error nothing changes.
+    /// Lets the guest resume at the target, and records this. The error is `TargetFault::LogFull` exactly when the log
+    /// has no room for the record, and otherwise `TargetFault::Memory`. On an error, nothing changes.
     pub fn resume(&mut self) -> Result<(), TargetFault>
         requires { (part_of self.old).is_resumed ≡ false }
         ensures part { OnOk result (part_of self.new ≡ resumes (part_of self.old)) }
@@ -123,7 +123,7 @@ impl TargetBook {
         self.state.resume()
     }
 
-    /// Whether the log has room for the record that the guest resumes. Takes no memory.
+    /// Returns whether the log has room for the record of the resume. Allocates no memory.
     pub fn look_to_resume(&self) -> Result<(), TargetFault>
         ensures room { OnOk result (length (resumes (part_of self.now)).log ≤ most_records) }
         ensures full { OnErr result (most_records < length (resumes (part_of self.now)).log) }
@@ -132,8 +132,8 @@ impl TargetBook {
         look_for_room(&self.state.log, 1)
     }
 
-    /// Places an absent page, with these values in its cells, by the pager's record of this number. The
-    /// history gains the placement. An error: there is no memory for it, and then nothing changes.
+    /// Places an absent page with these values in its cells, by the pager's record of this number. The history gains
+    /// the placement. Fails only if memory runs out, and then nothing changes.
     pub fn place(&mut self, page: PageNo, number: u32, contents: &[u64]) -> Result<(), AllocError>
         requires page { page < (geometry_of self.old).pages }
         requires contents { length contents.now ≡ (geometry_of self.old).cells }
@@ -156,8 +156,8 @@ impl TargetBook {
         Ok(())
     }
 
-    /// Places an absent page, as zeros, by the pager's record of this number. The history gains the
-    /// placement. An error: there is no memory for it, and then nothing changes.
+    /// Places an absent page as zeros, by the pager's record of this number. The history gains the placement. Fails
+    /// only if memory runs out, and then nothing changes.
     pub fn zero(&mut self, page: PageNo, number: u32) -> Result<(), AllocError>
         requires page { page < (geometry_of self.old).pages }
         requires absent { is_resident ((part_of self.old).placed page) ((part_of self.old).freed page) ≡ false }
@@ -178,7 +178,7 @@ impl TargetBook {
         Ok(())
     }
 
-    /// The oldest miss that was not taken, of a page of the machine. None: all were taken.
+    /// Returns the oldest miss that was not taken, of a page of the machine, or `None` if all were taken.
     pub fn next_miss(&self) -> Option<Missing>
         ensures oldest { result ≡ slice_get (part_of self.now).misses 0 }
         ensures page { IfSome result (λ m. m.page < (geometry_of self.now).pages) }
@@ -195,8 +195,8 @@ impl TargetBook {
         self.state.misses.pop_front();
     }
 
-    /// The pages that were absent when the guest released them and that the pager has not settled, the oldest first, all
-    /// of the machine.
+    /// Returns the pages that were absent when the guest released them and that the pager has not cancelled, the oldest
+    /// first. All are pages of the machine.
     pub fn unsettled(&self) -> &[PageNo]
         ensures pages { result.now ≡ (part_of self.now).unsettled }
         ensures machine { AllByRecursion (λ p. p < (geometry_of self.now).pages) result.now }
@@ -204,7 +204,7 @@ impl TargetBook {
         &self.state.unsettled
     }
 
-    /// The pager has settled all of these pages. Nothing else changes. Gives no memory back.
+    /// Takes note that the pager has cancelled all of these pages. Nothing else changes. Frees no memory.
     pub fn settle(&mut self)
         ensures part { part_of self.new ≡ settled (part_of self.old) }
         ensures history { self.new.history ≡ self.old.history }
@@ -213,7 +213,7 @@ impl TargetBook {
         self.state.settle();
     }
 
-    /// Whether a page is resident: it was placed, or it was absent when the guest released it.
+    /// Returns whether a page is resident: it was placed, or it was absent when the guest released it.
     pub fn resident(&self, page: PageNo) -> bool
         requires { page < (geometry_of self.now).pages }
         ensures { result ≡ is_resident ((part_of self.now).placed page) ((part_of self.now).freed page) }
@@ -221,14 +221,14 @@ impl TargetBook {
         self.state.places.resident(page)
     }
 
-    /// Whether the guest has resumed at the target.
+    /// Returns whether the guest has resumed at the target.
     pub fn is_resumed(&self) -> bool
         ensures { result ≡ (part_of self.now).is_resumed }
     {
         self.state.is_resumed
     }
 
-    /// The number of the pager's record that placed a page. None: the page was not placed.
+    /// Returns the number of the pager's record that placed a page, or `None` if the page was not placed.
     pub fn placed_at(&self, page: PageNo) -> Option<u32>
         requires { page < (geometry_of self.now).pages }
         ensures { result ≡ (part_of self.now).placed page }
@@ -236,25 +236,25 @@ impl TargetBook {
         self.state.places.placed_at(page)
     }
 
-    /// The guest's log.
+    /// Returns the guest's log.
     pub fn guest_log(&self) -> &[GuestRec]
         ensures { result.now ≡ (part_of self.now).log }
     {
         &self.state.log
     }
 
-    /// The machine's geometry.
+    /// Returns the machine's geometry.
     pub fn geometry(&self) -> Geometry
         ensures { result ≡ geometry_of self.now }
     {
         self.state.frames.geometry()
     }
 
-    /// Tells callers what the book keeps: it holds what follows from its history, and its log is within its limit. In
-    /// the history each page is placed at most once, and none after its release at the target; once the guest has resumed,
-    /// each read and write is of a page that was released there, or that was placed before and whose placement, or a later
-    /// one, the guest has looked at, and each read gives what was last written since the page was last placed or released
-    /// there, or else what was placed, or zero; and each look is at an earlier placement.
+    /// States the invariant of the book: its state follows from its history, and its log is within its limit. In the
+    /// history, each page is placed at most once, and not after its release at the target. Once the guest has resumed,
+    /// each read and write is of a page that was released there, or that was placed before, where the guest has looked
+    /// at that placement or a later one. Each read gives what was last written since the page was last placed or
+    /// released there, or else what was placed, or zero. Each look is at an earlier placement. Runs nothing.
     pub fn keeps_history(&self)
         ensures history { IsHistoryOf (part_of self.now) self.now.history }
         ensures book { IsOfHistory (part_of self.now) self.now.history }
@@ -266,7 +266,7 @@ impl TargetBook {
         let _ = &self.state;
     }
 
-    /// The guest's log and the frames.
+    /// Returns the guest's log and the frames.
     pub fn into_parts(self) -> (Vec<GuestRec>, Store)
         ensures log { result.0.items ≡ self.held.log }
         ensures frames { result.1 ≡ self.held.frames }

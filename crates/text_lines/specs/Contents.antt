@@ -1,4 +1,4 @@
--- A page's contents: sixteen lower-case hexadecimal digits a cell.
+-- A page's contents as text: sixteen lower-case hexadecimal digits for each cell.
 use Rattle.std.specs.Prelude.{ℕ, ◌+◌, ◌*◌, ◌%◌, nat_lt, if◌then◌else◌, List, [], ◌∷◌}
 use Rattle.std.specs.List.{flat_map}
 use Rattle.std.specs.Int.{w64, to_be_bytes}
@@ -19,7 +19,7 @@ digit_number b =
     else if nat_lt ((b + 159) % 256) 6 then ((b + 159) % 256 + 10) % 256
     else 255
 
--- each two numbers as one in a base, which is a byte
+-- each pair of numbers as one number in a base, which is a byte
 abbrev pub pairs_in : ℕ → List ℕ → List ℕ
 pairs_in base [] = []
 pairs_in base (high ∷ []) = []

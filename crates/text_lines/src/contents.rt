@@ -6,7 +6,7 @@ ghost use Rattle.text_lines.specs.Contents.{cell_text, digit_number, pairs_in};
 
 use std::simd::prelude::*;
 
-/// The number of each digit, and 255 for each byte that is no lower-case hexadecimal digit.
+/// Returns the number of each digit, and 255 for each byte that is not a lower-case hexadecimal digit.
 #[inline(always)]
 fn digit_numbers(bytes: u8x16) -> u8x16
     requires { length bytes ≡ 16 }
@@ -22,7 +22,7 @@ fn digit_numbers(bytes: u8x16) -> u8x16
     )
 }
 
-/// Whether each number is below a bound.
+/// Returns whether all numbers are below a bound.
 #[inline(always)]
 pub(crate) fn are_below(numbers: u8x16, bound: u8) -> bool
     requires { length numbers ≡ 16 }
@@ -31,7 +31,7 @@ pub(crate) fn are_below(numbers: u8x16, bound: u8) -> bool
     numbers.simd_lt(u8x16::splat(bound)).to_bitmask() == 65_535
 }
 
-/// Each two of the numbers as one in a base.
+/// Joins each pair of numbers into one number of this base.
 #[inline(always)]
 pub(crate) fn pairs(numbers: u8x16, base: u8) -> u8x8
     requires { length numbers ≡ 16 }
@@ -42,7 +42,7 @@ pub(crate) fn pairs(numbers: u8x16, base: u8) -> u8x8
     high * u8x8::splat(base) + low
 }
 
-/// The cell that sixteen lower-case digits spell.
+/// Returns the cell that sixteen lower-case hexadecimal digits spell, or `None` if the text is not that.
 #[inline(always)]
 pub fn read_cell(text: &[u8]) -> Option<u64>
     ensures { MatchOption result ((x : ℕ) → x < 2 ^ 64 → text.now ≢ cell_text x) (λ x. text.now ≡ cell_text x) }

@@ -1,4 +1,4 @@
-//! Who takes many items at once: one thread, or several.
+//! Pools of workers: what reads many items at once, by one thread or by several.
 
 ghost use Rattle.std.specs.Prelude.{◌≤◌};
 ghost use Rattle.std.specs.Thread.{IsSync};
@@ -9,16 +9,16 @@ use crate::counted::take_items;
 use crate::{LineForm, LineReader, Rewind};
 use std::thread::Threads;
 
-/// Who takes many items at once.
+/// A pool of workers, which reads many items at once.
 pub trait Crew {
-    /// What a crew has to be.
+    /// What a pool must satisfy.
     ghost IsReady: { Self → Type 0 };
 }
 
-/// A crew that takes items of this form.
+/// A pool of workers that reads items of this form.
 pub trait ItemCrew<F: LineForm>: Crew {
-    /// Takes items at the front of the bytes, up to `most` of them, and stops where it likes. Answers what follows, and
-    /// how many they were.
+    /// Reads items at the front of the bytes, at most `most`; it may stop after any item. Returns what follows, and how
+    /// many they were.
     fn take<'a>(
         &self,
         form: &F,
@@ -32,15 +32,15 @@ pub trait ItemCrew<F: LineForm>: Crew {
         ensures most { result.1 ≤ most };
 }
 
-/// A crew that takes lines for this reader.
+/// A pool of workers that takes lines for this reader.
 pub trait LineCrew<R: LineReader>: Crew {
-    /// Has a reader take as many of the first lines as it likes, as `LineReader::lines` does.
+    /// Lets a reader take as many of the first lines as it likes, as `LineReader::lines` does.
     fn lines<'a>(&self, reader: &mut R, bytes: &'a [u8]) -> (&'a [u8], u32)
         requires { Self.IsReady self.now }
         ensures { TakesLines (R.held reader.old) (R.held reader.new) bytes.now result.0.now result.1 };
 }
 
-/// The one thread that asks.
+/// The calling thread alone.
 #[derive(Clone, Copy)]
 pub struct Alone;
 
@@ -68,8 +68,7 @@ impl<R: LineReader> LineCrew<R> for Alone {
     }
 }
 
-/// The threads that take so many parts at once. Of each form whose items they take, the form's crate says that they do,
-/// by `take_parts`.
+/// Threads that read this many parts at once. The crate of each form that they read implements this with `take_parts`.
 #[derive(Drop)]
 pub struct Team<'a, H> {
     pub rt: &'a H,
@@ -89,9 +88,10 @@ impl<'a, H: Threads + Sync, R: LinesApart> LineCrew<R> for Team<'a, H> {
     }
 }
 
-/// A reader of which several threads may take lines. No reader that is used alone reaches what starts a thread.
+/// A reader whose lines several threads may take. A reader that is used by one thread alone reaches no code that starts
+/// a thread.
 pub trait LinesApart: Rewind {
-    /// Takes as many of the first lines as it likes, as `lines` does, in so many parts at once.
+    /// Takes as many of the first lines as it likes, as `lines` does, in this many parts at once.
     fn lines_apart<'a, H: Threads + Sync>(
         &mut self,
         rt: &H,

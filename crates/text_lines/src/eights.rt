@@ -8,16 +8,16 @@ ghost use Rattle.text_lines.specs.inner.Blocks.{digit_less};
 
 use std::simd::prelude::*;
 
-/// The second byte of each two.
+/// The second byte of each pair.
 const SECONDS: u64 = 0x00ff_00ff_00ff_00ff;
 
-/// The second two bytes of each four.
+/// The second pair of bytes of each four.
 const LATER_TWOS: u64 = 0x0000_ffff_0000_ffff;
 
 /// The last four bytes.
 const LAST_FOUR: u64 = 0xffff_ffff;
 
-/// The number of each digit, and ten or more for each other byte.
+/// Returns the number of each digit, and ten or more for each other byte.
 #[inline(always)]
 fn numbers_of(bytes: u8x8) -> u8x8
     requires { length bytes ≡ 8 }
@@ -26,7 +26,7 @@ fn numbers_of(bytes: u8x8) -> u8x8
     bytes - u8x8::splat(b'0')
 }
 
-/// How many of the numbers are below ten, up to the first that is not.
+/// Returns how many of the numbers are below ten, up to the first that is not.
 #[inline(always)]
 fn small_before(numbers: u8x8) -> u32
     requires { length numbers ≡ 8 }
@@ -40,7 +40,7 @@ fn small_before(numbers: u8x8) -> u32
         .trailing_ones()
 }
 
-/// The first bytes of eight, as the last ones of a word.
+/// Returns the first `count` of eight bytes as the last bytes of a word.
 #[inline(always)]
 fn front_word(bytes: u8x8, count: u32) -> u64
     requires long { length bytes ≡ 8 }
@@ -48,12 +48,12 @@ fn front_word(bytes: u8x8, count: u32) -> u64
     requires count { count ≤ 8 }
     ensures { result ≡ number_from_digits 256 (take count bytes) }
 {
-    // (two shifts, since a word is not shifted by all of its bits at once)
+    // (two shifts, because one shift cannot move all bits of a word)
     let half = 32 - 4 * count;
     u64::from_be_bytes(bytes.to_array()) >> half >> half
 }
 
-/// The number that a word's bytes write in decimal form.
+/// Returns the number that the bytes of a word spell in decimal.
 #[inline(always)]
 fn decimal_of(word: u64) -> u64
     ensures { (ds : List ℕ) → length ds ≤ 8 → AllByRecursion (λ d. d < 10) ds → word ≡ number_from_digits 256 ds → result ≡ number_from_digits 10 ds }
@@ -63,7 +63,7 @@ fn decimal_of(word: u64) -> u64
     (fours >> 32) * 10_000 + (fours & LAST_FOUR)
 }
 
-/// The number of the digits at the front of a text, up to eight of them, and how many they are.
+/// Returns the number that the digits at the front of a text spell, at most eight of them, and how many they are.
 #[inline(always)]
 pub(crate) fn eight_digits(text: &[u8]) -> (u64, usize)
     requires { 8 ≤ length text.now }

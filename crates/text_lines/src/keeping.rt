@@ -7,10 +7,10 @@ ghost use Rattle.text_lines.specs.Answer.{Refused};
 use crate::{Alone, FaultKind, LineReader, Refusal, TextFault, finish_text, next_line, take_lines};
 use std::alloc::Global;
 
-/// Of a refused line so many first bytes are kept, more than any line of a text has.
+/// At most this many first bytes of a refused line are kept. No line of a valid text is longer.
 const MOST_KEPT: usize = 8_448;
 
-/// The line behind so many others, without its LF. It is empty where there are not so many.
+/// Returns the line after the first `lines` lines, without its LF. It is empty if there are not that many.
 fn line_behind(bytes: &[u8], lines: u32) -> &[u8] {
     let mut rest = bytes;
     for _ in 0..lines {
@@ -25,7 +25,7 @@ fn line_behind(bytes: &[u8], lines: u32) -> &[u8] {
     }
 }
 
-/// Keeps the first bytes of this line in the place of what was kept. Where memory is refused, none.
+/// Replaces what was kept with the first bytes of this line. Keeps nothing if memory runs out.
 fn keep_line(kept: &mut Vec<u8>, line: &[u8]) {
     kept.truncate(0);
     let (first, _) = line.split_at(line.len().min(MOST_KEPT));
@@ -34,8 +34,8 @@ fn keep_line(kept: &mut Vec<u8>, line: &[u8]) {
     }
 }
 
-/// Keeps the first bytes of the line behind so many: that which is kept is the first of them, and the bytes are what follows
-/// its LF.
+/// Keeps the first bytes of the line after the first `lines` lines. What is kept already is the first of these lines,
+/// and the bytes are what follows its LF.
 pub(crate) fn keep_behind(kept: &mut Vec<u8>, lines: u32, after: &[u8]) {
     if lines == 0 {
         kept.truncate(MOST_KEPT);
@@ -44,7 +44,7 @@ pub(crate) fn keep_behind(kept: &mut Vec<u8>, lines: u32, after: &[u8]) {
     }
 }
 
-/// The first bytes of the line of a fault. There are none where memory is refused, or was.
+/// Returns the first bytes of the line of a fault. There are none if memory runs out, or ran out.
 fn kept_line(alloc: Global, bytes: &[u8], fault: TextFault) -> Vec<u8> {
     let mut kept = Vec::new(alloc);
     if fault.kind != FaultKind::Memory {
@@ -53,14 +53,14 @@ fn kept_line(alloc: Global, bytes: &[u8], fault: TextFault) -> Vec<u8> {
     kept
 }
 
-/// The first bytes of what was kept.
+/// Returns the first bytes of what was kept.
 pub(crate) fn first_kept(kept: Vec<u8>) -> Vec<u8> {
     let mut first = kept;
     first.truncate(MOST_KEPT);
     first
 }
 
-/// The value that the bytes spell, or why they are refused. Takes memory only for the line of the refusal.
+/// Returns the value that the bytes spell, or why they are refused. Allocates memory only for the refused line.
 pub fn read_or_why<R: LineReader>(
     reader: R,
     alloc: Global,

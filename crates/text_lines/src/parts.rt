@@ -1,4 +1,4 @@
-//! Several threads that take items in a row at once.
+//! Reading items of consecutive lines by several threads at once.
 
 ghost use Rattle.std.specs.Prelude.{◌≤◌, [], length};
 ghost use Rattle.std.specs.Thread.{IsSend, IsSync};
@@ -10,7 +10,7 @@ use memchr::memchr;
 use std::alloc::Global;
 use std::thread::{Threads, join_mut};
 
-/// Items that were taken into a list of their own, what follows them, and how many they were.
+/// A part of the items, read into a list of its own, with what follows them and how many they were.
 #[derive(Drop)]
 struct Part<'a, T> {
     items: Vec<T>,
@@ -18,10 +18,10 @@ struct Part<'a, T> {
     count: u32,
 }
 
-/// Fewer bytes than these are left to one thread.
+/// Fewer bytes than this are left to one thread.
 const SMALL: usize = 65_536;
 
-/// The first start of a line at a place or behind it, or the end.
+/// Returns the first start of a line at or after a place, or the end.
 fn line_start(bytes: &[u8], at: usize) -> usize
     ensures { result ≤ length bytes.now }
 {
@@ -34,7 +34,7 @@ fn line_start(bytes: &[u8], at: usize) -> usize
     }
 }
 
-/// Takes items at the front of the bytes into a list of their own, up to `most` of them.
+/// Reads items at the front of the bytes into a list of their own, at most `most` of them.
 fn read_part<'a, F: LineForm>(
     form: &F,
     alloc: Global,
@@ -49,8 +49,8 @@ fn read_part<'a, F: LineForm>(
     Part { items, rest, count }
 }
 
-/// Adds the items of a part of the bytes, where they are up to `most` and the first may stand there. Answers what follows
-/// those that were added, and how many they were.
+/// Appends the items of a part of the bytes if they are at most `most` and the first is allowed there. Returns what
+/// follows the appended items, and how many they were.
 fn add_part<'a, F: LineForm>(
     form: &F,
     items: &mut Vec<F::Item>,
@@ -76,9 +76,9 @@ fn add_part<'a, F: LineForm>(
     (part.rest, part.count)
 }
 
-/// Takes items as `take_parts` does, in parts that begin so many bytes apart: the first straight into the list, by the
-/// thread that asks, and each other one into a list of its own, by a thread of its own where one can be made. These lists
-/// are added in order, while those behind them are still read.
+/// Reads items as `take_parts` does, in parts that begin `size` bytes apart. The calling thread reads the first part
+/// straight into the list. Each other part gets a list of its own, and a thread of its own if one can be started. These
+/// lists are appended in order, while later parts are still being read.
 #[cycle(each)]
 fn take_each<'a, R: Threads + Sync, X: Send + Drop, F: LineForm<Item = X> + Sync>(
     rt: &R,
@@ -117,8 +117,8 @@ fn take_each<'a, R: Threads + Sync, X: Send + Drop, F: LineForm<Item = X> + Sync
     (rest, count)
 }
 
-/// Takes items at the front of the bytes, up to `most` of them, in so many parts at once, each by a thread of its own
-/// where one can be made, and stops where it likes. Answers what follows, and how many they were.
+/// Reads items at the front of the bytes, at most `most`, in this many parts at once; it may stop after any item. Each
+/// part has a thread of its own if one can be started. Returns what follows, and how many they were.
 pub fn take_parts<'a, R: Threads + Sync, X: Send + Drop, F: LineForm<Item = X> + Sync>(
     rt: &R,
     form: &F,

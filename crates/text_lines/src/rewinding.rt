@@ -1,17 +1,17 @@
-//! Readers of lines that can take lines back.
+//! Readers that can take lines back.
 
 ghost use Rattle.std.specs.Prelude.{◌≡◌, ◌<◌, ◌≤◌, List, [], ◌∷◌, ◌++◌, ℕ, length, take};
 
 use crate::LineReader;
 use std::alloc::Global;
 
-/// A reader that begins with no line, and can take lines back.
+/// A reader that starts with no line, and can take lines back.
 pub trait Rewind: LineReader {
-    /// A reader that no line came to. Takes no memory.
+    /// Returns a reader that has read no line. Allocates no memory.
     fn empty(alloc: Global) -> Self
         ensures { Self.held result ≡ [] };
 
-    /// How many lines came.
+    /// Returns how many lines were read.
     fn count(&self) -> u32
         ensures { result ≡ length (Self.held self.now) };
 
@@ -21,7 +21,7 @@ pub trait Rewind: LineReader {
         ensures { (line : List ℕ) × (Self.held self.old ≡ Self.held self.new ++ line ∷ []) };
 }
 
-/// Takes all lines back but so many, the first.
+/// Takes back all lines after the first `lines`.
 pub(crate) fn back_to<R: Rewind>(reader: &mut R, lines: u32)
     requires { lines ≤ length (R.held reader.old) }
     ensures { R.held reader.new ≡ take lines (R.held reader.old) }

@@ -4,11 +4,11 @@ ghost use Rattle.std.specs.Prelude.{◌≡◌, ◌≤◌, ◌<◌, ◌++◌, ◌
 ghost use Rattle.std.specs.Str.Parse.{AllDigits, digits_value};
 ghost use Rattle.std.specs.Fmt.{decimal};
 
-/// What stands behind a number.
+/// What follows a number.
 const SPACE: u8 = b' ';
 
-/// A number of up to seven digits at the front and what follows the space after it, for a text of some length. It may
-/// answer `None` at any text.
+/// Returns the number at the front, of at most seven digits, and what follows the space after it, if the text is long
+/// enough. May return `None` for any text.
 #[inline(always)]
 pub fn short_then(text: &[u8], limit: u32) -> Option<(u32, &[u8])>
     requires { 8 ≤ length text.now }
@@ -18,8 +18,8 @@ pub fn short_then(text: &[u8], limit: u32) -> Option<(u32, &[u8])>
     short_before(text, SPACE, limit)
 }
 
-/// A number of up to seven digits at the front and what follows the byte `end` after it, for a text of some length. It
-/// may answer `None` at any text.
+/// Returns the number at the front, of at most seven digits, and what follows the byte `end` after it, if the text is
+/// long enough. May return `None` for any text.
 #[inline(always)]
 pub fn short_before(text: &[u8], end: u8, limit: u32) -> Option<(u32, &[u8])>
     requires long { 8 ≤ length text.now }
@@ -38,7 +38,7 @@ pub fn short_before(text: &[u8], end: u8, limit: u32) -> Option<(u32, &[u8])>
     stopped(text, n, 7, end, limit)
 }
 
-/// The same, once the digits ended.
+/// Returns what `short_before` returns, once the digits have ended.
 #[inline(always)]
 fn stopped(text: &[u8], n: u32, count: usize, end: u8, limit: u32) -> Option<(u32, &[u8])>
     requires end { end < 48 }

@@ -10,9 +10,9 @@ use std::alloc::Global;
 use std::marker::Model;
 use std::thread::Threads;
 
-/// What came of a text whose lines come in stages.
+/// What was read of a text whose lines come in stages.
 pub trait Stages: Drop {
-    /// Which line comes next.
+    /// The kind of line that comes next.
     type Stage: Copy;
 
     type Text: Drop;
@@ -20,18 +20,18 @@ pub trait Stages: Drop {
     /// The grammar: which lines spell a value.
     ghost spells: { Self.Text → List (List ℕ) → Type 0 };
 
-    /// The lines so far.
+    /// The lines read so far.
     ghost held: { Self.Stage → Self → List (List ℕ) };
 
-    /// What holds of what came, before the line of a stage.
+    /// The invariant of what was read, before the line of a stage.
     ghost Live: { Self.Stage → Self → Type 0 };
 
-    /// Nothing came, and the stage of the first line. Takes no memory.
+    /// Returns the stage of the first line, with nothing read. Allocates no memory.
     fn begin(alloc: Global) -> (Self::Stage, Self)
         ensures live { Live result.0 result.1 }
         ensures none { held result.0 result.1 ≡ [] };
 
-    /// Takes the next line, and answers the stage of the one behind it.
+    /// Takes the next line, and returns the stage of the line after it.
     fn take(&mut self, stage: Self::Stage, line: &[u8]) -> Result<Self::Stage, FaultKind>
         requires { Live stage self.old }
         ensures ok { IfOk result (λ next. Live next self.new × (held next self.new ≡ held stage self.old ++ line.now ∷ [])) }
@@ -49,13 +49,13 @@ pub trait Stages: Drop {
         (bytes, 0)
     }
 
-    /// Some text begins with the lines so far, which are few.
+    /// Some text begins with the lines so far, and these are few.
     fn goes_on(&self, stage: Self::Stage)
         requires { Live stage self.now }
         ensures begins { Begins spells (held stage self.now) }
         ensures few { length (held stage self.now) + 1 < 2 ^ 32 };
 
-    /// What may stand at the next line.
+    /// Returns what is allowed at the next line.
     fn wanted(&self, stage: Self::Stage) -> Wanted
         requires { Live stage self.now }
     {
@@ -63,7 +63,7 @@ pub trait Stages: Drop {
         Wanted::unknown()
     }
 
-    /// The value, where the lines so far are a text.
+    /// Returns the value if the lines so far are a complete text.
     fn text(self, stage: Self::Stage) -> Option<Self::Text>
         requires { Live stage self }
         ensures found { IfSome result (λ v. spells v (held stage self)) }
@@ -73,14 +73,14 @@ pub trait Stages: Drop {
     ghost plain: { (v : Self.Text) (lines : List (List ℕ)) → spells v lines → AllByRecursion IsLine lines };
 }
 
-/// What came of a text of which lines can be taken back.
+/// What was read of a text whose lines can be taken back.
 pub trait StagesBack: Stages {
-    /// How many lines came.
+    /// Returns how many lines were read.
     fn count(&self, stage: Self::Stage) -> u32
         requires { Self.Live stage self.now }
         ensures { result ≡ length (Self.held stage self.now) };
 
-    /// Takes the last line back, and answers its stage.
+    /// Takes the last line back, and returns its stage.
     fn undo(&mut self, stage: Self::Stage) -> Self::Stage
         requires live { Self.Live stage self.old }
         requires some { 0 < length (Self.held stage self.old) }
@@ -88,9 +88,9 @@ pub trait StagesBack: Stages {
         ensures back { (line : List ℕ) × (Self.held stage self.old ≡ Self.held result self.new ++ line ∷ []) };
 }
 
-/// What came of a text of which several threads may take lines.
+/// What was read of a text whose lines several threads may take.
 pub trait StagesApart: StagesBack {
-    /// Takes as many of the first lines of a stage as it likes, as `lines` does, in so many parts at once.
+    /// Takes as many of the first lines of a stage as it likes, as `lines` does, in this many parts at once.
     fn lines_apart<'a, H: Threads + Sync>(
         &mut self,
         rt: &H,
@@ -104,7 +104,7 @@ pub trait StagesApart: StagesBack {
         ensures taken { TakesLines (Self.held stage self.old) (Self.held stage self.new) bytes.now result.0.now result.1 };
 }
 
-/// Reads a text whose lines come in stages: what its lines said so far. Contracts see the lines.
+/// A reader of a text whose lines come in stages: what its lines said so far. Contracts see the lines.
 #[derive(Drop)]
 pub struct Staged<P: Stages> {
     stage: P::Stage,
@@ -122,7 +122,7 @@ impl<P: Stages> Model for Staged<P> {
 }
 
 impl<P: Stages> Staged<P> {
-    /// No line came yet. Takes no memory.
+    /// Returns a reader that has read no line. Allocates no memory.
     pub fn new(alloc: Global) -> Self
         ensures { result ≡ [] }
     {

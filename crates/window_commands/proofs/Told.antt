@@ -1,38 +1,43 @@
 -- What is told of a window.
-use Rattle.std.proofs.Common.{◌≡◌, ℕ, ◌<◌, Bool, List, Option, Some, None, Result, Ok, Err, IfOk, subst}
+use Rattle.std.proofs.Common.{◌≡◌, ◌≢◌, ◌∙◌, ℕ, ◌<◌, Bool, true, false, List, Option, Some, None, Result, Ok, Err, IfOk, MatchOption, subst, sym, ap, inl, inr, arith, refl}
 use Rattle.std.specs.Prelude.{IfErr, IfSome}
+use Rattle.std.specs.Global.{Vec}
 use Rattle.std.specs.Io.KnownBytes.{Appends}
 use Rattle.std.proofs.KnownBytes.{Keeps-refl}
 use Rattle.std.specs.declared.alloc.AllocError.{AllocError}
 use Rattle.command_texts.specs.declared.answer.Answer.{Answer}
 use Rattle.command_texts.specs.declared.answer.Fault.{Fault}
-use Rattle.command_texts.specs.declared.answer.Fault.TheVariants.{Output}
-use Rattle.command_texts.specs.Answers.{IsReadFault, IsTextFault, Says}
+use Rattle.command_texts.specs.Answers.{IsOutputFault, IsReadFault, IsTextFault, Says}
 use Rattle.command_texts.specs.Written.{AppendsFront}
-use Rattle.command_texts.proofs.Endings.{not_read, not_written, text_fault, written_whole}
+use Rattle.command_texts.proofs.Endings.{not_read, not_written, output_fault, text_fault, written_whole}
 use Rattle.command_texts.proofs.Said.{says_right}
 use Rattle.window_cut.specs.declared.faults.CutFault.{CutFault}
 use Rattle.window_cut.specs.declared.pages.Window.{Window}
 use Rattle.window_cut.specs.declared.session.WindowText.{WindowText}
 use Rattle.window_cut.specs.Cuts.{IsCutOf, IsTold, OfRead}
 use Rattle.window_commands.specs.Found.{IsFound}
-use Rattle.window_commands.specs.Windows.{EndsWindow, IsReadUnder, IsWindowAnswer, IsWindowed, Seen, TellsNothing, Windowed, windowed_status, windowed_text, with_lines}
+use Rattle.window_commands.specs.Windows.{EndsWindow, HasWindowLines, IsReadUnder, IsWindowAnswer, IsWindowed, Seen, TellsNothing, Windowed, windowed_status, windowed_text}
+use Rattle.window_commands.specs.inner.Answered.{HasTable, IsAnswered, IsSeen, IsUnseen}
 
 -- an answer that says what becomes of a recording is its own
-pub windowed_told : (w : Window) (lined : Bool) (recording : List ℕ) (v : Windowed) (found : Result Answer AllocError) → IsWindowed w recording v → IfOk found (λ a. Says a (windowed_text lined v) (windowed_status v)) → IfOk found (λ a. IsWindowAnswer w lined recording a.text.items a.status)
-windowed_told w lined recording v found is h = says_right (IsWindowed w recording) (windowed_text lined) windowed_status v found is h
+pub windowed_told : (w : Window) (recording : List ℕ) (v : Windowed) (found : Result Answer AllocError) → IsWindowed w recording v → IfOk found (λ a. Says a (windowed_text v) (windowed_status v)) → IfOk found (λ a. IsWindowAnswer w recording a.text.items a.status)
+windowed_told w recording v found is h = says_right (IsWindowed w recording) windowed_text windowed_status v found is h
+
+-- an answer with its table
+abbrev pub Tabled : Type 0
+Tabled = Answer × Option (Vec ℕ)
 
 -- what is told of a recording that was read
-abbrev pub TellsOf : Window → Bool → Option (List ℕ) → Answer → Type 0
-TellsOf w lined known a = OfRead known (λ recording. IsWindowAnswer w lined recording a.text.items a.status)
+abbrev pub TellsOf : Window → Bool → Option (List ℕ) → Tabled → Type 0
+TellsOf w lined known a = OfRead known (λ recording. IsAnswered w lined recording a.0 a.1)
 
-pub seen_told : (w : Window) (lined : Bool) (known : Option (List ℕ)) (cut : WindowText) (found : Result Answer AllocError) → OfRead known (λ recording. IsFound w recording (Ok cut)) → IfOk found (λ a. Says a (with_lines lined cut.text.items cut.lines.items) 0) → IfOk found (TellsOf w lined known)
-seen_told w lined known cut (Err e) is h = tt
-seen_told w lined known cut (Ok a) is h = record { text = is.text; is_known = is.is_known; holds = record { value = Seen cut; is_right = is.holds; is_text = h.0; is_status = h.1 } }
+pub seen_told : (w : Window) (lined : Bool) (known : Option (List ℕ)) (cut : WindowText) (found : Result Tabled AllocError) → OfRead known (λ recording. IsFound w recording (Ok cut)) → IfOk found (λ s. Says s.0 cut.text.items 0) → IfOk found (λ s. HasTable lined cut.lines.items s.1) → IfOk found (TellsOf w lined known)
+seen_told w lined known cut (Err e) is h table = tt
+seen_told w lined known cut (Ok a) is h table = record { text = is.text; is_known = is.is_known; holds = inl record { cut = cut; is_cut = is.holds; is_text = h.0; is_status = h.1; has_table = table } }
 
-pub uncut_told : (w : Window) (lined : Bool) (known : Option (List ℕ)) (fault : CutFault) (found : Result Answer Fault) → OfRead known (λ recording. IsTold w recording fault) → ((window : Window) (recording : List ℕ) → IsTold window recording fault → (lines : Bool) → IfOk found (λ a. IsWindowAnswer window lines recording a.text.items a.status)) → IfOk found (TellsOf w lined known)
+pub uncut_told : (w : Window) (lined : Bool) (known : Option (List ℕ)) (fault : CutFault) (found : Result Tabled Fault) → OfRead known (λ recording. IsTold w recording fault) → ((window : Window) (recording : List ℕ) (lines : Bool) → IsTold window recording fault → IfOk found (λ a. IsAnswered window lines recording a.0 a.1)) → IfOk found (TellsOf w lined known)
 uncut_told w lined known fault (Err e) is h = tt
-uncut_told w lined known fault (Ok a) is h = record { text = is.text; is_known = is.is_known; holds = h w is.text is.holds lined }
+uncut_told w lined known fault (Ok a) is h = record { text = is.text; is_known = is.is_known; holds = h w is.text lined is.holds }
 
 -- what a reader gives stands under its name
 named_read : (bytes known : Option (List ℕ)) (Holds : List ℕ → Type 0) → IfSome bytes (λ xs. known ≡ Some xs) → OfRead known Holds → OfRead bytes Holds
@@ -44,17 +49,62 @@ pub found_named : (w : Window) (found : Result WindowText CutFault) (bytes one f
 found_named w (Ok cut) bytes one four a d is refused = named_read bytes four (λ text. IsCutOf w text cut) d is
 found_named w (Err fault) bytes one four a d is refused = named_read bytes one (λ text. IsTold w text fault) a refused
 
+-- a window is an answer
+answer_of : (w : Window) (lined : Bool) (recording : List ℕ) (answer : Answer) (table : Option (Vec ℕ)) → IsAnswered w lined recording answer table → IsWindowAnswer w recording answer.text.items answer.status
+answer_of w lined recording answer table (inl seen) = record { value = Seen seen.cut; is_right = seen.is_cut; is_text = seen.is_text; is_status = seen.is_status }
+answer_of w lined recording answer table (inr unseen) = unseen.is_answer
+
+few_of : (w : Window) (lined : Bool) (recording : List ℕ) (answer : Answer) (table : Option (Vec ℕ)) → IsAnswered w lined recording answer table → answer.status < 2
+few_of w lined recording answer table (inl seen) = rw seen.is_status (omega arith)
+few_of w lined recording answer table (inr unseen) = rw unseen.is_status (omega arith)
+
+pub few_written : (w : Window) (lined : Bool) (known : Option (List ℕ)) (a : Tabled) (status : ℕ) → TellsOf w lined known a → status ≡ a.0.status → status < 2
+few_written w lined known a status is same = rw same (few_of w lined is.text a.0 a.1 is.holds)
+
 -- the answer was written, or the output failed
-pub window_written : (w : Window) (lined : Bool) (name : List ℕ) (files : List ℕ → Option (List ℕ)) (answer : Answer) (old new errors : Option (List ℕ)) (r : Result ℕ Fault) → TellsOf w lined (files name) answer → IfOk r (λ status. status ≡ answer.status) → IfOk r (λ _. Appends old new answer.text.items) → IfErr r (λ fault. fault ≡ Output) → AppendsFront old new answer.text.items → EndsWindow w lined name files (old, errors) (new, errors) r
-window_written w lined name files answer old new errors (Ok status) is same written fault front =
-    written_whole (IsReadUnder name files) (IsWindowAnswer w lined) TellsNothing is.text answer status (old, errors) (new, errors) same is.is_known is.holds written (Keeps-refl errors)
-window_written w lined name files answer old new errors (Err f) is same written fault front =
-    not_written (IsTextFault (λ n. n ≡ name)) (IsReadUnder name files) (IsWindowAnswer w lined) is.text answer.text.items answer.status old new errors f fault tt is.is_known is.holds front
+pub window_written : (w : Window) (lined : Bool) (name : List ℕ) (files : List ℕ → Option (List ℕ)) (a : Tabled) (old new errors : Option (List ℕ)) (status : ℕ) → TellsOf w lined (files name) a → status ≡ a.0.status → Appends old new a.0.text.items → EndsWindow w name files (old, errors) (new, errors) (Ok status)
+window_written w lined name files a old new errors status is same written =
+    written_whole (IsReadUnder name files) (IsWindowAnswer w) TellsNothing is.text a.0 status (old, errors) (new, errors) same is.is_known (answer_of w lined is.text a.0 a.1 is.holds) written (Keeps-refl errors)
 
-pub window_unread : (w : Window) (lined : Bool) (name : List ℕ) (files : List ℕ → Option (List ℕ)) (old errors : Option (List ℕ)) (f : Fault) → IsReadFault (λ n. n ≡ name) f → EndsWindow w lined name files (old, errors) (old, errors) (Err f)
-window_unread w lined name files old errors f h =
-    not_read (IsTextFault (λ n. n ≡ name)) (IsReadUnder name files) (IsWindowAnswer w lined) (λ n. n ≡ name) (old, errors) f (text_fault (λ n. n ≡ name) f h) h
+pub window_unwritten : (w : Window) (lined : Bool) (name : List ℕ) (files : List ℕ → Option (List ℕ)) (a : Tabled) (old new errors : Option (List ℕ)) (f : Fault) → TellsOf w lined (files name) a → IsOutputFault f → AppendsFront old new a.0.text.items → EndsWindow w name files (old, errors) (new, errors) (Err f)
+window_unwritten w lined name files a old new errors f is fault front =
+    not_written (IsTextFault (λ n. n ≡ name)) (IsReadUnder name files) (IsWindowAnswer w) is.text a.0.text.items a.0.status old new errors f fault (output_fault (λ n. n ≡ name) f fault) is.is_known (answer_of w lined is.text a.0 a.1 is.holds) front
 
-pub few_written : (answer : Answer) (r : Result ℕ Fault) → answer.status < 2 → IfOk r (λ status. status ≡ answer.status) → IfOk r (λ status. status < 2)
-few_written answer (Ok status) few same = rw same few
-few_written answer (Err f) few same = tt
+pub window_unread : (w : Window) (name : List ℕ) (files : List ℕ → Option (List ℕ)) (old errors : Option (List ℕ)) (f : Fault) → IsReadFault (λ n. n ≡ name) f → EndsWindow w name files (old, errors) (old, errors) (Err f)
+window_unread w name files old errors f h =
+    not_read (IsTextFault (λ n. n ≡ name)) (IsReadUnder name files) (IsWindowAnswer w) (λ n. n ≡ name) (old, errors) f (text_fault (λ n. n ≡ name) f h) h
+
+-- ---- tables
+
+-- the table was put into its place, where there is one
+abbrev pub IsPut : Option (Vec ℕ) → Option (Vec ℕ) → Option (Vec ℕ) → Type 0
+IsPut table before after = MatchOption table (after ≡ before) (λ text. after ≡ Some text)
+
+not_put : (table before after : Option (Vec ℕ)) → table ≡ None → IsPut table before after → after ≡ before
+not_put table before after none put = subst (λ t. IsPut t before after) none put
+
+is_put : (w : Window) (name : List ℕ) (files : List ℕ → Option (List ℕ)) (recording : List ℕ) (answer : Answer) (table before after : Option (Vec ℕ)) (old new : Option (List ℕ)) → IsReadUnder name files recording → IsSeen w true recording answer table → Appends old new answer.text.items → IsPut table before after → MatchOption after ⊥ (λ t. HasWindowLines w name files old new t.items)
+is_put w name files recording answer None before after old new is seen written put = absurd seen.has_table
+is_put w name files recording answer (Some t) before after old new is seen written put =
+    rw put record { recording = recording; is_read = is; cut = seen.cut; is_cut = seen.is_cut; written = subst (Appends old new) seen.is_text written; is_table = seen.has_table }
+
+lines_of : (w : Window) (name : List ℕ) (files : List ℕ → Option (List ℕ)) (recording : List ℕ) (answer : Answer) (table before after : Option (Vec ℕ)) (old new : Option (List ℕ)) → IsReadUnder name files recording → IsAnswered w true recording answer table → Appends old new answer.text.items → IsPut table before after → answer.status ≡ 0 → MatchOption after ⊥ (λ t. HasWindowLines w name files old new t.items)
+lines_of w name files recording answer table before after old new is (inl seen) written put well = is_put w name files recording answer table before after old new is seen written put
+lines_of w name files recording answer table before after old new is (inr unseen) written put well = absurd (omega (arith, unseen.is_status, well))
+
+pub lines_told : (w : Window) (name : List ℕ) (files : List ℕ → Option (List ℕ)) (a : Tabled) (before after : Option (Vec ℕ)) (old new : Option (List ℕ)) → TellsOf w true (files name) a → Appends old new a.0.text.items → IsPut a.1 before after → a.0.status ≡ 0 → MatchOption after ⊥ (λ t. HasWindowLines w name files old new t.items)
+lines_told w name files a before after old new is written put well = lines_of w name files is.text a.0 a.1 before after old new is.is_known is.holds written put well
+
+unlined_of : (w : Window) (recording : List ℕ) (answer : Answer) (table : Option (Vec ℕ)) → IsAnswered w false recording answer table → table ≡ None
+unlined_of w recording answer table (inl seen) = seen.has_table
+unlined_of w recording answer table (inr unseen) = unseen.no_table
+
+pub lines_unasked : (w : Window) (known : Option (List ℕ)) (a : Tabled) (before after : Option (Vec ℕ)) → TellsOf w false known a → IsPut a.1 before after → after ≡ before
+lines_unasked w known a before after is put = not_put a.1 before after (unlined_of w is.text a.0 a.1 is.holds) put
+
+unseen_of : (w : Window) (lined : Bool) (recording : List ℕ) (answer : Answer) (table : Option (Vec ℕ)) → IsAnswered w lined recording answer table → answer.status ≢ 0 → table ≡ None
+unseen_of w lined recording answer table (inl seen) other = absurd (other seen.is_status)
+unseen_of w lined recording answer table (inr unseen) other = unseen.no_table
+
+pub lines_kept : (w : Window) (lined : Bool) (known : Option (List ℕ)) (a : Tabled) (before after : Option (Vec ℕ)) → TellsOf w lined known a → IsPut a.1 before after → a.0.status ≢ 0 → after ≡ before
+lines_kept w lined known a before after is put other = not_put a.1 before after (unseen_of w lined is.text a.0 a.1 is.holds other) put

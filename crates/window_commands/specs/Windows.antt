@@ -1,6 +1,6 @@
 -- What becomes of a recording of which a window is asked for.
-use Rattle.std.specs.Prelude.{◌≡◌, ℕ, Bool, true, false, List, [], ◌∷◌, ◌++◌, Option, Result, IfSome, codes}
-use Rattle.std.specs.Io.KnownBytes.{Keeps}
+use Rattle.std.specs.Prelude.{◌≡◌, ℕ, List, Option, Result, IfSome, codes}
+use Rattle.std.specs.Io.KnownBytes.{Appends, Keeps}
 use Rattle.text_lines.specs.Text.{IsRefusalLine}
 use Rattle.window_commands.specs.Tables.{table_text}
 use Rattle.recordings.specs.Recordings.{SpellsRecording}
@@ -25,15 +25,10 @@ IsWindowed w recording (RecordingText line) = IsRefusalLine SpellsRecording reco
 IsWindowed w recording NoSuchPages = IsOutside w recording
 IsWindowed w recording (Seen cut) = IsCutOf w recording cut
 
--- the lines stand behind the session, where they are asked for
-abbrev pub with_lines : Bool → List ℕ → List ℕ → List ℕ
-with_lines false text lines = text
-with_lines true text lines = text ++ table_text lines
-
-abbrev pub windowed_text : Bool → Windowed → List ℕ
-windowed_text lined (RecordingText line) = numbered (codes "recording-text line ") line
-windowed_text lined NoSuchPages = codes "no-such-pages\n"
-windowed_text lined (Seen cut) = with_lines lined cut.text.items cut.lines.items
+abbrev pub windowed_text : Windowed → List ℕ
+windowed_text (RecordingText line) = numbered (codes "recording-text line ") line
+windowed_text NoSuchPages = codes "no-such-pages\n"
+windowed_text (Seen cut) = cut.text.items
 
 abbrev pub windowed_status : Windowed → ℕ
 windowed_status (RecordingText line) = 1
@@ -41,8 +36,8 @@ windowed_status NoSuchPages = 1
 windowed_status (Seen cut) = 0
 
 -- the answer of `window`
-abbrev pub IsWindowAnswer : Window → Bool → List ℕ → List ℕ → ℕ → Type 0
-IsWindowAnswer w lined recording = IsAnswer (IsWindowed w recording) (windowed_text lined) windowed_status
+abbrev pub IsWindowAnswer : Window → List ℕ → List ℕ → ℕ → Type 0
+IsWindowAnswer w recording = IsAnswer (IsWindowed w recording) windowed_text windowed_status
 
 -- nothing is told beside it
 abbrev pub TellsNothing : List ℕ → ℕ → Option (List ℕ) → Option (List ℕ) → Type 0
@@ -53,5 +48,14 @@ abbrev pub IsReadUnder : List ℕ → (List ℕ → Option (List ℕ)) → List 
 IsReadUnder name files text = IfSome (files name) (λ xs. text ≡ xs)
 
 -- the answer of `window` to what stands under a name was told, or it came to a fault
-abbrev pub EndsWindow : Window → Bool → List ℕ → (List ℕ → Option (List ℕ)) → Streams → Streams → Result ℕ Fault → Type 0
-EndsWindow w lined name files = Ends (IsTextFault (λ n. n ≡ name)) (IsReadUnder name files) (IsWindowAnswer w lined) TellsNothing
+abbrev pub EndsWindow : Window → List ℕ → (List ℕ → Option (List ℕ)) → Streams → Streams → Result ℕ Fault → Type 0
+EndsWindow w name files = Ends (IsTextFault (λ n. n ≡ name)) (IsReadUnder name files) (IsWindowAnswer w) TellsNothing
+
+-- the output gained the session of a window, and this is the table of the lines of the recording that its lines are
+pub record HasWindowLines (w : Window) (name : List ℕ) (files : List ℕ → Option (List ℕ)) (old new : Option (List ℕ)) (table : List ℕ) : Type 0 where
+  pub recording : List ℕ
+  pub is_read : IsReadUnder name files recording
+  pub cut : WindowText
+  pub is_cut : IsCutOf w recording cut
+  pub written : Appends old new cut.text.items
+  pub is_table : table ≡ table_text cut.lines.items

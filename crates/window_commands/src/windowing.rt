@@ -1,42 +1,53 @@
-//! The window of a recording, as a text and a status.
+//! The window of a recording, as a text and a status, and the table of its lines.
 
-ghost use Rattle.std.specs.Prelude.{◌≡◌, ◌<◌, ℕ, Bool, List, Option, IfOk, IfErr, codes};
+ghost use Rattle.std.specs.Prelude.{◌≡◌, ◌≢◌, ◌<◌, ℕ, Bool, List, Ok, Some, true, false, IfOk, IfErr, MatchOption, codes};
 ghost use Rattle.command_texts.specs.Answers.{IsReadFault, Says, numbered};
-ghost use Rattle.command_texts.specs.Written.{Gains};
+ghost use Rattle.command_texts.specs.Written.{BothGain};
 ghost use Rattle.window_cut.specs.Cuts.{IsTold, OfRead};
 ghost use Rattle.window_cut.specs.declared.pages.Window.{Window as Pages};
 ghost use Rattle.window_commands.specs.Found.{IsFound};
-ghost use Rattle.window_commands.specs.Windows.{EndsWindow, IsWindowAnswer, with_lines};
+ghost use Rattle.window_commands.specs.Windows.{EndsWindow, HasWindowLines, IsWindowAnswer};
+ghost use Rattle.window_commands.specs.inner.Answered.{HasTable, IsAnswered};
 
 use crate::push_table;
-use command_texts::{ACCEPTED, Answer, Fault, REFUSED, TextSource, given, opened, remark, written};
+use command_texts::{
+    ACCEPTED, Answer, Console, Fault, NOT_THE_SAME, NOT_WHOLE, REFUSED, TextSource, given, opened,
+    remark, written,
+};
 use recordings::RecordingFault;
 use std::alloc::{AllocError, Global};
 use std::io::Write;
 use text_lines::push_keyed;
 use window_cut::{CutFault, Window, WindowText, cut};
 
-/// The text of a window, with the lines behind it where they are asked for.
-fn text_of(cut: WindowText, lined: bool) -> Result<Vec<u8>, AllocError>
-    ensures { IfOk result (λ text. text.items ≡ with_lines lined cut.text.items cut.lines.items) }
+/// The text of the table of these lines, where it is asked for.
+fn table_of(alloc: Global, lined: bool, lines: &[u64]) -> Result<Option<Vec<u8>>, AllocError>
+    ensures { IfOk result (λ table. HasTable lined lines.now table) }
 {
-    let WindowText { text, lines } = cut;
-    let mut text = text;
-    if lined {
-        push_table(&mut text, lines.as_slice())?;
+    if !lined {
+        return Ok(None);
     }
-    Ok(text)
+    let mut text = Vec::new(alloc);
+    push_table(&mut text, lines)?;
+    Ok(Some(text))
 }
 
-/// The answer that a window is.
-fn seen(cut: WindowText, lined: bool) -> Result<Answer, AllocError>
-    ensures { IfOk result (λ answer. Says answer (with_lines lined cut.text.items cut.lines.items) 0) }
+/// The answer that a window is, and the table of its lines, where it is asked for.
+fn seen(
+    alloc: Global,
+    cut: WindowText,
+    lined: bool,
+) -> Result<(Answer, Option<Vec<u8>>), AllocError>
+    ensures answer { IfOk result (λ seen. Says seen.0 cut.text.items 0) }
+    ensures table { IfOk result (λ seen. HasTable lined cut.lines.items seen.1) }
 {
-    let text = text_of(cut, lined)?;
-    Ok(Answer {
+    let WindowText { text, lines } = cut;
+    let table = table_of(alloc, lined, lines.as_slice())?;
+    let answer = Answer {
         text,
         status: ACCEPTED,
-    })
+    };
+    Ok((answer, table))
 }
 
 /// The answer to a recording that is refused at this line.
@@ -53,27 +64,27 @@ fn refused_at(alloc: Global, line: u64) -> Result<Answer, AllocError>
 
 /// The answer where there is no recording under a name.
 fn unread<'a>(alloc: Global, name: &'a str, fault: RecordingFault) -> Result<Answer, Fault<'a>>
-    ensures few { IfOk result (λ answer. answer.status < 2) }
-    ensures told { (window : Pages) (recording : List ℕ) → IsTold window recording (CutFault.Recording fault) → (lined : Bool) → IfOk result (λ answer. IsWindowAnswer window lined recording answer.text.items answer.status) }
+    ensures other { IfOk result (λ answer. answer.status ≡ 1) }
+    ensures told { (window : Pages) (recording : List ℕ) → IsTold window recording (CutFault.Recording fault) → IfOk result (λ answer. IsWindowAnswer window recording answer.text.items answer.status) }
     ensures fault { IfErr result (IsReadFault (λ n. n ≡ name.entry.now)) }
 {
     match fault {
         RecordingFault::Line(line) => given(refused_at(alloc, line)),
-        RecordingFault::File => Err(Fault::File(name)),
+        RecordingFault::File => Err(Fault::File(name, NOT_WHOLE)),
         RecordingFault::Memory => Err(Fault::Memory),
     }
 }
 
 /// The answer where nothing is cut out of the text under a name.
 fn uncut<'a>(alloc: Global, name: &'a str, fault: CutFault) -> Result<Answer, Fault<'a>>
-    ensures few { IfOk result (λ answer. answer.status < 2) }
-    ensures told { (window : Pages) (recording : List ℕ) → IsTold window recording fault → (lined : Bool) → IfOk result (λ answer. IsWindowAnswer window lined recording answer.text.items answer.status) }
+    ensures other { IfOk result (λ answer. answer.status ≡ 1) }
+    ensures told { (window : Pages) (recording : List ℕ) → IsTold window recording fault → IfOk result (λ answer. IsWindowAnswer window recording answer.text.items answer.status) }
     ensures fault { IfErr result (IsReadFault (λ n. n ≡ name.entry.now)) }
 {
     match fault {
         CutFault::Recording(fault) => unread(alloc, name, fault),
         CutFault::Outside => given(remark(alloc, b"no-such-pages")),
-        CutFault::Changed => Err(Fault::Changed(name)),
+        CutFault::Changed => Err(Fault::File(name, NOT_THE_SAME)),
     }
 }
 
@@ -94,43 +105,69 @@ fn cut_named<'a, S: TextSource>(
     Ok(cut(alloc, window, &mut one, &mut two, &mut three, &mut four))
 }
 
-/// The answer to the text under a name.
+/// The answer where nothing is cut out of the text under a name, without a table.
+fn untabled<'a>(
+    alloc: Global,
+    name: &'a str,
+    fault: CutFault,
+) -> Result<(Answer, Option<Vec<u8>>), Fault<'a>>
+    ensures told { (window : Pages) (recording : List ℕ) (lined : Bool) → IsTold window recording fault → IfOk result (λ answered. IsAnswered window lined recording answered.0 answered.1) }
+    ensures fault { IfErr result (IsReadFault (λ n. n ≡ name.entry.now)) }
+{
+    match uncut(alloc, name, fault) {
+        Ok(answer) => Ok((answer, None)),
+        Err(fault) => Err(fault),
+    }
+}
+
+/// The answer to the text under a name, and the table of its lines, where it is asked for.
 fn answer_to<'a, S: TextSource>(
     alloc: Global,
     window: Window,
     lined: bool,
     name: &'a str,
     texts: &S,
-) -> Result<Answer, Fault<'a>>
-    ensures few { IfOk result (λ answer. answer.status < 2) }
-    ensures told { IfOk result (λ answer. OfRead (S.bytes_of texts.now name.entry.now) (λ recording. IsWindowAnswer window lined recording answer.text.items answer.status)) }
+) -> Result<(Answer, Option<Vec<u8>>), Fault<'a>>
+    ensures told { IfOk result (λ answered. OfRead (S.bytes_of texts.now name.entry.now) (λ recording. IsAnswered window lined recording answered.0 answered.1)) }
     ensures fault { IfErr result (IsReadFault (λ n. n ≡ name.entry.now)) }
 {
     if name == "-" || !texts.stays(name) {
-        return Err(Fault::Changed(name));
+        return Err(Fault::File(name, NOT_THE_SAME));
     }
     match cut_named(alloc, window, name, texts)? {
-        Ok(cut) => given(seen(cut, lined)),
-        Err(fault) => uncut(alloc, name, fault),
+        Ok(cut) => given(seen(alloc, cut, lined)),
+        Err(fault) => untabled(alloc, name, fault),
     }
 }
 
-/// `window`: the session of these pages of the recording under a name, with the lines of the recording behind it where they are
-/// asked for. The recording is read four times, so that its name cannot be the input's.
-pub fn perform_window<'a, S: TextSource, O: Write>(
-    alloc: Global,
+// Puts a table into its place, where there is one.
+fn put(lines: &mut Option<Vec<u8>>, table: Option<Vec<u8>>)
+    ensures { MatchOption table (lines.new ≡ lines.old) (λ text. lines.new ≡ Some text) }
+{
+    if let Some(text) = table {
+        *lines = Some(text);
+    }
+}
+
+/// `window`: the session of these pages of the recording under a name. Where the table of its lines is asked for, and the session
+/// is written, the table is put into `lines`. Otherwise this stays. The recording is read four times, so that its name cannot be
+/// the input's.
+pub fn perform_window<'a, R, S: TextSource, I, O: Write, E: Write>(
+    console: &mut Console<'_, R, S, I, O, E>,
     window: Window,
     lined: bool,
     name: &'a str,
-    texts: &S,
-    output: &mut O,
+    lines: &mut Option<Vec<u8>>,
 ) -> Result<u8, Fault<'a>>
     ensures few { IfOk result (λ status. status < 2) }
-    ensures told { (errors : Option (List ℕ)) → EndsWindow window lined name.entry.now (S.bytes_of texts.now) (O.contents output.old, errors) (O.contents output.new, errors) result }
-    ensures gains { Gains (O.contents output.old) (O.contents output.new) }
+    ensures told { EndsWindow window name.entry.now (S.bytes_of console.old.texts.now) (O.contents console.old.output, E.contents console.old.errors) (O.contents console.new.output, E.contents console.new.errors) result }
+    ensures lines { lined ≡ true → result ≡ Ok 0 → MatchOption lines.new ⊥ (λ table. HasWindowLines window name.entry.now (S.bytes_of console.old.texts.now) (O.contents console.old.output) (O.contents console.new.output) table.items) }
+    ensures unlined { lined ≡ false → lines.new ≡ lines.old }
+    ensures kept { result ≢ Ok 0 → lines.new ≡ lines.old }
+    ensures gains { BothGain (O.contents console.old.output, E.contents console.old.errors) (O.contents console.new.output, E.contents console.new.errors) }
 {
-    match answer_to(alloc, window, lined, name, texts) {
-        Ok(answer) => written(&answer, output),
-        Err(fault) => Err(fault),
-    }
+    let (answer, table) = answer_to(console.alloc, window, lined, name, console.texts)?;
+    let status = written(&answer, &mut console.output)?;
+    put(lines, table);
+    Ok(status)
 }

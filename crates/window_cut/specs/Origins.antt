@@ -1,4 +1,4 @@
--- Where the lines of a window's text stand in the recording's, counted from 1.
+-- The lines of the recording's text that a window's lines come from, counted from 1.
 use Rattle.std.specs.Prelude.{◌≡◌, ℕ, ◌+◌, ◌-◌, Bool, List, [], ◌∷◌, ◌++◌, length, map, Option, Some, slice_get}
 use Rattle.std.specs.Fmt.{decimal}
 use Rattle.std.specs.List.{range_with_len}
@@ -12,11 +12,11 @@ use Rattle.session_log.specs.Grammar.{header, pages_key, cells_key, init_key, pa
 use Rattle.session_log.specs.Records.{guest_key, source_key, link_key, lane_key, pager_key, guest_line, source_line, link_line, lane_line, pager_line}
 use Rattle.audit_model.specs.Windows.{Numbers, kept_in, keeps_init, marks, window}
 
--- the line that says how many items a list has, and the lines of those that are kept
+-- the line with the number of items of a list, and the lines of the kept items
 abbrev pub list_origins : ℕ → List Bool → List ℕ
 list_origins first ms = first ∷ kept_in ms (range_with_len (first + 1) (length ms))
 
--- the line behind a list of so many items
+-- the line after a list of this many items
 abbrev pub behind : ℕ → ℕ → ℕ
 behind first count = first + 1 + count
 
@@ -47,7 +47,7 @@ abbrev pub lane_origins : Version → ℕ → List Bool → List ℕ
 lane_origins One first ms = []
 lane_origins Two first ms = list_origins first ms
 
--- for each line of the window's text, the line of the recording's that it is
+-- for each line of the window's text, the line of the recording's text that it comes from
 abbrev pub origins : Numbers → Recorded → List ℕ
 origins number s =
     1 ∷ 2 ∷ 3 ∷ (
@@ -63,7 +63,7 @@ origins number s =
 abbrev pub line_at : List (List ℕ) → ℕ → Option (List ℕ)
 line_at lines n = slice_get lines (n - 1)
 
--- the lines of a list that are kept, with the one that says how many items it has
+-- the kept lines of a list, after the line with the number of items
 abbrev pub kept_lines : {X : Type 0} → List ℕ → (X → List ℕ) → List Bool → List X → List (List ℕ)
 kept_lines key spell ms items = (key ++ decimal (length items)) ∷ map spell (kept_in ms items)
 
@@ -71,7 +71,7 @@ abbrev pub kept_lane_lines : Version → List Bool → List LaneRec → List (Li
 kept_lane_lines One ms records = []
 kept_lane_lines Two ms records = kept_lines lane_key lane_line ms records
 
--- the lines of a session's text that are kept in a window, as they stand there
+-- the lines that a window keeps, as they are in the session's text
 abbrev pub seen_lines : Numbers → Recorded → List (List ℕ)
 seen_lines number s =
     header s.version s.geometry.size ∷ (pages_key ++ decimal s.geometry.pages) ∷ (cells_key ++ decimal s.geometry.cells) ∷ (
@@ -83,7 +83,7 @@ seen_lines number s =
     kept_lines pager_key pager_line (marks s number Pager) s.pager ++
     closing ∷ []))))))
 
--- there is an origin for each line of the window's text, and it is the line there that is kept
+-- each line of the window's text has an origin, and the session's line there is the one that the window keeps
 pub record TellsOrigins (number : Numbers) (count : ℕ) (s : Recorded) : Type 0 where
   pub for_each : length (origins number s) ≡ length (session_lines (window number count s))
   pub seen : map (line_at (session_lines s)) (origins number s) ≡ map Some (seen_lines number s)

@@ -11,7 +11,7 @@ use crate::pages::Window;
 use recordings::{WideGuest, WideInit, WideLane, WideLink, WidePager, WideSource};
 
 impl Window {
-    /// A page that does not begin as zeros, by its number among those of the window.
+    /// Returns an initial page, by its number in the window.
     pub(crate) fn new_init(&self, given: WideInit) -> WideInit
         ensures { init_of result ≡ new_init (numbers_of self.now) (init_of given) }
     {
@@ -23,7 +23,7 @@ impl Window {
 }
 
 impl Guide {
-    /// A record of the guest, with its page and what it names numbered anew.
+    /// Returns a record of the guest, with its page and what it names numbered anew.
     pub(crate) fn new_guest(&self, rec: WideGuest) -> WideGuest
         ensures { guest_of result ≡ new_guest_by (numbers_of self.now.window) self.now.known (guest_of rec) }
     {
@@ -68,7 +68,7 @@ impl Guide {
         }
     }
 
-    /// The placement that a look names anew: the newest of the window that it saw.
+    /// Returns what a look names in the window: the newest placement of the window that it saw.
     fn new_look(&self, placement: u64) -> u64
         ensures { result ≡ rank self.now.known.pager.kept (reach_by self.now.known placement - 1) }
     {
@@ -78,7 +78,7 @@ impl Guide {
         }
     }
 
-    /// A record of the source, with its page and what it names numbered anew.
+    /// Returns a record of the source, with its page and what it names numbered anew.
     pub(crate) fn new_source(&self, rec: WideSource) -> WideSource
         ensures { source_of result ≡ new_source_by (numbers_of self.now.window) self.now.known (source_of rec) }
     {
@@ -102,7 +102,7 @@ impl Guide {
         }
     }
 
-    /// A record of the link, with what it names numbered anew.
+    /// Returns a record of the link, with what it names numbered anew.
     pub(crate) fn new_link(&self, rec: WideLink) -> WideLink
         ensures { link_of result ≡ new_link_by self.now.known (link_of rec) }
     {
@@ -116,7 +116,7 @@ impl Guide {
         }
     }
 
-    /// A record of the lane, with what it names numbered anew.
+    /// Returns a record of the lane, with what it names numbered anew.
     pub(crate) fn new_lane(&self, rec: WideLane) -> WideLane
         ensures { lane_of result ≡ new_lane_by self.now.known (lane_of rec) }
     {
@@ -127,7 +127,7 @@ impl Guide {
         }
     }
 
-    /// A record of the pager, with its page and what it names numbered anew.
+    /// Returns a record of the pager, with its page and what it names numbered anew.
     pub(crate) fn new_pager(&self, rec: WidePager) -> WidePager
         ensures { pager_of result ≡ new_pager_by (numbers_of self.now.window) self.now.known (pager_of rec) }
     {

@@ -14,15 +14,15 @@ use std::alloc::Global;
 use std::io::Read;
 use std::marker::Brand;
 
-/// The session of these pages of a recording, which the four readers give alike: its text, and where each of its lines
-/// stands in the recording's. It is the window of what the fourth gives, whatever the others do. Memory is taken for what is
-/// of the window alone, and for a piece of the text.
+/// Returns the window of these pages, cut out of a recording that four readers give alike: its text, and the line of
+/// the recording's text that each of its lines comes from. It is the window of what the fourth reader gives, whatever
+/// the others do. Allocates memory only for what is in the window, and for a piece of the text.
 ///
 /// # Errors
 ///
-/// Where `walk` has no recording of what the first gives, its fault; `Outside` where there is no page in the window, or one that
-/// the first's machine has not; and `Changed` where the readers did not give one text: another gives no recording, or one of a
-/// machine that has not these pages, or what is kept by the last differs from what the others told.
+/// If `walk` finds no recording in what the first reader gives, its fault. `Outside` if the window has no page, or a
+/// page that the machine of the first does not have. `Changed` if the readers did not give the same text: another gives
+/// no recording, or one of a machine without these pages, or the last pass keeps other records than the passes before.
 pub fn cut<R: Read>(
     alloc: Global,
     window: Window,
@@ -41,7 +41,7 @@ pub fn cut<R: Read>(
     again(write::<R, Brand>(alloc, window, third, four))
 }
 
-/// What a later pass comes to, where the first went through: if it refuses the text, that changed.
+/// Returns the result of a later pass, after the first went through: if it refuses the text, the text has changed.
 fn again<T: Drop>(found: Result<T, CutFault>) -> Result<T, CutFault>
     ensures { result ≡ found_later found }
 {
@@ -53,7 +53,7 @@ fn again<T: Drop>(found: Result<T, CutFault>) -> Result<T, CutFault>
     }
 }
 
-/// Finds what is kept, by what the pass before found.
+/// Marks the kept records, going by what the pass before found.
 #[tactic(auto, using(crate::proofs::Read::marked_told))]
 fn mark<R: Read, W: Way>(
     alloc: Global,
@@ -79,7 +79,7 @@ fn mark<R: Read, W: Way>(
     }
 }
 
-/// Writes what is kept, by what the pass before found.
+/// Writes the kept records, going by what the pass before found.
 fn write<R: Read, W: Way>(
     alloc: Global,
     window: Window,

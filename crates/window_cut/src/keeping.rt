@@ -1,4 +1,4 @@
-//! Whether a record is kept.
+//! Whether a record is kept in a window.
 
 ghost use Rattle.std.specs.Prelude.{◌≡◌, List, Bool, nat_lt, max};
 ghost use Rattle.recordings.specs.Wide.{guest_of, source_of, link_of, lane_of, pager_of};
@@ -13,7 +13,7 @@ use crate::places::Places;
 use recordings::{WideGuest, WideLane, WideLink, WidePager, WideSource};
 
 impl Window {
-    /// Whether it sends the state or a page of the window.
+    /// Returns whether it sends the state or a page of the window.
     pub(crate) fn keeps_sending(&self, rec: &WideSource) -> bool
         ensures { result ≡ keeps_sending (numbers_of self.now) (source_of rec.now) }
     {
@@ -24,7 +24,7 @@ impl Window {
         }
     }
 
-    /// Whether it asks for a page of the window, or tells that all is placed.
+    /// Returns whether it asks for a page of the window, or says that all pages are placed.
     pub(crate) fn keeps_asking(&self, rec: &WidePager) -> bool
         ensures { result ≡ keeps_asking (numbers_of self.now) (pager_of rec.now) }
     {
@@ -35,7 +35,7 @@ impl Window {
         }
     }
 
-    /// Whether it misses a page of the window.
+    /// Returns whether it misses a page of the window.
     pub(crate) fn keeps_miss(&self, rec: &WideGuest) -> bool
         ensures { result ≡ keeps_miss (numbers_of self.now) (guest_of rec.now) }
     {
@@ -45,7 +45,7 @@ impl Window {
         }
     }
 
-    /// Whether it places a page of the window.
+    /// Returns whether it places a page of the window.
     pub(crate) fn keeps_placement(&self, rec: &WidePager) -> bool
         ensures { result ≡ keeps_placement (numbers_of self.now) (pager_of rec.now) }
     {
@@ -58,7 +58,7 @@ impl Window {
 }
 
 impl Guide {
-    /// Whether it is or repeats a sending that is kept.
+    /// Returns whether it is a kept sending, or repeats one.
     pub(crate) fn keeps_repeat(&self, rec: &WideSource) -> bool
         ensures { result ≡ repeats_by (numbers_of self.now.window) self.now.known (source_of rec.now) }
     {
@@ -68,7 +68,7 @@ impl Guide {
         }
     }
 
-    /// Whether a record of the source is kept.
+    /// Returns whether a record of the source is kept.
     pub(crate) fn keeps_source(&self, rec: &WideSource) -> bool
         ensures { result ≡ source_by (numbers_of self.now.window) self.now.known (source_of rec.now) }
     {
@@ -82,7 +82,7 @@ impl Guide {
         }
     }
 
-    /// Whether a delivery is kept, where these records of the source are or repeat a sending that is.
+    /// Returns whether a delivery is kept, given the records of the source that are a kept sending or repeat one.
     pub(crate) fn keeps_link(&self, repeats: &Places, rec: &WideLink) -> bool
         ensures { result ≡ link_by self.now.known repeats.now (link_of rec.now) }
     {
@@ -92,7 +92,7 @@ impl Guide {
         }
     }
 
-    /// Whether a record of the pager is kept.
+    /// Returns whether a record of the pager is kept.
     pub(crate) fn keeps_pager(&self, rec: &WidePager) -> bool
         ensures { result ≡ pager_by (numbers_of self.now.window) self.now.known (pager_of rec.now) }
     {
@@ -110,7 +110,7 @@ impl Guide {
         }
     }
 
-    /// Whether a record of the guest is kept, where looks reached so far before it.
+    /// Returns whether a record of the guest is kept, given how far looks reached before it.
     pub(crate) fn keeps_guest(&self, far: Option<u64>, rec: &WideGuest) -> bool
         ensures { result ≡ guest_by (numbers_of self.now.window) self.now.known (past far) (guest_of rec.now) }
     {
@@ -127,7 +127,7 @@ impl Guide {
         }
     }
 
-    /// How far looks reach after a record of the guest, by how far they reached before it.
+    /// Returns how far looks reach after a record of the guest, given how far they reached before it.
     pub(crate) fn further(&self, far: Option<u64>, rec: &WideGuest) -> Option<u64>
         ensures { past result ≡ further_by self.now.known (guest_of rec.now) (past far) }
     {
@@ -140,7 +140,7 @@ impl Guide {
     }
 }
 
-/// Whether a look that reaches there reaches further than those before it.
+/// Returns whether a look with this reach reaches further than those before it.
 fn is_further(far: Option<u64>, reach: Option<u64>) -> bool
     ensures { result ≡ nat_lt (past far) (past reach) }
 {
@@ -151,14 +151,15 @@ fn is_further(far: Option<u64>, reach: Option<u64>) -> bool
     }
 }
 
-/// The further of two reaches.
+/// Returns the further of two reaches.
 fn furthest(far: Option<u64>, reach: Option<u64>) -> Option<u64>
     ensures { past result ≡ max (past far) (past reach) }
 {
     if is_further(far, reach) { reach } else { far }
 }
 
-/// Whether a delivery of the lane is kept, where these records of the source are or repeat a sending that is.
+/// Returns whether a delivery of the lane is kept, given the records of the source that are a kept sending or repeat
+/// one.
 pub(crate) fn keeps_lane(repeats: &Places, rec: &WideLane) -> bool
     ensures { result ≡ lane_by repeats.now (lane_of rec.now) }
 {
@@ -167,7 +168,7 @@ pub(crate) fn keeps_lane(repeats: &Places, rec: &WideLane) -> bool
     }
 }
 
-/// Whether it takes a delivery, where these of the link and of the lane are kept.
+/// Returns whether it takes a delivery, given the kept deliveries of the link and of the lane.
 pub(crate) fn keeps_taking(link: &Places, lane: &Places, rec: &WidePager) -> bool
     ensures { result ≡ taking_by link.now lane.now (pager_of rec.now) }
 {

@@ -1,4 +1,4 @@
-//! Windows of recordings: the session of some pages alone, cut out of a recording's text in four passes over it.
+//! Windows of recordings: the session of some of its pages, cut out of a recording's text in four passes over it.
 #![tactic(auto)]
 
 mod anew;

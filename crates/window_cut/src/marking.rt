@@ -16,8 +16,8 @@ use migration_types::{Size, Version};
 use recordings::{Machine, WideGuest, WideInit, WideLane, WideLink, WidePager, WideSource};
 use std::alloc::{AllocError, Global};
 
-/// Of the guest's records: those that miss a page of the window, those that are kept, and the newest placement of the
-/// window that a look saw.
+/// Marks for the guest's records: those that miss a page of the window, those that are kept, and the newest placement
+/// of the window that a look saw.
 #[derive(Drop)]
 pub(crate) struct GuestMarks {
     pub(crate) misses: Places,
@@ -25,8 +25,8 @@ pub(crate) struct GuestMarks {
     pub(crate) far: Option<u64>,
 }
 
-/// Of the source's records: those that send the state or a page of the window, those that are or repeat such a one, and
-/// those that are kept.
+/// Marks for the source's records: those that send the state or a page of the window, those that are or repeat such a
+/// sending, and those that are kept.
 #[derive(Drop)]
 pub(crate) struct SourceMarks {
     pub(crate) sendings: Places,
@@ -34,8 +34,8 @@ pub(crate) struct SourceMarks {
     pub(crate) kept: Places,
 }
 
-/// Of the pager's records: those that ask for a page of the window or tell that all is placed, those that place a page of
-/// it, those that take a delivery that is kept, and those that are kept.
+/// Marks for the pager's records: those that ask for a page of the window or say that all pages are placed, those that
+/// place a page of it, those that take a kept delivery, and those that are kept.
 #[derive(Drop)]
 pub(crate) struct PagerMarks {
     pub(crate) askings: Places,
@@ -44,8 +44,8 @@ pub(crate) struct PagerMarks {
     pub(crate) kept: Places,
 }
 
-/// What a pass knows of a recording so far: its machine, and marks for its pages that do not begin as zeros and for each
-/// log's records.
+/// What a pass knows about a recording so far: its machine, and marks for its initial pages and for the records of each
+/// log.
 #[derive(Drop)]
 pub(crate) struct Marks {
     pub(crate) machine: Machine,
@@ -134,7 +134,7 @@ impl PagerMarks {
         }
     }
 
-    /// Takes the pager's next record, where these deliveries of the link and of the lane are kept.
+    /// Takes the pager's next record, given the kept deliveries of the link and of the lane.
     pub(crate) fn note(
         &mut self,
         guide: &Guide,
@@ -160,7 +160,7 @@ impl Marks {
     ghost use Rattle.window_cut.specs.Pages.{numbers_of};
     ghost use Rattle.window_cut.specs.inner.Met.{IsNothing, Found, AreSame};
 
-    /// Of no records.
+    /// Returns the marks of no records.
     pub(crate) fn new(alloc: Global) -> Self
         ensures { IsNothing result }
     {
@@ -231,7 +231,7 @@ impl Marks {
         Ok(())
     }
 
-    /// Whether the marks are the same.
+    /// Returns whether the marks are the same.
     pub(crate) fn is_same(&self, other: &Marks) -> bool
         ensures same { result ≡ true → AreSame self.now other.now }
         ensures other { result ≡ false → ¬ AreSame self.now other.now }

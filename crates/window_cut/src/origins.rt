@@ -1,4 +1,4 @@
-//! Where the lines of a window's text stand in the recording's.
+//! The lines of the recording's text that a window's lines come from.
 
 ghost use Rattle.std.specs.Prelude.{◌≡◌, ℕ, ◌+◌, List, [], ◌∷◌, ◌++◌, length, map, IfOk};
 ghost use Rattle.migration_types.specs.Sessions.{Recorded};
@@ -11,8 +11,8 @@ use crate::places::Places;
 use migration_types::Version;
 use std::alloc::{AllocError, Global};
 
-/// For each line of a window's text the line of the recording's that it is, where these marks are kept of its pages that do
-/// not begin as zeros, and those of its logs.
+/// Returns, for each line of a window's text, the line of the recording's text that it comes from, given the marks for
+/// the recording's initial pages and for its logs. Fails only if memory runs out.
 pub(crate) fn line_origins(
     alloc: Global,
     version: Version,
@@ -33,7 +33,7 @@ pub(crate) fn line_origins(
     Ok(lines)
 }
 
-/// Adds the lines of the lane's log from its first on, where the version has it, and answers the line behind them.
+/// Appends the lines of the lane's log from its first on, if the version has one, and returns the line after them.
 fn push_lane(
     lines: &mut Vec<u64>,
     version: Version,

@@ -3,7 +3,7 @@
 ghost use Rattle.std.specs.Prelude.{◌≡◌, MatchBool};
 ghost use Rattle.audit_model.specs.Windows.{is_seen, new_page};
 
-/// Pages that stand next to each other: the number of the first, and how many they are.
+/// Consecutive pages: the number of the first, and how many there are.
 #[derive(Clone, Copy, Debug, PartialEq, Eq)]
 pub struct Window {
     pub first: u64,
@@ -14,7 +14,7 @@ impl Window {
     ghost use Rattle.window_cut.specs.Pages.{numbers_of};
     ghost use Rattle.window_cut.specs.Cuts.{IsOf, IsBeyond};
 
-    /// Whether a page is one of them.
+    /// Returns whether a page is one of them.
     #[tactic(auto, using(crate::proofs::Numbered::seen_within, crate::proofs::Numbered::seen_outside))]
     pub(crate) fn has(&self, page: u64) -> bool
         ensures { result ≡ is_seen (numbers_of self.now page) }
@@ -22,7 +22,7 @@ impl Window {
         page >= self.first && page - self.first < self.count
     }
 
-    /// A page's number among them; nothing rests on that of another.
+    /// Returns a page's number among them; for a page outside, any number will do.
     #[tactic(auto, using(crate::proofs::Numbered::number_within, crate::proofs::Numbered::number_outside))]
     pub(crate) fn number(&self, page: u64) -> u64
         ensures { result ≡ new_page (numbers_of self.now page) }
@@ -34,7 +34,7 @@ impl Window {
         }
     }
 
-    /// Whether there are pages in it, and all are of a machine that has so many.
+    /// Returns whether there are pages in it, and a machine of this many pages has them all.
     pub(crate) fn is_of(&self, pages: u64) -> bool
         ensures { MatchBool result (IsOf self.now pages) (IsBeyond self.now pages) }
     {

@@ -8,7 +8,7 @@ ghost use Rattle.window_cut.specs.inner.Marks.{marks_of, Rises, has_mark, is_mar
 use std::alloc::{AllocError, Global};
 use std::marker::Model;
 
-/// Marks of a log's records, in their order: which of them are kept. Memory is taken for those that are.
+/// Marks for a log's records, in their order: which of them are kept. Allocates memory only for those that are.
 #[derive(Drop)]
 pub(crate) struct Places {
     kept: Vec<u64>,
@@ -24,7 +24,7 @@ impl Model for Places {
 }
 
 impl Places {
-    /// Of no records.
+    /// Returns the marks of no records.
     pub(crate) fn new(alloc: Global) -> Self
         ensures { result ≡ [] }
     {
@@ -47,21 +47,21 @@ impl Places {
         Ok(())
     }
 
-    /// Whether the record of this number is kept; one that there is not is none that is.
+    /// Returns whether the record of this number is kept. A record that does not exist is not kept.
     pub(crate) fn has(&self, number: u64) -> bool
         ensures { result ≡ has_mark self.now number }
     {
         self.kept.binary_search(&number).is_ok()
     }
 
-    /// How many records before this number are kept.
+    /// Returns how many records before this number are kept.
     pub(crate) fn rank(&self, number: u64) -> u64
         ensures { result ≡ rank self.now number }
     {
         self.kept.partition_point(|place| *place < number) as u64
     }
 
-    /// The newest record that is kept and is no later than this one.
+    /// Returns the newest kept record that is no later than this one.
     pub(crate) fn newest(&self, number: u64) -> Option<u64>
         ensures { past result ≡ newest is_mark self.now (suc number) }
     {
@@ -73,7 +73,7 @@ impl Places {
         }
     }
 
-    /// Whether the marks are the same.
+    /// Returns whether the marks are the same.
     pub(crate) fn is_same(&self, other: &Places) -> bool
         ensures same { result ≡ true → self.now ≡ other.now }
         ensures other { result ≡ false → self.now ≢ other.now }
@@ -81,8 +81,8 @@ impl Places {
         self.count == other.count && self.kept == other.kept
     }
 
-    /// Adds the lines of a list of which these are the marks, where its first line says how many items it has, and answers
-    /// the line behind it.
+    /// Appends the lines of a list with these marks, whose line `first` gives its number of items, and returns the line
+    /// after it.
     #[tactic(auto, using(crate::proofs::Lineage::marks_length))]
     pub(crate) fn push_origins(&self, lines: &mut Vec<u64>, first: u64) -> Result<u64, AllocError>
         ensures next { IfOk result (λ next. next ≡ behind first (length self.now)) }
@@ -96,7 +96,7 @@ impl Places {
     }
 }
 
-/// Adds the lines at these places of a list of which the first stands at a line.
+/// Appends the lines at these places of a list that begins at line `first`.
 fn push_lines(lines: &mut Vec<u64>, first: u64, places: &[u64]) -> Result<(), AllocError>
     requires { (k : ℕ) → k < length places.now → first + slice_index places.now k < 2 ^ 64 }
     ensures { OnOk result (lines.new.items ≡ lines.old.items ++ map (λ p. first + p) places.now) }

@@ -1,4 +1,4 @@
-//! The lines of what is kept.
+//! The lines of the kept records.
 
 ghost use Rattle.std.specs.Prelude.{◌≡◌, ℕ, ◌+◌, [], ◌∷◌, ◌++◌, List, IfOk, OnOk};
 ghost use Rattle.session_log.specs.Grammar.{page_line};
@@ -8,14 +8,14 @@ ghost use Rattle.recordings.specs.Wide.{init_of, guest_of, source_of, link_of, l
 use recordings::{WideGuest, WideInit, WideLane, WideLink, WidePager, WideSource};
 use std::alloc::{AllocError, Global};
 
-/// Lines, each ended, and how many they are.
+/// Lines, each ended by LF, and how many there are.
 #[derive(Drop)]
 pub(crate) struct Section {
     pub(crate) count: u64,
     pub(crate) lines: Vec<u8>,
 }
 
-/// The lines of the pages that do not begin as zeros, and of each log.
+/// The lines of the initial pages, and of each log.
 #[derive(Drop)]
 pub(crate) struct Sections {
     pub(crate) init: Section,
@@ -38,14 +38,14 @@ impl Section {
         }
     }
 
-    /// How many lines there are with one more.
+    /// Returns the number of lines with one more.
     fn one_more(&self) -> Result<u64, AllocError>
         ensures { IfOk result (λ more. more ≡ self.now.count + 1) }
     {
         self.count.checked_add(1).ok_or(AllocError)
     }
 
-    /// Adds a page that does not begin as zeros.
+    /// Appends a page that does not begin as zeros.
     pub(crate) fn push_init(&mut self, given: &WideInit) -> Result<(), AllocError>
         ensures { (lines : List (List ℕ)) → IsSection self.old lines → OnOk result (IsSection self.new (lines ++ page_line (init_of given.now) ∷ [])) }
     {
@@ -54,7 +54,7 @@ impl Section {
         Ok(())
     }
 
-    /// Adds a record of the guest.
+    /// Appends a record of the guest.
     pub(crate) fn push_guest(&mut self, rec: &WideGuest) -> Result<(), AllocError>
         ensures { (lines : List (List ℕ)) → IsSection self.old lines → OnOk result (IsSection self.new (lines ++ guest_line (guest_of rec.now) ∷ [])) }
     {
@@ -63,7 +63,7 @@ impl Section {
         Ok(())
     }
 
-    /// Adds a record of the source.
+    /// Appends a record of the source.
     pub(crate) fn push_source(&mut self, rec: &WideSource) -> Result<(), AllocError>
         ensures { (lines : List (List ℕ)) → IsSection self.old lines → OnOk result (IsSection self.new (lines ++ source_line (source_of rec.now) ∷ [])) }
     {
@@ -72,7 +72,7 @@ impl Section {
         Ok(())
     }
 
-    /// Adds a record of the link.
+    /// Appends a record of the link.
     pub(crate) fn push_link(&mut self, rec: &WideLink) -> Result<(), AllocError>
         ensures { (lines : List (List ℕ)) → IsSection self.old lines → OnOk result (IsSection self.new (lines ++ link_line (link_of rec.now) ∷ [])) }
     {
@@ -81,7 +81,7 @@ impl Section {
         Ok(())
     }
 
-    /// Adds a record of the lane.
+    /// Appends a record of the lane.
     pub(crate) fn push_lane(&mut self, rec: &WideLane) -> Result<(), AllocError>
         ensures { (lines : List (List ℕ)) → IsSection self.old lines → OnOk result (IsSection self.new (lines ++ lane_line (lane_of rec.now) ∷ [])) }
     {
@@ -90,7 +90,7 @@ impl Section {
         Ok(())
     }
 
-    /// Adds a record of the pager.
+    /// Appends a record of the pager.
     pub(crate) fn push_pager(&mut self, rec: &WidePager) -> Result<(), AllocError>
         ensures { (lines : List (List ℕ)) → IsSection self.old lines → OnOk result (IsSection self.new (lines ++ pager_line (pager_of rec.now) ∷ [])) }
     {
@@ -103,7 +103,7 @@ impl Section {
 impl Sections {
     ghost use Rattle.window_cut.specs.inner.Met.{IsBlank};
 
-    /// With no lines.
+    /// Returns sections with no lines.
     pub(crate) fn new(alloc: Global) -> Self
         ensures { IsBlank result }
     {

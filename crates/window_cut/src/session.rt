@@ -18,14 +18,15 @@ use session_log::{
 use std::alloc::{AllocError, Global};
 use text_lines::{CLOSING, push_keyed, push_line};
 
-/// The session of the text of a window, and for each of its lines which line of the recording's text it is, counted from 1.
+/// The session of a window as text, and for each of its lines the line of the recording's text that it comes from,
+/// counted from 1.
 #[derive(Drop)]
 pub struct WindowText {
     pub text: Vec<u8>,
     pub lines: Vec<u64>,
 }
 
-/// The text of a session of so many pages on such a machine, of which these are the lines.
+/// Returns the text of a session of this many pages on such a machine, with these lines.
 pub(crate) fn session_text(
     alloc: Global,
     pages: u64,
@@ -48,7 +49,7 @@ pub(crate) fn session_text(
     Ok(out)
 }
 
-/// Adds a line that says how many lines there are, and the lines.
+/// Appends a line with the number of lines, and the lines.
 #[tactic(auto, using(crate::proofs::Text::section_text))]
 fn push_section(out: &mut Vec<u8>, key: &[u8], section: &Section) -> Result<(), AllocError>
     ensures { (lines : List (List ℕ)) → IsSection section.now lines → OnOk result (out.new.items ≡ out.old.items ++ ended ((key.now ++ decimal (length lines)) ∷ lines)) }
@@ -58,7 +59,7 @@ fn push_section(out: &mut Vec<u8>, key: &[u8], section: &Section) -> Result<(), 
     Ok(())
 }
 
-/// Adds the lines of the lane's log, where the version has it.
+/// Appends the lines of the lane's log, if the version has one.
 fn push_lane(out: &mut Vec<u8>, version: Version, section: &Section) -> Result<(), AllocError>
     ensures { (lines : List (List ℕ)) → IsSection section.now lines → OnOk result (out.new.items ≡ out.old.items ++ ended (lane_lines version lines)) }
 {

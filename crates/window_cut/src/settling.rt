@@ -1,4 +1,4 @@
-//! The window that a pass wrote.
+//! The window that a pass has written.
 
 ghost use Rattle.std.specs.Prelude.{◌≡◌, true, false, ℕ, List, IfOk, IfErr};
 ghost use Rattle.text_lines.specs.Text.{IsSpelling};
@@ -17,7 +17,7 @@ use recordings::RecordingFault;
 use std::alloc::{AllocError, Global};
 
 impl<W> Writing<W> {
-    /// The window of the recording that it met, where it went by this window.
+    /// Returns the window of the recording that it met, if it went by this window.
     #[tactic(auto, using(crate::proofs::Windowed::outside_of, crate::proofs::Windowed::others_found))]
     pub(crate) fn window_text(&self, alloc: Global, window: Window) -> Result<WindowText, CutFault>
         ensures cut { IfOk result (λ out. (s : Recorded) → Meets self.now s → self.now.guide.window ≡ window → IsWindowOf window s out) }
@@ -35,7 +35,7 @@ impl<W> Writing<W> {
         }
     }
 
-    /// Whether it went by the marks that it found.
+    /// Returns whether the marks that it found are those that it went by.
     fn is_settled(&self) -> bool
         ensures same { result ≡ true → AreSame self.now.guide.known self.now.found }
         ensures other { result ≡ false → ¬ AreSame self.now.guide.known self.now.found }
@@ -43,7 +43,7 @@ impl<W> Writing<W> {
         self.guide.known.is_same(&self.found)
     }
 
-    /// The window, where it went by the marks that it found.
+    /// Returns the window, if the marks that it found are those that it went by.
     fn settled_text(&self, alloc: Global, window: Window) -> Result<WindowText, AllocError>
         ensures { IfOk result (λ out. (s : Recorded) → Meets self.now s → self.now.guide.window ≡ window → AreSame self.now.guide.known self.now.found → IsOf window self.now.found.machine.pages → IsWindowOf window s out) }
     {

@@ -1,4 +1,4 @@
-//! What goes through a recording, to mark what is kept and to write it.
+//! Visitors of a recording that mark the kept records, and that write them.
 
 ghost use Rattle.std.specs.Prelude.{◌≡◌, length, OnOk};
 ghost use Rattle.migration_types.specs.Sessions.{Recorded};
@@ -14,7 +14,7 @@ use recordings::{
 use std::alloc::{AllocError, Global};
 use std::marker::{Brand, PhantomData};
 
-/// What one pass goes by, which stays the same from its beginning to its end. It is for proofs alone.
+/// What one pass goes by, which stays the same from its beginning to its end. Only proofs use this.
 pub(crate) trait Way {
     ghost use Rattle.window_cut.specs.declared.marking.Guide.{Guide};
 
@@ -27,7 +27,7 @@ impl Way for Brand {
     ghost guide = { no_guide };
 }
 
-/// Marks what is kept.
+/// A visitor that marks the kept records.
 #[derive(Drop)]
 pub(crate) struct Marking<W> {
     pub(crate) guide: Guide,
@@ -38,7 +38,7 @@ pub(crate) struct Marking<W> {
 impl<W> Marking<W> {
     ghost use Rattle.window_cut.specs.inner.Met.{IsNothing};
 
-    /// Of nothing yet, by the marks of the pass before.
+    /// Returns a visitor that has met nothing, and goes by the marks of the pass before.
     pub(crate) fn new(alloc: Global, window: Window, known: Marks) -> Self
         ensures found { IsNothing result.found }
         ensures guide { result.guide ≡ record { window = window; known = known } }
@@ -94,7 +94,8 @@ impl<W: Way> Visitor for Marking<W> {
     }
 }
 
-/// Writes what is kept by marks that are known, and marks what is, by which it shows whether they were right.
+/// A visitor that writes the records that are kept by known marks. It also marks the kept records, which shows whether
+/// the known marks were right.
 #[derive(Drop)]
 pub(crate) struct Writing<W> {
     pub(crate) guide: Guide,
@@ -106,7 +107,7 @@ pub(crate) struct Writing<W> {
 impl<W> Writing<W> {
     ghost use Rattle.window_cut.specs.inner.Met.{IsNothing, IsBlank};
 
-    /// Of nothing yet, by the marks of the pass before.
+    /// Returns a visitor that has met nothing, and goes by the marks of the pass before.
     pub(crate) fn new(alloc: Global, window: Window, known: Marks) -> Self
         ensures found { IsNothing result.found }
         ensures blank { IsBlank result.sections }

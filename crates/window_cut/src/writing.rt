@@ -1,4 +1,4 @@
-//! Writing what is kept.
+//! Writing the kept records.
 
 ghost use Rattle.std.specs.Prelude.{◌≡◌, [], ◌∷◌, ◌++◌, List, length, map, OnOk};
 ghost use Rattle.migration_types.specs.declared.pages.InitPage.{InitPage};
@@ -21,7 +21,7 @@ use recordings::{WideGuest, WideInit, WideLane, WideLink, WidePager, WideSource}
 use std::alloc::AllocError;
 
 impl Guide {
-    /// Adds a page that does not begin as zeros, if it is of the window.
+    /// Appends a page that does not begin as zeros, if it is of the window.
     pub(crate) fn write_init(
         &self,
         section: &mut Section,
@@ -35,7 +35,7 @@ impl Guide {
         Ok(())
     }
 
-    /// Adds the guest's record of this number, if it is kept.
+    /// Appends the guest's record of this number, if it is kept.
     pub(crate) fn write_guest(
         &self,
         section: &mut Section,
@@ -50,7 +50,7 @@ impl Guide {
         Ok(())
     }
 
-    /// Adds the source's record of this number, if it is kept.
+    /// Appends the source's record of this number, if it is kept.
     pub(crate) fn write_source(
         &self,
         section: &mut Section,
@@ -65,7 +65,7 @@ impl Guide {
         Ok(())
     }
 
-    /// Adds the link's record of this number, if it is kept.
+    /// Appends the link's record of this number, if it is kept.
     pub(crate) fn write_link(
         &self,
         section: &mut Section,
@@ -80,7 +80,7 @@ impl Guide {
         Ok(())
     }
 
-    /// Adds the lane's record of this number, if it is kept.
+    /// Appends the lane's record of this number, if it is kept.
     pub(crate) fn write_lane(
         &self,
         section: &mut Section,
@@ -95,7 +95,7 @@ impl Guide {
         Ok(())
     }
 
-    /// Adds the pager's record of this number, if it is kept.
+    /// Appends the pager's record of this number, if it is kept.
     pub(crate) fn write_pager(
         &self,
         section: &mut Section,

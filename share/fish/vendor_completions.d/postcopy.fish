@@ -1,7 +1,7 @@
 # Completions of postcopy for fish: its commands and their options, as its help lists them, and files.
 function __postcopy_commands
     set -l words (commandline -opc)
-    command $words[1] --help 2>/dev/null | sed -n '/^Commands:/,/^$/s/^  \([a-z][a-z-]*\)  *\(.*\)/\1\t\2/p' | sed 's/, as in: .*//'
+    command $words[1] --help 2>/dev/null | sed -n '/^Commands:/,/^$/s/^  \([a-z][a-z-]*\)  *\(.*\)/\1\t\2/p' | sed 's/\. Example: .*//'
 end
 
 function __postcopy_options

@@ -1,7 +1,8 @@
-//! Records of the source and the pager, as the recorder in C writes them: read, and written again.
+//! Records of the source and the pager, as the recorder in C writes them: read, and written again; and the messages that they tell of.
 
+use deliveries::Message;
 use migration_types::{Size, Version};
-use recorded_files::{RawPager, RawSource};
+use recorded_files::{RawPager, RawSource, Told};
 use recordings::{Machine, WidePager, WideSource};
 use std::alloc::{AllocError, Global};
 
@@ -108,4 +109,59 @@ fn refuses_other_lines(rt: HostRuntime) {
     }
     assert!(rt; is_of_source(rt.alloc(), b"got-sent 1") == Ok(false));
     assert!(rt; is_of_pager(rt.alloc(), b"ask-sent 1") == Ok(false));
+}
+
+#[test]
+fn delivers_what_the_records_tell_of(rt: HostRuntime) {
+    let pager: [&[u8]; 6] = [
+        b"got-sent 1",
+        b"ready",
+        b"want 2",
+        b"got-sent 2",
+        b"pull-sent 3",
+        b"all",
+    ];
+    let source: [&[u8]; 6] = [
+        b"state",
+        b"send 2 00000000000000ab",
+        b"ask-sent 5",
+        b"ask-sent 2",
+        b"ask-sent 6",
+        b"done",
+    ];
+    let alloc = rt.alloc();
+    let mut told = Told::new(alloc);
+    for line in source {
+        let rec = RawSource::read(alloc, &MACHINE, line).expect(&rt, "a record of the source");
+        assert!(rt; told.note_source(&rec).is_ok());
+    }
+    for line in pager {
+        let rec = RawPager::read(alloc, &MACHINE, line).expect(&rt, "a record of the pager");
+        assert!(rt; told.note_pager(&rec).is_ok());
+    }
+    let delivered = told.deliver(alloc).expect(&rt, "memory");
+    let link = [
+        Message::Down { sent: 1, taken: 0 },
+        Message::Up { sent: 2, taken: 3 },
+        Message::Down { sent: 2, taken: 3 },
+        Message::Up { sent: 5, taken: 2 },
+    ];
+    assert!(rt; delivered.link.log.as_slice() == link.as_slice());
+    let numbers = [Some(0), Some(2), Some(3), Some(1), None];
+    assert!(rt; delivered.link.numbers.as_slice() == numbers.as_slice());
+    let lane = [Message::Down { sent: 3, taken: 4 }];
+    assert!(rt; delivered.lane.log.as_slice() == lane.as_slice());
+    assert!(rt; delivered.lane.numbers.as_slice() == [Some(0)].as_slice());
+}
+
+#[test]
+fn gives_a_record_the_number_of_its_message(rt: HostRuntime) {
+    let asks = RawSource::AskSent { asking: 7 }.numbered(3);
+    assert!(rt; matches!(asks, WideSource::Ask { up: 3 }));
+    let gets = RawPager::GotSent { sending: 7 }.numbered(4);
+    assert!(rt; matches!(gets, WidePager::Got { down: 4 }));
+    let pulls = RawPager::PullSent { sending: 7 }.numbered(5);
+    assert!(rt; matches!(pulls, WidePager::Pull { down: 5 }));
+    let other = RawPager::Own(WidePager::Got { down: 6 }).numbered(8);
+    assert!(rt; matches!(other, WidePager::Got { down: 6 }));
 }

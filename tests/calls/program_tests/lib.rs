@@ -2,8 +2,8 @@
 
 use audit_model::ShapeReason;
 use cert_check::{ShapeFault, Verdict};
-use command_texts::TextSource;
-use commands::{run, targets_named};
+use command_texts::{Console, TextSource};
+use commands::{read_words, run};
 use judge_commands::{push_verdict, verdict_status};
 use migration_types::LogName;
 use std::alloc::Global;
@@ -88,6 +88,20 @@ struct Outcome {
     asked: u32,
 }
 
+// Runs the program on words. Where there is no memory for reading them, that is 4.
+fn ran_on<
+    R: Threads + Wait + Sync + AllocGlobal + Net<Listener = TcpListener, Stream = TcpStream>,
+    S: TextSource,
+    I: Read + Send,
+    O: Write,
+    E: Write,
+>(console: &mut Console<'_, R, S, I, O, E>, words: &[&str]) -> u8 {
+    match read_words(console.alloc, words) {
+        Ok(reading) => run(console, reading, &mut None),
+        Err(_) => 4,
+    }
+}
+
 // Runs the program on these words after its name, over the two texts and an input.
 fn ran_over<
     R: Threads + Wait + Sync + AllocGlobal + Net<Listener = TcpListener, Stream = TcpStream>,
@@ -100,7 +114,15 @@ fn ran_over<
     };
     let mut output = Vec::new(alloc);
     let mut errors = Vec::new(alloc);
-    let status = run(rt, alloc, words, &shelf, input, &mut output, &mut errors);
+    let mut console = Console {
+        rt,
+        alloc,
+        texts: &shelf,
+        input,
+        output: &mut output,
+        errors: &mut errors,
+    };
+    let status = ran_on(&mut console, words);
     Outcome {
         status,
         output,
@@ -200,7 +222,7 @@ const CERT_FOR_SESSION_AND_NOTE: &[u8] =
     b"cert:1:1: this is a certificate; expected a session: are the two files swapped?\nsession: note: the guest neither reads nor writes a page after a resume, so no use of one was judged\n";
 
 const NOTE_AND_NONE: &[u8] =
-    b"session: note: the guest neither reads nor writes a page after a resume, so no use of one was judged\nfile none\n";
+    b"session: note: the guest neither reads nor writes a page after a resume, so no use of one was judged\nfile none\nnone: no such file or directory\n";
 
 const SESSION_FOR_RUNS: &[u8] =
     b"session:1:1: this is a session; expected a text of runs: are the two files swapped?\n";
@@ -273,7 +295,7 @@ fn verdicts(rt: HostRuntime) {
     none_is_wrong(&rt, wrong_case(&rt, VERDICTS.as_slice()));
 }
 
-// Audits of several sessions, in the order of the words; a text that is not there ends the list.
+// Audits of several sessions, in the order of the words; a text that is not there is told, and the next is audited.
 static SEVERAL: [Case; 5] = [
     Case(
         &["postcopy", "audit", "session", "handover"],
@@ -303,9 +325,9 @@ static SEVERAL: [Case; 5] = [
         &["postcopy", "audit", "session", "none", "handover"],
         b"",
         3,
-        b"session: clean\n",
+        b"session: clean\nhandover: faulty line 13 early\n1 of 3 sessions are clean\n",
         NOTE_AND_NONE,
-        Some(2),
+        Some(3),
     ),
     Case(
         &["postcopy", "audit", "--quiet", "handover"],
@@ -338,8 +360,11 @@ fn is_named<R: AllocGlobal>(
     lines: Option<&str>,
     output: Option<&str>,
 ) -> bool {
-    match targets_named(rt.alloc(), words) {
-        Ok(targets) => is_this(targets.lines, lines) && is_this(targets.output, output),
+    match read_words(rt.alloc(), words) {
+        Ok(reading) => {
+            let targets = reading.targets();
+            is_this(targets.lines, lines) && is_this(targets.output, output)
+        }
         Err(_) => false,
     }
 }
@@ -352,7 +377,9 @@ fn outputs(rt: HostRuntime) {
     assert!(rt; is_named(&rt, long.as_slice(), None, Some("out")));
     let plain = ["postcopy", "migrate", "script"];
     assert!(rt; is_named(&rt, plain.as_slice(), None, None));
-    let refused = ["postcopy", "audit", "-o", "out", "session"];
+    let audit = ["postcopy", "audit", "-o", "out", "session"];
+    assert!(rt; is_named(&rt, audit.as_slice(), None, Some("out")));
+    let refused = ["postcopy", "audit", "-o", "out"];
     assert!(rt; is_named(&rt, refused.as_slice(), None, None));
     let both = [
         "postcopy",
@@ -500,7 +527,7 @@ static STEPS: [Case; 4] = [
         b"",
         3,
         b"",
-        b"file x\n",
+        b"file x\nx: no such file or directory\n",
         Some(2),
     ),
 ];
@@ -517,7 +544,7 @@ static MISSING: [Case; 7] = [
         SESSION,
         3,
         b"",
-        b"file x\n",
+        b"file x\nx: no such file or directory\n",
         Some(1),
     ),
     Case(
@@ -525,7 +552,7 @@ static MISSING: [Case; 7] = [
         SESSION,
         3,
         b"",
-        b"file x\n",
+        b"file x\nx: no such file or directory\n",
         Some(1),
     ),
     Case(
@@ -533,7 +560,7 @@ static MISSING: [Case; 7] = [
         SESSION,
         3,
         b"",
-        b"file y\n",
+        b"file y\ny: no such file or directory\n",
         Some(2),
     ),
     Case(
@@ -541,7 +568,7 @@ static MISSING: [Case; 7] = [
         SESSION,
         3,
         b"",
-        b"file y\n",
+        b"file y\ny: no such file or directory\n",
         Some(1),
     ),
     Case(
@@ -549,7 +576,7 @@ static MISSING: [Case; 7] = [
         SESSION,
         3,
         b"",
-        b"file x\n",
+        b"file x\nx: no such file or directory\n",
         Some(1),
     ),
     Case(
@@ -557,7 +584,7 @@ static MISSING: [Case; 7] = [
         SESSION,
         3,
         b"",
-        b"file x\n",
+        b"file x\nx: no such file or directory\n",
         Some(1),
     ),
     Case(
@@ -565,7 +592,7 @@ static MISSING: [Case; 7] = [
         SESSION,
         3,
         b"",
-        b"file y\n",
+        b"file y\ny: no such file or directory\n",
         Some(2),
     ),
 ];
@@ -693,15 +720,15 @@ fn wants_memory<
     let alloc = rt.alloc();
     let mut output = Vec::new(alloc);
     let mut errors = Vec::new(alloc);
-    let status = run(
+    let mut console = Console {
         rt,
         alloc,
-        words,
-        &Starved { opens },
-        &mut Starved { opens },
-        &mut output,
-        &mut errors,
-    );
+        texts: &Starved { opens },
+        input: Starved { opens },
+        output: &mut output,
+        errors: &mut errors,
+    };
+    let status = ran_on(&mut console, words);
     status == 4 && output.is_empty() && errors.as_slice() == b"out of memory\n".as_slice()
 }
 
@@ -720,6 +747,9 @@ fn wrong_starved<
 fn want_of_memory(rt: HostRuntime) {
     none_is_wrong(&rt, wrong_starved(&rt));
 }
+
+// What is told of an output that takes nothing.
+const NO_SPACE: &[u8] = b"output\nstandard output: no space left on the device\n";
 
 // Words for which something is written to the output.
 static WRITING: [&[&str]; 10] = [
@@ -743,10 +773,17 @@ fn tells_of_output<
         texts: TEXTS.as_slice(),
         asked: Cell::new(0),
     };
-    let mut input = b"".as_slice();
     let mut errors = Vec::new(alloc);
-    let status = run(rt, alloc, words, &shelf, &mut input, &mut Full, &mut errors);
-    status == 3 && errors.as_slice() == b"output\n".as_slice()
+    let mut console = Console {
+        rt,
+        alloc,
+        texts: &shelf,
+        input: b"".as_slice(),
+        output: Full,
+        errors: &mut errors,
+    };
+    let status = ran_on(&mut console, words);
+    status == 3 && errors.as_slice() == NO_SPACE
 }
 
 fn wrong_output<
@@ -774,9 +811,16 @@ fn ends_untold<
         texts: TEXTS.as_slice(),
         asked: Cell::new(0),
     };
-    let mut input = b"".as_slice();
     let mut output = Vec::new(alloc);
-    let status = run(rt, alloc, words, &shelf, &mut input, &mut output, &mut Full);
+    let mut console = Console {
+        rt,
+        alloc,
+        texts: &shelf,
+        input: b"".as_slice(),
+        output: &mut output,
+        errors: Full,
+    };
+    let status = ran_on(&mut console, words);
     status == wanted && output.is_empty()
 }
 
@@ -801,7 +845,7 @@ fn tells_of_input<
         fails: true,
     };
     let found = ran_over(rt, words, &mut input);
-    is_outcome(&found, 3, b"", b"file -\n")
+    is_outcome(&found, 3, b"", b"file -\n-: nobody reads the pipe any more\n")
 }
 
 fn wrong_input<
@@ -898,7 +942,11 @@ static LONG: [(&[u8], usize, bool, Said); 11] = [
 
 type Said = (u8, &'static [u8], &'static [u8]);
 
-const NOT_READ: Said = (3, b"", b"file -\n");
+const TOO_LONG: &[u8] = b"file -\n-: longer than the limit for such a text; \"postcopy window\" takes a recording of any size\n";
+
+const TOO_MANY_READS: &[u8] = b"file -\n-: the text comes in too many pieces\n";
+
+const NOT_READ: Said = (3, b"", TOO_LONG);
 
 const NO_PAGES: Said = (
     1,
@@ -939,7 +987,8 @@ fn is_limit_kept<
     if fits {
         is_outcome(&found, 1, EMPTY_SESSION_LINE, EMPTY_LINE)
     } else {
-        is_outcome(&found, 3, b"", b"file -\n")
+        let why = if one_by_one { TOO_MANY_READS } else { TOO_LONG };
+        is_outcome(&found, 3, b"", why)
     }
 }
 
@@ -1010,7 +1059,7 @@ fn untold_failure<
             fails: true,
         };
         let found = ran_over(rt, AUDIT.as_slice(), &mut input);
-        if !is_outcome(&found, 3, b"", b"file -\n") {
+        if !is_outcome(&found, 3, b"", b"file -\n-: nobody reads the pipe any more\n") {
             return Some(*left);
         }
     }

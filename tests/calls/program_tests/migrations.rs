@@ -79,7 +79,7 @@ static REFUSALS: [Case; 3] = [
         SCRIPT,
         3,
         b"",
-        b"file x\n",
+        b"file x\nx: no such file or directory\n",
         Some(1),
     ),
 ];

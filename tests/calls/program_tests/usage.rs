@@ -19,7 +19,7 @@ static NO_COMMANDS: [&[&str]; 21] = [
     &["postcopy", "draw", "session", "runs", "runs"],
     &["postcopy", "draw", "--page", "first", "session"],
     &["postcopy", "explain", "--line", "4294967296", "session"],
-    &["postcopy", "audit", "-o", "out", "session"],
+    &["postcopy", "audit", "-o", "session"],
     &["postcopy", "window", "recording", "0"],
     &["postcopy", "window", "recording", "first", "1"],
     &[
@@ -105,12 +105,12 @@ fn help(rt: HostRuntime) {
 
 // What the help tells.
 static TOLD: [&str; 15] = [
-    "0  all is well",
-    "1  another answer",
-    "2  words that are no command",
-    "3  a file, a link or an output that failed",
+    "0  success",
+    "1  any other answer",
+    "2  usage error",
+    "3  a file, a link or an output failed",
     "4  out of memory",
-    "A file named - is standard input",
+    "The file name - means standard input",
     "postcopy check session cert",
     "postcopy certify session",
     "postcopy audit session",

@@ -3,6 +3,8 @@
 #[cfg(test)]
 mod certificates;
 #[cfg(test)]
+mod delivered;
+#[cfg(test)]
 mod errors;
 #[cfg(test)]
 mod formats;

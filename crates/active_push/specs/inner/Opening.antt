@@ -1,4 +1,4 @@
--- What a source's book begins with.
+-- The parts that a source's book begins with.
 use Rattle.std.specs.Prelude.{◌≡◌, ℕ, [], ◌∷◌, None}
 use Rattle.migration_types.specs.declared.records.SourceRec.TheVariants.{Halted, State}
 use Rattle.migration_types.specs.Extents.{Extent}

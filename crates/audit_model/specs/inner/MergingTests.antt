@@ -1,4 +1,4 @@
--- Tests for mergings, which the plain program computes.
+-- Tests for mergings, which the plain programs compute.
 use Rattle.std.specs.Prelude.{Bool, ◌==◌, ◌&&◌, nat_lt}
 use Rattle.migration_types.specs.declared.records.LogName.TheVariants.{Guest, Source, Link, Lane, Pager}
 use Rattle.migration_types.specs.Receipts.{Name}
@@ -7,7 +7,7 @@ use Rattle.audit_model.specs.Names.{log_length, receipt}
 use Rattle.audit_model.specs.Mergings.{Cursors}
 use Rattle.audit_model.specs.FoundOrder.{is_received}
 
--- whether the record of this name may follow
+-- whether the record with this name may follow
 abbrev pub may : Recorded → Cursors → Name → Bool
 may s c name = (name.1 == c name.0) && (nat_lt name.1 (log_length s name.0) && is_received c (receipt s name))
 

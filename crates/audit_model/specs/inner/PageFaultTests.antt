@@ -59,7 +59,8 @@ abbrev pub is_unfit : Recorded → PagerRec → Bool
 is_unfit s (Zero p) = not (in_ledger s (at_halt s) p)
 is_unfit s _ = false
 
--- whether guest record n is a release of the page, its first touch after handover, that no look before it covers
+-- whether guest record n is a release of the page that is its first touch after handover, with no look before it that
+-- covers it
 abbrev pub is_first_release : Recorded → ℕ → ℕ → GuestRec → Bool
 is_first_release s page n (Release vcpu p) = (p == page) && (not (touched s n page) && is_uncovered s page n)
 is_first_release s page n _ = false

@@ -1,4 +1,4 @@
--- The runs of an order cut in two.
+-- The runs of an order split by a cut.
 use Rattle.std.specs.Prelude.{◌≡◌, ℕ, ◌+◌, ◌≤◌, List, length, slice_index_or, min, max}
 use Rattle.std.specs.List.{filter}
 use Rattle.migration_types.specs.declared.records.LogName.{LogName}
@@ -16,7 +16,7 @@ use Rattle.cert_maker.specs.inner.Taking.{TakeRecords}
 abbrev pub ends : List Run → Cursors
 ends runs = cursors_from at_start (spelled runs)
 
--- runs as long as they can be, of logs with no more records than a session's can have
+-- runs as long as they can be, of logs with no more records than a session's may have
 pub record AreBlocks (runs : List Run) : Type 0 where
   pub small : (log : LogName) → ends runs log ≤ longest_log
   pub each : TakeRecords runs
@@ -33,7 +33,7 @@ pub record AreBelow (d : Cursors) (runs parts : List Run) : Type 0 where
   pub names : spelled parts ≡ filter (is_below d) (spelled runs)
   pub ends : (log : LogName) → ends parts log ≡ min (ends runs log) (d log)
 
--- the order with what is above the cut moved behind what is below it
+-- the order with what is above the cut moved after what is below it
 pub record AreRearranged (d : Cursors) (runs parts : List Run) : Type 0 where
   pub blocks : AreBlocks parts
   pub names : spelled parts ≡ rearranged d (spelled runs)

@@ -1,4 +1,4 @@
--- What is told of a packet that is offered.
+-- What the result of an event says about a packet that is offered.
 use Rattle.std.specs.Prelude.{◌≡◌, ℕ, ◌⊎◌, Bool, true, false, List, [], ◌∷◌, ◌++◌}
 use Rattle.page_stream.specs.declared.Packet.{Packet}
 use Rattle.page_stream.specs.declared.Packet.TheVariants.{State as StatePacket, Page as PagePacket, Want as WantPacket, All as AllPacket}
@@ -23,11 +23,11 @@ Carries Nothing packet = ⊥
 Carries Made packet = is_page packet ≡ false
 Carries (Offered page) packet = IsOfPage page packet
 
--- a line has gained a packet, behind the others or before them
+-- a line has gained a packet, after the others or before them
 abbrev pub HasMore : Packet → List Packet → List Packet → Type 0
 HasMore packet old new = (new ≡ old ++ packet ∷ []) ⊎ (new ≡ packet ∷ old)
 
--- one of the lines to the target has gained the packet that is told of, and the other none
+-- one of the lines to the target has gained the packet that the result names, and the other has gained none
 pub record IsOffer (came : Came) (old new : LinkPart) : Type 0 where
   pub packet : Packet
   pub carries : Carries came packet

@@ -3,10 +3,10 @@ use Rattle.std.specs.Prelude.{◌≡◌, ◌<◌, ◌⊎◌, true, false, length
 use Rattle.target_side.specs.TargetPart.{TargetPart}
 use Rattle.target_side.specs.PagerPart.{PagerPart}
 
--- a page to settle, or a miss that the pager may take
+-- there is a page to cancel, or a miss that the pager may take
 abbrev pub HasFault : PagerPart → TargetPart → Type 0
 HasFault b t = (0 < length t.unsettled) ⊎ ((is_some b.released ≡ true) × (0 < length t.misses))
 
--- a page to settle, or a guest that may resume, or a page that has come
+-- there is a page to cancel, or a guest that may resume, or a page that has come
 abbrev pub HasDelivery : PagerPart → TargetPart → Type 0
 HasDelivery b t = (0 < length t.unsettled) ⊎ ((is_some b.released ≡ true) × ((t.is_resumed ≡ false) ⊎ (0 < length b.inbox)))

@@ -1,10 +1,10 @@
--- Jumps over pages that are gone.
+-- Jumps over pages that are known to be gone.
 use Rattle.std.specs.Prelude.{◌≡◌, ℕ, ◌+◌, ◌-◌, ◌<◌, ◌≤◌, Bool, false, List, length, slice_index}
 use Rattle.bubbling.specs.declared.jumps.Way.{Way}
 use Rattle.bubbling.specs.declared.jumps.Way.TheVariants.{Up, Down}
 use Rattle.bubbling.specs.Bubbling.{marked}
 
--- the page at a place on a way through so many pages
+-- the page at a place on a way through this many pages
 abbrev pub page_at : Way → ℕ → ℕ → ℕ
 page_at Up pages place = place
 page_at Down pages place = pages - 1 - place

@@ -31,7 +31,7 @@ pub record IsFirstOfLog (s : Recorded) (log : LogName) (place : ℕ) (reason : S
   pub is_reason : reason_at s (log, place) ≡ Some reason
   pub is_right_below : IsRightBelow s log place
 
--- marks of pages, by which a second `send` is found
+-- marks for pages, which find a second `send`
 abbrev pub is_unmarked : (ℕ → Bool) → SourceRec → Bool
 is_unmarked marks (Send p content) = not (marks p)
 is_unmarked marks _ = true
@@ -44,7 +44,7 @@ marked_by _ marks = marks
 abbrev pub sent_before : Recorded → ℕ → ℕ → Bool
 sent_before s n page = earlier (is_send_of page) s.source n
 
--- marks of these
+-- the marks for the pages that were sent before source record n
 pub record AreSent (s : Recorded) (n : ℕ) (marks : Values Bool) : Type 0 where
   pub pages_are : pages_of marks ≡ s.geometry.pages
   pub values_are : values marks ≡ sent_before s n

@@ -5,7 +5,7 @@ use Rattle.std.specs.Prelude.{◌≡◌, ℕ, ◌<◌, ◌≤◌, Option, Some, 
 abbrev pub HaveNone : {R : Type 0} → (ℕ → Option R) → ℕ → ℕ → Type 0
 HaveNone reasons from to = (n : ℕ) → from ≤ n → n < to → reasons n ≡ None
 
--- from a place on, the record at this place is the first with a reason, and this is its reason
+-- from a place on, this is the first record with a reason, and this is its reason
 pub record IsFirstFrom {R : Type 0} (reasons : ℕ → Option R) (from place : ℕ) (reason : R) : Type 0 where
   pub from_is : from ≤ place
   pub is_reason : reasons place ≡ Some reason

@@ -5,12 +5,12 @@ use Rattle.migration_types.specs.Sessions.{Recorded}
 use Rattle.audit_model.specs.Shape.{earlier, is_halt, is_resume}
 use Rattle.cert_check.specs.declared.passes.Phases.{Phases}
 
--- before guest record n
+-- the phases before guest record n
 pub record ArePhases (s : Recorded) (n : ℕ) (p : Phases) : Type 0 where
   pub halted : p.halted ≡ earlier is_halt s.guest n
   pub resumed : p.resumed ≡ earlier is_resume s.guest n
 
--- one record more
+-- the phases after one more record
 pub record ArePhasesAfter (r : GuestRec) (old new : Phases) : Type 0 where
   pub halted : new.halted ≡ (is_halt r || old.halted)
   pub resumed : new.resumed ≡ (is_resume r || old.resumed)

@@ -1,4 +1,4 @@
--- The one entry that can be right for a page, by its facts and its first look.
+-- The one entry that can be right for a page, given its facts and its first look.
 use Rattle.std.specs.Prelude.{◌≡◌, ℕ, ◌+◌, ◌<◌, Bool, true, false, List, length, Option, Some, None, slice_get, if◌then◌else◌}
 use Rattle.std.specs.List.{list_any}
 use Rattle.migration_types.specs.declared.records.SourceRec.{SourceRec}
@@ -21,7 +21,7 @@ abbrev pub repeated : ℕ → Option SourceRec → ℕ
 repeated delivered (Some (Again sending)) = sending
 repeated delivered _ = delivered
 
--- the `send` whose contents came with a `got`
+-- the `send` whose contents a `got` took
 abbrev pub send_of : Recorded → ℕ → Option ℕ
 send_of s got = if_there (λ delivered. Some (repeated delivered (slice_get s.source delivered))) (delivery s got)
 
@@ -37,7 +37,7 @@ entry_at s place first (Place p got content) = if_there (λ send. Some (Source s
 entry_at s place first (Zero p) = Some (Balloon place first)
 entry_at s place first _ = None
 
--- the entry of a page that is not placed, by its first touch and whether that releases it
+-- the entry of a page that is not placed, given its first touch and whether that is a release
 abbrev pub unplaced_entry : Option ℕ → Bool → Entry
 unplaced_entry None releases = Nothing
 unplaced_entry (Some first) true = Fresh first
@@ -56,7 +56,7 @@ pub record HasBarePage (s : Recorded) : Type 0 where
   pub within : page < s.geometry.pages
   pub is_bare : HasNoEntry s page
 
--- an entry for each of so many pages from the first on
+-- an entry for each of this many pages from the first on
 pub record AreMadeFrom (s : Recorded) (first count : ℕ) (entries : List Entry) : Type 0 where
   pub pages : length entries ≡ count
   pub each : (k : ℕ) (entry : Entry) → slice_get entries k ≡ Some entry → IsMadeEntry s (first + k) entry
@@ -66,6 +66,6 @@ pub record AreMade (s : Recorded) (entries : List Entry) : Type 0 where
   pub pages : length entries ≡ s.geometry.pages
   pub each : (page : ℕ) (entry : Entry) → slice_get entries page ≡ Some entry → IsMadeEntry s page entry
 
--- the version of a certificate with these entries: this one, or the second where a page is fresh
+-- the version of a certificate with these entries: this one, or the second if a page is fresh
 abbrev pub version_for : Version → List Entry → Version
 version_for version entries = if list_any is_fresh entries then Two else version

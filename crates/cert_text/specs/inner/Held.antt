@@ -21,18 +21,18 @@ use Rattle.cert_text.specs.declared.cert_lines.Stage.TheVariants.{Header, Pages,
 use Rattle.cert_text.specs.Runs.{runs_text_header, runs_key, closing, run_line}
 use Rattle.cert_text.specs.Grammar.{header, pages_key, entry_lines}
 
--- a run of this log may stand after these runs
+-- a run of this log may follow these runs
 abbrev pub MayFollow : List Run → LogName → Type 0
 MayFollow runs log = (d : Run) → 0 < length runs → (slice_index_or runs (length runs - 1) d).log ≢ log
 
--- a run may stand after these runs
+-- a run may follow these runs
 abbrev pub Follows : List Run → Run → Type 0
 Follows runs run = MayFollow runs run.log
 
 last_at : (xs : List Run) (x d : Run) → slice_index_or (xs ++ x ∷ []) (length (xs ++ x ∷ []) - 1) d ≡ x
 last_at xs x d = ap (λ (k : ℕ). slice_index_or (xs ++ x ∷ []) k d) (omega (arith, length-append xs (x ∷ []))) ∙ get_or-append-add xs (x ∷ []) 0 d
 
--- which run may stand after others is told by the last of them
+-- only the last run before decides which run may follow
 pub runs_by_last : (a b : List Run) (x y : Run) → MayFollow (a ++ x ∷ []) y.log → MayFollow (b ++ x ∷ []) y.log
 runs_by_last a b x y h d some = λ e. h d (omega (arith, length-append a (x ∷ []))) (ap (λ (r : Run). r.log) (last_at a x d ∙ sym (last_at b x d)) ∙ e)
 
@@ -48,7 +48,7 @@ runs_held Count d more = more
 runs_held Runs d more = runs_onto d more
 runs_held Done d more = runs_onto d (closing ∷ more)
 
--- the runs so far, of a version and a size
+-- the runs so far, within the limits of a version and a size
 pub record RunsFit (version : Version) (size : Size) (d : Part Run) : Type 0 where
   pub few : d.count ≤ most_runs version size
   pub count : length d.items ≤ d.count
@@ -60,7 +60,7 @@ RunsLive version size Count d = Unit {0}
 RunsLive version size Runs d = RunsFit version size d
 RunsLive version size Done d = RunsFit version size d × IsWhole d
 
--- the lines of runs so far, and the version and the size of which they are
+-- the lines of runs so far, with their version and size
 pub record RunsSoFar : Type 0 where
   pub version : Version
   pub size : Size
@@ -78,13 +78,13 @@ abbrev pub IsHeaded : Bool → List (List ℕ) → Type 0
 IsHeaded false runs = runs ≡ []
 IsHeaded true runs = Unit {0}
 
--- a text of runs has what the second version may have, of the large size
+-- a text of runs has what the second version and the large size allow
 abbrev pub HeadedLive : Bool → RunsSoFar → Type 0
 HeadedLive headed runs = (runs.version ≡ Two) × (runs.size ≡ Large) × IsHeaded headed runs.lines
 
 -- ---- a certificate
 
--- what came of a certificate, and the lines of its runs
+-- what was read of a certificate, and the lines of its runs
 pub record CertDraft : Type 0 where
   pub version : Version
   pub size : Size
@@ -101,13 +101,13 @@ held_by Header d = []
 held_by Pages d = header d.version d.size ∷ []
 held_by Entries d = entries_onto d.version d.size d.pages d.entries d.runs
 
--- of a size that the version has, and nothing of the lists came
+-- a certificate of a size that the version has, with nothing of the lists read
 pub record IsEmpty (d : CertDraft) : Type 0 where
   pub size : HasSize d.version d.size
   pub entries : d.entries ≡ []
   pub runs : d.runs ≡ []
 
--- of a size that the version has: the entries so far, and lines of runs after the last
+-- a certificate of a size that the version has: the entries so far, and after the last the lines of runs
 pub record EntriesFit (d : CertDraft) : Type 0 where
   pub size : HasSize d.version d.size
   pub some_pages : 1 ≤ d.pages

@@ -9,6 +9,6 @@ use Rattle.migration_types.specs.Sessions.{IsNumber}
 pub number_small : (size : Size) (n : ℕ) → IsNumber size n → n < 2 ^ 64
 number_small size n lt = let most = (limits_at_most size).few_records in omega arith
 
--- a run's count too
+-- a run's count has 64 bits
 pub count_small : (size : Size) (n : ℕ) → n ≤ (limits size).records → n < 2 ^ 64
 count_small size n le = let most = (limits_at_most size).few_records in omega arith

@@ -1,4 +1,5 @@
--- The lines that a reader of orders holds: those of a text of runs or of a certificate, and perhaps one above them.
+-- The lines that a reader of orders holds: those of a text of runs or of a certificate, and perhaps one line above
+-- them.
 use Rattle.std.specs.Prelude.{◌≡◌, ℕ, ◌<◌, Bool, true, false, List, [], ◌∷◌, ◌++◌, length}
 use Rattle.migration_types.specs.declared.version.Version.{Version}
 use Rattle.migration_types.specs.declared.size.Size.{Size}
@@ -23,14 +24,14 @@ IsFirst Clean line = line ≡ clean_line
 
 -- ---- the lines so far
 
--- a text of runs tells the order
+-- whether a text of runs gives the order
 abbrev pub has_runs : Form → Bool
 has_runs Runs = true
 has_runs (Faulty line reason) = true
 has_runs Cert = false
 has_runs Clean = false
 
--- the first line of a report stands above
+-- whether the first line of a report comes before it
 abbrev pub has_front : Form → Bool
 has_front Runs = false
 has_front (Faulty line reason) = true
@@ -44,7 +45,7 @@ front_of (Faulty line reason) = faulty_line line reason ∷ []
 front_of Cert = []
 front_of Clean = clean_line ∷ []
 
--- the lines of what tells the order, and of the other reader
+-- the lines of the text that gives the order, and those of the other reader
 abbrev pub inner_of : Form → List (List ℕ) → List (List ℕ) → List (List ℕ)
 inner_of Runs runs cert = runs
 inner_of (Faulty line reason) runs cert = runs
@@ -57,7 +58,7 @@ other_of (Faulty line reason) runs cert = cert
 other_of Cert runs cert = runs
 other_of Clean runs cert = runs
 
--- the line above tells a line's number
+-- the line above gives a line's number
 abbrev pub FrontFits : Form → Type 0
 FrontFits Runs = Unit {0}
 FrontFits (Faulty line reason) = IsLineNumber line
@@ -67,7 +68,7 @@ FrontFits Clean = Unit {0}
 abbrev pub held_in : Form → List (List ℕ) → List (List ℕ) → List (List ℕ)
 held_in form runs cert = front_of form ++ inner_of form runs cert
 
--- the first line came
+-- the first line was read
 pub record LiveIn (form : Form) (runs cert : List (List ℕ)) : Type 0 where
   pub front : FrontFits form
   pub begun : 0 < length (held_in form runs cert)

@@ -1,4 +1,4 @@
--- No line of a text that tells an order has an LF.
+-- No line of a text that gives an order has an LF.
 use Rattle.std.specs.Prelude.{ℕ, ◌≤◌, List, ◌∷◌, ◌++◌, refl}
 use Rattle.std.proofs.Common.{arith, subst, sym}
 use Rattle.std.specs.List.{AllByRecursion}

@@ -8,8 +8,8 @@ use Rattle.migration_types.specs.declared.size.Size.{Size}
 use Rattle.migration_types.specs.Certs.{EntryFits}
 use Rattle.cert_text.specs.Grammar.{entry_line, entry_lines}
 
--- so many entries of this version and size were read at the front of the bytes, those of the pages that follow, and put behind
--- those of old
+-- This many entries of this version and size, those of the next pages, were read at the front of the bytes, and
+-- appended to the old ones.
 pub record TakesEntries (version : Version) (size : Size) (old new : List Entry) (bytes rest : List ℕ) (count : ℕ) : Type 0 where
   pub taken : List Entry
   pub items : new ≡ old ++ taken
@@ -17,7 +17,7 @@ pub record TakesEntries (version : Version) (size : Size) (old new : List Entry)
   pub counted : length taken ≡ count
   pub fits : AllByRecursion (EntryFits version size) taken
 
--- an entry that fits and has this line, of the page that follows, was put behind those of old
+-- an entry of the next page that fits and has this line was appended to the old ones
 pub record TakesEntry (version : Version) (size : Size) (old new : List Entry) (line : List ℕ) : Type 0 where
   pub entry : Entry
   pub grown : new ≡ old ++ entry ∷ []

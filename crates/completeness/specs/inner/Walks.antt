@@ -1,4 +1,4 @@
--- What the walks over the logs keep.
+-- The state of the walks over the logs.
 use Rattle.std.specs.Prelude.{◌≡◌, ◌<◌, ℕ, Bool, false, ◌||◌, ◌==◌, List, length, slice_index_or}
 use Rattle.std.specs.List.{list_any}
 use Rattle.migration_types.specs.declared.records.GuestRec.{GuestRec}
@@ -30,7 +30,7 @@ pub record AreFreed (s : Recorded) (n : ℕ) (h : Home) (marks : Values Bool) : 
   pub home_is : h ≡ home s n
   pub table : IsTable s.geometry.pages marks (freed s n)
 
--- what a record leaves of the pages that were released at the target
+-- the pages that were released at the target, after a record
 abbrev pub freed_by : Home → GuestRec → (ℕ → Bool) → ℕ → Bool
 freed_by h r at page = freed_after h page r (at page)
 
@@ -38,22 +38,22 @@ freed_by h r at page = freed_after h page r (at page)
 abbrev pub ArePlaced : Recorded → ℕ → Values Bool → Type 0
 ArePlaced s n table = IsTable s.geometry.pages table (λ page. earlier (is_placement_of page) s.pager n)
 
--- what a record leaves of the placed pages
+-- the placed pages after a record
 abbrev pub placed_by : PagerRec → (ℕ → Bool) → ℕ → Bool
 placed_by r at page = is_placement_of page r || at page
 
--- what the whole logs say of the pages
+-- what the whole logs say about the pages
 pub record AreSeen (s : Recorded) (seen : Seen) : Type 0 where
   pub ledger : IsLedger s (at_halt s) seen.ledger
   pub placed : IsTable s.geometry.pages seen.placed (λ page. list_any (is_placement_of page) s.pager)
   pub freed : IsTable s.geometry.pages seen.freed (freed s (length s.guest))
 
--- a mark for each record of the pager that is placed or dropped before pager record n
+-- a mark for each record of the pager whose packet is placed or dropped before pager record n
 pub record AreSettled (s : Recorded) (n : ℕ) (marks : List Bool) : Type 0 where
   pub many : length marks ≡ length s.pager
   pub each : (m : ℕ) → m < length s.pager → slice_index_or marks m false ≡ earlier (settles m) s.pager n
 
--- the marks with that of this number set, where there is one
+-- the marks with that of this number set, if there is one
 pub record IsMarked (given : ℕ) (before after : List Bool) : Type 0 where
   pub many : length after ≡ length before
   pub each : (m : ℕ) → m < length before → slice_index_or after m false ≡ ((given == m) || slice_index_or before m false)

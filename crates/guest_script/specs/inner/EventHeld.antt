@@ -19,7 +19,7 @@ events_held Count d = events_header ∷ []
 events_held Events d = events_header ∷ (events_key ++ decimal d.count) ∷ map event_line d.items
 events_held Done d = events_header ∷ (events_key ++ decimal d.count) ∷ (map event_line d.items ++ closing ∷ [])
 
--- the events so far go on to these, and these lines with them
+-- the events so far begin these events, and these lines spell the rest
 pub record EventsLeft (d : Part Event) (v : List Event) (more : List (List ℕ)) : Type 0 where
   pub fits : AreEvents v
   pub count : length v ≡ d.count
@@ -49,7 +49,8 @@ pub record EventsLive (stage : EventStage) (d : Part Event) : Type 0 where
   pub exact : Exact SpellsEvents (EventsRest stage d) (events_held stage d)
   pub fits : EventsFit stage d
 
--- the line is taken, and a stage follows; or nothing changes, and, memory aside, no events go on with the line
+-- The line is taken, and a stage follows. Or nothing changes, and, unless memory runs out, no events go on with the
+-- line.
 abbrev pub EventsStep : EventStage → Part Event → List ℕ → Part Event → Result EventStage FaultKind → Type 0
 EventsStep stage old line new (Ok next) = EventsLive next new × (events_held next new ≡ events_held stage old ++ line ∷ [])
 EventsStep stage old line new (Err kind) = (new ≡ old) × (kind ≢ Memory → (v : List Event) (more : List (List ℕ)) → EventsRest stage old v (line ∷ more) → ⊥)

@@ -2,7 +2,7 @@
 use Rattle.migration_events.specs.declared.events.Event.{Event}
 use Rattle.migration_events.specs.declared.events.Event.TheVariants.{GuestStep, LinkTurn}
 
--- its line is one word
+-- an event whose line is one word
 abbrev pub IsAlone : Event → Type 0
 IsAlone (GuestStep vcpu) = ⊥
 IsAlone (LinkTurn direction fate) = ⊥

@@ -1,7 +1,7 @@
--- What lines that came leave open.
+-- What the lines read so far leave open.
 use Rattle.std.specs.Prelude.{ℕ, List, ◌++◌}
 
--- behind these lines, and no others, more lines may come: those that are left of a value
+-- After these lines, exactly these lines may follow: those that are left of a value.
 pub record Exact {V : Type 0} (Spells Rest : V → List (List ℕ) → Type 0) (held : List (List ℕ)) : Type 0 where
   pub only : (v : V) (more : List (List ℕ)) → Spells v (held ++ more) → Rest v more
   pub all : (v : V) (more : List (List ℕ)) → Rest v more → Spells v (held ++ more)

@@ -6,7 +6,7 @@ use Rattle.guest_script.specs.declared.vcpus.When.{When}
 use Rattle.guest_script.specs.Moments.{OpFitsAt}
 use Rattle.guest_script.specs.Scripts.{op_line}
 
--- an operation that fits and has this line came
+-- an operation that fits and has this line was read
 pub record TakesOp (when : When) (e : Extent) (old new : List Op) (line : List ℕ) : Type 0 where
   pub op : Op
   pub grown : new ≡ old ++ op ∷ []

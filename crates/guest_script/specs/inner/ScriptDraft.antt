@@ -1,4 +1,4 @@
--- What a reader of scripts makes of a line.
+-- How a reader of scripts changes with a line.
 use Rattle.std.specs.Prelude.{◌≡◌, ◌≢◌, ℕ, List, [], ◌∷◌, ◌++◌, length, Result, Ok, Err}
 use Rattle.text_lines.specs.declared.FaultKind.{FaultKind}
 use Rattle.text_lines.specs.declared.FaultKind.TheVariants.{Memory}
@@ -10,20 +10,21 @@ use Rattle.guest_script.specs.inner.ScriptHeld.{ScriptDraft, ScriptLive, ScriptR
 abbrev pub draft_of : ScriptParts → ScriptDraft
 draft_of p = record { version = p.version; pages = p.sizes.pages; cells = p.sizes.cells; init = p.init; pivots = p.pivots; window = p.window; down = p.down; up = p.up; lane = p.lane; count = p.count; vcpus = p.vcpus.items; before = record { count = p.before_count; items = p.before.items }; after = record { count = p.after_count; items = p.after.items } }
 
--- the line is taken, and a stage follows; or nothing changes, and, memory aside, no script goes on with the line
+-- The line is taken, and a stage follows. Or nothing changes, and, unless memory runs out, no script goes on with the
+-- line.
 abbrev pub ScriptStep : ScriptStage → ScriptDraft → List ℕ → ScriptDraft → Result ScriptStage FaultKind → Type 0
 ScriptStep stage old line new (Ok next) = ScriptLive next new × (script_held next new ≡ script_held stage old ++ line ∷ [])
 ScriptStep stage old line new (Err kind) = (new ≡ old) × (kind ≢ Memory → (v : Scenario) (more : List (List ℕ)) → ScriptRest stage old v (line ∷ more) → ⊥)
 
--- no operation of the virtual processor that is coming is missing
+-- no operation of the current virtual processor is missing
 abbrev pub HasAllOps : ScriptDraft → Type 0
 HasAllOps d = (length d.before.items ≡ d.before.count) × (length d.after.items ≡ d.after.count)
 
--- a virtual processor is to come, with so many operations
+-- a virtual processor is started, with these numbers of operations before its move and after it
 abbrev pub begun : ℕ → ℕ → ScriptDraft → ScriptDraft
 begun before after d = record d { before = record { count = before; items = [] }; after = record { count = after; items = [] } }
 
--- all operations of one came
+-- a virtual processor is completed
 abbrev pub ended : ScriptDraft → ScriptDraft
 ended d = record d {
   vcpus = d.vcpus ++ vcpu_of d.before.items d.after.items ∷ [];

@@ -23,7 +23,7 @@ use Rattle.guest_script.specs.Scenarios.{Scenario, LaneFits, VcpuFits, IsScenari
 use Rattle.guest_script.specs.Scripts.{script_header, pivots_key, window_key, down_key, up_key, vcpus_key, fates_text, op_line, counts_line, vcpus_onto, vcpus_lines, lane_key, with_lanes, lanes_lines, up_lines, down_lines, window_lines, pivots_lines, init_lines, cells_lines, pages_lines, SpellsScript}
 use Rattle.guest_script.specs.inner.Exact.{Exact}
 
--- what came so far
+-- what was read so far
 pub record ScriptDraft : Type 0 where
   pub version : Version
   pub pages : ℕ
@@ -46,7 +46,7 @@ small_machine pages cells = record { size = Small; pages = pages; cells = cells 
 abbrev pub machine_of : ScriptDraft → Extent
 machine_of d = small_machine d.pages d.cells
 
--- the script, where all of it came
+-- the script, if all of it was read
 abbrev pub scenario_of : ScriptDraft → Scenario
 scenario_of d = record { version = d.version; geometry = machine_of d; init = d.init.items; pivots = d.pivots; window = d.window; down = d.down; up = d.up; lane = d.lane; vcpus = d.vcpus }
 
@@ -112,7 +112,7 @@ AgreesUp d v = AgreesDown d v × (v.up ≡ d.up)
 abbrev pub AgreesLane : ScriptDraft → Scenario → Type 0
 AgreesLane d v = AgreesUp d v × (v.lane ≡ d.lane)
 
--- there is a lane, whose fates are still to come, and these lines with them
+-- there is a lane, whose delivery outcomes are still to come, and these lines with them
 pub record LaneLeft (d : ScriptDraft) (v : Scenario) (more : List (List ℕ)) : Type 0 where
   pub fits : IsScenario v
   pub agrees : AgreesUp d v
@@ -120,7 +120,7 @@ pub record LaneLeft (d : ScriptDraft) (v : Scenario) (more : List (List ℕ)) : 
   pub lane : v.lane ≡ Some fates
   pub lines : more ≡ (lane_key ++ fates_text fates) ∷ vcpus_lines v
 
--- the initial pages so far go on to these, and these lines with them
+-- the initial pages so far begin these pages, and these lines spell the rest
 pub record InitLeft (d : ScriptDraft) (v : Scenario) (more : List (List ℕ)) : Type 0 where
   pub fits : IsScenario v
   pub version : v.version ≡ d.version
@@ -134,7 +134,7 @@ pub record InitLeft (d : ScriptDraft) (v : Scenario) (more : List (List ℕ)) : 
 abbrev pub vcpu_of : List Op → List Op → Vcpu
 vcpu_of before after = record { before_move = before; after_move = after }
 
--- the operations so far go on to these, and these lines with them
+-- the operations so far begin these operations, and these lines spell the rest
 pub record OpsLeft (d : ScriptDraft) (v : Scenario) (more : List (List ℕ)) : Type 0 where
   pub fits : IsScenario v
   pub agrees : AgreesLane d v

@@ -15,7 +15,7 @@ pub record AreShort (logs : Logs) : Type 0 where
   pub lane : length logs.lane ≤ most_records
   pub pager : length logs.pager ≤ most_records
 
--- each record may stand in a session of this version, and its numbers are those of a machine of this extent
+-- each record is allowed in a session of this version, and its numbers are within a machine of this extent
 pub record AreOfMachine (version : Version) (e : Extent) (logs : Logs) : Type 0 where
   pub guest : AllByRecursion (GuestRecFits e) logs.guest
   pub source : AllByRecursion (SourceRecFits e) logs.source

@@ -1,4 +1,4 @@
--- The machines that a replay keeps, as a world.
+-- The machines of a replay, as a world.
 use Rattle.std.specs.Prelude.{◌≡◌, ℕ, ◌<◌, length}
 use Rattle.migration_types.specs.declared.records.GuestRec.{GuestRec}
 use Rattle.migration_types.specs.declared.records.GuestRec.TheVariants.{Read, Write, Release}
@@ -40,7 +40,7 @@ pub record IsSized (e : Extent) (m : Moving) : Type 0 where
   pub source : IsMachineSized e m.source
   pub target : IsTargetSized e m.target
 
--- both machines have the page, and the tables too
+-- both machines and the tables have the page
 pub record HasPage (m : Moving) (page : ℕ) : Type 0 where
   pub frames : page < m.source.frames.geometry.pages
   pub ledger : page < m.source.ledger.geometry.pages
@@ -51,7 +51,7 @@ pub record HasCell (m : Moving) (cell : ℕ) : Type 0 where
   pub source : cell < m.source.frames.geometry.cells
   pub target : cell < m.target.frames.geometry.cells
 
--- they have what a record is about
+-- the machines have what a record is about
 abbrev pub GuestHas : Moving → GuestRec → Type 0
 GuestHas m (Read vcpu p c value) = HasPage m p × HasCell m c
 GuestHas m (Write vcpu p c value) = HasPage m p × HasCell m c

@@ -21,7 +21,7 @@ pub record IsSized (e : Extent) (t : Target) : Type 0 where
   pub placed : pages_of t.placed ≡ e.pages
   pub touched : pages_of t.touched ≡ e.pages
 
--- with tables of the same size, and these values
+-- a machine with tables of the same size, and these values
 pub record IsWith (old new : Target) (memory : Memory) (resident placed touched : Pages) : Type 0 where
   pub geometry : new.frames.geometry ≡ old.frames.geometry
   pub resident_pages : pages_of new.resident ≡ pages_of old.resident
@@ -41,7 +41,7 @@ IsFreed old new page memory = IsWith old new memory (with_page page (values old.
 abbrev pub IsPlaced : Target → Target → ℕ → Memory → Type 0
 IsPlaced old new page memory = IsWith old new memory (with_page page (values old.resident)) (with_page page (values old.placed)) (values old.touched)
 
--- before the first record
+-- the machine before the first record
 pub record IsBegun (e : Extent) (t : Target) : Type 0 where
   pub sized : IsSized e t
   pub memory : memory_of t.frames ≡ zeros

@@ -9,12 +9,12 @@ use Rattle.audit_model.specs.Shape.{is_halt, is_resume}
 use Rattle.flat_machine.specs.Machines.{memory_after}
 use Rattle.page_store.specs.Frames.{Frames, memory_of, IsWith}
 
--- its frames, by those of its own and the source's
+-- its frames: its own if it has any, and otherwise the source's
 abbrev pub frames_of : Option Frames → Frames → Frames
 frames_of None source = source
 frames_of (Some own) source = own
 
--- frames of this geometry, where it has its own
+-- frames of this geometry, if it has its own
 abbrev pub IsSized : Extent → Option Frames → Type 0
 IsSized e own = IfSome own (λ frames. frames.geometry ≡ e)
 
@@ -33,7 +33,7 @@ abbrev pub IsApartAfter : Bool → Frames → Option Frames → Type 0
 IsApartAfter true source new = MatchOption new ⊥ (IsSameMachine source)
 IsApartAfter false source new = new ≡ None
 
--- one record of the guest more
+-- one more record of the guest
 abbrev pub IsUnmovedAfter : GuestRec → Frames → Option Frames → Option Frames → Type 0
 IsUnmovedAfter r source None new = IsApartAfter (is_halt r || is_resume r) source new
 IsUnmovedAfter r source (Some own) new = MatchOption new ⊥ (λ frames. IsWith own frames (memory_after r (memory_of own)))

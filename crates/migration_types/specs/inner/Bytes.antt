@@ -2,7 +2,7 @@
 use Rattle.std.specs.Prelude.{◌≡◌, ℕ, ◌+◌, ◌*◌, ◌/◌, ◌%◌, ◌<◌}
 use Rattle.std.proofs.Common.{◌∙◌, ap, arith}
 
--- the number of these bytes, the highest first
+-- the number with these bytes, the highest first
 abbrev pub of_bytes : ℕ → ℕ → ℕ → ℕ
 of_bytes high middle low = high * 65536 + middle * 256 + low
 
@@ -22,7 +22,7 @@ pub record AreBytes (h m l : ℕ) : Type 0 where
   pub middle : m < 256
   pub low : l < 256
 
--- and they are given back
+-- the bytes of the number are these bytes
 pub high_back : (high middle low : ℕ) → AreBytes high middle low → high_byte (of_bytes high middle low) ≡ high
 high_back high middle low h = omega (arith, h.middle, h.low)
 

@@ -11,12 +11,12 @@ use Rattle.migration_types.specs.Sessions.{Recorded, IsSession}
 abbrev pub number_of : InitPage → ℕ
 number_of p = p.page
 
--- the pages rise from low on, and the next after them is high
+-- the page numbers rise from low on, and high is the next after them
 abbrev pub Rise : ℕ → List InitPage → ℕ → Type 0
 Rise low [] high = low ≡ high
 Rise low (p ∷ ps) high = (low ≤ p.page) × Rise (p.page + 1) ps high
 
--- rising pages are few
+-- pages whose numbers rise are few
 pub rise_long : (low high : ℕ) (ps : List InitPage) → Rise low ps high → low + length ps ≤ high
 rise_long low high [] r = omega arith
 rise_long low high (p ∷ ps) r = let k = rise_long (p.page + 1) high ps r.1 in omega (arith, r.0)
@@ -33,11 +33,11 @@ rise_from e low (p ∷ ps) each rising le first =
     let rest = rise_from e (p.page + 1) ps each.1 (later_rising p.page (map number_of ps) rising) (omega arith) (λ lt. let next = rising 0 (omega (arith, lt)) in omega (arith, next)) in
     (rest.0, rest.1, (first (omega arith), rest.2))
 
--- the pages of a session rise
+-- the page numbers of a session rise
 pub rise_of : (e : Extent) (ps : List InitPage) → AreInitPages e ps → (high : ℕ) × (high ≤ e.pages) × Rise 0 ps high
 rise_of e ps h = rise_from e 0 ps h.each h.rising (omega arith) (λ lt. omega arith)
 
--- and pages that rise are in order
+-- pages whose numbers rise are in order
 pub rise_increases : (low high : ℕ) (ps : List InitPage) → Rise low ps high → IsStrictlyIncreasing (map number_of ps)
 rise_increases low high [] r k lt = absurd (omega arith)
 rise_increases low high (p ∷ []) r k lt = absurd (omega arith)

@@ -1,4 +1,4 @@
--- Each size has room for something.
+-- Each size leaves some room.
 use Rattle.std.specs.Prelude.{◌≤◌}
 use Rattle.std.proofs.Common.{arith}
 use Rattle.migration_types.specs.declared.size.Size.{Size}

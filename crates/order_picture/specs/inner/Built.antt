@@ -11,11 +11,11 @@ use Rattle.order_picture.specs.declared.picture.Row.TheVariants.{Fold}
 use Rattle.order_picture.specs.declared.rows.Building.{Building}
 use Rattle.order_picture.specs.Rows.{Covers, has_row, is_certain, is_faulty, shows_fault}
 
--- the rows, with what came since the last one as a row of its own, if something came
+-- the rows, with the records that came after the last one folded into a row of their own, if there are any
 abbrev pub closed_rows : Building → List Row
 closed_rows b = if nat_lt 0 b.folded then b.rows.items ++ Fold b.since ∷ [] else b.rows.items
 
--- these names came: the rows cover the first of them, and the others are folded
+-- these names have come: the rows cover the first of them, and the others are folded
 pub record IsBuilt (mark : Name → Mark) (b : Building) (names : List Name) : Type 0 where
   pub covered : List Name
   pub folded : List Name
@@ -26,11 +26,11 @@ pub record IsBuilt (mark : Name → Mark) (b : Building) (names : List Name) : T
   pub shown : shows_fault b.rows.items ≡ list_any (λ name. is_faulty (mark name)) names
   pub spent : b.fault_left ≡ 0 → shows_fault b.rows.items ≡ true
 
--- rows, and more behind them
+-- rows, and more after them
 abbrev pub Extends : List Row → List Row → Type 0
 Extends before after = (more : List Row) × (after ≡ before ++ more)
 
--- of the first so many places of an order those that are certain have rows
+-- of the first places of an order, this many, those that are certain have rows
 abbrev pub HasCertainBelow : (fault concerned : Option ℕ) → List Row → List Name → ℕ → Type 0
 HasCertainBelow fault concerned rows order k = (n : ℕ) → n < k → (name : Name) → is_certain fault concerned n ≡ true → slice_get order n ≡ Some name → has_row rows name ≡ true
 
@@ -42,6 +42,6 @@ abbrev pub at_left : Option ℕ → ℕ → ℕ
 at_left None n = 0
 at_left (Some at) n = if nat_lt n (at + 1) then 1 else 0
 
--- at most so many places are certain from this one on
+-- from this place on, at most this many places are certain
 abbrev pub certain_left : Option ℕ → Option ℕ → ℕ → ℕ
 certain_left fault concerned n = next_left fault n + at_left concerned n

@@ -9,7 +9,7 @@ use Rattle.audit_model.specs.declared.reasons.PageReason.TheVariants.{Read as Wr
 use Rattle.audit_model.specs.inner.PageFaultTests.{fault_test}
 use Rattle.page_facts.specs.declared.page_fault.PageFault.{PageFault}
 
--- this reason where its test holds, and else the rest
+-- this reason if its test holds, and otherwise the rest
 abbrev pub or_else : Bool → PageReason → Option PageReason → Option PageReason
 or_else test reason rest = if test then Some reason else rest
 
@@ -19,7 +19,7 @@ least_reason test =
     or_else (test WrongRead) WrongRead (or_else (test Early) Early (or_else (test Given) Given (or_else (test Stale) Stale
     (or_else (test Twice) Twice (or_else (test Altered) Altered (or_else (test Unfit) Unfit (or_else (test Over) Over None)))))))
 
--- the least reason for which the record of this name is a fault
+-- the least reason for which the record with this name is a fault
 abbrev pub reason_at : Recorded → Name → Option PageReason
 reason_at s name = least_reason (λ reason. fault_test s reason name)
 
@@ -37,7 +37,7 @@ pub record IsFirstOfLog (s : Recorded) (log : LogName) (f : PageFault) : Type 0 
   pub is_reason : reason_at s (log, f.place) ≡ Some f.reason
   pub is_clean_below : IsCleanBelow s log f.place
 
--- the first fault of the source's and the pager's logs, or that there is none
+-- the first fault of the source's and the pager's logs, or none
 abbrev pub AreMovedClean : Recorded → Type 0
 AreMovedClean s = IsCleanLog s Source × IsCleanLog s Pager
 

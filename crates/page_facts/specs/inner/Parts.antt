@@ -1,4 +1,4 @@
--- What is answered of some pages that follow one another.
+-- Answers about some consecutive pages.
 use Rattle.std.specs.Prelude.{ℕ, ◌+◌, ◌≤◌}
 
 -- they are pages of the machine

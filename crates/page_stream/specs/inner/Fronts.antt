@@ -1,4 +1,4 @@
--- What the parts of a stream's reading say to one another.
+-- The results of the parts of a stream's reader.
 use Rattle.std.specs.Prelude.{◌≡◌, ℕ, ◌<◌, Option, Some, None, List, ◌++◌, length}
 use Rattle.migration_types.specs.Extents.{Extent}
 use Rattle.page_stream.specs.Packets.{number_of}
@@ -20,7 +20,7 @@ pub record AreFields (e : Extent) (kind number : ℕ) (fields : List ℕ) (p : P
 abbrev pub IsNoFields : Extent → ℕ → ℕ → List ℕ → Type 0
 IsNoFields e kind number fields = (p : Packet) → AreFields e kind number fields p → ⊥
 
--- what stands at the front of some bytes
+-- what some bytes begin with
 abbrev pub IsFront : Extent → List ℕ → Front → Type 0
 IsFront e bytes (FrontPacket p rest) = Fits e p × (bytes ≡ packet_bytes p ++ rest.now) × (length rest.now < length bytes)
 IsFront e bytes FrontPartial = IsPartial e bytes

@@ -1,4 +1,4 @@
--- What the parts of a pump say to one another.
+-- The results of the parts of a pump.
 use Rattle.std.specs.Prelude.{◌≡◌, ℕ, ◌⊎◌, List, [], ◌++◌, false, length}
 use Rattle.std.specs.List.{flat_map}
 use Rattle.std.specs.Io.KnownBytes.{Appends}
@@ -11,7 +11,7 @@ use Rattle.page_stream.specs.declared.stream.StreamFaultKind.{StreamFaultKind}
 use Rattle.page_stream.specs.declared.pumping.PumpFault.{PumpFault}
 use Rattle.page_stream.specs.declared.pumping.PumpFault.TheVariants.{Read, Write, Stream, Turns, Memory, Cut}
 
--- the first ones of these bytes were written
+-- the first of these bytes were written
 pub record PutsFront (writer : Known) (bytes : List ℕ) : Type 0 where
   pub written : List ℕ
   pub unwritten : List ℕ
@@ -26,7 +26,7 @@ IsOfWriting fault = (fault ≡ Write) ⊎ (fault ≡ Memory)
 abbrev pub IsOfReading : PumpFault → Type 0
 IsOfReading fault = (fault ≡ Read) ⊎ (fault ≡ Memory)
 
--- a stream took a piece, and the packets that were whole then, so many, were written
+-- a stream took a piece, and the packets that were whole then, this many, were written
 pub record PassesOn (writer : Known) (start end : Flow) (piece : List ℕ) (count : ℕ) : Type 0 where
   pub packets : List Packet
   pub takes : Takes start end piece packets
@@ -35,7 +35,7 @@ pub record PassesOn (writer : Known) (start end : Flow) (piece : List ℕ) (coun
   pub appended : Appends writer.before writer.after (flat_map packet_bytes packets)
   pub count_is : length packets ≡ count
 
--- what a fault with a piece says of what was left of it and of what was not written
+-- what a fault with a piece says about what was left of it and what was not written
 abbrev pub IsPieceFault : Extent → List ℕ → List ℕ → PumpFault → Type 0
 IsPieceFault e rest unwritten Read = ⊥
 IsPieceFault e rest unwritten Write = Unit {0}
@@ -44,7 +44,7 @@ IsPieceFault e rest unwritten Turns = ⊥
 IsPieceFault e rest unwritten Memory = Unit {0}
 IsPieceFault e rest unwritten Cut = ⊥
 
--- with these bytes, what was left and a piece, a pump stops
+-- a pump stops at these bytes, which are what was left and a piece
 pub record StopsAt (e : Extent) (writer : Known) (bytes : List ℕ) (fault : PumpFault) : Type 0 where
   pub packets : List Packet
   pub rest : List ℕ

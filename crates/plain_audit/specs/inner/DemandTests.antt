@@ -17,7 +17,7 @@ use Rattle.audit_model.specs.Flat.{flat}
 use Rattle.audit_model.specs.Shape.{keeps}
 use Rattle.audit_model.specs.World.{World}
 
--- whether a use of a page finds it, by where the guest is and whether the page is resident
+-- whether a use of a page finds it, given where the guest is and whether the page is resident
 abbrev pub finds : Home → Bool → Bool
 finds AtSource resident = true
 finds Nowhere resident = false

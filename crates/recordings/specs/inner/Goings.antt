@@ -1,4 +1,4 @@
--- A walker of a recording's text, and what lines do to it.
+-- A walk through a recording's text, and what lines change in it.
 use Rattle.std.specs.Prelude.{◌≡◌, ℕ, ◌+◌, List, [], ◌∷◌, ◌++◌, Option, length}
 use Rattle.std.specs.Io.KnownBytes.{Consumes}
 use Rattle.text_lines.specs.declared.FaultKind.{FaultKind}
@@ -12,7 +12,7 @@ use Rattle.recordings.specs.declared.walker.Walker.{Walker}
 use Rattle.recordings.specs.inner.Held.{recorded_of}
 use Rattle.recordings.specs.inner.Stands.{Lists, Stands, HasMet, draft_of, lines_onto}
 
--- these lines came, and the visitor met what they say
+-- these lines were read, and the visitor met what they say
 pub record Came {V : Type 0} (IsNew : V → Type 0) (Met : V → Recorded → Type 0) (w : Walker) (visitor : V) (lines : List (List ℕ)) : Type 0 where
   pub lists : Lists
   pub stands : Stands w.stage w.place lists
@@ -20,12 +20,12 @@ pub record Came {V : Type 0} (IsNew : V → Type 0) (Met : V → Recorded → Ty
   pub whole : lines_onto w.stage w.place lists [] ≡ lines
   pub number : w.number ≡ length lines + 1
 
--- some lines came
+-- some lines were read
 pub record Goes {V : Type 0} (IsNew : V → Type 0) (Met : V → Recorded → Type 0) (w : Walker) (visitor : V) : Type 0 where
   pub lines : List (List ℕ)
   pub came : Came IsNew Met w visitor lines
 
--- no text begins with these lines and this one more
+-- no text begins with these lines and one more, which is this
 abbrev pub Stops : List (List ℕ) → List ℕ → RecordingFault → Type 0
 Stops lines line (Line number) = (number ≡ length lines + 1) × (Begins SpellsRecording (lines ++ line ∷ []) → ⊥)
 Stops lines line File = Unit {0}
@@ -36,7 +36,7 @@ abbrev pub line_fault : ℕ → FaultKind → RecordingFault
 line_fault number NoMemory = Memory
 line_fault number _ = Line number
 
--- the lines at the front of some bytes came behind those that had come
+-- the lines at the front of some bytes were read after those read before
 pub record Grows {V : Type 0} (IsNew : V → Type 0) (Met : V → Recorded → Type 0) (w : Walker) (visitor : V) (lines : List (List ℕ)) (bytes rest : List ℕ) : Type 0 where
   pub more : List (List ℕ)
   pub parts : bytes ≡ ended more ++ rest
@@ -48,7 +48,7 @@ RefusesAll bytes (Line number) = (more : List ℕ) → IsRefusalLine SpellsRecor
 RefusesAll bytes File = Unit {0}
 RefusesAll bytes Memory = Unit {0}
 
--- what a reader had came, up to a line that has not ended
+-- what the reader had was read, up to a line that has not ended
 pub record CameTo {V : Type 0} (IsNew : V → Type 0) (Met : V → Recorded → Type 0) (w : Walker) (visitor : V) (known rest : Option (List ℕ)) (unended : List ℕ) : Type 0 where
   pub lines : List (List ℕ)
   pub came : Came IsNew Met w visitor lines

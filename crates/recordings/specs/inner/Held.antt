@@ -1,4 +1,4 @@
--- What came of a recording so far, with what is announced.
+-- What was read of a recording so far, and what is announced.
 use Rattle.std.specs.Prelude.{◌≡◌, ℕ, ◌+◌, ◌-◌, ◌≤◌, ◌^◌, length}
 use Rattle.std.specs.List.{AllByRecursion}
 use Rattle.migration_types.specs.declared.pages.InitPage.{InitPage}
@@ -14,11 +14,11 @@ use Rattle.session_log.specs.declared.parts.Stage.{Stage}
 use Rattle.session_log.specs.declared.parts.Stage.TheVariants.{Header, Pages, Cells, InitCount, Init, Guest, Source, Link, Lane, Pager, Done}
 pub use Rattle.session_log.specs.inner.Held.{SessionDraft, Part, IsWhole, held_onto, LogFits, NoInit, NoGuest, NoSource, NoLink, NoLane, NoPager}
 
--- what came of it
+-- what was read of it
 abbrev pub recorded_of : SessionDraft → Recorded
 recorded_of d = record { version = d.version; geometry = d.geometry; init = d.init.items; guest = d.guest.items; source = d.source.items; link = d.link.items; lane = d.lane.items; pager = d.pager.items }
 
--- the machine, of a size that the version has, and its pages so far, with room for those to come
+-- the machine, of a size that the version allows, and its pages so far, with room for those to come
 pub record InitFits (version : Version) (e : Extent) (next : ℕ) (part : Part InitPage) : Type 0 where
   pub size : HasSize version e.size
   pub geometry : IsMachine e
@@ -27,7 +27,7 @@ pub record InitFits (version : Version) (e : Extent) (next : ℕ) (part : Part I
   pub rising : Rise 0 part.items next
   pub room : next + (part.count - length part.items) ≤ e.pages
 
--- a log has at most so many records
+-- the greatest number of records in a log
 abbrev pub most_count : ℕ
 most_count = 2 ^ 63 - 1
 
@@ -49,7 +49,7 @@ LaneFits d = LogFits most_count (LinkFits d) d.link (IsLaneRecOf d.version) d.la
 abbrev pub PagerFits : SessionDraft → Type 0
 PagerFits d = LogFits most_count (LaneFits d) d.lane (IsPagerRecOf d.version d.geometry) d.pager
 
--- what holds where no line was refused
+-- the invariant if no line was refused
 abbrev pub Live : Stage → SessionDraft → Type 0
 Live Header d = NoInit d
 Live Pages d = NoInit d × HasSize d.version d.geometry.size
@@ -63,7 +63,7 @@ Live Lane d = LaneFits d × (d.version ≡ Two) × NoPager d
 Live Pager d = PagerFits d
 Live Done d = PagerFits d × IsWhole d.pager
 
--- how many items of a stage's list came, and how many have yet to come
+-- how many items of a stage's list were read, and how many are still to come
 abbrev pub came_at : Stage → SessionDraft → ℕ
 came_at Init d = length d.init.items
 came_at Guest d = length d.guest.items

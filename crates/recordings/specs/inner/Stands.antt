@@ -1,4 +1,4 @@
--- A place in a recording's text, and what a line does to it.
+-- A place in a recording's text, and what a line changes in it.
 use Rattle.std.specs.Prelude.{◌≡◌, ◌≢◌, ℕ, ◌+◌, ◌-◌, List, [], ◌∷◌, Result, Ok, Err}
 use Rattle.text_lines.specs.declared.FaultKind.{FaultKind}
 use Rattle.text_lines.specs.declared.FaultKind.TheVariants.{Memory}
@@ -21,7 +21,7 @@ use Rattle.recordings.specs.declared.place.Stage.{Stage}
 use Rattle.recordings.specs.declared.place.Stage.TheVariants.{Header, Pages, Cells, InitCount, Init, Guest, Source, Link, Lane, Pager, Done}
 use Rattle.recordings.specs.inner.Held.{SessionDraft, Part, held_onto, recorded_of, Live, came_at, announced_at}
 
--- the lists of a recording, as far as they came
+-- the lists of a recording, as far as they were read
 pub record Lists : Type 0 where
   pub init : Part InitPage
   pub guest : Part GuestRec
@@ -50,13 +50,13 @@ text_stage Done = text.Done
 abbrev pub lines_onto : Stage → Place → Lists → List (List ℕ) → List (List ℕ)
 lines_onto stage p l more = held_onto (text_stage stage) (draft_of p l) more
 
--- what a place says holds of these lists
+-- what a place says is true of these lists
 pub record Stands (stage : Stage) (p : Place) (l : Lists) : Type 0 where
   pub live : Live (text_stage stage) (draft_of p l)
   pub came : p.came ≡ came_at (text_stage stage) (draft_of p l)
   pub announced : p.came + p.left ≡ announced_at (text_stage stage) (draft_of p l)
 
--- the visitor met what came, from the machine on
+-- the visitor met what was read, from the machine on
 abbrev pub HasMet : {V : Type 0} → (V → Type 0) → (V → Recorded → Type 0) → Stage → V → Recorded → Type 0
 HasMet IsNew Met Header visitor s = IsNew visitor
 HasMet IsNew Met Pages visitor s = IsNew visitor
@@ -68,7 +68,7 @@ pub record Holds {V : Type 0} (IsNew : V → Type 0) (Met : V → Recorded → T
   pub stands : Stands stage p lists
   pub met : HasMet IsNew Met stage visitor (recorded_of (draft_of p lists))
 
--- a line was taken where these lists came
+-- a line was taken, and these lists were read
 pub record Takes {V : Type 0} (IsNew : V → Type 0) (Met : V → Recorded → Type 0) (before : List (List ℕ)) (next : Stage) (p : Place) (visitor : V) : Type 0 where
   pub lists : Lists
   pub stands : Stands next p lists
@@ -82,7 +82,7 @@ Taken IsNew Met stage old line next new before after =
 abbrev pub Refuses : Stage → Place → List ℕ → Type 0
 Refuses stage p line = (l : Lists) → Stands stage p l → Begins SpellsRecording (lines_onto stage p l (line ∷ [])) → ⊥
 
--- a line is taken, and a stage follows; or, memory aside, no text goes on with it
+-- A line is taken, and a stage follows. Or, unless memory runs out, no text goes on with it.
 abbrev pub Steps : {V : Type 0} → (V → Type 0) → (V → Recorded → Type 0) → Stage → Place → List ℕ → Place → V → V → Result Stage FaultKind → Type 0
 Steps IsNew Met stage old line new before after (Ok next) = Taken IsNew Met stage old line next new before after
 Steps IsNew Met stage old line new before after (Err kind) = kind ≢ Memory → Refuses stage old line
@@ -98,10 +98,10 @@ with_pages p pages = record p { machine = record p.machine { pages = pages } }
 abbrev pub with_cells : Place → ℕ → Place
 with_cells p cells = record p { machine = record p.machine { cells = cells } }
 
--- so many items are announced
+-- this many items are announced
 abbrev pub announcing : Place → ℕ → Place
 announcing p count = record p { came = 0; left = count }
 
--- one item more came
+-- one more item was read
 abbrev pub behind_one : Place → Place
 behind_one p = record p { came = p.came + 1; left = p.left - 1 }

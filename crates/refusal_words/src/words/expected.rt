@@ -1,4 +1,4 @@
-//! What may stand at a line, in words.
+//! What is allowed at a line, in words.
 
 use super::meanings::{push_meaning, push_new};
 use crate::cause::Cause;
@@ -9,10 +9,10 @@ use crate::slips::{Slip, slip_between, slip_of, slip_of_line};
 use std::alloc::AllocError;
 use text_lines::{Refusal, Wanted};
 
-/// Of how many forms each is written out where none begins as the line does.
+/// The greatest number of forms that are all written out if none begins as the line does.
 const FEW: usize = 3;
 
-/// Adds what stands between the words of a list, before the one at a place.
+/// Appends what separates the words of a list, before the word at a place.
 fn push_between(out: &mut String, at: usize, count: usize) -> Result<(), AllocError> {
     if at == 0 {
         return Ok(());
@@ -24,7 +24,7 @@ fn push_between(out: &mut String, at: usize, count: usize) -> Result<(), AllocEr
     })
 }
 
-/// Adds forms in quotes, as a choice.
+/// Appends forms in quotes, as a choice.
 fn push_forms(out: &mut String, forms: &[&'static str]) -> Result<(), AllocError> {
     for (at, form) in forms.iter().enumerate() {
         push_between(out, at, forms.len())?;
@@ -33,7 +33,7 @@ fn push_forms(out: &mut String, forms: &[&'static str]) -> Result<(), AllocError
     Ok(())
 }
 
-/// The end of an ordinal number.
+/// Returns the ending of an ordinal number.
 fn ordinal(number: u64) -> &'static str {
     match (number % 100, number % 10) {
         (11 | 12 | 13, _) => "th",
@@ -44,7 +44,7 @@ fn ordinal(number: u64) -> &'static str {
     }
 }
 
-/// Adds which item of a list is wanted, or that the list is whole.
+/// Appends which item of a list is wanted, or that the list is complete.
 fn push_promise(out: &mut String, wanted: &Wanted) -> Result<(), AllocError> {
     let at = wanted.counted_at;
     let count = wanted.count;
@@ -63,7 +63,7 @@ fn push_promise(out: &mut String, wanted: &Wanted) -> Result<(), AllocError> {
     }
 }
 
-/// Adds what is wanted where nothing of the line fits.
+/// Appends what is wanted if nothing in the line fits.
 fn push_wanted(out: &mut String, wanted: &Wanted) -> Result<(), AllocError> {
     let forms = wanted.forms;
     if forms.is_empty() && wanted.what.is_empty() {
@@ -79,7 +79,7 @@ fn push_wanted(out: &mut String, wanted: &Wanted) -> Result<(), AllocError> {
     push_promise(out, wanted)
 }
 
-/// Adds what is wanted of a line that has its form.
+/// Appends what is wanted of a line that has its form.
 fn push_rule(out: &mut String, wanted: &Wanted) -> Result<(), AllocError> {
     out.push_str(wanted.what)?;
     push_promise(out, wanted)?;
@@ -89,7 +89,7 @@ fn push_rule(out: &mut String, wanted: &Wanted) -> Result<(), AllocError> {
     out.push_str(wanted.rule)
 }
 
-/// Adds what is unusual about what was found.
+/// Appends what is unusual about what was found.
 fn push_slip(out: &mut String, slip: Option<Slip>, wanted: &Wanted) -> Result<(), AllocError> {
     let Some(slip) = slip else {
         return Ok(());
@@ -111,7 +111,7 @@ fn push_slip(out: &mut String, slip: Option<Slip>, wanted: &Wanted) -> Result<()
     }
 }
 
-/// The forms that a line fits as far as one of them, and the words that they have where it stops, each once.
+/// The forms that a line fits equally far, and the words that they have where it departs, each once.
 #[derive(Drop)]
 struct Choices {
     forms: Vec<&'static str>,
@@ -133,7 +133,7 @@ fn choices_of(out: &String, refusal: &Refusal, best: &Fit<'_>) -> Result<Choices
     Ok(Choices { forms, slots })
 }
 
-/// Adds what a word of a form stands for.
+/// Appends the meaning of a word of a form.
 fn push_slot(out: &mut String, slot: &str, wanted: &Wanted) -> Result<(), AllocError> {
     match field_of(slot) {
         None => push_quote(out, slot.as_bytes()),
@@ -152,7 +152,7 @@ fn push_slots(out: &mut String, slots: &[&'static str], wanted: &Wanted) -> Resu
     Ok(())
 }
 
-/// What is unusual about the word at which a line stops.
+/// Returns what is unusual about the word at which a line departs.
 fn slip_at(fit: &Fit<'_>, wanted: &Wanted) -> Option<Slip> {
     let Stop::Word { slot, word, .. } = fit.stop else {
         return None;
@@ -163,7 +163,7 @@ fn slip_at(fit: &Fit<'_>, wanted: &Wanted) -> Option<Slip> {
     }
 }
 
-/// Adds the rule by which a line has one word of the form, and no other, where it stops at such a word.
+/// Appends the rule that allows only one word of the form, if the line departs at such a word.
 fn push_kept(out: &mut String, fit: &Fit<'_>, wanted: &Wanted) -> Result<(), AllocError> {
     let is_chosen = match fit.slot() {
         Some(slot) => fit.words > 0 && field_of(slot).is_none(),
@@ -176,7 +176,7 @@ fn push_kept(out: &mut String, fit: &Fit<'_>, wanted: &Wanted) -> Result<(), All
     out.push_str(wanted.rule)
 }
 
-/// Adds what may stand where a line stops being in a form.
+/// Appends what is allowed where a line departs from a form.
 fn push_stop(out: &mut String, refusal: &Refusal, fit: &Fit<'_>) -> Result<(), AllocError> {
     if fit.slot().is_none() {
         return out.push_str("the end of the line");
@@ -193,7 +193,7 @@ fn push_stop(out: &mut String, refusal: &Refusal, fit: &Fit<'_>) -> Result<(), A
     push_slip(out, slip_at(fit, &refusal.wanted), &refusal.wanted)
 }
 
-/// Adds what may stand at a line.
+/// Appends what is allowed at a line.
 pub(crate) fn push_expected(
     out: &mut String,
     refusal: &Refusal,

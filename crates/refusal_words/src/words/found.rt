@@ -7,7 +7,7 @@ use crate::quoting::push_quote;
 use std::alloc::AllocError;
 use text_lines::Refusal;
 
-/// Whether a form is a key and one word more, which needs no line around it to be understood.
+/// Returns whether a form is a key and one more word, which can be understood without the rest of the line.
 fn is_keyed(form: &str) -> bool {
     form.split(' ').count() <= 2
 }
@@ -22,7 +22,7 @@ fn push_in_line(out: &mut String, line: &[u8]) -> Result<(), AllocError> {
     push_quote(out, line)
 }
 
-/// Adds a word that stands where the form has another one.
+/// Appends a word that was found where the form has another one.
 fn push_word(
     out: &mut String,
     line: &[u8],
@@ -51,7 +51,7 @@ fn push_word(
     }
 }
 
-/// Adds what stands where a line stops being in a form.
+/// Appends what was found where a line departs from a form.
 fn push_stop(
     out: &mut String,
     line: &[u8],
@@ -79,7 +79,7 @@ fn push_stop(
     }
 }
 
-/// Adds what was found at a line.
+/// Appends what was found at a line.
 pub(crate) fn push_found(
     out: &mut String,
     refusal: &Refusal,

@@ -1,10 +1,10 @@
-//! What the fields of a form stand for, in words.
+//! The meaning of the fields of a form, in words.
 
 use crate::fields::{Field, MOST_FATES, digits_of, range_of};
 use std::alloc::AllocError;
 use text_lines::Wanted;
 
-/// What stands in a field.
+/// Returns the noun for what a field holds.
 fn noun(field: Field) -> &'static str {
     match field {
         Field::Processor => "a virtual processor",
@@ -32,7 +32,7 @@ fn push_contents(out: &mut String, wanted: &Wanted) -> Result<(), AllocError> {
     out.push_str(", each 0 to 9 or a to f")
 }
 
-/// Adds what a field stands for.
+/// Appends the meaning of a field.
 pub(crate) fn push_meaning(
     out: &mut String,
     field: Field,
@@ -58,7 +58,7 @@ pub(crate) fn push_meaning(
     }
 }
 
-/// Adds a word to those that are there, where it is not among them.
+/// Appends a word, unless it is there already.
 pub(crate) fn push_new(
     words: &mut Vec<&'static str>,
     word: &'static str,

@@ -12,7 +12,7 @@ fn push_report(out: &mut String, behind: Option<Kind>, wanted: Kind) -> Result<(
     Ok(())
 }
 
-/// Adds what a file is, or what ends its lines, and what helps.
+/// Appends what a file is, or how its lines end, and what helps.
 pub(crate) fn push_special(out: &mut String, special: Special) -> Result<(), AllocError> {
     match special {
         Special::ByteOrderMark => {

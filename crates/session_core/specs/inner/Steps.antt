@@ -1,4 +1,4 @@
--- The operation that a virtual processor does next, with what is left behind it.
+-- The next operation of a virtual processor, with what is left after it.
 use Rattle.std.specs.Prelude.{ℕ, slice_set, List, [], ◌∷◌, Option, Some, None}
 use Rattle.migration_events.specs.declared.ops.Op.{Op}
 use Rattle.target_side.specs.declared.Access.{Access}
@@ -29,7 +29,7 @@ late_by vcpu (op ∷ ops) = Some (record { op = op; left = record vcpu { after_m
 abbrev pub late : Vcpu → Option Next
 late vcpu = late_by vcpu vcpu.after_move
 
--- who goes on by an access, with what is left behind it
+-- which virtual processor goes on after an access, with what is left after it
 abbrev pub left_after : ℕ → Vcpu → Access → List Vcpu → List Vcpu
 left_after v left (Done answer) vcpus = slice_set vcpus v left
 left_after v left Missed vcpus = vcpus

@@ -6,12 +6,12 @@ use Rattle.migration_types.specs.Contents.{IsContent}
 use Rattle.migration_types.specs.Pages.{AreZeros}
 pub use Rattle.migration_types.specs.inner.InitPages.{number_of, Rise, rise_long, rise_of, rise_increases, few_init}
 
--- a value for each of so many cells, not all of them zero
+-- one value for each of this many cells, not all of them zero
 pub record IsInitContent (cells : ℕ) (xs : List ℕ) : Type 0 where
   pub content : IsContent cells xs
   pub not_zeros : AreZeros xs → ⊥
 
--- the least number that a page behind these may have, where the first of them may have `low`
+-- the least number that a page after these may have, if the first of them may have `low`
 abbrev pub next_from : ℕ → List InitPage → ℕ
 next_from low [] = low
 next_from low (p ∷ ps) = next_from (p.page + 1) ps
@@ -20,6 +20,6 @@ pub next_push : (low : ℕ) (ps : List InitPage) (p : InitPage) → next_from lo
 next_push low [] p = refl
 next_push low (q ∷ ps) p = next_push (q.page + 1) ps p
 
--- where a page may stand is told by the last before it
+-- only the last page before decides where a page is allowed
 pub pages_by_last : (a b : List InitPage) (x y : InitPage) → next_from 0 (a ++ x ∷ []) ≤ y.page → next_from 0 (b ++ x ∷ []) ≤ y.page
 pages_by_last a b x y le = omega (arith, next_push 0 a x, next_push 0 b x)

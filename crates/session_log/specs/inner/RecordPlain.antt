@@ -38,7 +38,7 @@ pub plain_contents : (xs : List ℕ) → IsLine (contents_text xs)
 plain_contents [] = tt
 plain_contents (x ∷ xs) = plain_append (cell_text x) (contents_text xs) (plain_hex (to_be_bytes w64 x)) (plain_contents xs)
 
--- a number and what stands behind the space after it
+-- a number, a space, and what follows it
 pub plain_number : (n : ℕ) (rest : List ℕ) → n < 2 ^ 64 → IsLine rest → IsLine (decimal n ++ 32 ∷ rest)
 plain_number n rest lt h = plain_append (decimal n) (32 ∷ rest) (plain_decimal n lt) ((λ e. absurd (omega arith)), h)
 

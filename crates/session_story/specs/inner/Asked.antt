@@ -1,4 +1,4 @@
--- The pages that the source is asked for.
+-- The pages that somebody has asked the source for.
 use Rattle.std.specs.Prelude.{ℕ, Bool, false, not}
 use Rattle.migration_types.specs.declared.records.SourceRec.{SourceRec}
 use Rattle.migration_types.specs.declared.records.SourceRec.TheVariants.{Send}
@@ -10,6 +10,6 @@ abbrev pub is_unasked : (ℕ → Bool) → SourceRec → Bool
 is_unasked asked (Send page content) = not (asked page)
 is_unasked asked _ = false
 
--- what a record of the source leaves of them
+-- the pages that are asked for after a record of the source
 abbrev pub asked_by : Recorded → SourceRec → (ℕ → Bool) → ℕ → Bool
 asked_by s r asked page = asked_after s page r (asked page)

@@ -1,4 +1,4 @@
--- Contents of a record beside those that a page has at the halt.
+-- Contents of a record compared with those of a page at the halt.
 use Rattle.std.specs.Prelude.{◌≡◌, ℕ, List, Option, Some, None}
 use Rattle.migration_types.specs.Sessions.{Recorded}
 use Rattle.session_story.specs.Explained.{IsOtherIn}
@@ -6,12 +6,12 @@ use Rattle.session_story.specs.Values.{IsOther}
 use Rattle.session_story.specs.declared.contents.Wrong.{Wrong}
 use Rattle.session_story.specs.declared.values.Held.{Held}
 
--- of contents, if there are any, the first cell of them that is not the page's, if there is one
+-- the first cell in which the contents, if there are any, differ from the page's, if there is one
 abbrev pub IsOtherAt : Recorded → ℕ → Option (List ℕ) → Option Held → Type 0
 IsOtherAt s page None held = held ≡ None
 IsOtherAt s page (Some content) held = IsOtherIn s page content held
 
--- the record of this number has contents that are not the page's, at this cell first
+-- the record of this number has contents that differ from the page's, first at this cell
 pub record IsWrongAt (s : Recorded) (page : ℕ) (contents : ℕ → Option (List ℕ)) (place : Option ℕ) (w : Wrong) : Type 0 where
   pub content : List ℕ
   pub is_at : place ≡ Some w.place

@@ -12,7 +12,7 @@ abbrev pub behind_touch : Option ℕ → ℕ → Option (ℕ × ℕ)
 behind_touch None placement = None
 behind_touch (Some used) placement = Some (used, placement)
 
--- the use, and the placement that has to stand before it, of a fault that an order shows where it does not
+-- the use, and the placement that must come before it, for a fault that an order shows if it does not
 abbrev pub late_for : PageReason → ℕ → Findings → Option (ℕ × ℕ)
 late_for Early n found = before_placement n found.placement
 late_for Over n found = behind_touch found.touch n

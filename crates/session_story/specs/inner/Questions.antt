@@ -1,4 +1,4 @@
--- What is asked of records, as tests of them.
+-- The questions about records, as tests.
 use Rattle.std.specs.Prelude.{ℕ, Bool, nat_lt, Option, Some, None, if◌then◌else◌}
 use Rattle.migration_types.specs.declared.cert.Entry.{Entry}
 use Rattle.migration_types.specs.declared.records.GuestRec.{GuestRec}

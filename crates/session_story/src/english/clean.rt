@@ -1,26 +1,26 @@
-//! How a clean session went, in words.
+//! The story of a clean session, in words.
 
 use std::alloc::AllocError;
 
 pub(super) const CLEAN: &str =
     "In every order of the records each read gives what one machine that never moved would give.";
 
-/// Adds how many pages were sent and placed.
+/// Appends how many pages were sent and placed.
 pub(super) fn push_sent(out: &mut String, n: u32) -> Result<(), AllocError> {
     write!(out, "Pages that were sent and placed: {n}")
 }
 
-/// Adds how many pages came back as zeros.
+/// Appends how many pages came back as zeros.
 pub(super) fn push_zeroed(out: &mut String, n: u32) -> Result<(), AllocError> {
     write!(out, "Released pages that came back as zeros: {n}")
 }
 
-/// Adds how many pages were not placed.
+/// Appends how many pages were not placed.
 pub(super) fn push_unplaced(out: &mut String, n: u32) -> Result<(), AllocError> {
     write!(out, "Pages that were not placed: {n}")
 }
 
-/// Adds how many pages were released at the target and never placed.
+/// Appends how many pages were released at the target and never placed.
 pub(super) fn push_fresh(out: &mut String, n: u32) -> Result<(), AllocError> {
     write!(
         out,
@@ -28,12 +28,12 @@ pub(super) fn push_fresh(out: &mut String, n: u32) -> Result<(), AllocError> {
     )
 }
 
-/// Adds how many other pages were not placed.
+/// Appends how many other pages were not placed.
 pub(super) fn push_other(out: &mut String, n: u32) -> Result<(), AllocError> {
     write!(out, "Other pages that were not placed: {n}")
 }
 
-/// Adds how many sendings there are, and how many of them were unasked.
+/// Appends how many sendings there are, and how many of them were unasked.
 pub(super) fn push_sendings(out: &mut String, sends: u32, pushes: u32) -> Result<(), AllocError> {
     write!(
         out,
@@ -41,22 +41,22 @@ pub(super) fn push_sendings(out: &mut String, sends: u32, pushes: u32) -> Result
     )
 }
 
-/// Adds how many repeats there are.
+/// Appends how many repeats there are.
 pub(super) fn push_repeats(out: &mut String, n: u32) -> Result<(), AllocError> {
     write!(out, "Repeats of a packet: {n}")
 }
 
-/// Adds how many packets the lane delivered.
+/// Appends how many packets the lane delivered.
 pub(super) fn push_by_lane(out: &mut String, n: u32) -> Result<(), AllocError> {
     write!(out, "Packets that the lane delivered: {n}")
 }
 
-/// Adds how many packets the pager dropped.
+/// Appends how many packets the pager dropped.
 pub(super) fn push_dropped(out: &mut String, n: u32) -> Result<(), AllocError> {
     write!(out, "Packets that the pager dropped: {n}")
 }
 
-/// Adds how many misses there are, and how many of them waited.
+/// Appends how many misses there are, and how many of them waited.
 pub(super) fn push_misses(out: &mut String, misses: u32, waits: u32) -> Result<(), AllocError> {
     write!(
         out,

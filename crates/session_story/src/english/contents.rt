@@ -7,18 +7,18 @@ use audit_report::Lines;
 use migration_types::LogName;
 use std::alloc::AllocError;
 
-/// Adds a value as it stands in a record of the guest, and as it stands in contents.
+/// Appends a value as a record of the guest has it, and as contents have it.
 fn push_value(out: &mut String, value: u64) -> Result<(), AllocError> {
     write!(out, "{value}, {value:016x},")
 }
 
 impl<L: Lines> Teller<'_, L> {
-    /// Adds since when a cell has its value.
+    /// Appends since when a cell has had its value.
     fn push_since(&self, out: &mut String, by: Option<u32>) -> Result<(), AllocError> {
         self.push_with_record_or(out, "since ", "as at the start.", LogName::Guest, by)
     }
 
-    /// Adds what one machine that never moved has in place of what a read gives.
+    /// Appends what one machine that never moved has instead of what a read gives.
     pub(super) fn push_one_machine(&self, out: &mut String, held: Held) -> Result<(), AllocError> {
         let value = held.value;
         match held.by {
@@ -31,7 +31,7 @@ impl<L: Lines> Teller<'_, L> {
         self.push_since(out, held.by)
     }
 
-    /// Adds what a record has in a cell, and what its page has there at the halt.
+    /// Appends what a record has in a cell, and what its page has there at the halt.
     pub(super) fn push_contents(
         &self,
         out: &mut String,
@@ -51,7 +51,7 @@ impl<L: Lines> Teller<'_, L> {
         self.push_since(out, at_halt.by)
     }
 
-    /// Adds with which value something was sent.
+    /// Appends the value with which a page was sent.
     pub(super) fn push_sent_with(
         &self,
         out: &mut String,

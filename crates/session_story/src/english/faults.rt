@@ -1,4 +1,4 @@
-//! The sentences on a page's fault in words.
+//! The sentences about a page's fault, in words.
 
 use super::Teller;
 use crate::concerns::Name;
@@ -27,7 +27,7 @@ pub(super) const RELEASED_AT_HALT: &str =
 pub(super) const NOT_RELEASED_AT_HALT: &str =
     "The page is not released at the halt, so it must not be placed as zeros.";
 
-/// That every order of the records shows a fault.
+/// Returns the words that say that every order of the records shows a fault.
 pub(super) fn in_every_order(reason: PageReason) -> &'static str {
     match reason {
         PageReason::Early => "In every order of the records the use finds no page.",
@@ -35,7 +35,7 @@ pub(super) fn in_every_order(reason: PageReason) -> &'static str {
     }
 }
 
-/// How the order that an audit shows shows a fault.
+/// Returns the words that say how the order in an audit's report shows a fault.
 pub(super) fn in_shown_order(reason: PageReason) -> &'static str {
     match reason {
         PageReason::Over => {
@@ -47,7 +47,7 @@ pub(super) fn in_shown_order(reason: PageReason) -> &'static str {
     }
 }
 
-/// Adds how many other pages have a fault.
+/// Appends how many other pages have a fault.
 pub(super) fn push_more(out: &mut String, more: usize) -> Result<(), AllocError> {
     if more == 1 {
         out.push_str("1 more page has a fault; audit --all lists every one.")
@@ -60,17 +60,17 @@ pub(super) fn push_more(out: &mut String, more: usize) -> Result<(), AllocError>
 }
 
 impl<L: Lines> Teller<'_, L> {
-    /// Adds which record is wrong.
+    /// Appends which record is wrong.
     pub(super) fn push_wrong(&self, out: &mut String, name: Name) -> Result<(), AllocError> {
         self.push_of_record(out, " is wrong", name)
     }
 
-    /// Adds with which record a page went wrong first.
+    /// Appends the record with which a page first went wrong.
     pub(super) fn push_wrong_first(&self, out: &mut String, name: Name) -> Result<(), AllocError> {
         self.push_with_record(out, "The page first went wrong at ", name)
     }
 
-    /// Adds which placement no look before a use reaches.
+    /// Appends the placement that no look before a use reaches.
     pub(super) fn push_unreached(&self, out: &mut String, place: u32) -> Result<(), AllocError> {
         self.push_with_place(
             out,
@@ -79,7 +79,7 @@ impl<L: Lines> Teller<'_, L> {
         )
     }
 
-    /// Adds which look reaches furthest.
+    /// Appends the look that reaches furthest.
     pub(super) fn push_furthest(
         &self,
         out: &mut String,
@@ -94,7 +94,7 @@ impl<L: Lines> Teller<'_, L> {
         )
     }
 
-    /// Adds which look is the first that reaches a placement, behind words for what it comes too late.
+    /// Appends the first look that reaches a placement, after words that say what it is too late for.
     pub(super) fn push_late(
         &self,
         out: &mut String,
@@ -110,7 +110,7 @@ impl<L: Lines> Teller<'_, L> {
         )
     }
 
-    /// Adds the release over which a page is placed.
+    /// Appends the release over which a page is placed.
     pub(super) fn push_released_first(
         &self,
         out: &mut String,
@@ -123,7 +123,7 @@ impl<L: Lines> Teller<'_, L> {
         )
     }
 
-    /// Adds what a placement puts over what, where it comes after the release.
+    /// Appends what a placement overwrites if it comes after the release.
     pub(super) fn push_may_come_after(
         &self,
         out: &mut String,
@@ -140,7 +140,7 @@ impl<L: Lines> Teller<'_, L> {
         }
     }
 
-    /// Adds the last change of a page before the halt.
+    /// Appends the last change of a page before the halt.
     pub(super) fn push_changed_last(
         &self,
         out: &mut String,
@@ -155,7 +155,7 @@ impl<L: Lines> Teller<'_, L> {
         )
     }
 
-    /// Adds the placement before a second one.
+    /// Appends the placement before a second one.
     pub(super) fn push_placed_before(
         &self,
         out: &mut String,

@@ -1,4 +1,4 @@
-//! The sentences on records that wait for one another in words.
+//! The sentences about records that wait for one another, in words.
 
 use super::Teller;
 use crate::waits::Waiting;
@@ -9,8 +9,8 @@ pub(super) const NO_ORDER: &str =
     "No order of the records keeps the order of each log and puts each record after the record of another log that it names: each of these waits for the next, and the last for one of them.";
 
 impl<L: Lines> Teller<'_, L> {
-    /// Adds which record one that waits has to come after, and, where that is not the next that waits but comes after it,
-    /// the next.
+    /// Appends the record that a waiting one must come after. If that is not the next waiting record, but comes after
+    /// it, also appends the next.
     pub(super) fn push_wait(
         &self,
         out: &mut String,
@@ -26,7 +26,7 @@ impl<L: Lines> Teller<'_, L> {
         self.push_place(out, (next.log, next.place))
     }
 
-    /// Adds a record that waits, and what for.
+    /// Appends a record that waits, and what it waits for.
     pub(super) fn push_waits(
         &self,
         out: &mut String,

@@ -1,4 +1,4 @@
-//! What a session lacks that tells of no whole migration, in words.
+//! What a session lacks that does not tell of a whole migration, in words.
 
 use super::Teller;
 use crate::concerns::Name;
@@ -24,7 +24,7 @@ pub(super) const NEVER_SAID: &str =
 pub(super) const NEVER_LEARNED: &str =
     "The source never learned that every owed page had come: its log has no `done` behind the `ask` of that.";
 
-/// Adds that a page was owed and did not come.
+/// Appends that a page was owed and did not come.
 pub(super) fn push_owed(out: &mut String, page: PageNo) -> Result<(), AllocError> {
     let page = page.number();
     write!(
@@ -34,7 +34,7 @@ pub(super) fn push_owed(out: &mut String, page: PageNo) -> Result<(), AllocError
 }
 
 impl<L: Lines> Teller<'_, L> {
-    /// Adds how far a page came that was owed.
+    /// Appends how far an owed page came.
     pub(super) fn push_came_to(
         &self,
         out: &mut String,
@@ -52,12 +52,12 @@ impl<L: Lines> Teller<'_, L> {
         self.push_with_record(out, words, name)
     }
 
-    /// Adds where the guest was halted.
+    /// Appends where the guest was halted.
     pub(super) fn push_halted_at(&self, out: &mut String, place: u32) -> Result<(), AllocError> {
         self.push_with_place(out, "It was halted at ", (LogName::Guest, place))
     }
 
-    /// Adds where the source started the guest again.
+    /// Appends where the source started the guest again.
     pub(super) fn push_started_again_at(
         &self,
         out: &mut String,
@@ -66,12 +66,12 @@ impl<L: Lines> Teller<'_, L> {
         self.push_with_place(out, "It was started again at ", (LogName::Source, place))
     }
 
-    /// Adds where the pager said that every owed page had come.
+    /// Appends where the pager said that every owed page had come.
     pub(super) fn push_said_at(&self, out: &mut String, place: u32) -> Result<(), AllocError> {
         self.push_with_place(out, "The pager said so at ", (LogName::Pager, place))
     }
 
-    /// Adds what the pager took and neither placed nor dropped.
+    /// Appends the packet that the pager took, and neither placed nor dropped.
     pub(super) fn push_untaken(&self, out: &mut String, place: u32) -> Result<(), AllocError> {
         self.push_with_record(
             out,

@@ -1,4 +1,4 @@
-//! The sentences on a page or a line that is asked for, and on a page's story, in words.
+//! The sentences about a page or a line that is asked for, and about a page's story, in words.
 
 use super::Teller;
 use crate::concerns::Name;
@@ -6,7 +6,7 @@ use audit_report::Lines;
 use migration_types::{LogName, PageNo};
 use std::alloc::AllocError;
 
-/// Adds that the machine has no page of this number, and how many it has.
+/// Appends that the machine has no page of this number, and how many it has.
 pub(super) fn push_no_page(out: &mut String, number: u32, pages: u32) -> Result<(), AllocError> {
     write!(out, "The machine has no page {number}: it has ")?;
     if pages == 1 {
@@ -16,7 +16,7 @@ pub(super) fn push_no_page(out: &mut String, number: u32, pages: u32) -> Result<
     }
 }
 
-/// Adds whether a page has a fault.
+/// Appends whether a page has a fault.
 pub(super) fn push_verdict(
     out: &mut String,
     page: PageNo,
@@ -27,25 +27,25 @@ pub(super) fn push_verdict(
     write!(out, "Page {page} has {which} fault.")
 }
 
-/// Adds of which page the story is.
+/// Appends the heading, which names the page of the story.
 pub(super) fn push_heading(out: &mut String, page: PageNo) -> Result<(), AllocError> {
     let page = page.number();
     write!(out, "What the logs say of page {page}:")
 }
 
 impl<L: Lines> Teller<'_, L> {
-    /// Adds that no record stands at a line.
+    /// Appends that there is no record at a line.
     pub(super) fn push_no_record(&self, out: &mut String, line: u32) -> Result<(), AllocError> {
         let line = self.lines.line(line);
         write!(out, "Line {line} tells no record of the logs.")
     }
 
-    /// Adds which record stands at a line.
+    /// Appends the record at a line.
     pub(super) fn push_stands(&self, out: &mut String, name: Name) -> Result<(), AllocError> {
         self.push_with_record(out, "This is ", name)
     }
 
-    /// Adds a line of a page's story: a record and what it is, or that there is none.
+    /// Appends a line of a page's story: a record and its role, or that there is none.
     fn push_step(
         &self,
         out: &mut String,
@@ -64,7 +64,7 @@ impl<L: Lines> Teller<'_, L> {
         }
     }
 
-    /// Adds the last change of a page, before the halt where there is one.
+    /// Appends the last change of a page, before the halt if there is one.
     pub(super) fn push_change(
         &self,
         out: &mut String,
@@ -90,12 +90,12 @@ impl<L: Lines> Teller<'_, L> {
         }
     }
 
-    /// Adds the guest's halt.
+    /// Appends the guest's halt.
     pub(super) fn push_halt(&self, out: &mut String, place: Option<u32>) -> Result<(), AllocError> {
         self.push_step(out, LogName::Guest, "", "the guest is not halted", place)
     }
 
-    /// Adds the sending of a page.
+    /// Appends the sending of a page.
     pub(super) fn push_sending(
         &self,
         out: &mut String,
@@ -110,7 +110,7 @@ impl<L: Lines> Teller<'_, L> {
         )
     }
 
-    /// Adds the delivery of a page.
+    /// Appends the delivery of a page.
     pub(super) fn push_delivery(
         &self,
         out: &mut String,
@@ -125,7 +125,7 @@ impl<L: Lines> Teller<'_, L> {
         self.push_step(out, log, "", none, place)
     }
 
-    /// Adds the pager's taking of a page.
+    /// Appends the record by which the pager took a page.
     pub(super) fn push_taking(
         &self,
         out: &mut String,
@@ -134,7 +134,7 @@ impl<L: Lines> Teller<'_, L> {
         self.push_step(out, LogName::Pager, "", "the pager does not take it", place)
     }
 
-    /// Adds the placement of a page.
+    /// Appends the placement of a page.
     pub(super) fn push_placement(
         &self,
         out: &mut String,
@@ -149,7 +149,7 @@ impl<L: Lines> Teller<'_, L> {
         )
     }
 
-    /// Adds the second placement of a page.
+    /// Appends the second placement of a page.
     pub(super) fn push_second_placement(
         &self,
         out: &mut String,
@@ -164,7 +164,7 @@ impl<L: Lines> Teller<'_, L> {
         )
     }
 
-    /// Adds the first look that reaches a placement of a page.
+    /// Appends the first look that reaches a placement of a page.
     pub(super) fn push_first_look(
         &self,
         out: &mut String,
@@ -179,7 +179,7 @@ impl<L: Lines> Teller<'_, L> {
         )
     }
 
-    /// Adds the first use of a page at the target.
+    /// Appends the first use of a page at the target.
     pub(super) fn push_first_use(
         &self,
         out: &mut String,

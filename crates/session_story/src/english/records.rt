@@ -1,4 +1,4 @@
-//! Records in words: where one stands, and what was done.
+//! Records in words: the place of each, and what it did.
 
 use super::Teller;
 use crate::concerns::Name;
@@ -9,7 +9,7 @@ use std::alloc::AllocError;
 
 /// A record in words.
 trait Spoken {
-    /// Adds what was done by it.
+    /// Appends what the record did.
     fn push(&self, out: &mut String) -> Result<(), AllocError>;
 }
 
@@ -141,7 +141,7 @@ impl Spoken for PagerRec {
     }
 }
 
-/// Adds what was done by the record of this number in a log.
+/// Appends what the record of this number in a log did.
 fn push_at<R: Spoken>(out: &mut String, log: &[R], place: u32) -> Result<(), AllocError> {
     match log.get(place as usize) {
         Some(rec) => rec.push(out),
@@ -150,8 +150,8 @@ fn push_at<R: Spoken>(out: &mut String, log: &[R], place: u32) -> Result<(), All
 }
 
 impl<L: Lines> Teller<'_, L> {
-    /// Adds a record's line, behind a word for it, and its log and its number, as in "line 13 (guest 6)"; of a record that
-    /// is not there the log and the number alone.
+    /// Appends a record's line, after a word for it, and its log and its number, as in "line 13 (guest 6)", or only the
+    /// log and the number if the record does not exist.
     fn push_place_behind(
         &self,
         out: &mut String,
@@ -169,17 +169,17 @@ impl<L: Lines> Teller<'_, L> {
         }
     }
 
-    /// Adds where a record stands, as in "line 13 (guest 6)".
+    /// Appends the place of a record, as in "line 13 (guest 6)".
     pub(super) fn push_place(&self, out: &mut String, name: Name) -> Result<(), AllocError> {
         self.push_place_behind(out, "line", name)
     }
 
-    /// Adds where a record stands, at the beginning of a sentence.
+    /// Appends the place of a record, at the beginning of a sentence.
     pub(super) fn push_place_first(&self, out: &mut String, name: Name) -> Result<(), AllocError> {
         self.push_place_behind(out, "Line", name)
     }
 
-    /// Adds what was done by a record.
+    /// Appends what a record did.
     pub(super) fn push_done(&self, out: &mut String, name: Name) -> Result<(), AllocError> {
         let session = self.session;
         let place = name.1;
@@ -192,14 +192,14 @@ impl<L: Lines> Teller<'_, L> {
         }
     }
 
-    /// Adds where a record stands and what was done by it, as in "line 8 (guest 1): the guest is halted at the source".
+    /// Appends the place of a record and what it did, as in "line 8 (guest 1): the guest is halted at the source".
     pub(super) fn push_record(&self, out: &mut String, name: Name) -> Result<(), AllocError> {
         self.push_place(out, name)?;
         out.push_str(": ")?;
         self.push_done(out, name)
     }
 
-    /// Adds a sentence on a record that begins with where it stands, as in "Line 13 (guest 6) is wrong: ..".
+    /// Appends a sentence about a record, beginning with its place, as in "Line 13 (guest 6) is wrong: ..".
     pub(super) fn push_of_record(
         &self,
         out: &mut String,

@@ -1,4 +1,4 @@
-//! The sentences on a record that has not the right shape in words.
+//! The sentences about a record that does not have the right shape, in words.
 
 use super::Teller;
 use crate::concerns::Name;
@@ -7,13 +7,13 @@ use audit_report::Lines;
 use migration_types::{GuestRec, LaneRec, LinkRec, LogName, PagerRec, Session, SourceRec, Version};
 use std::alloc::AllocError;
 
-/// Of a guest that is halted.
+/// The rule for a halted guest.
 const IDLE: &str = "The guest does nothing between its halt and its resume.";
 
-/// What goes down, by the link or by the lane.
+/// The records that go down, over the link or the lane.
 const SENDING: &str = "a `state`, a `send` or an `again` of the source";
 
-/// What a record of the guest breaks.
+/// Returns the rule that a record of the guest breaks.
 fn phase_rule(session: &Session, place: u32) -> &'static str {
     match session.guest().get(place as usize) {
         Some(GuestRec::Halt) => "The guest is halted once.",
@@ -28,7 +28,7 @@ fn phase_rule(session: &Session, place: u32) -> &'static str {
     }
 }
 
-/// What a record of the guest has to name.
+/// Returns what a record of the guest must name.
 fn guest_wants(rec: &GuestRec) -> Option<&'static str> {
     match rec {
         GuestRec::Resume { .. } => Some("the pager's `ready`"),
@@ -37,7 +37,7 @@ fn guest_wants(rec: &GuestRec) -> Option<&'static str> {
     }
 }
 
-/// What a record of the source has to name.
+/// Returns what a record of the source must name.
 fn source_wants(rec: &SourceRec) -> Option<&'static str> {
     match rec {
         SourceRec::Halted { .. } => Some("the guest's `halt`"),
@@ -47,7 +47,7 @@ fn source_wants(rec: &SourceRec) -> Option<&'static str> {
     }
 }
 
-/// What a record of the link has to name.
+/// Returns what a record of the link must name.
 fn link_wants(rec: &LinkRec) -> Option<&'static str> {
     match rec {
         LinkRec::Down { .. } => Some(SENDING),
@@ -55,14 +55,14 @@ fn link_wants(rec: &LinkRec) -> Option<&'static str> {
     }
 }
 
-/// What a record of the lane has to name.
+/// Returns what a record of the lane must name.
 fn lane_wants(rec: &LaneRec) -> Option<&'static str> {
     match rec {
         LaneRec::Down { .. } => Some(SENDING),
     }
 }
 
-/// What a record of the pager has to name, in a session with a lane or without one.
+/// Returns what a record of the pager must name, in a session with a lane or without one.
 fn pager_wants(rec: &PagerRec, has_lane: bool) -> Option<&'static str> {
     match rec {
         PagerRec::Got { .. } => Some("a `down` of the link"),
@@ -82,12 +82,12 @@ fn pager_wants(rec: &PagerRec, has_lane: bool) -> Option<&'static str> {
 }
 
 impl<L: Lines> Teller<'_, L> {
-    /// Whether the lane of the session has records: of other sessions nothing is said of a lane.
+    /// Returns whether the lane of the session has records. For other sessions, the sentences do not mention a lane.
     pub(super) fn has_lane(&self) -> bool {
         !self.session.lane().is_empty()
     }
 
-    /// What a record has to name, if it has to name one.
+    /// Returns what a record must name, if it must name one.
     fn wanted_by(&self, name: Name) -> Option<&'static str> {
         let session = self.session;
         let n = name.1 as usize;
@@ -100,12 +100,12 @@ impl<L: Lines> Teller<'_, L> {
         }
     }
 
-    /// Adds which record has not the right shape.
+    /// Appends the record that does not have the right shape.
     pub(super) fn push_misshapen(&self, out: &mut String, name: Name) -> Result<(), AllocError> {
         self.push_of_record(out, " does not have the right shape", name)
     }
 
-    /// Adds the guest's record of this number, or that there is none.
+    /// Appends the guest's record of this number, or that there is none.
     fn push_move(
         &self,
         out: &mut String,
@@ -122,7 +122,7 @@ impl<L: Lines> Teller<'_, L> {
         }
     }
 
-    /// Adds what a record of the guest breaks, and where the guest is halted and resumed.
+    /// Appends the rule that a record of the guest breaks, and where the guest is halted and resumed.
     pub(super) fn push_phase(
         &self,
         out: &mut String,
@@ -145,7 +145,7 @@ impl<L: Lines> Teller<'_, L> {
         out.push_str(".")
     }
 
-    /// Adds what a record has to name, and what it names.
+    /// Appends what a record must name, and what it names.
     pub(super) fn push_names(
         &self,
         out: &mut String,
@@ -162,7 +162,7 @@ impl<L: Lines> Teller<'_, L> {
         }
     }
 
-    /// Whether a record of the source is a `back` that stands behind the log's beginning, and not at its end.
+    /// Returns whether a record of the source is a `back` that comes after the log's beginning, and not at its end.
     fn ends_too_early(&self, place: u32) -> bool {
         let is_back = matches!(
             self.session.source().get(place as usize),
@@ -171,7 +171,7 @@ impl<L: Lines> Teller<'_, L> {
         is_back && place > 1
     }
 
-    /// How the log of a record begins, or, of a `back`, how it ends.
+    /// Returns how the log of a record must begin, or for a `back`, how it must end.
     pub(super) fn beginning(&self, name: Name) -> &'static str {
         match name.0 {
             LogName::Pager if self.has_lane() => {
@@ -187,7 +187,7 @@ impl<L: Lines> Teller<'_, L> {
         }
     }
 
-    /// Adds the resume of a guest that the source starts again.
+    /// Appends the resume of a guest that the source starts again.
     pub(super) fn push_resumed_too(&self, out: &mut String, place: u32) -> Result<(), AllocError> {
         self.push_with_record(
             out,
@@ -196,7 +196,7 @@ impl<L: Lines> Teller<'_, L> {
         )
     }
 
-    /// Adds the guest's first access at the target, if there is one.
+    /// Appends the guest's first access at the target, if there is one.
     pub(super) fn push_first_access(
         &self,
         out: &mut String,
@@ -211,7 +211,7 @@ impl<L: Lines> Teller<'_, L> {
         )
     }
 
-    /// Adds the `send` before a second one.
+    /// Appends the `send` before a second one.
     pub(super) fn push_sent_before(&self, out: &mut String, place: u32) -> Result<(), AllocError> {
         self.push_with_record(
             out,

@@ -1,4 +1,4 @@
-//! The sentences on a clean session.
+//! The sentences about a clean session.
 
 ghost use Rattle.std.specs.Prelude.{◌≡◌, ◌++◌, OnOk};
 ghost use Rattle.session_story.specs.Sentences.{counts_told, lane_of, unplaced_told};
@@ -8,7 +8,7 @@ use crate::counting::Counts;
 use migration_types::Version;
 use std::alloc::AllocError;
 
-/// Adds how many pages were not placed.
+/// Appends how many pages were not placed.
 #[tactic(auto, unfolding(crate::specs::Sentences::unplaced_told))]
 fn push_unplaced(
     out: &mut Vec<Sentence>,
@@ -26,7 +26,7 @@ fn push_unplaced(
     }
 }
 
-/// How many packets the lane delivered, where it delivered some.
+/// Returns how many packets the lane delivered, if it delivered some.
 fn lane_of(by_lane: u32) -> Option<Sentence>
     ensures { result ≡ lane_of by_lane }
 {
@@ -37,7 +37,7 @@ fn lane_of(by_lane: u32) -> Option<Sentence>
     }
 }
 
-/// Adds how a clean session went.
+/// Appends how a clean session went.
 #[tactic(auto, unfolding(crate::specs::Sentences::counts_told))]
 pub(crate) fn push_counts(
     out: &mut Vec<Sentence>,

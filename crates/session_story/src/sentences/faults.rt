@@ -1,4 +1,4 @@
-//! The sentences on a page's fault.
+//! The sentences about a page's fault.
 
 ghost use Rattle.std.specs.Prelude.{◌≡◌, ◌++◌, OnOk};
 ghost use Rattle.session_story.specs.Sentences.{cause_told, contents_of, contents_told, early_told, fault_told, faulty_told, first_sending, first_told, order_of, origin_at, origin_by, origin_of, over_told, place_of, plain_told, unseen_told, wrong_told};
@@ -13,7 +13,8 @@ use audit_model::{PageReason, delivery};
 use migration_types::{LogName, PagerRec, Session, SourceRec};
 use std::alloc::AllocError;
 
-/// What the contents of a record have in a cell where its page has something else at the halt, if it has contents.
+/// Returns what the contents of a record have in a cell whose value in the page is another at the halt, if the record
+/// has contents.
 fn contents_of(session: &Session, name: Name, at_halt: Held) -> Option<Sentence>
     ensures { result ≡ contents_of session.now name at_halt }
 {
@@ -25,7 +26,7 @@ fn contents_of(session: &Session, name: Name, at_halt: Held) -> Option<Sentence>
     })
 }
 
-/// The first sending of what a source's record sends.
+/// Returns the first sending of the page that a source's record sends.
 fn first_sending(session: &Session, sending: u32) -> u32
     ensures { result ≡ first_sending session.now sending }
 {
@@ -35,7 +36,7 @@ fn first_sending(session: &Session, sending: u32) -> u32
     }
 }
 
-/// What the first sending of what a record sends has in a cell, of what came with the pager's record.
+/// Returns what the first sending has in a cell, for the page that the pager's record took.
 fn origin_at(session: &Session, got: u32, cell: u16, sending: u32) -> Option<Sentence>
     ensures { result ≡ origin_at session.now got cell sending }
 {
@@ -47,7 +48,7 @@ fn origin_at(session: &Session, got: u32, cell: u16, sending: u32) -> Option<Sen
     })
 }
 
-/// What was sent in a cell of what a record of the pager places, if it is a `place`.
+/// Returns what was sent in a cell of the page that a record of the pager places, if it is a `place`.
 fn origin_by(session: &Session, cell: u16, rec: &PagerRec) -> Option<Sentence>
     ensures { result ≡ origin_by session.now cell rec.now }
 {
@@ -60,7 +61,7 @@ fn origin_by(session: &Session, cell: u16, rec: &PagerRec) -> Option<Sentence>
     }
 }
 
-/// What was sent in a cell of what a record places, if it is a `place` of the pager.
+/// Returns what was sent in a cell of the page that a record places, if it is a `place` of the pager.
 fn origin_of(session: &Session, name: Name, cell: u16) -> Option<Sentence>
     ensures { result ≡ origin_of session.now name cell }
 {
@@ -70,7 +71,7 @@ fn origin_of(session: &Session, name: Name, cell: u16) -> Option<Sentence>
     }
 }
 
-/// Adds what is wrong with the contents that a `send` or a placement has.
+/// Appends what is wrong with the contents of a `send` or a placement.
 #[tactic(auto, unfolding(crate::specs::Sentences::contents_told))]
 fn push_contents(
     out: &mut Vec<Sentence>,
@@ -84,7 +85,7 @@ fn push_contents(
     push_if(out, origin_of(session, name, at_halt.cell))
 }
 
-/// The number of a look, if there is one.
+/// Returns the number of a look, if there is one.
 fn look_place(look: Option<Look>) -> Option<u32>
     ensures { result ≡ place_of look }
 {
@@ -94,8 +95,8 @@ fn look_place(look: Option<Look>) -> Option<u32>
     }
 }
 
-/// Adds what is wrong with an early use of a page, by its first placement, the look before the use that reaches furthest,
-/// and the first look that reaches the placement.
+/// Appends what is wrong with an early use of a page, given its first placement, the look before the use that reaches
+/// furthest, and the first look that reaches the placement.
 #[tactic(auto, unfolding(crate::specs::Sentences::early_told))]
 fn push_early(
     out: &mut Vec<Sentence>,
@@ -115,8 +116,8 @@ fn push_early(
     }
 }
 
-/// Adds what is wrong with a placement over the first use of its page, by the look before this use that reaches furthest,
-/// and the first look that reaches the placement.
+/// Appends what is wrong with a placement over the first use of its page, given the look before this use that reaches
+/// furthest, and the first look that reaches the placement.
 #[tactic(auto, unfolding(crate::specs::Sentences::over_told))]
 fn push_over(
     out: &mut Vec<Sentence>,
@@ -139,7 +140,7 @@ fn push_over(
     }
 }
 
-/// Adds what is wrong with an early use, or with a placement over a release.
+/// Appends what is wrong with an early use, or with a placement over a release.
 #[tactic(auto, unfolding(crate::specs::Sentences::unseen_told))]
 fn push_unseen(
     out: &mut Vec<Sentence>,
@@ -155,7 +156,8 @@ fn push_unseen(
     }
 }
 
-/// Adds what is wrong where nothing else is told, by the page's last change before the halt and its first placement.
+/// Appends what is wrong if there is nothing else to say, given the page's last change before the halt and its first
+/// placement.
 #[tactic(auto, unfolding(crate::specs::Sentences::plain_told))]
 fn push_plain(
     out: &mut Vec<Sentence>,
@@ -186,7 +188,7 @@ fn push_plain(
     }
 }
 
-/// Adds what is wrong.
+/// Appends what is wrong.
 #[tactic(auto, unfolding(crate::specs::Sentences::wrong_told))]
 fn push_wrong(
     out: &mut Vec<Sentence>,
@@ -210,7 +212,7 @@ fn push_wrong(
     }
 }
 
-/// Adds which record is faulty, and what is wrong with it.
+/// Appends which record is faulty, and what is wrong with it.
 #[tactic(auto, unfolding(crate::specs::Sentences::faulty_told))]
 pub(crate) fn push_faulty(
     out: &mut Vec<Sentence>,
@@ -223,7 +225,7 @@ pub(crate) fn push_faulty(
     push_wrong(out, session, story)
 }
 
-/// Adds a record with wrong contents, with which a page went wrong first.
+/// Appends a record with wrong contents, with which a page first went wrong.
 #[tactic(auto, unfolding(crate::specs::Sentences::first_told))]
 fn push_first(
     out: &mut Vec<Sentence>,
@@ -237,7 +239,7 @@ fn push_first(
     push_contents(out, session, name, at_halt)
 }
 
-/// Adds what went wrong with a page before the guest read it, where that is told.
+/// Appends what went wrong with a page before the guest read it, if the story has that.
 #[tactic(auto, unfolding(crate::specs::Sentences::cause_told))]
 fn push_cause(
     out: &mut Vec<Sentence>,
@@ -258,7 +260,7 @@ fn push_cause(
     }
 }
 
-/// Adds what went wrong with a page first, where that is told, and then its fault.
+/// Appends what first went wrong with a page, if the story has that, and then its fault.
 #[tactic(auto, unfolding(crate::specs::Sentences::fault_told))]
 pub(crate) fn push_fault(
     out: &mut Vec<Sentence>,
@@ -271,7 +273,7 @@ pub(crate) fn push_fault(
     push_faulty(out, session, story)
 }
 
-/// How an order of the records shows a fault.
+/// Returns how an order of the records shows a fault.
 pub(crate) fn order_of(story: &FaultStory) -> Sentence
     ensures { result ≡ order_of story.now }
 {

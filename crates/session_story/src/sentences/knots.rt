@@ -1,4 +1,4 @@
-//! The sentences on records that wait for one another.
+//! The sentences about records that wait for one another.
 
 ghost use Rattle.std.specs.Prelude.{◌≡◌, ◌++◌, OnOk};
 ghost use Rattle.session_story.specs.Sentences.{knot_told, waits_told};
@@ -7,7 +7,7 @@ use super::Sentence;
 use crate::waits::Knot;
 use std::alloc::AllocError;
 
-/// Adds what each of the records waits for.
+/// Appends what each of the records waits for.
 fn push_waits(out: &mut Vec<Sentence>, knot: &Knot) -> Result<(), AllocError>
     ensures { OnOk result (out.new.items ≡ out.old.items ++ waits_told knot.now 0 knot.now.waits.items) }
 {
@@ -20,7 +20,7 @@ fn push_waits(out: &mut Vec<Sentence>, knot: &Knot) -> Result<(), AllocError>
     Ok(())
 }
 
-/// Adds that there is no order, and why.
+/// Appends that there is no order, and why.
 #[tactic(auto, unfolding(crate::specs::Sentences::knot_told))]
 pub(crate) fn push_knot(out: &mut Vec<Sentence>, knot: &Knot) -> Result<(), AllocError>
     ensures { OnOk result (out.new.items ≡ out.old.items ++ knot_told knot.now) }

@@ -1,4 +1,4 @@
-//! The sentences on what a session lacks that tells of no whole migration.
+//! The sentences about what a session lacks that does not tell of a whole migration.
 
 ghost use Rattle.std.specs.Prelude.{◌≡◌, ◌<◌, ◌++◌, IfOk, OnOk, length};
 ghost use Rattle.page_facts.specs.Tables.{first_before};
@@ -15,7 +15,7 @@ use completeness::Missing;
 use migration_types::{LogName, PageNo, Session};
 use std::alloc::{AllocError, Global};
 
-/// The first of these records that is there.
+/// Returns the first of these records that exists.
 fn or_else(name: Option<Name>, other: Option<Name>) -> Option<Name>
     ensures { result ≡ or_else name other }
 {
@@ -25,7 +25,8 @@ fn or_else(name: Option<Name>, other: Option<Name>) -> Option<Name>
     }
 }
 
-/// How far a page came: to the pager, or else to a delivery of the link, or of the lane, or to the source's sending.
+/// Returns how far a page came: to the pager, or else to a delivery by the link, or by the lane, or to the source's
+/// sending.
 fn furthest(
     got: Option<u32>,
     delivered: Option<u32>,
@@ -40,7 +41,7 @@ fn furthest(
     or_else(named_in(LogName::Pager, got), delivered)
 }
 
-/// How far a page came.
+/// Returns how far a page came.
 fn came_to(alloc: Global, session: &Session, page: PageNo) -> Result<Option<Name>, AllocError>
     requires { page < session.now.geometry.pages }
     ensures { IfOk result (λ name. name ≡ came_to session.now page) }
@@ -49,7 +50,7 @@ fn came_to(alloc: Global, session: &Session, page: PageNo) -> Result<Option<Name
     Ok(furthest(story.got, story.delivered, story.by_lane, story.sent))
 }
 
-/// Where the guest was halted, if it was.
+/// Returns where the guest was halted, if it was.
 fn halted_of(halt: Option<u32>) -> Option<Sentence>
     ensures { result ≡ halted_of halt }
 {
@@ -59,7 +60,7 @@ fn halted_of(halt: Option<u32>) -> Option<Sentence>
     }
 }
 
-/// Where the source started the guest again, if it did.
+/// Returns where the source started the guest again, if it did.
 fn started_of(back: Option<u32>) -> Option<Sentence>
     ensures { result ≡ started_of back }
 {
@@ -69,7 +70,7 @@ fn started_of(back: Option<u32>) -> Option<Sentence>
     }
 }
 
-/// The first record by which the source started the guest again, if it did.
+/// Returns the first record by which the source started the guest again, if it did.
 fn first_back(session: &Session) -> Option<u32>
     ensures { result ≡ first_before (λ m. is_back) session.now.source (length session.now.source) }
 {
@@ -77,7 +78,7 @@ fn first_back(session: &Session) -> Option<u32>
     first_of(session, &SourceQuestion::Back, session.source())
 }
 
-/// The last record by which the pager said that every owed page had come, if it did.
+/// Returns the last record by which the pager said that every owed page had come, if it did.
 fn last_all(session: &Session) -> Option<u32>
     ensures { result ≡ last_before (λ m. is_all) session.now.pager (length session.now.pager) }
 {
@@ -86,7 +87,7 @@ fn last_all(session: &Session) -> Option<u32>
     last_of(session, &PagerQuestion::All, pager, pager.len())
 }
 
-/// Where the pager said that every owed page had come, if it did.
+/// Returns where the pager said that every owed page had come, if it did.
 fn said_of(said: Option<u32>) -> Option<Sentence>
     ensures { result ≡ said_of said }
 {
@@ -96,7 +97,7 @@ fn said_of(said: Option<u32>) -> Option<Sentence>
     }
 }
 
-/// Adds what a session lacks.
+/// Appends what a session lacks.
 #[tactic(auto, unfolding(crate::specs::Lacks::lack_told))]
 fn push_lack(
     alloc: Global,
@@ -130,7 +131,7 @@ fn push_lack(
     }
 }
 
-/// The sentences that tell what a session lacks, one after the other. The only error is that there is no memory for them.
+/// Returns the sentences about what a session lacks, in order. Fails only if memory runs out.
 #[tactic(auto, unfolding(crate::specs::Lacks::missing_told))]
 pub(crate) fn missing_told(
     alloc: Global,

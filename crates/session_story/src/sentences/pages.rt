@@ -8,7 +8,7 @@ use crate::pages::{Handover, PageStory};
 use migration_types::{LogName, PagerRec, Session};
 use std::alloc::AllocError;
 
-/// Whether the lane's delivery of a page is told: the pager takes this one, or there is no other.
+/// Returns whether the story tells the lane's delivery of a page: the pager takes this one, or there is no other.
 fn is_by_lane(session: &Session, got: Option<u32>, delivered: Option<u32>) -> bool
     ensures { result ≡ is_by_lane session.now got delivered }
 {
@@ -21,7 +21,7 @@ fn is_by_lane(session: &Session, got: Option<u32>, delivered: Option<u32>) -> bo
     }
 }
 
-/// The delivery of a page, by the link or by the lane.
+/// Returns the delivery of a page, by the link or by the lane.
 fn delivery_of(session: &Session, page: &PageStory) -> Sentence
     ensures { result ≡ delivery_of session.now page.now }
 {
@@ -38,7 +38,7 @@ fn delivery_of(session: &Session, page: &PageStory) -> Sentence
     }
 }
 
-/// The second placement of a page, if there is one.
+/// Returns the second placement of a page, if there is one.
 fn again_of(page: &PageStory) -> Option<Sentence>
     ensures { result ≡ again_of page.now }
 {
@@ -48,7 +48,7 @@ fn again_of(page: &PageStory) -> Option<Sentence>
     }
 }
 
-/// Adds how a page came to the target.
+/// Appends how a page came to the target.
 #[tactic(auto, unfolding(crate::specs::Sentences::way_told))]
 fn push_way(
     out: &mut Vec<Sentence>,
@@ -72,7 +72,7 @@ fn push_way(
     ])
 }
 
-/// Adds what became of a page at the target.
+/// Appends what became of a page at the target.
 #[tactic(auto, unfolding(crate::specs::Sentences::use_told))]
 fn push_use(out: &mut Vec<Sentence>, page: &PageStory) -> Result<(), AllocError>
     ensures { OnOk result (out.new.items ≡ out.old.items ++ use_told page.now) }
@@ -87,7 +87,7 @@ fn push_use(out: &mut Vec<Sentence>, page: &PageStory) -> Result<(), AllocError>
     ])
 }
 
-/// Adds a page's story, in the order in which it should happen.
+/// Appends a page's story, in the order in which it should happen.
 #[tactic(auto, unfolding(crate::specs::Sentences::story_told))]
 pub(crate) fn push_story(
     out: &mut Vec<Sentence>,

@@ -1,4 +1,4 @@
-//! The sentences on a record that has not the right shape.
+//! The sentences about a record that does not have the right shape.
 
 ghost use Rattle.std.specs.Prelude.{◌≡◌, ◌++◌, OnOk, length};
 ghost use Rattle.page_facts.specs.Tables.{first_before};
@@ -14,7 +14,7 @@ use audit_model::ShapeReason;
 use migration_types::Session;
 use std::alloc::AllocError;
 
-/// What a record names, if it names one.
+/// Returns what a record names, if it names one.
 fn names_of(session: &Session, name: Name) -> Option<Sentence>
     ensures { result ≡ names_of session.now name }
 {
@@ -22,7 +22,7 @@ fn names_of(session: &Session, name: Name) -> Option<Sentence>
     Some(Sentence::Names { name, named })
 }
 
-/// The `send` that stands before one of the same page.
+/// Returns the `send` that comes before another one of the same page.
 fn second_of(sent: Option<u32>) -> Option<Sentence>
     ensures { result ≡ second_of sent }
 {
@@ -32,7 +32,7 @@ fn second_of(sent: Option<u32>) -> Option<Sentence>
     }
 }
 
-/// The rule that a record breaks.
+/// Returns the rule that a record breaks.
 fn rule_of(session: &Session, story: &ShapeStory) -> Option<Sentence>
     ensures { result ≡ rule_of session.now story.now story.now.fault.reason }
 {
@@ -49,7 +49,7 @@ fn rule_of(session: &Session, story: &ShapeStory) -> Option<Sentence>
     }
 }
 
-/// The guest's first access behind the record of this number, if there is one.
+/// Returns the guest's first access after the record of this number, if there is one.
 fn first_access(session: &Session, resume: u32) -> Option<u32>
     ensures { result ≡ first_before (is_access_after resume) session.now.guest (length session.now.guest) }
 {
@@ -61,7 +61,7 @@ fn first_access(session: &Session, resume: u32) -> Option<u32>
     )
 }
 
-/// Adds the resume of a guest that the source starts again, and its first access behind that.
+/// Appends the resume of a guest that the source starts again, and its first access after that.
 fn push_both(
     out: &mut Vec<Sentence>,
     session: &Session,
@@ -76,7 +76,7 @@ fn push_both(
     out.extend_from_slice(&[Sentence::ResumedToo(resume), Sentence::FirstAccess(access)])
 }
 
-/// Adds the record that has not the right shape, and the rule that it breaks.
+/// Appends the record that does not have the right shape, and the rule that it breaks.
 #[tactic(auto, unfolding(crate::specs::Sentences::shape_told))]
 pub(crate) fn push_shape(
     out: &mut Vec<Sentence>,

@@ -1,4 +1,4 @@
-//! The sentences on a report, a page, or the record at a line.
+//! The sentences about a report, a page, or the record at a line.
 
 ghost use Rattle.std.specs.Prelude.{◌≡◌, ◌++◌, IfOk, OnOk};
 ghost use Rattle.session_story.specs.Sentences.{explained_first, explained_told, fault_first, faulty_page_told, first_fault_told, is_shown, its_page_told, line_first, line_topic, more_of, page_first, page_told, page_topic, record_told, shown_of, told_first, told_in_full, verdict_of};
@@ -17,7 +17,7 @@ use audit_report::Report;
 use migration_types::Session;
 use std::alloc::{AllocError, Global};
 
-/// How many other pages have a fault, where some have.
+/// Returns how many other pages have a fault, if there are some.
 fn more_of(more: usize) -> Option<Sentence>
     ensures { result ≡ more_of more }
 {
@@ -28,7 +28,7 @@ fn more_of(more: usize) -> Option<Sentence>
     }
 }
 
-/// Adds the fault of a page that the report names, with the page's story.
+/// Appends the fault of a page that the report names, with the page's story.
 #[tactic(auto, unfolding(crate::specs::Sentences::faulty_page_told))]
 fn push_faulty_page(
     out: &mut Vec<Sentence>,
@@ -44,7 +44,7 @@ fn push_faulty_page(
     push_if(out, more_of(more))
 }
 
-/// Adds what happened in a session.
+/// Appends the story of a report.
 #[tactic(auto, unfolding(crate::specs::Sentences::explained_told))]
 fn push_explanation(
     out: &mut Vec<Sentence>,
@@ -61,8 +61,8 @@ fn push_explanation(
     }
 }
 
-/// Whether it is known which orders show a fault of a page: the report has one that shows its own, and where there are
-/// orders at all, each shows a fault that every one shows.
+/// Returns whether it is known which orders show a fault of a page. The report has an order that shows its own fault.
+/// If there are orders at all, each of them shows a fault that every order shows.
 fn is_shown(report: &Report, story: &FaultStory) -> bool
     ensures { result ≡ is_shown report.now story.now }
 {
@@ -75,7 +75,7 @@ fn is_shown(report: &Report, story: &FaultStory) -> bool
     }
 }
 
-/// How an order of the records shows a fault, where that is known.
+/// Returns how an order of the records shows a fault, if that is known.
 fn shown_of(report: &Report, story: &FaultStory) -> Option<Sentence>
     ensures { result ≡ shown_of report.now story.now }
 {
@@ -86,7 +86,7 @@ fn shown_of(report: &Report, story: &FaultStory) -> Option<Sentence>
     }
 }
 
-/// Adds a page's first fault, if it has one.
+/// Appends a page's first fault, if it has one.
 #[tactic(auto, unfolding(crate::specs::Sentences::first_fault_told))]
 fn push_first_fault(
     out: &mut Vec<Sentence>,
@@ -105,7 +105,7 @@ fn push_first_fault(
     }
 }
 
-/// Whether a page has a fault.
+/// Returns whether a page has a fault.
 fn verdict_of(page: &PageTold) -> Sentence
     ensures { result ≡ verdict_of page.now }
 {
@@ -115,7 +115,7 @@ fn verdict_of(page: &PageTold) -> Sentence
     }
 }
 
-/// Adds what became of a page.
+/// Appends the story of a page.
 #[tactic(auto, unfolding(crate::specs::Sentences::page_told))]
 fn push_page(
     out: &mut Vec<Sentence>,
@@ -130,7 +130,7 @@ fn push_page(
     push_story(out, session, &page.story, &page.handover)
 }
 
-/// Adds what became of the page of this number, or that there is none.
+/// Appends the story of the page of this number, or that there is no such page.
 #[tactic(auto, unfolding(crate::specs::Sentences::page_topic))]
 fn push_page_topic(
     out: &mut Vec<Sentence>,
@@ -150,7 +150,7 @@ fn push_page_topic(
     }
 }
 
-/// Adds which record stands at a line, and what is wrong with its shape, where that is told.
+/// Appends the record at a line, and what is wrong with its shape, if the story has that.
 #[tactic(auto, unfolding(crate::specs::Sentences::record_told))]
 fn push_record(
     out: &mut Vec<Sentence>,
@@ -166,7 +166,7 @@ fn push_record(
     }
 }
 
-/// Adds what became of the page of a record, where it is about one.
+/// Appends the story of the page that a record is about, if it is about one.
 #[tactic(auto, unfolding(crate::specs::Sentences::its_page_told))]
 fn push_its_page(
     out: &mut Vec<Sentence>,
@@ -182,7 +182,7 @@ fn push_its_page(
     }
 }
 
-/// Adds the record at the line of this number and what became of its page, or that there is none.
+/// Appends the record at the line of this number and the story of its page, or that there is no record.
 #[tactic(auto, unfolding(crate::specs::Sentences::line_topic))]
 fn push_line_topic(
     out: &mut Vec<Sentence>,
@@ -202,7 +202,7 @@ fn push_line_topic(
     }
 }
 
-/// Adds what is told of a session with this report.
+/// Appends the story of a session with this report.
 #[tactic(auto, unfolding(crate::specs::Sentences::told_in_full))]
 fn push_told(
     out: &mut Vec<Sentence>,
@@ -219,8 +219,7 @@ fn push_told(
     }
 }
 
-/// The sentences that tell what is told of a session with this report, one after the other. The only error is that there
-/// is no memory for them.
+/// Returns the sentences of the story of a session with this report, in order. Fails only if memory runs out.
 pub fn told_in_full(
     alloc: Global,
     session: &Session,
@@ -234,7 +233,7 @@ pub fn told_in_full(
     Ok(out)
 }
 
-/// Adds what is told first of what happened in a session.
+/// Appends the first sentences of the story of a report.
 #[tactic(auto, unfolding(crate::specs::Sentences::explained_first))]
 fn push_explained_first(
     out: &mut Vec<Sentence>,
@@ -251,7 +250,7 @@ fn push_explained_first(
     }
 }
 
-/// Adds what is told first of a page's first fault, if it has one.
+/// Appends the first sentences about a page's first fault, if it has one.
 #[tactic(auto, unfolding(crate::specs::Sentences::fault_first))]
 fn push_fault_first(
     out: &mut Vec<Sentence>,
@@ -266,7 +265,7 @@ fn push_fault_first(
     }
 }
 
-/// Adds what is told first of the page of this number.
+/// Appends the first sentences about the page of this number.
 #[tactic(auto, unfolding(crate::specs::Sentences::page_first))]
 fn push_page_first(
     out: &mut Vec<Sentence>,
@@ -288,7 +287,7 @@ fn push_page_first(
     }
 }
 
-/// Adds what is told first of the line of this number.
+/// Appends the first sentences about the line of this number.
 #[tactic(auto, unfolding(crate::specs::Sentences::line_first))]
 fn push_line_first(
     out: &mut Vec<Sentence>,
@@ -304,7 +303,7 @@ fn push_line_first(
     }
 }
 
-/// Adds what is told first of a session.
+/// Appends the first sentences about a session.
 #[tactic(auto, unfolding(crate::specs::Sentences::told_first))]
 fn push_first(out: &mut Vec<Sentence>, session: &Session, told: &Told) -> Result<(), AllocError>
     ensures { OnOk result (out.new.items ≡ out.old.items ++ told_first session.now told.now) }
@@ -316,7 +315,7 @@ fn push_first(out: &mut Vec<Sentence>, session: &Session, told: &Told) -> Result
     }
 }
 
-/// The sentences that are told first: what is wrong, or that nothing is. The only error is that there is no memory for them.
+/// Returns the first sentences of a story: what is wrong, or that nothing is. Fails only if memory runs out.
 pub fn told_first(
     alloc: Global,
     session: &Session,

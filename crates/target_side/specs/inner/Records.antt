@@ -1,4 +1,4 @@
--- What an operation at the source records.
+-- The record of an operation at the source.
 use Rattle.std.specs.Prelude.{ℕ}
 use Rattle.migration_types.specs.declared.records.GuestRec.{GuestRec}
 use Rattle.migration_types.specs.declared.records.GuestRec.TheVariants.{Read, Write, Release}

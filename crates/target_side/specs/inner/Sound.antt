@@ -4,8 +4,8 @@ use Rattle.page_store.specs.Tables.{Values, pages_of, values}
 use Rattle.target_side.specs.PagerPart.{is_released}
 use Rattle.target_side.specs.PagerLists.{PagerLists, part_of, IsKept}
 
--- The book keeps what it says, each table has a value for each page, the marks are those of the released pages, and
--- each page below the bound is released, placed or settled.
+-- The invariant holds, each table has a value for each page, the marks are those of the released pages, and each page
+-- below the bound is released, placed or cancelled.
 pub record IsSound (b : PagerLists) (marks : Values Bool) (bound : ℕ) : Type 0 where
   pub kept : IsKept (part_of b)
   pub placed_pages : pages_of b.placed ≡ b.geometry.pages

@@ -1,4 +1,4 @@
--- What a state of the code holds.
+-- The state of the code.
 use Rattle.target_side.specs.Kept.{Held}
 use Rattle.target_side.specs.declared.state.State.{State}
 

@@ -6,7 +6,7 @@ use Rattle.target_side.specs.TargetPart.{TargetPart}
 use Rattle.target_side.specs.declared.Incoming.{Incoming}
 use Rattle.target_side.specs.PagerPart.{PagerPart, Paged, fault_join, fault_new, places}
 
--- the miss of this number is known
+-- the pager has learned of the miss of this number
 abbrev pub learned : ℕ → PagerPart → PagerPart
 learned miss b = record b { log = b.log ++ Fault miss ∷ [] }
 

@@ -1,4 +1,4 @@
-//! The pager takes what has arrived.
+//! How the pager takes packets that have arrived.
 
 ghost use Rattle.std.specs.Prelude.{◌≡◌, ◌<◌, ◌≤◌, [], length, is_some, true, false, OnOk, OnErr, IsErrOf};
 ghost use Rattle.std.specs.List.{AllByRecursion};
@@ -16,9 +16,9 @@ use migration_types::{Contents, PageNo, PagerRec, Shared};
 use page_stream::Packet;
 
 impl PagerBook {
-    /// Takes what the link's record of this number delivered down: the state, the first time, which makes the pager
-    /// ready, or a page, which waits to be placed. Another state is recorded and dropped. What comes before the state,
-    /// and what the source does not send, is dropped without a record. On an error nothing changes.
+    /// Takes what the link's record of this number delivered down. The first state makes the pager ready. A page waits
+    /// to be placed. Another state is recorded and dropped. What comes before the state, and what the source does not
+    /// send, is dropped without a record. On an error, nothing changes.
     pub fn pop(&mut self, link_number: u32, packet: &Packet) -> Result<(), TargetFault>
         requires { IsPacketOf self.old.geometry packet.now }
         ensures ok { OnOk result (part_of self.new ≡ pager_pop link_number packet.now (part_of self.old)) }
@@ -35,9 +35,9 @@ impl PagerBook {
         }
     }
 
-    /// Takes what the lane's record of this number delivered: a page, which waits to be placed. A state is recorded and
+    /// Takes what the lane's record of this number delivered. A page waits to be placed. A state is recorded and
     /// dropped. What comes before the state, and what the source does not send, is dropped without a record. On an
-    /// error nothing changes.
+    /// error, nothing changes.
     pub fn pull(&mut self, lane_number: u32, packet: &Packet) -> Result<(), TargetFault>
         requires { IsPacketOf self.old.geometry packet.now }
         ensures ok { OnOk result (part_of self.new ≡ pager_pull lane_number packet.now (part_of self.old)) }
@@ -51,7 +51,7 @@ impl PagerBook {
         self.take(PagerRec::Pull { down: lane_number }, packet)
     }
 
-    /// Whether the log has room for what taking a packet from the link appends. Takes no memory.
+    /// Returns whether the log has room for what taking a packet from the link appends. Allocates no memory.
     pub fn look_to_pop(&self, link_number: u32, packet: &Packet) -> Result<(), TargetFault>
         ensures room { OnOk result (length (pager_pop link_number packet.now (part_of self.now)).log ≤ most_records) }
         ensures full { OnErr result (most_records < length (pager_pop link_number packet.now (part_of self.now)).log) }
@@ -67,7 +67,7 @@ impl PagerBook {
         look_for_room(&self.log, more)
     }
 
-    /// Whether the log has room for what taking a packet from the lane appends. Takes no memory.
+    /// Returns whether the log has room for what taking a packet from the lane appends. Allocates no memory.
     pub fn look_to_pull(&self, lane_number: u32, packet: &Packet) -> Result<(), TargetFault>
         ensures room { OnOk result (length (pager_pull lane_number packet.now (part_of self.now)).log ≤ most_records) }
         ensures full { OnErr result (most_records < length (pager_pull lane_number packet.now (part_of self.now)).log) }
@@ -83,7 +83,7 @@ impl PagerBook {
         look_for_room(&self.log, more)
     }
 
-    /// Takes the state, of which the link's record has this number.
+    /// Takes the state, which the link's record of this number delivered.
     fn begin(&mut self, link_number: u32, released: &Shared<PageNo>) -> Result<(), TargetFault>
         requires unready { is_some self.old.released ≡ false }
         requires pages { AllByRecursion (λ p. p < self.old.geometry.pages) released.now }
@@ -103,7 +103,7 @@ impl PagerBook {
         Ok(())
     }
 
-    /// Once the state has come, takes a packet, of which this record says so.
+    /// Takes a packet after the state has come, and records it by this receipt.
     fn take(&mut self, receipt: PagerRec, packet: &Packet) -> Result<(), TargetFault>
         requires ready { is_some self.old.released ≡ true }
         requires taking { is_taking receipt ≡ true }
@@ -135,7 +135,7 @@ impl PagerBook {
         Ok(())
     }
 
-    /// Records a page, which waits to be placed.
+    /// Records a page, which then waits to be placed.
     fn take_page(
         &mut self,
         receipt: PagerRec,

@@ -1,4 +1,4 @@
-//! The pager lets the guest resume, and places the pages that have come.
+//! How the pager lets the guest resume, and places the pages that have come.
 
 ghost use Rattle.std.specs.Prelude.{◌≡◌, ◌<◌, ◌≤◌, ◌⊎◌, [], true, false, length, slice_get, is_some, Some, None, IfOk, OnOk, OnErr, IsErrOf};
 ghost use Rattle.std.specs.Option.{option_map, unwrap_or};
@@ -18,12 +18,12 @@ use migration_types::{PagerRec, Seq};
 use std::alloc::Global;
 
 impl PagerBook {
-    /// Settles the pages that the guest released at the target before they came: nobody waits for them any more, and
-    /// nobody is answered for them. Once the state has come, lets the guest resume at the target. After that it takes
-    /// the oldest page that has come: it places it, and answers the virtual processors that wait for it, in their
-    /// order, or drops it where it is resident already. Otherwise nobody is answered. The books are of one machine. The
-    /// length of the log that gains a record is looked at before memory is asked for, so `TargetFault::LogFull` comes
-    /// exactly where it has no room. On an error nothing changes.
+    /// Cancels the pages that the guest released at the target before they came: nobody waits for them any more, and
+    /// nobody is woken for them. Once the state has come, it lets the guest resume at the target. After that, it takes
+    /// the oldest page that has come. It places the page and returns the virtual processors that wait for it, in their
+    /// order. If the page is resident already, it drops the page. In all other cases, it returns nobody. The books must
+    /// be of one machine. The error is `TargetFault::LogFull` exactly when the log that gains a record has no room for
+    /// it; this is checked before memory is allocated. On an error, nothing changes.
     pub fn deliver(&mut self, target: &mut TargetBook) -> Result<Seq<u8>, TargetFault>
         requires { geometry_of target.old ≡ self.old.geometry }
         ensures ok { IfOk result (λ woken. record { pager = part_of self.new; target = target_of target.new; woken = woken } ≡ deliver (part_of self.old) (target_of target.old)) }
@@ -49,7 +49,7 @@ impl PagerBook {
         }
     }
 
-    /// Whether the log that gains a record of a delivery has room for it. Takes no memory.
+    /// Returns whether the log that gains a record of a delivery has room for it. Allocates no memory.
     pub fn look_to_deliver(&self, target: &TargetBook) -> Result<(), TargetFault>
         ensures room { OnOk result (let after = deliver (part_of self.now) (target_of target.now) in (length after.pager.log ≤ most_records) × (length after.target.log ≤ most_records)) }
         ensures full { OnErr result (let after = deliver (part_of self.now) (target_of target.now) in (most_records < length after.pager.log) ⊎ (most_records < length after.target.log)) }
@@ -58,7 +58,8 @@ impl PagerBook {
         self.look_to_bring(target)
     }
 
-    /// Whether the log that gains a record has room for it, where the guest resumes or a page has come. Takes no memory.
+    /// Returns whether the log that gains a record has room for it, if the guest resumes or a page has come. Allocates
+    /// no memory.
     fn look_to_bring(&self, target: &TargetBook) -> Result<(), TargetFault>
         ensures room { OnOk result (let after = delivers_by self.now.released (part_of self.now) (target_of target.now) in (length after.pager.log ≤ most_records) × (length after.target.log ≤ most_records)) }
         ensures full { OnErr result (let after = delivers_by self.now.released (part_of self.now) (target_of target.now) in (most_records < length after.pager.log) ⊎ (most_records < length after.target.log)) }
@@ -78,7 +79,7 @@ impl PagerBook {
         look_for_room(&self.log, 1)
     }
 
-    /// Lets the guest resume, or takes the oldest page that has come, once the pages are settled.
+    /// Lets the guest resume, or takes the oldest page that has come, once pages are cancelled.
     fn bring(&mut self, target: &mut TargetBook) -> Result<Seq<u8>, TargetFault>
         requires { geometry_of target.old ≡ self.old.geometry }
         ensures ok { IfOk result (λ woken. record { pager = part_of self.new; target = target_of target.new; woken = woken } ≡ delivers_by self.old.released (part_of self.old) (target_of target.old)) }
@@ -123,7 +124,7 @@ impl PagerBook {
         Ok(())
     }
 
-    /// Places the oldest page that has come, and answers who waits for it.
+    /// Places the oldest page that has come, and returns who waits for it.
     fn place_page(&mut self, target: &mut TargetBook) -> Result<Seq<u8>, TargetFault>
         requires machine { geometry_of target.old ≡ self.old.geometry }
         requires ready { is_some self.old.released ≡ true }
@@ -161,7 +162,7 @@ impl PagerBook {
     }
 }
 
-/// The virtual processors of an entry, and nobody where there is none.
+/// Returns the virtual processors of an entry, or nobody if there is none.
 fn all_of(alloc: Global, waiters: Option<Vec<u8>>) -> Seq<u8>
     ensures { result ≡ unwrap_or (option_map (λ v. v.items) waiters) [] }
 {
@@ -171,7 +172,7 @@ fn all_of(alloc: Global, waiters: Option<Vec<u8>>) -> Seq<u8>
     }
 }
 
-/// No virtual processor.
+/// Returns no virtual processor.
 fn nobody(alloc: Global) -> Seq<u8>
     ensures { result ≡ [] }
 {

@@ -1,4 +1,4 @@
-//! The pager learns of a miss.
+//! How the pager learns of a miss.
 
 ghost use Rattle.std.specs.Prelude.{◌≡◌, ◌+◌, ◌<◌, ◌≤◌, ◌||◌, [], true, false, length, is_some, OnOk, OnErr, IsErrOf};
 ghost use Rattle.migration_types.specs.Limits.{most_records};
@@ -18,12 +18,12 @@ use migration_types::PagerRec;
 use page_stream::Packet;
 
 impl PagerBook {
-    /// Settles the pages that the guest released at the target before they came: nobody waits for them any more. Then
-    /// learns of the oldest miss that was not taken. Where its page is neither resident nor released, the page is asked
-    /// for, or its virtual processor waits with those that wait for it; a released page is placed as zeros at once.
-    /// Where there is no miss, or the state has not come, nothing more happens. The books are of one machine. The log's
-    /// length is looked at before memory is asked for, so `TargetFault::LogFull` comes exactly where the log has no room
-    /// for the records. On an error nothing changes.
+    /// Cancels the pages that the guest released at the target before they came: nobody waits for them any more. Then
+    /// it learns of the oldest miss that was not taken. If its page is neither resident nor released, the pager asks
+    /// for the page, or lets the virtual processor wait with the page's other waiters. If its page is released, the
+    /// pager places it as zeros at once. If there is no miss, or the state has not come, nothing more happens. The
+    /// books must be of one machine. The error is `TargetFault::LogFull` exactly when the log has no room for the
+    /// records; this is checked before memory is allocated. On an error, nothing changes.
     pub fn next_fault(&mut self, target: &mut TargetBook) -> Result<(), TargetFault>
         requires { geometry_of target.old ≡ self.old.geometry }
         ensures ok { OnOk result (record { pager = part_of self.new; target = target_of target.new; woken = [] } ≡ next_fault (part_of self.old) (target_of target.old)) }
@@ -45,7 +45,7 @@ impl PagerBook {
         Ok(())
     }
 
-    /// Whether the log has room for what a miss appends once the pages are settled. Takes no memory.
+    /// Returns whether the log has room for what a miss appends once pages are cancelled. Allocates no memory.
     pub fn look_to_fault(&self, target: &TargetBook) -> Result<(), TargetFault>
         requires { geometry_of target.now ≡ self.now.geometry }
         ensures room { OnOk result (length (next_fault (part_of self.now) (target_of target.now)).pager.log ≤ most_records) }
@@ -56,7 +56,7 @@ impl PagerBook {
         look_for_room(&self.log, more)
     }
 
-    /// How many records a miss appends once the pages are settled.
+    /// Returns how many records a miss appends once pages are cancelled.
     fn records_of_fault(&self, target: &TargetBook) -> usize
         requires { geometry_of target.now ≡ self.now.geometry }
         ensures few { result ≤ 2 }
@@ -75,8 +75,8 @@ impl PagerBook {
         }
     }
 
-    /// Whether nothing follows from a miss once the pages are settled: its page is resident, or its virtual processor
-    /// waits.
+    /// Returns whether nothing follows from a miss once pages are cancelled: its page is resident, or its virtual
+    /// processor waits.
     fn is_only_learned(&self, missing: Missing, target: &TargetBook) -> bool
         requires machine { geometry_of target.now ≡ self.now.geometry }
         requires page { missing.page < self.now.geometry.pages }
@@ -85,7 +85,7 @@ impl PagerBook {
         target.resident(missing.page) || self.waiting.waits_beside(missing.vcpu, target.unsettled())
     }
 
-    /// Learns of the oldest miss, once the pages are settled.
+    /// Learns of the oldest miss, once pages are cancelled.
     fn fault(&mut self, target: &mut TargetBook) -> Result<(), TargetFault>
         requires { geometry_of target.old ≡ self.old.geometry }
         ensures ok { OnOk result (record { pager = part_of self.new; target = target_of target.new; woken = [] } ≡ faults_by self.old.released (target_of target.old).misses (part_of self.old) (target_of target.old)) }
@@ -166,8 +166,8 @@ impl PagerBook {
         Ok(())
     }
 
-    /// Records a miss of a page that is not there, and asks for the page, or lets the virtual processor wait with those
-    /// that wait for it.
+    /// Records a miss of an absent page, and asks for the page, or lets the virtual processor wait with the page's
+    /// other waiters.
     fn ask(&mut self, missing: Missing) -> Result<(), TargetFault>
         requires ready { is_some self.old.released ≡ true }
         requires page { missing.page < self.old.geometry.pages }

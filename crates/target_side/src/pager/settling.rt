@@ -1,4 +1,4 @@
-//! The pager settles the pages that the guest released at the target before they came.
+//! How the pager cancels the pages that the guest released at the target before they came.
 
 ghost use Rattle.std.specs.Prelude.{◌≡◌, ◌||◌, IfOk, OnOk, OnErr, IsErrOf};
 ghost use Rattle.fault_queue.specs.Waiting.{without_all};
@@ -13,8 +13,8 @@ use crate::{TargetBook, TargetFault};
 use fault_queue::FaultQueue;
 
 impl PagerBook {
-    /// Nobody waits any more for the pages that are to be settled. Gives the queue as it was, for a call that comes to
-    /// an error afterwards. On an error, which is that there is no memory, nothing changes.
+    /// Removes the waiters of the pages to be cancelled. Returns the queue as it was, for a call that fails afterwards.
+    /// Fails only if memory runs out, and then nothing changes.
     pub(super) fn drop_waiters(&mut self, target: &TargetBook) -> Result<FaultQueue, TargetFault>
         ensures before { IfOk result (λ before. before ≡ self.old.waiting) }
         ensures ok { OnOk result (self.new ≡ record self.old { waiting = without_all (target_of target.now).unsettled self.old.waiting }) }
@@ -29,7 +29,7 @@ impl PagerBook {
         Ok(waiting)
     }
 
-    /// The pages are settled, in both books. Nothing else changes.
+    /// Marks the pages as cancelled, in both books. Nothing else changes.
     pub(super) fn mark_settled(&mut self, target: &mut TargetBook)
         requires { geometry_of target.old ≡ self.old.geometry }
         ensures part { part_of self.new ≡ record (part_of self.old) { settled = λ page. is_listed page (target_of target.old).unsettled || (part_of self.old).settled page } }

@@ -1,4 +1,4 @@
-//! The pager asks once more.
+//! How the pager asks again.
 
 ghost use Rattle.std.specs.Prelude.{◌≡◌, ◌<◌, ◌≤◌, length, IfOk, OnOk, OnErr, IsErrOf};
 ghost use Rattle.migration_types.specs.Limits.{most_records};
@@ -15,7 +15,7 @@ use migration_types::{PageNo, PagerRec};
 use page_stream::Packet;
 
 impl PagerBook {
-    /// Whether the log has room for what a tick appends. Takes no memory.
+    /// Returns whether the log has room for what a tick appends. Allocates no memory.
     pub fn look_to_tick(&self) -> Result<(), TargetFault>
         ensures room { OnOk result (length (pager_tick (part_of self.now)).book.log ≤ most_records) }
         ensures full { OnErr result (most_records < length (pager_tick (part_of self.now)).book.log) }
@@ -27,9 +27,9 @@ impl PagerBook {
         look_for_room(&self.log, 1)
     }
 
-    /// Wants a page once more: the page that is waited for longest, or where nobody waits the least page that is not
-    /// released, placed or settled. Where each page is one of these, it says so. None: the state has not come, and
-    /// nothing changes. On an error nothing changes.
+    /// Wants a page again: the page that is waited for longest, or if nobody waits, the least page that is not
+    /// released, placed or cancelled. If there is no such page, it says that all pages are placed. Returns `None` if
+    /// the state has not come, and then nothing changes. On an error, nothing changes.
     pub fn tick(&mut self) -> Result<Option<Packet>, TargetFault>
         ensures ok { IfOk result (λ packet. record { book = part_of self.new; packet = packet } ≡ pager_tick (part_of self.old)) }
         ensures full { IsErrOf result TargetFault.LogFull → most_records < length (pager_tick (part_of self.old)).book.log }
@@ -54,7 +54,7 @@ impl PagerBook {
     }
 }
 
-/// The page that is waited for longest, or this one where nobody waits.
+/// Returns the page that is waited for longest, or this one if nobody waits.
 fn oldest_or(waiting: &FaultQueue, page: PageNo) -> PageNo
     ensures { result ≡ oldest waiting.now page }
 {

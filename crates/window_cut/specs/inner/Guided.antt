@@ -1,4 +1,4 @@
--- What a pass over a recording finds to be kept, by what the pass before it found.
+-- The records that a pass over a recording keeps, given what the pass before it found.
 use Rattle.std.specs.Prelude.{ℕ, suc, ◌-◌, Bool, true, false, max, nat_lt, List, [], ◌∷◌}
 use Rattle.migration_types.specs.declared.records.GuestRec.{GuestRec}
 use Rattle.migration_types.specs.declared.records.GuestRec.TheVariants.{Read, Write, Release, Miss, Halt, Resume, See}
@@ -14,7 +14,7 @@ use Rattle.audit_model.specs.Windows.{Numbers, is_seen, new_page, rank, newest, 
 use Rattle.window_cut.specs.declared.marking.Marks.{Marks}
 use Rattle.window_cut.specs.inner.Marks.{has_mark, is_mark}
 
--- whether a record of the source is or repeats a sending that is kept
+-- whether a record of the source is a kept sending, or repeats one
 abbrev pub repeats_by : Numbers → Marks → SourceRec → Bool
 repeats_by number known (Again sending) = has_mark known.source.sendings sending
 repeats_by number known r = keeps_sending number r
@@ -29,7 +29,7 @@ source_by number known (Ask up) = has_mark known.link up
 source_by number known Done = true
 source_by number known Back = true
 
--- whether a delivery is kept, by what repeats a sending
+-- whether a delivery is kept, given the records that repeat a sending
 abbrev pub link_by : Marks → List Bool → LinkRec → Bool
 link_by known repeats (Down sending) = has_mark repeats sending
 link_by known repeats (Up asking) = has_mark known.pager.askings asking
@@ -37,7 +37,7 @@ link_by known repeats (Up asking) = has_mark known.pager.askings asking
 abbrev pub lane_by : List Bool → LaneRec → Bool
 lane_by repeats (LaneDown sending) = has_mark repeats sending
 
--- whether it takes a delivery that is kept
+-- whether it takes a kept delivery
 abbrev pub taking_by : List Bool → List Bool → PagerRec → Bool
 taking_by link lane (Got down) = has_mark link down
 taking_by link lane (Pull down) = has_mark lane down
@@ -65,7 +65,7 @@ abbrev pub further_by : Marks → GuestRec → ℕ → ℕ
 further_by known (See placement) far = max far (reach_by known placement)
 further_by known _ far = far
 
--- whether a record of the guest is kept, by how far looks reached before it
+-- whether a record of the guest is kept, given how far looks reached before it
 abbrev pub guest_by : Numbers → Marks → ℕ → GuestRec → Bool
 guest_by number known far (Read vcpu p c value) = is_seen (number p)
 guest_by number known far (Write vcpu p c value) = is_seen (number p)

@@ -1,4 +1,4 @@
--- Marks of a log's records, one for each, that say which are kept, by the places of those that are.
+-- Marks for a log's records, one for each, which say which are kept; made from the places of those that are.
 use Rattle.std.specs.Prelude.{ℕ, suc, ◌≤◌, ◌<◌, ◌==◌, Bool, List, [], ◌∷◌, map, Option, Some, None, slice_get}
 use Rattle.std.specs.List.{list_any, range_with_len}
 use Rattle.audit_model.specs.Windows.{is_marked}
@@ -7,16 +7,16 @@ use Rattle.audit_model.specs.Windows.{is_marked}
 abbrev pub is_in : List ℕ → ℕ → Bool
 is_in places n = list_any (λ p. p == n) places
 
--- so many marks, of which those at these places keep
+-- this many marks, of which those at these places say to keep
 abbrev pub marks_of : List ℕ → ℕ → List Bool
 marks_of places count = map (is_in places) (range_with_len 0 count)
 
--- the places rise, from one on, and stay below an end
+-- the places rise, from one on, and are below an end
 abbrev pub Rises : ℕ → ℕ → List ℕ → Type 0
 Rises low end [] = Unit {0}
 Rises low end (p ∷ places) = (low ≤ p) × (p < end) × Rises (suc p) end places
 
--- whether there is a mark there that keeps
+-- whether there is a mark there, and it says to keep
 abbrev pub has_mark : List Bool → ℕ → Bool
 has_mark marks n = is_marked (slice_get marks n)
 
@@ -24,7 +24,7 @@ has_mark marks n = is_marked (slice_get marks n)
 abbrev pub is_mark : Bool → Bool
 is_mark mark = mark
 
--- one more than a place, or 0 where there is none
+-- one more than a place, or 0 if there is none
 abbrev pub past : Option ℕ → ℕ
 past None = 0
 past (Some n) = suc n

@@ -1,4 +1,4 @@
--- What a pass knows of a recording so far.
+-- What a pass knows about a recording so far.
 use Rattle.std.specs.Prelude.{◌≡◌, ℕ, Bool, List, [], map, length, None}
 use Rattle.migration_types.specs.declared.records.GuestRec.{GuestRec}
 use Rattle.migration_types.specs.declared.records.SourceRec.{SourceRec}
@@ -47,7 +47,7 @@ pub record IsNothing (marks : Marks) : Type 0 where
   pub lane : marks.lane ≡ []
   pub pager : marks.pager ≡ no_pager
 
--- the marks of a log, and what is to be known of it for others
+-- the marks of a log, and what other logs need to know about it
 pub record GuestFound (number : Numbers) (known : Marks) (marks : GuestMarks) (log : List GuestRec) : Type 0 where
   pub misses : marks.misses ≡ map (keeps_miss number) log
   pub kept : marks.kept ≡ guest_marks number known 0 log
@@ -75,16 +75,16 @@ pub record Found (number : Numbers) (known marks : Marks) (d : Recorded) : Type 
   pub lane : marks.lane ≡ map (lane_by marks.source.repeats) d.lane
   pub pager : PagerFound number known marks.link marks.lane marks.pager d.pager
 
--- so many lines, each ended
+-- this many lines, each ended by LF
 pub record IsSection (section : Section) (lines : List (List ℕ)) : Type 0 where
   pub counted : section.count ≡ length lines
   pub text : section.lines.items ≡ ended lines
 
--- the lines of what is kept of a log, numbered anew
+-- the lines of the kept records of a log, numbered anew
 abbrev pub lines_of : {A : Type 0} → (A → List ℕ) → (A → A) → List Bool → List A → List (List ℕ)
 lines_of line new marks log = map line (map new (kept_in marks log))
 
--- the lines of all that is kept, numbered anew, by the marks that are known
+-- the lines of all kept records, numbered anew, by the known marks
 pub record Written (number : Numbers) (known : Marks) (sections : Sections) (d : Recorded) : Type 0 where
   pub init : IsSection sections.init (lines_of page_line (new_init number) (map (keeps_init number) d.init) d.init)
   pub guest : IsSection sections.guest (lines_of guest_line (new_guest_by number known) known.guest.kept d.guest)
@@ -93,7 +93,7 @@ pub record Written (number : Numbers) (known : Marks) (sections : Sections) (d :
   pub lane : IsSection sections.lane (lines_of lane_line (new_lane_by known) known.lane d.lane)
   pub pager : IsSection sections.pager (lines_of pager_line (new_pager_by number known) known.pager.kept d.pager)
 
--- lines for nothing
+-- sections without lines
 pub record IsBlank (sections : Sections) : Type 0 where
   pub init : IsSection sections.init []
   pub guest : IsSection sections.guest []

@@ -1,4 +1,4 @@
--- The text of a session by its parts.
+-- The text of a session, made of its parts.
 use Rattle.std.specs.Prelude.{ℕ, List, [], ◌∷◌, ◌++◌, length, map}
 use Rattle.std.specs.Fmt.{decimal}
 use Rattle.migration_types.specs.declared.version.Version.{Version}
@@ -18,7 +18,7 @@ pub record AreSections (sections : Sections) (s : Recorded) : Type 0 where
   pub lane : IsSection sections.lane (map lane_line s.lane)
   pub pager : IsSection sections.pager (map pager_line s.pager)
 
--- the lines of the lane's log stand in the second version alone
+-- the lines of the lane's log, which only the second version has
 abbrev pub lane_lines : Version → List (List ℕ) → List (List ℕ)
 lane_lines One lines = []
 lane_lines Two lines = (lane_key ++ decimal (length lines)) ∷ lines

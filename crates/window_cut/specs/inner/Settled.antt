@@ -1,4 +1,4 @@
--- What a pass comes to.
+-- The result of a pass.
 use Rattle.std.specs.Prelude.{ℕ, List, Result, Ok, Err}
 use Rattle.migration_types.specs.Sessions.{Recorded}
 use Rattle.text_lines.specs.Text.{IsSpelling}
@@ -30,7 +30,7 @@ pub record IsInside (w : Window) (text : List ℕ) : Type 0 where
   pub spelled : IsSpelling SpellsRecording s text
   pub inside : IsOf w s.geometry.pages
 
--- why there is no window, where a pass that comes later refuses the text: it changed
+-- Why there is no window, if a later pass refuses the text: the text has changed.
 abbrev pub later : CutFault → CutFault
 later (Recording (Line line)) = Changed
 later (Recording File) = Recording File
@@ -38,18 +38,18 @@ later (Recording Memory) = Recording Memory
 later Outside = Changed
 later Changed = Changed
 
--- what a later pass comes to
+-- the result of a later pass
 abbrev pub found_later : {T : Type 0} → Result T CutFault → Result T CutFault
 found_later (Ok found) = Ok found
 found_later (Err fault) = Err (later fault)
 
--- what it finds is not what it goes by
+-- it finds other marks than those that it goes by
 pub record FindsOthers (w : Window) (known : Marks) (text : List ℕ) : Type 0 where
   pub found : Marks
   pub is_found : IsFoundIn w known found text
   pub others : ¬ AreSame known found
 
--- Why a pass that goes by known marks writes no window of this text.
+-- Why a pass that goes by known marks does not write a window of this text.
 abbrev pub IsNotWrittenBy : Window → Marks → List ℕ → CutFault → Type 0
 IsNotWrittenBy w known text (Recording fault) = IsNotCutBy w text (Recording fault)
 IsNotWrittenBy w known text Outside = IsNotCutBy w text Outside

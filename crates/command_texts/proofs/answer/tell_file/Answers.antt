@@ -1,25 +1,13 @@
-use Rattle.std.proofs.Common.{◌≡◌, codes, ◌++◌, true}
-use Rattle.std.proofs.KnownBytes.{Appends-trans}
-use Rattle.command_texts.specs.Shown.{shown}
+use Rattle.std.proofs.Common.{◌≡◌, codes, true}
+use Rattle.command_texts.specs.Answers.{file_line}
+use Rattle.command_texts.specs.Shown.{line_on}
 use Rattle.command_texts.proofs.Fronts.{front_before, front_behind}
 use Rattle.command_texts.proofs.answer.tell_file.Goals as goal
 
-pub returns-then-not-write_whole-clause-front : goal.returns-then-not-write_whole-clause-front
-returns-then-not-write_whole-clause-front g c = front_before _ _ (codes "file ") (shown c.args.name.now ++ codes "\n") c.write_whole.ensures.front
+pub returns-then-write_file_line : goal.returns-then-write_file_line
+returns-then-write_file_line g c =
+    let first : c.write_file_line.result ≡ true = cc in
+    front_behind _ _ _ (file_line c.args.name.now) (line_on c.args.name.now c.args.why.now) (c.write_file_line.ensures.whole first) c.write_line_on.ensures.front
 
-pub returns-then-not-write_shown-clause-front : goal.returns-then-not-write_shown-clause-front
-returns-then-not-write_shown-clause-front g c =
-    let first : c.write_whole.result ≡ true = cc in
-    front_behind _ _ _ (codes "file ") (shown c.args.name.now ++ codes "\n") (c.write_whole.ensures.whole first) (front_before _ _ (shown c.args.name.now) (codes "\n") c.write_shown.ensures.front)
-
-pub returns-clause-front : goal.returns-clause-front
-returns-clause-front g c =
-    let first : c.write_whole.result ≡ true = cc in
-    let second : c.write_shown.result ≡ true = cc in
-    front_behind _ _ _ (codes "file ") (shown c.args.name.now ++ codes "\n") (c.write_whole.ensures.whole first) (front_behind _ _ _ (shown c.args.name.now) (codes "\n") (c.write_shown.ensures.whole second) c.write_whole-2.ensures.front)
-
-pub returns-clause-whole : goal.returns-clause-whole
-returns-clause-whole g c =
-    let first : c.write_whole.result ≡ true = cc in
-    let second : c.write_shown.result ≡ true = cc in
-    λ third. Appends-trans _ _ _ (codes "file ") (shown c.args.name.now ++ codes "\n") (c.write_whole.ensures.whole first) (Appends-trans _ _ _ (shown c.args.name.now) (codes "\n") (c.write_shown.ensures.whole second) (c.write_whole-2.ensures.whole third))
+pub returns-else-write_file_line : goal.returns-else-write_file_line
+returns-else-write_file_line g c = front_before _ _ (file_line c.args.name.now) (line_on c.args.name.now c.args.why.now) c.write_file_line.ensures.front

@@ -2,7 +2,7 @@ use Rattle.std.proofs.Common.{List, ℕ, ◌≡◌, Option, subst}
 use Rattle.std.proofs.lemmas.Result.{err_from_is_err_and}
 use Rattle.command_texts.specs.declared.why.Telling.{Telling}
 use Rattle.command_texts.specs.Reasons.{Place, TellsWhy, place_of}
-use Rattle.command_texts.proofs.Endings.{no_memory, not_read, not_written, text_fault, written_whole}
+use Rattle.command_texts.proofs.Endings.{no_memory, not_read, not_written, output_fault, text_fault, written_whole}
 use Rattle.command_texts.proofs.Fronts.{both_gain, front_gains, note_told, same_gains, told_gains, why_gains}
 use Rattle.command_texts.proofs.performing.perform_one.Goals as goal
 
@@ -26,8 +26,9 @@ returns-in_err-answer-clause-gains g c = (same_gains _, same_gains _)
 pub returns-in_err-status-clause-told : goal.returns-in_err-status-clause-told
 returns-in_err-status-clause-told g c =
     let n = c.in_ok-found.ensures.named in
+    let IsName = λ (n : List ℕ). n ≡ c.args.name.now in
     let p = err_from_is_err_and c.from_residual-in_err-status.result c.from_residual-in_err-status.ensures.1 in
-    rw (p.1, p.2) (not_written _ _ _ n.0 c.in_ok-answer.answer.text.items c.in_ok-answer.answer.status _ _ _ _ c.in_err-status.ensures.fault tt n.1 (c.in_ok-answer.ensures.told n.0 n.2) c.in_err-status.ensures.front)
+    rw (p.1, p.2) (not_written _ _ _ n.0 c.in_ok-answer.answer.text.items c.in_ok-answer.answer.status _ _ _ _ c.in_err-status.ensures.fault (output_fault IsName _ c.in_err-status.ensures.fault) n.1 (c.in_ok-answer.ensures.told n.0 n.2) c.in_err-status.ensures.front)
 
 pub returns-in_err-status-clause-gains : goal.returns-in_err-status-clause-gains
 returns-in_err-status-clause-gains g c = (front_gains _ _ _ c.in_err-status.ensures.front, same_gains _)
@@ -40,7 +41,7 @@ returns-clause-few g c =
 pub returns-clause-told : goal.returns-clause-told
 returns-clause-told g c =
     let n = c.in_ok-found.ensures.named in
-    let old = g.E.Write.contents c.args.errors.now in
+    let old = g.E.Write.contents c.args.console.now.errors in
     let new = g.E.Write.contents c.tell_why.new.errors in
     written_whole _ _ _ n.0 c.in_ok-answer.answer _ _ _ c.in_ok-status.ensures.status n.1 (c.in_ok-answer.ensures.told n.0 n.2) c.in_ok-status.ensures.text
     (record {

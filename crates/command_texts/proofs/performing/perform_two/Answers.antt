@@ -2,7 +2,7 @@ use Rattle.std.proofs.Common.{List, ℕ, ◌≡◌, ◌⊎◌, Option, subst}
 use Rattle.std.proofs.lemmas.Result.{err_from_is_err_and}
 use Rattle.command_texts.specs.declared.why.Telling.TheVariants.{Short}
 use Rattle.command_texts.specs.Reasons.{Place, TellsWhy}
-use Rattle.command_texts.proofs.Endings.{no_memory, not_read, not_written, text_fault, written_whole}
+use Rattle.command_texts.proofs.Endings.{no_memory, not_read, not_written, output_fault, text_fault, written_whole}
 use Rattle.command_texts.proofs.Fronts.{both_gain, front_gains, note_told, same_gains, told_gains, why_gains}
 use Rattle.command_texts.proofs.performing.perform_two.Goals as goal
 
@@ -27,8 +27,9 @@ returns-in_err-answer-clause-gains g c = (same_gains _, same_gains _)
 pub returns-in_err-status-clause-told : goal.returns-in_err-status-clause-told
 returns-in_err-status-clause-told g c =
     let n = c.in_ok-found.ensures.named in
+    let IsName = λ (n : List ℕ). (n ≡ c.args.first.now) ⊎ (n ≡ c.args.second.now) in
     let p = err_from_is_err_and c.from_residual-in_err-status.result c.from_residual-in_err-status.ensures.1 in
-    rw (p.1, p.2) (not_written _ _ _ n.0 c.in_ok-answer.answer.text.items c.in_ok-answer.answer.status _ _ _ _ c.in_err-status.ensures.fault tt n.1 (c.in_ok-answer.ensures.told n.0 n.2 n.3) c.in_err-status.ensures.front)
+    rw (p.1, p.2) (not_written _ _ _ n.0 c.in_ok-answer.answer.text.items c.in_ok-answer.answer.status _ _ _ _ c.in_err-status.ensures.fault (output_fault IsName _ c.in_err-status.ensures.fault) n.1 (c.in_ok-answer.ensures.told n.0 n.2 n.3) c.in_err-status.ensures.front)
 
 pub returns-in_err-status-clause-gains : goal.returns-in_err-status-clause-gains
 returns-in_err-status-clause-gains g c = (front_gains _ _ _ c.in_err-status.ensures.front, same_gains _)
@@ -50,7 +51,7 @@ returns-clause-told g c =
       is_one = w.2;
       is_other = w.3;
       between = g.E.Write.contents c.tell_why.new.errors;
-      why = subst (λ (place : Option Place). TellsWhy Short place (g.E.Write.contents c.args.errors.now) (g.E.Write.contents c.tell_why.new.errors)) w.4 c.tell_why.ensures;
+      why = subst (λ (place : Option Place). TellsWhy Short place (g.E.Write.contents c.args.console.now.errors) (g.E.Write.contents c.tell_why.new.errors)) w.4 c.tell_why.ensures;
       behind = g.E.Write.contents c.tell_more.new.errors;
       more = told;
       noted = note_told (g.C.OnTwo.has_note c.args.command.now n.0) c.note-note.result c.args.first.now c.in_ok-status.status (g.E.Write.contents c.tell_more.new.errors) (g.E.Write.contents c.tell_note.new.errors) (c.note-note.ensures n.0 n.2 n.3) c.tell_note.ensures;

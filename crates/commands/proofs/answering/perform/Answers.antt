@@ -1,7 +1,4 @@
-use Rattle.std.proofs.Common.{Bool}
-use Rattle.window_commands.specs.Windows.{EndsWindow}
-use Rattle.commands.specs.Told.{window_of}
-use Rattle.commands.proofs.Lined.{some_named}
+use Rattle.commands.proofs.Lined.{window_lines}
 use Rattle.commands.proofs.answering.perform.Goals as goal
 
 pub returns-in-One-clause-told : goal.returns-in-One-clause-told
@@ -17,5 +14,8 @@ pub returns-in-Draw-clause-told : goal.returns-in-Draw-clause-told
 returns-in-Draw-clause-told g c = rw c.in-Draw.is c.asked_draw.ensures.told
 
 pub returns-in-Window-clause-told : goal.returns-in-Window-clause-told
-returns-in-Window-clause-told g c =
-    rw c.in-Window.is (some_named (λ (lined : Bool). EndsWindow (window_of c.in-Window.pages) lined c.in-Window.name.now (g.S.TextSource.bytes_of c.args.texts.now) (g.O.Write.contents c.args.output.now, g.E.Write.contents c.args.errors.now) (g.O.Write.contents c.asked_window.new.output, g.E.Write.contents c.args.errors.now) c.asked_window.result) c.in-Window.lines c.asked_window.ensures.told)
+returns-in-Window-clause-told g c = rw c.in-Window.is c.asked_window.ensures.told
+
+pub returns-in-Window-clause-lines : goal.returns-in-Window-clause-lines
+returns-in-Window-clause-lines g c =
+    rw c.in-Window.is (window_lines c.in-Window.pages c.in-Window.name.now c.in-Window.file _ _ _ _ _ c.asked_window.result (rw c.is_some.ensures at c.asked_window.ensures.lines) (rw c.is_some.ensures at c.asked_window.ensures.unlined))

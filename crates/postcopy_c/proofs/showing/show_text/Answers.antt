@@ -3,11 +3,11 @@ use Rattle.judged_texts.specs.declared.auditing.Audited.{Audited}
 use Rattle.judged_texts.specs.Checked.{SpellsOneSession, OfSpelled}
 use Rattle.judged_texts.specs.Audited.{HasReport, FindsClean, FindsFault, IsSafeExactlyIf, IsUnsafe}
 use Rattle.judged_texts.proofs.Read.{one_session_of, safe_of_text, exactly_of_text, faulty_of_text, of_refused}
-use Rattle.postcopy_c.proofs.Shown.{audits, of_audits, to_audits, showing_of}
+use Rattle.postcopy_c.proofs.Shown.{audits, of_audits, refusal_shown, showing_of, to_audits}
 use Rattle.postcopy_c.proofs.showing.show_text.Goals as goal
 
 pub returns-in-Ok-clause-showing : goal.returns-in-Ok-clause-showing
-returns-in-Ok-clause-showing c = showing_of c.args.shown_as c.args.session.now c.in-Ok.recorded c.show_session.result c.in-Ok.ensures c.show_session.ensures.shown
+returns-in-Ok-clause-showing c = showing_of c.args.asked.now c.args.session.now c.in-Ok.recorded c.show_session.result c.in-Ok.ensures c.show_session.ensures.shown
 
 pub returns-in-Ok-clause-one_session : goal.returns-in-Ok-clause-one_session
 returns-in-Ok-clause-one_session c =
@@ -39,6 +39,10 @@ returns-in-Ok-clause-faulty c =
     (faulty_of_text text s (audits c.show_session.result) c.session_texts_are_unambiguous.ensures c.in-Ok.ensures
     (to_audits (λ (a : Audited). FindsFault a → IsUnsafe s) c.show_session.result c.show_session.ensures.faulty))
 
-pub returns-in_ok-text-in-Err-clause-exactly : goal.returns-in_ok-text-in-Err-clause-exactly
-returns-in_ok-text-in-Err-clause-exactly c =
+pub returns-in_ok-texts-in-Err-clause-showing : goal.returns-in_ok-texts-in-Err-clause-showing
+returns-in_ok-texts-in-Err-clause-showing c =
+    refusal_shown c.args.asked.now c.args.session.now c.in-Err.fault.line c.in_ok-line-in-Err.line c.in-Err.fault.kind c.in_ok-texts-in-Err.texts c.in-Err.ensures c.in_ok-line-in-Err.ensures c.in_ok-texts-in-Err.ensures.shown c.in_ok-texts-in-Err.ensures.measured
+
+pub returns-in_ok-texts-in-Err-clause-exactly : goal.returns-in_ok-texts-in-Err-clause-exactly
+returns-in_ok-texts-in-Err-clause-exactly c =
     of_refused c.args.session.now c.in-Err.fault.line c.in-Err.fault.kind (IsSafeExactlyIf ⊥) c.in-Err.ensures c.in_ok-line-in-Err.ensures.1

@@ -1,23 +1,5 @@
-use Rattle.std.proofs.Common.{inl}
-use Rattle.postcopy_c.proofs.Clean.{report_by_number, exactly_by_number, faulty_by_number}
+use Rattle.postcopy_c.proofs.Shown.{told_one}
 use Rattle.postcopy_c.proofs.showing.tell_shown.Goals as goal
 
-pub returns-in-Ok-clause-told : goal.returns-in-Ok-clause-told
-returns-in-Ok-clause-told c = inl (record {
-  showing = c.in-Ok.showing;
-  is_showing = c.in-Ok.ensures.showing;
-  are_numbers = c.put_shown.ensures.numbers;
-  is_put = c.put_shown.ensures.put;
-})
-
-pub returns-in-Ok-clause-one_session : goal.returns-in-Ok-clause-one_session
-returns-in-Ok-clause-one_session c = λ other _.
-    c.in-Ok.ensures.one_session (report_by_number c.in-Ok.showing.audited _ c.put_shown.result c.put_shown.ensures.numbers other)
-
-pub returns-in-Ok-clause-exactly : goal.returns-in-Ok-clause-exactly
-returns-in-Ok-clause-exactly c = λ some.
-    exactly_by_number c.args.session.now c.in-Ok.showing.audited _ c.put_shown.result c.put_shown.ensures.numbers c.in-Ok.ensures.exactly
-
-pub returns-in-Ok-clause-faulty : goal.returns-in-Ok-clause-faulty
-returns-in-Ok-clause-faulty c = λ kind.
-    c.in-Ok.ensures.faulty (faulty_by_number c.in-Ok.showing.audited _ c.put_shown.result c.put_shown.ensures.numbers kind)
+pub returns-clause-told : goal.returns-clause-told
+returns-clause-told c = told_one c.args.shown_as c.args.session.now c.args.room.now _ c.tell_all.result _ _ c.tell_all.ensures.told

@@ -2,8 +2,6 @@ use Rattle.std.proofs.Common.{◌≡◌, ℕ, ◌+◌, ◌<◌, ◌≤◌, ◌�
 use Rattle.std.specs.Prelude.{slice_index}
 use Rattle.std.proofs.lemmas.Bool.{cases_lt}
 use Rattle.migration_types.specs.Extents.{Extent}
-use Rattle.migration_types.specs.Memory.{Memory}
-use Rattle.audit_model.specs.Flat.{flat}
 use Rattle.session_story.specs.inner.Cells.{AreSame}
 use Rattle.session_story.proofs.values.first_other.Goals as goal
 
@@ -18,18 +16,11 @@ one_more content cells n same here c lt = go (cases_lt c n)
 
 pub returns-then-contents-index : goal.returns-then-contents-index
 returns-then-contents-index c =
-    let page = c.args.page in
-    let index = c.loop-index.index in
-    let read = c.read.ensures ∙ ap (λ (m : Memory). m page index) c.requires.machine.memory in
     record {
-      below = omega (arith, c.loop-index-test.true, c.cells-cells.ensures, ap (λ (e : Extent). e.cells) c.geometry.ensures);
-      differs = λ same. c.if-contents-index.true (same ∙ sym read);
+      below = omega (arith, c.loop-index-test.true, c.cells-count.ensures, ap (λ (e : Extent). e.cells) c.geometry.ensures);
+      differs = λ same. c.if-contents-index.true same;
       same_before = c.loop-index.invariant;
     }
 
 pub loop-index-preserved : goal.loop-index-preserved
-loop-index-preserved c =
-    let page = c.args.page in
-    let index = c.loop-index.index in
-    let read = c.read.ensures ∙ ap (λ (m : Memory). m page index) c.requires.machine.memory in
-    one_more c.args.contents.now (flat c.args.session.now c.args.to page) index c.loop-index.invariant (c.if-contents-index.false ∙ read)
+loop-index-preserved c = one_more c.args.contents.now (slice_index c.args.cells.now) c.loop-index.index c.loop-index.invariant c.if-contents-index.false

@@ -1,19 +1,44 @@
+use Rattle.std.proofs.Common.{◌≡◌, ◌∙◌, ℕ, Bool, Ok, sym, ap, subst}
+use Rattle.std.proofs.lemmas.Result.{err_from_is_err_and}
 use Rattle.command_texts.proofs.Fronts.{front_gains, same_gains}
-use Rattle.window_commands.proofs.Told.{few_written, window_unread, window_written}
+use Rattle.window_commands.proofs.Told.{TellsOf, few_written, lines_kept, lines_told, lines_unasked, window_unread, window_unwritten, window_written}
 use Rattle.window_commands.proofs.windowing.perform_window.Goals as goal
 
-pub returns-in-Ok-clause-few : goal.returns-in-Ok-clause-few
-returns-in-Ok-clause-few g c = few_written c.in-Ok.answer c.written.result c.in-Ok.ensures.few c.written.ensures.status
+pub returns-in_err-answer-clause-told : goal.returns-in_err-answer-clause-told
+returns-in_err-answer-clause-told g c =
+    let p = err_from_is_err_and c.from_residual.result c.from_residual.ensures.1 in
+    rw (p.1, p.2) (window_unread c.args.window c.args.name.now (g.S.TextSource.bytes_of c.args.console.now.texts.now) _ _ _ c.in_err-answer.ensures.fault)
 
-pub returns-in-Ok-clause-told : goal.returns-in-Ok-clause-told
-returns-in-Ok-clause-told g c = λ errors.
-    window_written c.args.window c.args.lined c.args.name.now (g.S.TextSource.bytes_of c.args.texts.now) c.in-Ok.answer _ _ errors c.written.result c.in-Ok.ensures.told c.written.ensures.status c.written.ensures.text c.written.ensures.fault c.written.ensures.front
+pub returns-in_err-answer-clause-gains : goal.returns-in_err-answer-clause-gains
+returns-in_err-answer-clause-gains g c = (same_gains _, same_gains _)
 
-pub returns-in-Ok-clause-gains : goal.returns-in-Ok-clause-gains
-returns-in-Ok-clause-gains g c = front_gains _ _ _ c.written.ensures.front
+pub returns-in_err-status-clause-told : goal.returns-in_err-status-clause-told
+returns-in_err-status-clause-told g c =
+    let p = err_from_is_err_and c.from_residual-in_err-status.result c.from_residual-in_err-status.ensures.1 in
+    rw (p.1, p.2) (window_unwritten c.args.window c.args.lined c.args.name.now (g.S.TextSource.bytes_of c.args.console.now.texts.now) (c.in_ok-answer.answer, c.in_ok-answer.table) _ _ _ _ c.in_ok-answer.ensures.told c.in_err-status.ensures.fault c.in_err-status.ensures.front)
 
-pub returns-in-Err-clause-told : goal.returns-in-Err-clause-told
-returns-in-Err-clause-told g c = λ errors. window_unread c.args.window c.args.lined c.args.name.now (g.S.TextSource.bytes_of c.args.texts.now) _ errors c.in-Err.fault c.in-Err.ensures.fault
+pub returns-in_err-status-clause-gains : goal.returns-in_err-status-clause-gains
+returns-in_err-status-clause-gains g c = (front_gains _ _ _ c.in_err-status.ensures.front, same_gains _)
 
-pub returns-in-Err-clause-gains : goal.returns-in-Err-clause-gains
-returns-in-Err-clause-gains g c = same_gains _
+pub returns-clause-few : goal.returns-clause-few
+returns-clause-few g c = few_written c.args.window c.args.lined _ (c.in_ok-answer.answer, c.in_ok-answer.table) c.in_ok-status.status c.in_ok-answer.ensures.told c.in_ok-status.ensures.status
+
+pub returns-clause-told : goal.returns-clause-told
+returns-clause-told g c =
+    window_written c.args.window c.args.lined c.args.name.now (g.S.TextSource.bytes_of c.args.console.now.texts.now) (c.in_ok-answer.answer, c.in_ok-answer.table) _ _ _ c.in_ok-status.status c.in_ok-answer.ensures.told c.in_ok-status.ensures.status c.in_ok-status.ensures.text
+
+pub returns-clause-gains : goal.returns-clause-gains
+returns-clause-gains g c = (front_gains _ _ _ c.in_ok-status.ensures.front, same_gains _)
+
+pub returns-clause-lines : goal.returns-clause-lines
+returns-clause-lines g c = λ lined well.
+    let zero : c.in_ok-status.status ≡ 0 = cc in
+    lines_told c.args.window c.args.name.now (g.S.TextSource.bytes_of c.args.console.now.texts.now) (c.in_ok-answer.answer, c.in_ok-answer.table) c.args.lines.now c.put.new.lines _ _ (subst (λ (b : Bool). TellsOf c.args.window b (g.S.TextSource.bytes_of c.args.console.now.texts.now c.args.name.now) (c.in_ok-answer.answer, c.in_ok-answer.table)) lined c.in_ok-answer.ensures.told) c.in_ok-status.ensures.text c.put.ensures (sym c.in_ok-status.ensures.status ∙ zero)
+
+pub returns-clause-unlined : goal.returns-clause-unlined
+returns-clause-unlined g c = λ unlined.
+    lines_unasked c.args.window (g.S.TextSource.bytes_of c.args.console.now.texts.now c.args.name.now) (c.in_ok-answer.answer, c.in_ok-answer.table) c.args.lines.now c.put.new.lines (subst (λ (b : Bool). TellsOf c.args.window b (g.S.TextSource.bytes_of c.args.console.now.texts.now c.args.name.now) (c.in_ok-answer.answer, c.in_ok-answer.table)) unlined c.in_ok-answer.ensures.told) c.put.ensures
+
+pub returns-clause-kept : goal.returns-clause-kept
+returns-clause-kept g c = λ other.
+    lines_kept c.args.window c.args.lined (g.S.TextSource.bytes_of c.args.console.now.texts.now c.args.name.now) (c.in_ok-answer.answer, c.in_ok-answer.table) c.args.lines.now c.put.new.lines c.in_ok-answer.ensures.told c.put.ensures (λ zero. other (ap Ok (c.in_ok-status.ensures.status ∙ zero)))

@@ -9,8 +9,8 @@ use Rattle.window_commands.proofs.Told.{windowed_told}
 use Rattle.window_commands.proofs.windowing.unread.Goals as goal
 
 pub returns-in-Line-clause-told : goal.returns-in-Line-clause-told
-returns-in-Line-clause-told c = λ window recording fault lined.
+returns-in-Line-clause-told c = λ window recording fault.
     let refused = subst (λ f. IsTold window recording (Recording f)) c.in-Line.is fault in
-    given_holds (λ a. IsWindowAnswer window lined recording a.text.items a.status) c.refused_at.result c.given.result
-    (windowed_told window lined recording (RecordingText c.in-Line.line) c.refused_at.result (subst (λ text. IsRefusalLine SpellsRecording text c.in-Line.line) refused.is_known refused.refused) c.refused_at.ensures)
+    given_holds (λ a. IsWindowAnswer window recording a.text.items a.status) c.refused_at.result c.given.result
+    (windowed_told window recording (RecordingText c.in-Line.line) c.refused_at.result (subst (λ text. IsRefusalLine SpellsRecording text c.in-Line.line) refused.is_known refused.refused) c.refused_at.ensures)
     c.given.ensures.given

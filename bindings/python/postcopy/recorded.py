@@ -1,0 +1,292 @@
+"""Makes a session of the files that recorders wrote: of bindings/c/postcopy_record.h, and of postcopy.recorder.
+
+A log's records stand in the files PARTY.PROCESS.N of a folder or of several, one for each thread that appended to it:
+
+    postcopy-records 1
+    recording NAME
+    log PARTY FIRST OPENING
+    NUMBER RECORD       a line for each
+    end COUNT           in one of the files, where the log was closed
+
+So a process tells of its part of the log: the records from FIRST on and in front of COUNT. OPENING is the N of the part's first file.
+The last line is `next COUNT` where the log was handed over to another process, and `lost ERRNO` where a record was not written. A file ends at a byte 0 or with a line
+that has no end, where its process died. A log is whole where each of its parts was closed, and they have each number from 0 on
+once. Nothing here needs the library.
+"""
+from __future__ import annotations
+
+import os
+import re
+from typing import Dict, Iterable, Iterator, List, Optional, Tuple
+
+from .records import LOGS, LOST, RECORDS, read_record
+from .sessions import Session
+
+__all__ = ["Unfit", "recording_of", "session_of"]
+
+_FILE = re.compile(rf"(machine|{'|'.join(LOGS)})\.([0-9]+)\.[0-9]+", re.ASCII)
+_HEAD = ("postcopy-records 1", "recording ([A-Za-z0-9_.-]{1,64})", "log %s (0|[1-9][0-9]{0,9}) (0|[1-9][0-9]{0,9})")
+_TOLD = ("'postcopy-records 1': no recorder of this release wrote it", "'recording NAME'", "'log %s FIRST OPENING'")
+_LINE = re.compile("(0|[1-9][0-9]{0,9}) (.+)", re.ASCII)
+_LAST = re.compile("(end|next|lost) (0|[1-9][0-9]{0,9})", re.ASCII)
+_MACHINE = re.compile("pages ([1-9][0-9]{0,9}) ([1-9][0-9]{0,2})|page (0|[1-9][0-9]{0,9}) ((?:[0-9a-f]{16})+)", re.ASCII)
+
+
+class Unfit(ValueError):
+    """Why the files are those of no session, in words."""
+
+
+def _quoted(text: str) -> str:
+    return ascii(text if len(text) <= 60 else f"{text[:57]}...")
+
+
+def _lines(path: str) -> List[str]:
+    """The lines of a file that were written to their ends."""
+    with open(path, "rb") as file:
+        whole = file.read().partition(b"\0")[0].rpartition(b"\n")[0]
+    return whole.decode("ascii", "backslashreplace").split("\n") if whole else []
+
+
+class _Name:
+    """The recording's name, which all files have."""
+
+    def __init__(self) -> None:
+        self.name, self.path = "", ""
+
+    def take(self, name: str, path: str) -> None:
+        if self.name and name != self.name:
+            raise Unfit(f"{path} is of the recording {name}, and {self.path} of the recording {self.name}: these are two recordings, each of "
+                        "which has its own session (a folder at a second machine is given the name: postcopy_recording_join, or join)")
+        self.name, self.path = name, path
+
+
+class _Part:
+    """What a process wrote of a log from an opening on."""
+
+    def __init__(self, path: str, first: int) -> None:
+        self.path, self.first, self.count = path, first, first  # `count`: the number behind its last record
+        self.word, self.where, self.error = "", "", 0  # how and where it was closed, and why a record was not written
+
+    def close(self, log: str, where: str, word: str, number: int) -> None:
+        if self.word:
+            raise Unfit(f"{where}: a second end of the {log}'s log from record {self.first} on, beside {self.where}: {_TWICE}")
+        if word == "lost":
+            self.error = number
+        elif number < self.count:
+            raise Unfit(f"{where}: found '{word} {number}', where the {log}'s log has a record {self.count - 1}")
+        else:
+            self.count = number
+        self.word, self.where = word, where
+
+
+_TWICE = "two recordings are in one folder, or the log was opened twice from this number on"
+_GONE_ON = "a log is gone on with from the number that postcopy_log_hand_over or Log.hand_over answers"
+
+
+class _Log:
+    """The files of a log."""
+
+    def __init__(self, name: str) -> None:
+        self.name = name
+        self.paths: List[str] = []
+        self.parts: Dict[Tuple[str, str, str], _Part] = {}  # by folder, process and opening
+        self.texts: Dict[int, str] = {}  # of the records, by their numbers
+        self.said: List[str] = []
+
+    def read(self, path: str, process: str, recording: _Name) -> None:
+        """Takes in a file."""
+        self.paths.append(path)
+        lines = _lines(path)
+        head = self._head(path, lines)
+        if len(head) < 3:
+            self.said.append(f"{self.name}: {path} ends in its head: its process died as it began the file")
+            return
+        recording.take(head[1][1], path)
+        first = int(head[2][1])
+        part = self.parts.setdefault((os.path.dirname(path), process, head[2][2]), _Part(path, first))
+        if part.first != first:
+            raise Unfit(f"{path}:3: found '{lines[2]}', where {part.path} begins with record {part.first}")
+        numbers = []
+        for place, line in enumerate(lines[3:], 4):
+            match = _LINE.fullmatch(line)
+            if match is not None:
+                number = int(match[1])
+                if number in self.texts:
+                    raise Unfit(self._twice(path, place, part, number))
+                self.texts[number] = match[2]
+                numbers.append(number)
+            elif not _LAST.fullmatch(line):
+                raise Unfit(f"{path}:{place}: found {_quoted(line)}, which is no record: expected its number, its word and its fields")
+            elif place < len(lines):
+                raise Unfit(f"{path}:{place + 1}: found {_quoted(lines[place])} after the log's end, '{line}'")
+        self._take(part, path, numbers, len(lines), lines[-1])
+
+    def _head(self, path: str, lines: List[str]) -> List["re.Match[str]"]:
+        found = []
+        for place, (pattern, told, line) in enumerate(zip(_HEAD, _TOLD, lines), 1):
+            match = re.fullmatch(pattern.replace("%s", self.name), line, re.ASCII)
+            if match is None:
+                raise Unfit(f"{path}:{place}: found {_quoted(line)}; expected {told.replace('%s', self.name)}")
+            found.append(match)
+        return found
+
+    def _take(self, part: _Part, path: str, numbers: List[int], place: int, line: str) -> None:
+        """Takes a file's records, and perhaps its last line, into its part."""
+        if numbers and min(numbers) < part.first:
+            raise Unfit(f"{self.place(min(numbers))} is in a file of the records from {part.first} on")
+        most = max(numbers, default=part.first - 1) + 1
+        if part.word in ("end", "next") and most > part.count:
+            raise Unfit(f"{self.place(most - 1)} is after the end that {part.where} tells")
+        part.count = max(part.count, most)
+        last = _LAST.fullmatch(line)
+        if last is not None:
+            part.close(self.name, f"{path}:{place}", last[1], int(last[2]))
+
+    def _twice(self, path: str, place: int, part: _Part, number: int) -> str:
+        """What is said of a second record of a number."""
+        others = {it.first for it in self.parts.values() if it is not part}
+        why = _GONE_ON if others and part.first not in others else _TWICE
+        return f"{path}:{place}: a second record {number} of the {self.name}'s log, beside {self.place(number)}: {why}"
+
+    def place(self, number: int) -> str:
+        """Which record this is, and where it stands. (Looked for anew: it is asked for once or twice.)"""
+        start = f"{number} "
+        for path in self.paths:
+            for place, line in enumerate(_lines(path), 1):
+                if line.startswith(start):
+                    return f"{path}:{place}: record {number} of the {self.name}'s log"
+        return f"record {number} of the {self.name}'s log"
+
+    def lacks(self) -> Iterator[str]:
+        """What keeps the log's parts from being all of it, in words."""
+        yield from self.said
+        parts, at = sorted(self.parts.values(), key=lambda part: (part.first, part.count)), 0
+        for part in parts:
+            if part.first != at and part.count > part.first:
+                yield f"{self.name}: {part.path} begins with record {part.first}, where the log has {at} in front of it: {_GONE_ON}"
+            if not part.word:
+                yield f"{self.name}: {part.path} has no end: its process died, or did not close the log (postcopy_log_close, or Log.close)"
+            elif part.word == "lost":
+                yield f"{self.name}: {part.where}: a record was not written: {os.strerror(part.error)}"
+            elif part.word == "next" and all(it is part or it.first != part.count for it in parts):
+                yield f"{self.name}: {part.where}: handed over with {part.count} records, and there is no file of who went on"
+            at = max(at, part.count)
+
+    def missing(self) -> Tuple[int, str]:
+        """As far as which record no number is missing, and which are, in words."""
+        count = max((part.count for part in self.parts.values()), default=0)
+        first = next(number for number in range(len(self.texts) + 1) if number not in self.texts)
+        end = min((number for number in self.texts if number > first), default=count)
+        return first, "" if first >= count else f"record {first} is missing" if end == first + 1 else f"records {first} to {end - 1} are missing"
+
+
+def _read(folders: Iterable[str]) -> Dict[str, _Log]:
+    """The logs that have a file in these folders."""
+    logs: Dict[str, _Log] = {}
+    named, recording = [], _Name()
+    for folder in folders:
+        if os.path.realpath(folder) in map(os.path.realpath, named):
+            raise Unfit(f"{folder} is named twice")
+        named.append(folder)
+        for name in sorted(os.listdir(folder)):
+            match = _FILE.fullmatch(name)
+            if match:
+                logs.setdefault(match[1], _Log(match[1])).read(os.path.join(folder, name), match[2], recording)
+    if not logs:
+        raise Unfit(f"{', '.join(named)}: there is no file of a recorder, PARTY.PROCESS.N")
+    return logs
+
+
+def _machine(log: Optional[_Log]) -> Tuple[Session, List[str]]:
+    """A session of the machine that is told of, with no records; and what is said of its log."""
+    if log is None:
+        raise Unfit("there is no file of the machine's log, which tells how many pages there are: postcopy_record_machine, or Log.machine")
+    pages, told = None, {}
+    for number, text in sorted(log.texts.items()):
+        match = _MACHINE.fullmatch(text)
+        if match is None:
+            raise Unfit(f"{log.place(number)}: found {_quoted(text)}; expected 'pages PAGES CELLS' or 'page PAGE CONTENTS'")
+        if match[1] and pages is not None:
+            raise Unfit(f"{log.place(number)}: a second {_quoted(text)}, beside {log.place(pages)}: {_quoted(log.texts[pages])}")
+        if match[1]:
+            pages = number
+        elif told.setdefault(int(match[3]), number) != number:
+            raise Unfit(f"{log.place(number)}: what page {match[3]} holds at first is told twice, beside {log.place(told[int(match[3])])}")
+    if pages is None:
+        raise Unfit(f"{', '.join(log.paths)}: no record tells how many pages there are: postcopy_record_machine, or Log.machine")
+    session = Session(*map(int, log.texts[pages].split(" ")[1:]))
+    for page, number in told.items():
+        contents = log.texts[number].rpartition(" ")[2]
+        wrong = _wrong(session, "page", page) or _wrong(session, "contents", contents)
+        if wrong:
+            raise Unfit(f"{log.place(number)}: {wrong}")
+        if contents.strip("0"):
+            session.initial[page] = contents
+    missing = log.missing()[1]
+    return session, [*log.lacks(), *([f"machine: {missing}: pages whose contents are not told are taken for zeros"] if missing else [])]
+
+
+def _wrong(session: Session, field: str, value: object) -> str:
+    """Why a field's value is none of the machine, in words; nothing where it is."""
+    limit = {"page": session.pages, "cell": session.cells}.get(field)
+    if limit is not None and int(str(value)) >= limit:
+        return f"there is no {field} {value}: {f'the machine has {limit} pages' if field == 'page' else f'a page has {limit} cells'}, from 0 on"
+    if field == "contents" and len(str(value)) != 16 * session.cells:
+        return f"contents of {len(str(value)) // 16} cells, where a page of the machine has {session.cells}"
+    return ""
+
+
+def _records(session: Session, log: _Log) -> List[str]:
+    """Puts a log's records into the session as far as no number is missing. Answers what is said of it."""
+    length, missing = log.missing()
+    records = session.logs[log.name]
+    for number in range(length):
+        try:
+            record = read_record(log.name, log.texts[number])
+        except ValueError as fault:
+            raise Unfit(f"{log.place(number)}, {_quoted(log.texts[number])}: {fault}") from None
+        for field, value in zip(RECORDS[log.name][str(record[0])].fields, record[1:]):
+            if field.name in ("page", "cell", "contents"):
+                wrong = _wrong(session, field.name, value)
+                if wrong:
+                    raise Unfit(f"{log.place(number)}, {_quoted(log.texts[number])}: {wrong}")
+        records.append(record)
+    behind = len(log.texts) - length
+    return [*log.lacks(), *([f"{log.name}: {behind} records left out: {missing}" if behind else f"{log.name}: {missing}"] if missing else [])]
+
+
+def _unresumed(session: Session, log: Optional[_Log]) -> Iterator[str]:
+    """What is said of a guest that goes on behind its halt with no resume."""
+    words = [record[0] for record in session.logs["guest"]]
+    if log is not None and "halt" in words and "resume" not in words and words[-1] != "halt":
+        yield (f"guest: {log.place(words.index('halt') + 1)} comes after the halt, and there is no resume: "
+               "postcopy_record_resume, or Log.resume, where the guest runs at the target")
+
+
+def recording_of(folders: Iterable[str]) -> Tuple[Session, List[str]]:
+    """The recording of the files in these folders, cut to a whole, and what was left out or is missing, in words: nothing where it is
+    whole. Its machine may have more pages than that of a session, and its logs more records: windows show some of the pages. Raises
+    Unfit where the files make no recording, and OSError where they cannot be read."""
+    logs = _read(folders)
+    session, said = _machine(logs.get("machine"))
+    session.has_lane = "lane" in logs
+    for name in LOGS:
+        said += _records(session, logs.get(name, _Log(name)))
+    said += _unresumed(session, logs.get("guest"))
+
+    def place(log: str, number: int) -> str:
+        return logs.get(log, _Log(log)).place(number)
+
+    try:
+        session.deliver(place)
+    except ValueError as fault:
+        raise Unfit(str(fault)) from None
+    missing = [log for log in LOGS if not session.logs[log] and log != "lane"]
+    return session, said + session.cut(LOST, place) + [f"{log}: there is no record" for log in missing]
+
+
+def session_of(folders: Iterable[str]) -> Tuple[Session, List[str]]:
+    """The session of the files in these folders, cut to a whole and to the records that a session may have, and what was left out or
+    is missing, in words: nothing where it is whole. Raises as `recording_of` does."""
+    session, said = recording_of(folders)
+    return session, said + session.cut()

@@ -1,0 +1,297 @@
+"""Records what the parties of one's own migration do: the calls of bindings/c/postcopy_record.h, in Python.
+
+    >>> from postcopy.recorder import Log
+    >>> pager = Log("recording", "pager")
+    >>> pager.got_sent(1)
+    0
+    >>> pager.ready()
+    1
+    >>> pager.close()
+
+Each party has a log, open in the process that acts for it. A call appends one record and answers its number, which goes into
+the message; who takes the message names it in a record of its own. `man 5 postcopy` has the records.
+A record is in the log's file when its call returns, and stays there however the process ends. Any number of threads may call.
+
+A folder holds one recording: give each run a folder of its own. `postcopy-session FOLDER..` makes the session of the files, be
+they of this module or of the C recorder, and tells what is missing: so close each log where its party is through.
+
+Where a record cannot be written the call answers LOST, the log ends there, and `error` tells why. So too in a forked child,
+in the logs that its parent opened. Nothing here needs the library.
+"""
+from __future__ import annotations
+
+import contextlib
+import errno
+import os
+import re
+import secrets
+import threading
+from typing import Iterable, Optional, Union
+
+from .records import LOGS, LOST
+
+__all__ = ["LOST", "Log", "join", "page_hash"]
+
+Folder = Union[str, "os.PathLike[str]"]
+
+_NAME = re.compile("[A-Za-z0-9_.-]{1,64}", re.ASCII)
+
+
+def join(folder: Folder, recording: str) -> None:
+    """Makes a folder one of the recording of this name: at another machine, before the first log is opened there. Raises
+    FileExistsError where the folder has another name, and ValueError where this is none: 1 to 64 letters, digits, `-`, `_` and `.`."""
+    if not _NAME.fullmatch(recording):
+        raise ValueError(f"{recording!r} is no name of a recording")
+    found = _name_recording(folder, recording)
+    if found != recording:
+        raise FileExistsError(errno.EEXIST, f"the folder is one of the recording {found}", os.fspath(folder))
+
+
+def _name_recording(folder: Folder, given: Optional[str] = None) -> str:
+    """The name of a folder's recording: the one that it has, or else the one that is given, or a new one."""
+    os.makedirs(folder, exist_ok=True)
+    path = os.path.join(folder, "recording-name")
+    if not os.path.exists(path):
+        own = f"{path}.{secrets.token_hex(16)}"
+        try:
+            with open(own, "x", encoding="ascii") as file:
+                file.write(f"{given or secrets.token_hex(16)}\n")
+            with contextlib.suppress(FileExistsError):
+                os.link(own, path)
+        finally:
+            with contextlib.suppress(OSError):
+                os.remove(own)
+    with open(path, encoding="ascii", errors="replace") as file:
+        name, end, _ = file.read(66).partition("\n")
+    if not end or not _NAME.fullmatch(name):
+        raise OSError(errno.EBADMSG, "what it holds is no name of a recording", path)
+    return name
+
+
+class Log:
+    """The log of a party: "guest", "source", "link", "lane" or "pager", or "machine" for the first two calls.
+
+    The folder is made where it is not there; where it is None nothing is recorded, and all calls answer LOST. `first` is the
+    number of the first record: 0, or where another process handed the log over (the guest's, behind the halt) what hand_over
+    answered; where that is LOST nothing is recorded. `recording` is the recording's name: who opens the first log in a folder
+    makes one at random.
+
+    At the end of a `with` the log is closed, but where an exception ends it: then it is left as by a process that died.
+    """
+
+    def __init__(self, folder: Optional[Folder], party: str, first: int = 0) -> None:
+        if party not in LOGS and party != "machine":
+            raise ValueError(f"there is no party {party}")
+        self.error: Optional[OSError] = None
+        self.recording: Optional[str] = None
+        self._party, self._next, self._lock = party, first, threading.Lock()
+        self._process, self._file = os.getpid(), -1
+        if first >= LOST:
+            self.error = OSError(errno.EINVAL, "the log was not handed over, as a record was lost")
+        elif folder is not None:
+            self.recording = _name_recording(folder)
+            self._begin(os.path.join(folder, f"{party}.{self._process}"))
+
+    def _begin(self, stem: str) -> None:
+        number = -1
+        while self._file < 0:
+            number += 1
+            path = f"{stem}.{number}"
+            with contextlib.suppress(FileExistsError):
+                self._file = os.open(path, os.O_WRONLY | os.O_APPEND | os.O_CREAT | os.O_EXCL | os.O_CLOEXEC, 0o666)
+        try:
+            self._put(f"postcopy-records 1\nrecording {self.recording}\nlog {self._party} {self._next} {number}\n")
+        except OSError:
+            os.close(self._file)
+            os.remove(path)
+            raise
+
+    def _put(self, text: str) -> None:
+        """Writes lines whole, or not at all."""
+        data, written = text.encode("ascii"), 0
+        try:
+            while written < len(data):
+                written += os.write(self._file, data[written:])
+        except OSError:
+            os.ftruncate(self._file, os.fstat(self._file).st_size - written)
+            raise
+
+    def _is_open(self) -> bool:
+        """Whether this process writes the log. (To be asked before the lock is taken: in a forked child nobody may give it back.)"""
+        return self._file >= 0 and self._process == os.getpid()
+
+    def close(self) -> None:
+        """Closes the log: its file tells then how many records it has. What was recorded is not lost without it, but nobody can
+        know that it is all: the recording is told as one that is not whole. Later calls answer LOST."""
+        self._end("end")
+
+    def hand_over(self) -> int:
+        """Closes the log where another process goes on with it: answers the number that this one opens it with, or LOST where a
+        record was lost, so that nobody can go on."""
+        return self._end("next")
+
+    def _end(self, word: Optional[str]) -> int:
+        if not self._is_open():
+            return LOST
+        with self._lock:
+            if self._file < 0:
+                return LOST
+            number = self._next if self.error is None else LOST
+            try:
+                if word is not None:
+                    self._put(f"{word} {number}\n" if self.error is None else f"lost {self.error.errno}\n")
+            except OSError as error:
+                self.error = self.error or error
+            os.close(self._file)
+            self._file = -1
+            return number
+
+    def __enter__(self) -> "Log":
+        return self
+
+    def __exit__(self, kind: object, *_: object) -> None:
+        self._end("end" if kind is None else None)
+
+    def _append(self, party: str, *record: object) -> int:
+        if party != self._party:
+            raise ValueError(f"'{record[0]}' is no record of the {self._party}'s log")
+        if not self._is_open():
+            return LOST
+        with self._lock:
+            if self._file < 0 or self.error is not None:
+                return LOST
+            number = self._next
+            self._next += 1
+            try:
+                if number >= LOST:
+                    raise OSError(errno.EOVERFLOW, os.strerror(errno.EOVERFLOW))
+                self._put(" ".join(map(str, (number, *record))) + "\n")
+            except OSError as error:
+                self.error = error
+                return LOST
+            return number
+
+    # The machine.
+
+    def machine(self, pages: int, cells: int) -> int:
+        """How many pages there are, and cells of 64 bits in each."""
+        return self._append("machine", "pages", pages, cells)
+
+    def initial(self, page: int, contents: Iterable[int]) -> int:
+        """What a page holds at first, if it is not zeros alone."""
+        return self._append("machine", "page", page, _spelled(contents))
+
+    # The guest. `ready` and `placement` are numbers of the pager's log.
+
+    def read(self, vcpu: int, page: int, cell: int, value: int) -> int:
+        return self._append("guest", "r", vcpu, page, cell, value)
+
+    def write(self, vcpu: int, page: int, cell: int, value: int) -> int:
+        return self._append("guest", "w", vcpu, page, cell, value)
+
+    def release(self, vcpu: int, page: int) -> int:
+        return self._append("guest", "z", vcpu, page)
+
+    def miss(self, vcpu: int, page: int) -> int:
+        return self._append("guest", "miss", vcpu, page)
+
+    def halt(self) -> int:
+        return self._append("guest", "halt")
+
+    def resume(self, ready: int) -> int:
+        return self._append("guest", "resume", ready)
+
+    def see(self, placement: int) -> int:
+        return self._append("guest", "see", placement)
+
+    # The source. `halt` is a number of the guest's log, `sent` of an earlier state or send of its own, `up` of the link's.
+
+    def halted(self, halt: int) -> int:
+        return self._append("source", "halted", halt)
+
+    def state(self) -> int:
+        return self._append("source", "state")
+
+    def send(self, page: int, contents: Iterable[int]) -> int:
+        return self._append("source", "send", page, _spelled(contents))
+
+    def again(self, sent: int) -> int:
+        return self._append("source", "again", sent)
+
+    def ask(self, up: int) -> int:
+        return self._append("source", "ask", up)
+
+    def ask_sent(self, sent: int) -> int:
+        """In the place of `ask` where the link has no log: the number that came with the message, of the pager's log."""
+        return self._append("source", "ask-sent", sent)
+
+    def done(self) -> int:
+        return self._append("source", "done")
+
+    def back(self) -> int:
+        """The source starts its guest again, and the log ends."""
+        return self._append("source", "back")
+
+    # The link and the lane. `sent` is a number of the source's log, or, of what goes up, of the pager's.
+
+    def down(self, sent: int) -> int:
+        return self._append("lane" if self._party == "lane" else "link", "down", sent)
+
+    def up(self, sent: int) -> int:
+        return self._append("link", "up", sent)
+
+    # The pager. `down` is a number of the link's or the lane's log, `miss` of the guest's, the others are of its own.
+
+    def got(self, down: int) -> int:
+        return self._append("pager", "got", down)
+
+    def got_sent(self, sent: int) -> int:
+        """In the place of `got` where the link has no log: the number that came with the packet, of the source's log."""
+        return self._append("pager", "got-sent", sent)
+
+    def pull(self, down: int) -> int:
+        return self._append("pager", "pull", down)
+
+    def pull_sent(self, sent: int) -> int:
+        """In the place of `pull` where the lane has no log: the number that came with the packet, of the source's log."""
+        return self._append("pager", "pull-sent", sent)
+
+    def ready(self) -> int:
+        return self._append("pager", "ready")
+
+    def fault(self, miss: int) -> int:
+        return self._append("pager", "fault", miss)
+
+    def join(self, want: int) -> int:
+        return self._append("pager", "join", want)
+
+    def want(self, page: int) -> int:
+        return self._append("pager", "want", page)
+
+    def place(self, page: int, got: int, contents: Iterable[int]) -> int:
+        return self._append("pager", "place", page, got, _spelled(contents))
+
+    def zero(self, page: int) -> int:
+        return self._append("pager", "zero", page)
+
+    def skip(self, got: int) -> int:
+        return self._append("pager", "skip", got)
+
+    def all(self) -> int:
+        return self._append("pager", "all")
+
+
+def _spelled(contents: Iterable[int]) -> str:
+    return "".join(f"{cell:016x}" for cell in contents)
+
+
+def page_hash(page: bytes) -> int:
+    """A page's contents in one cell, as postcopy_page_hash in C: 0 for zeros alone, and a hash for any other."""
+    if page.count(0) == len(page):
+        return 0
+    value, mask = 0, 2**64 - 1
+    for at in range(0, len(page) - 7, 8):
+        value = (value ^ int.from_bytes(page[at : at + 8], "little")) * 0x9E3779B97F4A7C15 & mask
+        value = (value ^ value >> 29) * 0xBF58476D1CE4E5B9 & mask
+        value ^= value >> 32
+    return value or 1

@@ -1,0 +1,14 @@
+use Rattle.std.proofs.Common.{◌≡◌, List, ℕ}
+use Rattle.std.proofs.lemmas.Result.{err_from_is_err_and}
+use Rattle.command_texts.proofs.Endings.{outputs_stop}
+use Rattle.command_texts.proofs.Fronts.{front_gains, same_gains}
+use Rattle.command_texts.proofs.several.write_end.Goals as goal
+
+pub returns-clause-stop : goal.returns-clause-stop
+returns-clause-stop g c = outputs_stop c.written.result c.written.ensures.fault
+
+pub returns-clause-gains : goal.returns-clause-gains
+returns-clause-gains g c = front_gains _ _ _ c.written.ensures.front
+
+pub returns-in_err-given-clause-gains : goal.returns-in_err-given-clause-gains
+returns-in_err-given-clause-gains g c = same_gains _

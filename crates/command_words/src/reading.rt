@@ -1,0 +1,93 @@
+//! The words of a command line, read.
+
+ghost use Rattle.std.specs.Prelude.{◌≡◌, IfOk};
+ghost use Rattle.command_words.specs.Words.{word_texts};
+
+use crate::asked::{Found, NO_TARGETS, Targets, Wish};
+use crate::matching::{NOTHING, find_in};
+use clap::error::ErrorKind;
+use std::alloc::{AllocError, Global};
+use std::marker::Model;
+
+/// What the words of a command line ask for, or why they are refused. The words are its model.
+#[derive(Drop)]
+pub struct Reading<'a> {
+    words: &'a [&'a str],
+    found: Result<Found<'a>, clap::Error>,
+}
+
+impl<'a> Model for Reading<'a> {
+    ghost use Rattle.std.specs.Prelude.{List, ℕ};
+    ghost use Rattle.command_words.specs.Words.{word_texts};
+    ghost use Rattle.command_words.specs.Readings.{IsRead};
+
+    ghost Value = { List (List ℕ) };
+
+    ghost view = { λ r. word_texts r.words.now };
+
+    ghost invariant = { λ r. IsRead (word_texts r.words.now) r.found };
+}
+
+/// Reads the words of a command line, of which the first is the program's own name. An error: there is no memory for that.
+pub fn read_words<'a>(alloc: Global, words: &'a [&'a str]) -> Result<Reading<'a>, AllocError>
+    ensures { IfOk result (λ reading. reading ≡ word_texts words.entry.now) }
+{
+    if words.len() <= 1 {
+        return Ok(Reading {
+            words,
+            found: Ok(NOTHING),
+        });
+    }
+    match find_in(alloc, words) {
+        Ok(found) => Ok(Reading {
+            words,
+            found: Ok(found),
+        }),
+        Err(error) => {
+            if error.kind() == ErrorKind::OutOfMemory {
+                return Err(AllocError);
+            }
+            Ok(Reading {
+                words,
+                found: Err(error),
+            })
+        }
+    }
+}
+
+impl<'a> Reading<'a> {
+    ghost use Rattle.std.specs.Prelude.{◌≡◌, ◌≤◌, ◌⊎◌, IfErr, IfOk, None, Ok, false, length, option_and_then, true};
+    ghost use Rattle.clap.specs.Words.{kind_of, takes};
+    ghost use Rattle.clap.specs.declared.error.kind.ErrorKind.TheVariants.{ArgumentConflict};
+    ghost use Rattle.command_words.specs.Table.{job_of, several_of};
+    ghost use Rattle.command_words.specs.Readings.{AreTargets};
+    ghost use Rattle.command_words.specs.Words.{asked, clashing, postcopy_words, several_asked, target_names};
+
+    /// What the words ask for. `None`: they are the program's own name alone, or not even this. The error is clap's: it tells
+    /// why the words are no command or that they have options which mean nothing together, or is the help or the version that
+    /// was asked for.
+    pub fn wish(self) -> Result<Option<Wish<'a>>, clap::Error>
+        ensures bare { length self.entry ≤ 1 → result ≡ Ok None }
+        ensures job { IfOk result (λ r. option_and_then job_of r ≡ asked self.entry) }
+        ensures several { IfOk result (λ r. option_and_then several_of r ≡ several_asked self.entry) }
+        ensures alike { IfOk result (λ _. clashing self.entry ≡ false) }
+        ensures err { IfErr result (λ e. takes postcopy_words self.entry ≡ true → (clashing self.entry ≡ true) × (kind_of e ≡ ArgumentConflict)) }
+    {
+        match self.found {
+            Ok(found) => Ok(found.wish),
+            Err(error) => Err(error),
+        }
+    }
+
+    /// The files that the words name for what is written, as in `-o FILE` and `--lines FILE`. Of words that are refused no file
+    /// is named.
+    pub fn targets(&self) -> Targets<'a>
+        ensures taken { takes postcopy_words self.now ≡ true → clashing self.now ≡ false → AreTargets self.now result }
+        ensures other { AreTargets self.now result ⊎ (target_names result ≡ (None, None)) }
+    {
+        match &self.found {
+            Ok(found) => found.targets,
+            Err(_) => NO_TARGETS,
+        }
+    }
+}

@@ -1,0 +1,4 @@
+pub mod Moments
+pub mod Posts
+pub mod Numbers
+pub mod Timely

@@ -1,0 +1,91 @@
+//! Several questions of one session, which is read once and judged once.
+
+ghost use Rattle.std.specs.Prelude.{◌≡◌, ◌≢◌, IfOk};
+ghost use Rattle.audit_model.specs.World.{IsSafe};
+ghost use Rattle.judged_texts.specs.Checked.{SpellsOneSession, OfSpelled};
+ghost use Rattle.judged_texts.specs.Audited.{IsSafeExactlyIf, IsUnsafe};
+ghost use Rattle.postcopy_c.specs.Questions.{AreAnswers, AsksAll, IsAsked};
+
+use crate::answer::{PostcopyAnswer, out_of_memory, unknown_question};
+use crate::kinds::{CLEAN, FAULTY, NO_MEMORY, NO_QUESTION, SESSION_TEXT};
+use crate::questions::{
+    AUDIT, AUDIT_ALL, AUDIT_ALL_OBJECT, AUDIT_OBJECT, CERTIFY, DRAW, DRAW_PAGE, EXPLAIN,
+    EXPLAIN_LINE, EXPLAIN_OBJECT, EXPLAIN_PAGE, MISSING, MISSING_PAGES,
+};
+use crate::showing::{ShownAs, tell_all};
+use completeness::Extent;
+use judged_texts::Wanted;
+use session_answers::{Form, Story};
+use session_story::Topic;
+use std::alloc::{AllocError, Global};
+
+/// A question of a session, as C has it.
+#[repr(C)]
+#[derive(Clone, Copy)]
+pub struct PostcopyQuestion {
+    /// What is asked, by the numbers of `questions`.
+    pub asks: u32,
+    /// The page, or the line of the session's text, that is asked about. A question about neither does not read it.
+    pub about: u32,
+}
+
+/// What a question asks to be shown, or nothing where its number is no question's.
+fn asked_by(question: &PostcopyQuestion) -> Option<ShownAs>
+    ensures { IsAsked question.now result }
+{
+    let about = question.about;
+    Some(match question.asks {
+        AUDIT => ShownAs::Told(Form::Lines(Wanted::Report)),
+        CERTIFY => ShownAs::Told(Form::Lines(Wanted::Certificate)),
+        AUDIT_ALL => ShownAs::Told(Form::AllFaults),
+        MISSING => ShownAs::Lack(Extent::Whole),
+        MISSING_PAGES => ShownAs::Lack(Extent::Pages),
+        EXPLAIN => ShownAs::Told(Form::Story(Story::Words(Topic::Report))),
+        EXPLAIN_PAGE => ShownAs::Told(Form::Story(Story::Words(Topic::Page(about)))),
+        EXPLAIN_LINE => ShownAs::Told(Form::Story(Story::Words(Topic::Line(about)))),
+        DRAW => ShownAs::Picture(Topic::Report),
+        DRAW_PAGE => ShownAs::Picture(Topic::Page(about)),
+        AUDIT_OBJECT => ShownAs::Told(Form::Object),
+        AUDIT_ALL_OBJECT => ShownAs::Told(Form::AllFaultsObject),
+        EXPLAIN_OBJECT => ShownAs::Told(Form::Story(Story::Object)),
+        _ => return None,
+    })
+}
+
+/// What the questions ask to be shown, or nothing where the number of one is no question's.
+fn asked_by_all(
+    alloc: Global,
+    questions: &[PostcopyQuestion],
+) -> Result<Option<Vec<ShownAs>>, AllocError>
+    ensures { IfOk result (AsksAll questions.now) }
+{
+    let mut asked = Vec::new(alloc);
+    for question in questions {
+        match asked_by(question) {
+            Some(shown_as) => asked.push(shown_as)?,
+            None => return Ok(None),
+        }
+    }
+    Ok(Some(asked))
+}
+
+/// Tells what the questions ask of the session that a text spells.
+pub(crate) fn tell_answers(
+    alloc: Global,
+    session: &[u8],
+    questions: &[PostcopyQuestion],
+    ends: &mut [usize],
+    room: &mut [u8],
+) -> PostcopyAnswer
+    ensures told { AreAnswers questions.now session.now ends.old ends.new room.old room.new result }
+    ensures one_session { result.kind ≢ SESSION_TEXT → result.kind ≢ NO_MEMORY → result.kind ≢ NO_QUESTION → SpellsOneSession session.now }
+    ensures safe { result.kind ≡ CLEAN → OfSpelled session.now IsSafe }
+    ensures exactly { result.kind ≢ NO_MEMORY → result.kind ≢ NO_QUESTION → OfSpelled session.now (IsSafeExactlyIf (result.kind ≡ CLEAN)) }
+    ensures faulty { result.kind ≡ FAULTY → OfSpelled session.now IsUnsafe }
+{
+    match asked_by_all(alloc, questions) {
+        Ok(Some(asked)) => tell_all(alloc, session, &asked, ends, room),
+        Ok(None) => unknown_question(),
+        Err(_) => out_of_memory(),
+    }
+}

@@ -1,0 +1,177 @@
+//! The messages over the link and the lane that the records of the pager and of the source tell of.
+
+ghost use Rattle.std.specs.Prelude.{◌≡◌, [], ◌∷◌, ◌++◌, List, IfOk, OnOk, length};
+ghost use Rattle.std.specs.Option.{option_to_list};
+ghost use Rattle.recordings.specs.Wide.{source_of, pager_of};
+ghost use Rattle.recorded_files.specs.declared.raw.RawSource.{RawSource as Taken};
+ghost use Rattle.recorded_files.specs.declared.raw.RawPager.{RawPager as Received};
+ghost use Rattle.recorded_files.specs.Told.{AreDelivered, lane_messages, lane_packet, link_messages, link_packet, numbered_pager, numbered_source, request};
+ghost use Rattle.recorded_files.specs.inner.Noted.{Tells};
+
+use crate::raw::{RawPager, RawSource};
+use deliveries::{Deliveries, Message, deliver};
+use recordings::{WidePager, WideSource};
+use std::alloc::{AllocError, Global};
+
+/// The messages that records tell of, as these come.
+#[derive(Drop)]
+pub struct Told {
+    pub(crate) packets: Vec<Message>,
+    pub(crate) pulls: Vec<Message>,
+    pub(crate) requests: Vec<Message>,
+    pub(crate) pager: u64,
+    pub(crate) source: u64,
+}
+
+/// What the link and the lane deliver.
+#[derive(Drop)]
+pub struct Delivered {
+    /// Over the link: the numbers are those of the pager's packets, in the order of its records, and then of what the source's
+    /// records take, in the order of these.
+    pub link: Deliveries,
+    /// Over the lane, in the order of the pager's records.
+    pub lane: Deliveries,
+}
+
+/// Adds a message, if there is one.
+fn keep(messages: &mut Vec<Message>, message: Option<Message>) -> Result<(), AllocError>
+    ensures { OnOk result (messages.new.items ≡ messages.old.items ++ option_to_list message) }
+{
+    match message {
+        Some(message) => messages.push(message)?,
+        None => {}
+    }
+    Ok(())
+}
+
+impl RawPager {
+    /// The packet of the link that it takes.
+    fn link_packet(&self, number: u64) -> Option<Message>
+        ensures { result ≡ link_packet number self.now }
+    {
+        match self {
+            RawPager::GotSent { sending } => Some(Message::Down {
+                sent: *sending,
+                taken: number,
+            }),
+            _ => None,
+        }
+    }
+
+    /// The packet of the lane that it takes.
+    fn lane_packet(&self, number: u64) -> Option<Message>
+        ensures { result ≡ lane_packet number self.now }
+    {
+        match self {
+            RawPager::PullSent { sending } => Some(Message::Down {
+                sent: *sending,
+                taken: number,
+            }),
+            _ => None,
+        }
+    }
+
+    /// The record with the number of the message that it takes, where it takes one.
+    pub fn numbered(self, number: u64) -> WidePager
+        ensures { pager_of result ≡ numbered_pager number self }
+    {
+        match self {
+            RawPager::Own(rec) => rec,
+            RawPager::GotSent { .. } => WidePager::Got { down: number },
+            RawPager::PullSent { .. } => WidePager::Pull { down: number },
+        }
+    }
+}
+
+impl RawSource {
+    /// What it takes.
+    fn request(&self, number: u64) -> Option<Message>
+        ensures { result ≡ request number self.now }
+    {
+        match self {
+            RawSource::AskSent { asking } => Some(Message::Up {
+                sent: *asking,
+                taken: number,
+            }),
+            RawSource::Own(_) => None,
+        }
+    }
+
+    /// The record with the number of the message that it takes, where it takes one.
+    pub fn numbered(self, number: u64) -> WideSource
+        ensures { source_of result ≡ numbered_source number self }
+    {
+        match self {
+            RawSource::Own(rec) => rec,
+            RawSource::AskSent { .. } => WideSource::Ask { up: number },
+        }
+    }
+}
+
+impl Told {
+    /// Of no records.
+    pub fn new(alloc: Global) -> Told
+        ensures { Tells result [] [] }
+    {
+        Told {
+            packets: Vec::new(alloc),
+            pulls: Vec::new(alloc),
+            requests: Vec::new(alloc),
+            pager: 0,
+            source: 0,
+        }
+    }
+
+    /// Takes the pager's next record.
+    ///
+    /// # Errors
+    ///
+    /// Memory was refused. After that, what is kept is of no use.
+    pub fn note_pager(&mut self, rec: &RawPager) -> Result<(), AllocError>
+        ensures { (pager : List Received) (source : List Taken) → Tells self.old pager source → OnOk result (Tells self.new (pager ++ rec.now ∷ []) source) }
+    {
+        let number = self.pager;
+        let next = number.checked_add(1).ok_or(AllocError)?;
+        keep(&mut self.packets, rec.link_packet(number))?;
+        keep(&mut self.pulls, rec.lane_packet(number))?;
+        self.pager = next;
+        Ok(())
+    }
+
+    /// Takes the source's next record.
+    ///
+    /// # Errors
+    ///
+    /// Memory was refused. After that, what is kept is of no use.
+    pub fn note_source(&mut self, rec: &RawSource) -> Result<(), AllocError>
+        ensures { (pager : List Received) (source : List Taken) → Tells self.old pager source → OnOk result (Tells self.new pager (source ++ rec.now ∷ [])) }
+    {
+        let number = self.source;
+        let next = number.checked_add(1).ok_or(AllocError)?;
+        keep(&mut self.requests, rec.request(number))?;
+        self.source = next;
+        Ok(())
+    }
+
+    /// What the link and the lane deliver, where these are all records.
+    ///
+    /// # Errors
+    ///
+    /// Memory was refused.
+    pub fn deliver(self, alloc: Global) -> Result<Delivered, AllocError>
+        ensures link { IfOk result (λ d. (pager : List Received) (source : List Taken) → Tells self pager source → AreDelivered (link_messages pager source) (length pager) d.link) }
+        ensures lane { IfOk result (λ d. (pager : List Received) (source : List Taken) → Tells self pager source → AreDelivered (lane_messages pager) (length pager) d.lane) }
+    {
+        let Told {
+            mut packets,
+            pulls,
+            requests,
+            pager,
+            source: _,
+        } = self;
+        packets.extend_from_slice(&requests)?;
+        let link = deliver(alloc, &packets, pager)?;
+        let lane = deliver(alloc, &pulls, pager)?;
+        Ok(Delivered { link, lane })
+    }
+}

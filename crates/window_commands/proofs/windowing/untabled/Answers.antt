@@ -1,0 +1,5 @@
+use Rattle.std.proofs.Common.{refl, inr}
+use Rattle.window_commands.proofs.windowing.untabled.Goals as goal
+
+pub returns-in-Ok-clause-told : goal.returns-in-Ok-clause-told
+returns-in-Ok-clause-told c = λ window recording lined told. inr record { is_answer = c.in-Ok.ensures.told window recording told; is_status = c.in-Ok.ensures.other; no_table = refl }

@@ -1,0 +1,32 @@
+-- The answer of `window`, with the table of its lines.
+use Rattle.std.specs.Prelude.{◌≡◌, ◌⊎◌, ℕ, Bool, true, false, List, Option, Some, None}
+use Rattle.std.specs.Global.{Vec}
+use Rattle.command_texts.specs.declared.answer.Answer.{Answer}
+use Rattle.window_cut.specs.declared.pages.Window.{Window}
+use Rattle.window_cut.specs.declared.session.WindowText.{WindowText}
+use Rattle.window_cut.specs.Cuts.{IsCutOf}
+use Rattle.window_commands.specs.Tables.{table_text}
+use Rattle.window_commands.specs.Windows.{IsWindowAnswer}
+
+-- there is a table where it is asked for, and it is that of these lines
+abbrev pub HasTable : Bool → List ℕ → Option (Vec ℕ) → Type 0
+HasTable false lines table = table ≡ None
+HasTable true lines None = ⊥
+HasTable true lines (Some table) = table.items ≡ table_text lines
+
+-- this is a window, with the table of its lines, where it is asked for
+pub record IsSeen (w : Window) (lined : Bool) (recording : List ℕ) (answer : Answer) (table : Option (Vec ℕ)) : Type 0 where
+  pub cut : WindowText
+  pub is_cut : IsCutOf w recording cut
+  pub is_text : answer.text.items ≡ cut.text.items
+  pub is_status : answer.status ≡ 0
+  pub has_table : HasTable lined cut.lines.items table
+
+-- or it is another answer, without a table
+pub record IsUnseen (w : Window) (recording : List ℕ) (answer : Answer) (table : Option (Vec ℕ)) : Type 0 where
+  pub is_answer : IsWindowAnswer w recording answer.text.items answer.status
+  pub is_status : answer.status ≡ 1
+  pub no_table : table ≡ None
+
+abbrev pub IsAnswered : Window → Bool → List ℕ → Answer → Option (Vec ℕ) → Type 0
+IsAnswered w lined recording answer table = IsSeen w lined recording answer table ⊎ IsUnseen w recording answer table
