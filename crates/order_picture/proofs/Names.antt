@@ -41,5 +41,8 @@ faulty_mark false false true = refl
 faulty_mark false false false = refl
 
 -- the mark of the faulty record is its alone
+pub marks_fault : (s : Recorded) (focus : Focus) (name : Name) → is_faulty (mark_of s focus name) ≡ is_one focus.fault name
+marks_fault s focus name = faulty_mark (is_one focus.fault name) (is_one focus.concerned name) (is_page focus.page (page_of s name))
+
 pub any_faulty : (s : Recorded) (focus : Focus) (names : List Name) → list_any (λ name. is_faulty (mark_of s focus name)) names ≡ list_any (is_one focus.fault) names
-any_faulty s focus names = ap (λ (f : Name → Bool). list_any f names) (λ i name. faulty_mark (is_one focus.fault name) (is_one focus.concerned name) (is_page focus.page (page_of s name)) i)
+any_faulty s focus names = ap (λ (f : Name → Bool). list_any f names) (λ i name. marks_fault s focus name i)

@@ -53,12 +53,10 @@ pub(crate) fn mark_of(session: &Session, focus: &Focus, name: Name) -> Mark
     if is_one(focus.concerned, name) {
         return Mark::Concerned;
     }
-    let page = page_of(session, name);
-    if is_page(focus.page, page) {
-        Mark::OfPage
-    } else {
-        Mark::Plain
+    if focus.page.is_some() && is_page(focus.page, page_of(session, name)) {
+        return Mark::OfPage;
     }
+    Mark::Plain
 }
 
 /// Returns the faulty record of a report.

@@ -4,7 +4,8 @@
 //! that its fault concerns.
 
 use crate::focus::{Focus, Mark, mark_of};
-use crate::records::{Name, is_one};
+use crate::records::Name;
+use crate::rows::Certain;
 use migration_types::{GuestRec, LOG_COUNT, LogName, Session, logs};
 use session_story::{Told, tells_of};
 use std::alloc::{AllocError, Global};
@@ -78,6 +79,8 @@ pub(crate) struct Keeping<'a> {
     pub session: &'a Session,
     pub told: &'a Told,
     pub focus: &'a Focus,
+    /// The places of the order whose records always have rows, or are next to such a record.
+    pub certain: Certain,
     /// The place of the order around which most is shown.
     pub middle: usize,
 }
@@ -138,15 +141,27 @@ fn in_order(
     Ok(wanted)
 }
 
-/// Returns how many places before this one are wanted.
-fn wanted_before(wanted: &[bool], place: usize) -> usize {
-    wanted.iter().take(place).filter(|is| **is).count()
+/// Returns how many places are wanted, and how many of these are before this one.
+fn count_wanted(wanted: &[bool], place: usize) -> (usize, usize) {
+    let mut count: usize = 0;
+    let mut before: usize = 0;
+    for (n, is_wanted) in wanted.iter().enumerate() {
+        if n == place {
+            before = count;
+        }
+        if *is_wanted {
+            count = count.saturating_add(1);
+        }
+    }
+    if place < wanted.len() { (count, before) } else { (count, count) }
 }
 
 /// If there are too many, keeps the first and the last, and those nearest to this place.
 fn leave_nearest(wanted: &mut Vec<bool>, middle: usize) {
-    let count = wanted_before(wanted, wanted.len());
-    let rank = wanted_before(wanted, middle);
+    let (count, rank) = count_wanted(wanted, middle);
+    if count <= MOST_BESIDE {
+        return;
+    }
     let mut at: usize = 0;
     for is_wanted in wanted.iter_mut() {
         if *is_wanted {
@@ -166,11 +181,12 @@ fn is_wanted_or_none(wanted: &[bool], place: usize) -> bool {
 
 /// Wants a single record between two wanted ones, or between one and an end: it takes no more room than a fold of it.
 fn fill_gaps(wanted: &mut Vec<bool>) {
+    let mut is_behind_one = true;
     for n in 0..wanted.len() {
-        let is_behind_one = n == 0 || is_wanted(wanted, n.saturating_sub(1));
         if is_behind_one && is_wanted_or_none(wanted, n.saturating_add(1)) {
             want(wanted, n);
         }
+        is_behind_one = is_wanted(wanted, n);
     }
 }
 
@@ -191,7 +207,7 @@ pub(crate) fn kept_in(
         want(&mut wanted, middle.saturating_add(1));
     }
     leave_nearest(&mut wanted, middle);
-    if let Some(place) = order.iter().position(|name| is_one(focus.concerned, *name)) {
+    if let Some(place) = keeping.certain.concerned {
         want(&mut wanted, place);
     }
     fill_gaps(&mut wanted);

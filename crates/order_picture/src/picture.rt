@@ -9,7 +9,7 @@ use crate::focus::{Focus, Mark, focus_of};
 use crate::keeping::{Keeping, kept_in};
 use crate::order::{OrderPart, part_along};
 use crate::records::{Name, is_one};
-use crate::rows::rows_of;
+use crate::rows::{Certain, rows_of};
 use audit_report::Report;
 use cert_maker::found_runs;
 use merge_runs::Taken;
@@ -112,8 +112,8 @@ fn resumes(session: &Session, name: Name) -> bool {
 
 /// Returns the place of an order around which most is shown: the faulty record, or the end if the order is not
 /// complete, or the resume.
-fn middle_of(session: &Session, focus: &Focus, order: &[Name], is_whole: bool) -> usize {
-    if let Some(place) = order.iter().position(|name| is_one(focus.fault, *name)) {
+fn middle_of(session: &Session, fault: Option<usize>, order: &[Name], is_whole: bool) -> usize {
+    if let Some(place) = fault {
         return place;
     }
     if !is_whole {
@@ -140,15 +140,17 @@ pub fn plan_along(
     let told = tell(alloc, session, report, topic)?;
     let focus = focus_of(session, report, &told);
     let OrderPart { names, taken, bad } = part_along(alloc, session, runs)?;
-    let middle = middle_of(session, &focus, &names, bad.is_none());
+    let certain = Certain::of(&focus, &names);
+    let middle = middle_of(session, certain.fault, &names, bad.is_none());
     let keeping = Keeping {
         session,
         told: &told,
         focus: &focus,
+        certain,
         middle,
     };
     let wanted = kept_in(alloc, &keeping, &names)?;
-    let rows = rows_of(alloc, session, &focus, &names, &wanted)?;
+    let rows = rows_of(alloc, session, &focus, &names, &wanted, certain)?;
     let senders = senders_of(alloc, session, &rows)?;
     Ok(Picture {
         rows,

@@ -225,9 +225,22 @@ fn is_at(at: Option<usize>, n: usize) -> bool
 
 /// The places in an order of the faulty record and of the record that its fault concerns, if the order has them.
 #[derive(Clone, Copy)]
-struct Certain {
-    fault: Option<usize>,
-    concerned: Option<usize>,
+pub(crate) struct Certain {
+    pub fault: Option<usize>,
+    pub concerned: Option<usize>,
+}
+
+impl Certain {
+    /// Returns the places in an order of what a picture is about.
+    pub(crate) fn of(focus: &Focus, order: &[Name]) -> Self
+        ensures fault { result.fault ≡ position (is_one focus.now.fault) order.now }
+        ensures concerned { result.concerned ≡ position (is_one focus.now.concerned) order.now }
+    {
+        Certain {
+            fault: place_of(order, focus.fault),
+            concerned: place_of(order, focus.concerned),
+        }
+    }
 }
 
 /// Returns whether the record at a place of an order always has a row.
@@ -242,6 +255,30 @@ fn place_of(order: &[Name], one: Option<Name>) -> Option<usize>
     ensures { result ≡ position (is_one one) order.now }
 {
     order.iter().position(|name| is_one(one, *name))
+}
+
+/// Takes the next record of an order. Only a record that may get a row is looked at.
+fn take_next(
+    session: &Session,
+    focus: &Focus,
+    name: Name,
+    wanted: bool,
+    certain: bool,
+    building: &mut Building,
+) -> Result<(), AllocError>
+    requires few { building.old.folded + 1 < 2 ^ 64 }
+    requires since { cursors_of building.old.since name.0 ≤ building.old.folded }
+    ensures built { (names : List Named) → IsBuilt (mark_of session.now focus.now) building.old names → OnOk result (IsBuilt (mark_of session.now focus.now) building.new (names ++ name ∷ [])) }
+    ensures few { OnOk result (length building.new.rows.items + building.new.room + 2 * building.new.fault_left ≤ length building.old.rows.items + building.old.room + 2 * building.old.fault_left + (if certain then 2 else 0)) }
+    ensures more { OnOk result (Extends building.old.rows.items building.new.rows.items) }
+    ensures own { certain ≡ true → OnOk result (has_row building.new.rows.items name ≡ true) }
+{
+    if !wanted && !certain && !is_one(focus.fault, name) {
+        building.fold(name);
+        return Ok(());
+    }
+    let mark = mark_of(session, focus, name);
+    building.take(name, mark, wanted, certain)
 }
 
 /// Takes the records of an order, given which places are wanted.
@@ -259,30 +296,27 @@ fn take_all(
     ensures certain { OnOk result (HasCertain certain.fault certain.concerned building.new.rows.items order.now) }
 {
     for n in 0..order.len() {
-        let mark = mark_of(session, focus, order[n]);
         let is_wanted = wanted.get(n).copied().unwrap_or(false);
-        building.take(order[n], mark, is_wanted, is_certain(certain, n))?;
+        let is_certain = is_certain(certain, n);
+        take_next(session, focus, order[n], is_wanted, is_certain, building)?;
     }
     Ok(())
 }
 
-/// Returns the rows of the records of an order, given which places are wanted.
+/// Returns the rows of the records of an order, given which places are wanted and which are certain.
 pub(crate) fn rows_of(
     alloc: Global,
     session: &Session,
     focus: &Focus,
     order: &[Name],
     wanted: &[bool],
+    certain: Certain,
 ) -> Result<Vec<Row>, AllocError>
     ensures covers { IfOk result (λ rows. Covers (mark_of session.now focus.now) rows.items order.now) }
     ensures few { IfOk result (λ rows. length rows.items ≤ 203) }
     ensures shown { IfOk result (λ rows. shows_fault rows.items ≡ list_any (is_one focus.now.fault) order.now) }
-    ensures certain { IfOk result (λ rows. HasCertain (position (is_one focus.now.fault) order.now) (position (is_one focus.now.concerned) order.now) rows.items order.now) }
+    ensures certain { IfOk result (λ rows. HasCertain certain.fault certain.concerned rows.items order.now) }
 {
-    let certain = Certain {
-        fault: place_of(order, focus.fault),
-        concerned: place_of(order, focus.concerned),
-    };
     let mut building = Building::new(alloc);
     take_all(session, focus, order, wanted, certain, &mut building)?;
     building.close()?;

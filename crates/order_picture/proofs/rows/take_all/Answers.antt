@@ -16,8 +16,8 @@ use Rattle.order_picture.proofs.rows.take_all.Goals as goal
 abbrev no_name : Name
 no_name = (Guest, 0)
 
-pub take-requires-clause-since : goal.take-requires-clause-since
-take-requires-clause-since c = since_few (mark_of c.args.session.now c.args.focus.now) c.loop-n.building (take c.loop-n.n c.args.order.now) _ c.loop-n.invariant.built
+pub take_next-requires-clause-since : goal.take_next-requires-clause-since
+take_next-requires-clause-since c = since_few (mark_of c.args.session.now c.args.focus.now) c.loop-n.building (take c.loop-n.n c.args.order.now) _ c.loop-n.invariant.built
 
 pub loop-n-preserved : goal.loop-n-preserved
 loop-n-preserved c =
@@ -27,19 +27,19 @@ loop-n-preserved c =
     let concerned = c.args.certain.concerned in
     let mark = mark_of c.args.session.now c.args.focus.now in
     let before = c.loop-n.building in
-    let after = c.take.new.self in
+    let after = c.take_next.new.building in
     let lt : n < length order = omega arith in
     let left = spends fault concerned n in
-    let few = subst (λ (b : Bool). length after.rows.items + after.room + 2 * after.fault_left ≤ length before.rows.items + before.room + 2 * before.fault_left + cond b 2 0) c.is_certain.ensures c.in_ok-take.ensures.few in
+    let few = subst (λ (b : Bool). length after.rows.items + after.room + 2 * after.fault_left ≤ length before.rows.items + before.room + 2 * before.fault_left + cond b 2 0) c.is_certain.ensures c.in_ok-take_next.ensures.few in
     record {
-      built = subst (λ (names : List Name). IsBuilt mark after names) (sym (take_more order n no_name lt)) (c.in_ok-take.ensures.built mark (take n order) c.mark_of-mark.ensures c.loop-n.invariant.built);
+      built = subst (λ (names : List Name). IsBuilt mark after names) (sym (take_more order n no_name lt)) (c.in_ok-take_next.ensures.built (take n order) c.loop-n.invariant.built);
       few = omega (arith, few, left, c.loop-n.invariant.few);
       certain =
           below_more
           (λ (k : ℕ). (name : Name) → is_certain fault concerned k ≡ true → slice_get order k ≡ Some name → has_row after.rows.items name ≡ true)
           n
-          (λ k below name certain at. still_has before.rows.items after.rows.items name c.in_ok-take.ensures.more (c.loop-n.invariant.certain k below name certain at))
-          (λ name certain at. subst (λ (other : Name). has_row after.rows.items other ≡ true) (get_or_from_slice_get order n name no_name at) (c.in_ok-take.ensures.own (c.is_certain.ensures ∙ certain)));
+          (λ k below name certain at. still_has before.rows.items after.rows.items name c.in_ok-take_next.ensures.more (c.loop-n.invariant.certain k below name certain at))
+          (λ name certain at. subst (λ (other : Name). has_row after.rows.items other ≡ true) (get_or_from_slice_get order n name no_name at) (c.in_ok-take_next.ensures.own (c.is_certain.ensures ∙ certain)));
     }
 
 pub returns-clause-certain : goal.returns-clause-certain
