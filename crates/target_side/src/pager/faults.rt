@@ -12,7 +12,7 @@ ghost use Rattle.target_side.specs.inner.Steps.{learned, asks};
 use super::{PagerBook, want_page};
 use crate::log::append;
 use crate::{Missing, TargetBook, TargetFault};
-use fault_queue::Asked;
+use fault_queue::QueueChange;
 use migration_events::{look_for_room, make_room};
 use migration_types::PagerRec;
 use page_stream::Packet;
@@ -191,13 +191,13 @@ impl PagerBook {
             },
         );
         match asked {
-            Asked::Joined => {
+            QueueChange::Joined => {
                 if let Some(want) = self.wants.at(missing.page) {
                     append(&mut self.log, PagerRec::Join { want });
                 }
                 Ok(())
             }
-            Asked::New => {
+            QueueChange::New => {
                 let number = want_page(&mut self.log, &mut self.wants, missing.page);
                 self.outbox.push_back_reserved(Packet::Want {
                     number,
