@@ -5,8 +5,8 @@ use Rattle.migration_events.specs.declared.faults.EventFault.{EventFault}
 use Rattle.migration_events.specs.declared.faults.EventFault.TheVariants as refused
 use Rattle.migration_model.specs.Books.{BooksAfter}
 use Rattle.book_events.specs.Parts.{IsMade, IsSame, IsOffered, IsDone}
-use Rattle.book_events.specs.declared.came.Came.{Came}
-use Rattle.book_events.specs.declared.came.Came.TheVariants as came
+use Rattle.book_events.specs.declared.effect.Effect.{Effect}
+use Rattle.book_events.specs.declared.effect.Effect.TheVariants as effect
 use Rattle.host_threads.specs.declared.bell.Fault.{Fault}
 use Rattle.host_threads.specs.declared.bell.Fault.TheVariants.{LogFull, Memory}
 use Rattle.host_threads.specs.declared.shared.Turn.{Turn}
@@ -32,12 +32,12 @@ fault_by refused.LogFull = LogFull
 fault_by refused.Memory = Memory
 
 -- the report on an event that was not refused, and on one that may have been
-abbrev pub turn_by : Came → Turn
-turn_by came.Nothing = Idle
-turn_by came.Made = Did
-turn_by (came.Offered page) = Offered page
+abbrev pub turn_by : Effect → Turn
+turn_by effect.Nothing = Idle
+turn_by effect.Made = Did
+turn_by (effect.Offered page) = Offered page
 
-abbrev pub turn_of : Result Came EventFault → Turn
+abbrev pub turn_of : Result Effect EventFault → Turn
 turn_of (Ok c) = turn_by c
 turn_of (Err fault) = Stops (fault_by fault)
 

@@ -9,7 +9,7 @@ ghost use Rattle.host_threads.specs.Turns.{IsTurn, fault_by, turn_by, turn_of, t
 use crate::bell::{Bell, Fault, Party};
 use crate::side::TargetSide;
 use active_push::SourceBook;
-use book_events::{Came, EventFault};
+use book_events::{Effect, EventFault};
 use link_book::{LinkBook, LinkFault};
 use migration_events::Direction;
 use migration_types::PageNo;
@@ -84,34 +84,34 @@ fn is_under_way(link: &LinkBook) -> bool {
 }
 
 /// Returns the report on an event.
-pub(crate) fn told(came: Result<Came, EventFault>) -> Turn
-    ensures turn { (e : Event) (old new : BooksAfter → BooksAfter) → OnOk came (IsMade e old new) → IfOk came (λ c. Tells c old new) → OnErr came (IsSame old new) → IsTurn result e old new }
-    ensures exact { result ≡ turn_of came }
+pub(crate) fn told(effect: Result<Effect, EventFault>) -> Turn
+    ensures turn { (e : Event) (old new : BooksAfter → BooksAfter) → OnOk effect (IsMade e old new) → IfOk effect (λ c. Tells c old new) → OnErr effect (IsSame old new) → IsTurn result e old new }
+    ensures exact { result ≡ turn_of effect }
 {
-    match came {
-        Ok(came) => turn_by(came),
+    match effect {
+        Ok(effect) => turn_by(effect),
         Err(fault) => Turn::Stops(of_event(fault)),
     }
 }
 
 /// Returns the report on an event that was not refused.
-fn turn_by(came: Came) -> Turn
-    ensures exact { result ≡ turn_by came }
-    ensures turn { (e : Event) (old new : BooksAfter → BooksAfter) → IsMade e old new → Tells came old new → IsTurn result e old new }
+fn turn_by(effect: Effect) -> Turn
+    ensures exact { result ≡ turn_by effect }
+    ensures turn { (e : Event) (old new : BooksAfter → BooksAfter) → IsMade e old new → Tells effect old new → IsTurn result e old new }
 {
-    match came {
-        Came::Nothing => Turn::Idle,
-        Came::Made => Turn::Did,
-        Came::Offered(page) => Turn::Offered(page),
+    match effect {
+        Effect::Nothing => Turn::Idle,
+        Effect::Made => Turn::Did,
+        Effect::Offered(page) => Turn::Offered(page),
     }
 }
 
 /// Returns the report on an event on the pager's and the target's books.
-pub(crate) fn told_to_all(came: Result<Came, EventFault>) -> Turn
-    ensures turn { (e : Event) (old new : BooksAfter → BooksAfter) → OnOk came (IsMade e old new) → IfOk came (λ c. Tells c old new) → OnErr came (IsSame old new) → IsTurn result e old new }
-    ensures exact { result ≡ to_all (turn_of came) }
+pub(crate) fn told_to_all(effect: Result<Effect, EventFault>) -> Turn
+    ensures turn { (e : Event) (old new : BooksAfter → BooksAfter) → OnOk effect (IsMade e old new) → IfOk effect (λ c. Tells c old new) → OnErr effect (IsSame old new) → IsTurn result e old new }
+    ensures exact { result ≡ to_all (turn_of effect) }
 {
-    match told(came) {
+    match told(effect) {
         Turn::Did => Turn::Served,
         other => other,
     }

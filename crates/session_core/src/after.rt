@@ -11,7 +11,7 @@ use crate::CoreFault;
 use crate::left::Left;
 use active_push::SourceBook;
 use book_events::logs::{LentLogs, logs_of};
-use book_events::{Came, paging, sending};
+use book_events::{Effect, paging, sending};
 use guest_script::Script;
 use link_book::LinkBook;
 use migration_events::Event;
@@ -60,7 +60,7 @@ impl<'a> AfterHalt<'a> {
     {
         let _came = match event {
             Event::GuestStep { vcpu } => return self.guest_step(vcpu),
-            Event::Halt => Came::Nothing,
+            Event::Halt => Effect::Nothing,
             Event::Push => {
                 let has_lane = self.script.lane().is_some();
                 let window = self.script.window();
@@ -70,7 +70,7 @@ impl<'a> AfterHalt<'a> {
             Event::SourceTick => sending::source_tick(&mut self.source, &mut self.link)?,
             Event::LinkTurn { direction, fate } => {
                 self.link.turn(direction, fate)?;
-                Came::Made
+                Effect::Made
             }
             Event::PagerPop => paging::pager_pop(&mut self.link, &mut self.pager)?,
             Event::PagerPull => paging::pager_pull(&mut self.link, &mut self.pager)?,
