@@ -10,7 +10,7 @@ ghost use Rattle.cert_maker.specs.Orders.{IsTied};
 ghost use Rattle.session_story.specs.Waits.{IsCircle, next_in};
 ghost use Rattle.session_story.specs.inner.Waits.{IsNext, IsCircleAt};
 
-use cert_maker::{FoundRuns, Left};
+use cert_maker::{FirstLeft, FoundRuns};
 use merge_runs::Taken;
 use migration_types::{LogName, Session};
 use std::alloc::{AllocError, Global};
@@ -104,7 +104,7 @@ fn circle_from(
 pub(crate) fn circle_of(
     alloc: Global,
     session: &Session,
-    left: &Left,
+    left: &FirstLeft,
     found: &FoundRuns,
 ) -> Result<Knot, AllocError>
     requires shape { IsRightShape session.now }
