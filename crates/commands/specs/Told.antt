@@ -35,8 +35,8 @@ use Rattle.session_answers.specs.declared.forms.Story.{Story}
 use Rattle.session_answers.specs.declared.forms.Story.TheVariants as tells
 use Rattle.judged_texts.specs.declared.wanted.Wanted.TheVariants as wanted
 use Rattle.command_words.specs.Table.{plain}
-use Rattle.completeness.specs.declared.missing.Extent.{Extent}
-use Rattle.completeness.specs.declared.missing.Extent.TheVariants as extent
+use Rattle.completeness.specs.declared.lack.Extent.{Extent}
+use Rattle.completeness.specs.declared.lack.Extent.TheVariants as extent
 use Rattle.session_log.specs.Grammar.{SpellsSession}
 use Rattle.cert_text.specs.Grammar.{SpellsCert}
 use Rattle.cert_text.specs.Order.{SpellsOrder}

@@ -1,7 +1,7 @@
 -- What is explained with each line told by a table.
 use Rattle.std.specs.Prelude.{◌≡◌, ℕ, ◌⊎◌, List, Option, codes}
 use Rattle.text_lines.specs.Text.{IsSpelling, IsRefusalLine}
-use Rattle.completeness.specs.declared.missing.Extent.{Extent}
+use Rattle.completeness.specs.declared.lack.Extent.{Extent}
 use Rattle.audit_report.specs.ToldLines.{line_by}
 use Rattle.command_texts.specs.Answers.{numbered}
 use Rattle.window_commands.specs.Tables.{SpellsTable}

@@ -4,8 +4,8 @@ use Rattle.text_lines.specs.Text.{IsSpelling}
 use Rattle.migration_types.specs.Sessions.{Recorded}
 use Rattle.session_log.specs.Grammar.{SpellsSession}
 use Rattle.completeness.specs.Complete.{IsComplete, Lacks}
-use Rattle.completeness.specs.declared.missing.Extent.{Extent}
-use Rattle.completeness.specs.declared.missing.Missing.{Missing}
+use Rattle.completeness.specs.declared.lack.Extent.{Extent}
+use Rattle.completeness.specs.declared.lack.Lack.{Lack}
 use Rattle.command_words.specs.declared.asked.VerdictForm.{VerdictForm}
 use Rattle.judged_texts.specs.Checked.{OfSpelled}
 use Rattle.session_answers.specs.declared.forms.Ask.{Ask}
@@ -23,24 +23,24 @@ pub record StaysAnswered (extent : Extent) (IsPlain : List ℕ → ℕ → Type 
 
 -- Where the status without asking is 0 and something that is asked for is missing, the answer tells the first thing that is
 -- missing, with the status 1.
-pub record IsLacking (extent : Extent) (IsLackTold : Recorded → Missing → List ℕ → Type 0) (IsPlain : List ℕ → ℕ → Type 0) (session text : List ℕ) (status : ℕ) : Type 0 where
+pub record IsLacking (extent : Extent) (IsLackTold : Recorded → Lack → List ℕ → Type 0) (IsPlain : List ℕ → ℕ → Type 0) (session text : List ℕ) (status : ℕ) : Type 0 where
   pub before : List ℕ
   pub was_well : IsPlain before 0
   pub recorded : Recorded
   pub is_spelled : IsSpelling SpellsSession recorded session
-  pub lacking : Missing
+  pub lacking : Lack
   pub lacks : Lacks extent recorded lacking
   pub says : IsLackTold recorded lacking text
   pub refused : status ≡ 1
 
 -- the answer of a command that asks for a session which is complete to this extent, by how it tells what is missing, and what it
 -- answers without asking
-abbrev pub IsCompleteAnswer : Extent → (Recorded → Missing → List ℕ → Type 0) → (List ℕ → ℕ → Type 0) → List ℕ → List ℕ → ℕ → Type 0
+abbrev pub IsCompleteAnswer : Extent → (Recorded → Lack → List ℕ → Type 0) → (List ℕ → ℕ → Type 0) → List ℕ → List ℕ → ℕ → Type 0
 IsCompleteAnswer extent IsLackTold IsPlain session text status =
     StaysAnswered extent IsPlain session text status ⊎ IsLacking extent IsLackTold IsPlain session text status
 
 -- the same where an extent is asked for, and else what is answered without asking
-abbrev pub IsDemanded : Option Extent → (Recorded → Missing → List ℕ → Type 0) → (List ℕ → ℕ → Type 0) → List ℕ → List ℕ → ℕ → Type 0
+abbrev pub IsDemanded : Option Extent → (Recorded → Lack → List ℕ → Type 0) → (List ℕ → ℕ → Type 0) → List ℕ → List ℕ → ℕ → Type 0
 IsDemanded None IsLackTold IsPlain session = IsPlain
 IsDemanded (Some extent) IsLackTold IsPlain session = IsCompleteAnswer extent IsLackTold IsPlain session
 

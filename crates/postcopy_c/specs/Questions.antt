@@ -2,7 +2,7 @@
 use Rattle.std.specs.Prelude.{◌≡◌, ◌⊎◌, ◌<◌, ℕ, List, length, Option, Some, None, Vec}
 use Rattle.std.specs.Global.{Global}
 use Rattle.std.specs.List.{AllZip, Contains, concat}
-use Rattle.completeness.specs.declared.missing.Extent.TheVariants.{Whole, Pages}
+use Rattle.completeness.specs.declared.lack.Extent.TheVariants.{Whole, Pages}
 use Rattle.judged_texts.specs.declared.auditing.Audited.{Audited}
 use Rattle.judged_texts.specs.declared.wanted.Wanted.TheVariants as wanted
 use Rattle.session_answers.specs.declared.forms.Form.TheVariants as form

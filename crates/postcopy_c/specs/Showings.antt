@@ -10,7 +10,7 @@ use Rattle.audit_report.specs.RefusalText.{refusal_text}
 use Rattle.audit_report.specs.ReportText.{first_line}
 use Rattle.audit_report.specs.ToldLines.{own}
 use Rattle.audit_report.specs.declared.report.Report.TheVariants as report
-use Rattle.completeness.specs.declared.missing.Extent.{Extent}
+use Rattle.completeness.specs.declared.lack.Extent.{Extent}
 use Rattle.completeness.specs.Complete.{IsComplete}
 use Rattle.judged_texts.specs.declared.auditing.Audited.{Audited}
 use Rattle.judged_texts.specs.declared.auditing.Audited.TheVariants.{Refused, Reported}

@@ -15,7 +15,7 @@ use crate::writing::{Writer, push_sentences};
 use audit_report::{
     Lines, OwnLines, Report, push_first_line_by, push_missing, push_refused_session_by,
 };
-use completeness::Missing;
+use completeness::Lack;
 use migration_types::Session;
 use std::alloc::{AllocError, Global};
 
@@ -78,7 +78,7 @@ pub fn print_missing<L: Lines>(
     alloc: Global,
     lines: &L,
     session: &Session,
-    missing: Missing,
+    missing: Lack,
 ) -> Result<Vec<u8>, AllocError>
     requires { IsFirstMissing session.now missing }
     ensures { IfOk result (λ text. IsLackingText (L.tell lines.now) session.now missing text.items) }

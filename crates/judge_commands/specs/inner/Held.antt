@@ -2,7 +2,7 @@
 use Rattle.std.specs.Prelude.{◌≡◌, ℕ, Option, Some, None, ◌⊎◌, Result, Ok, Err}
 use Rattle.migration_types.specs.Sessions.{Recorded}
 use Rattle.completeness.specs.Complete.{IsComplete}
-use Rattle.completeness.specs.declared.missing.Extent.{Extent}
+use Rattle.completeness.specs.declared.lack.Extent.{Extent}
 use Rattle.command_texts.specs.declared.answer.Answer.{Answer}
 use Rattle.session_answers.specs.declared.forms.LackForm.{LackForm}
 use Rattle.session_answers.specs.Lacks.{IsLack}
