@@ -8,7 +8,7 @@ ghost use Rattle.judged_texts.specs.inner.Read.{IsReportOn};
 
 use audit_report::{Report, audit_by};
 use migration_types::Session;
-use page_facts::Alone;
+use page_facts::OneThread;
 use session_log::{read_session, session_texts_are_unambiguous};
 use std::alloc::{AllocError, Global};
 
@@ -29,7 +29,7 @@ fn reported(alloc: Global, session: &Session) -> Result<Audited, AllocError>
     ensures faulty { IfOk result (λ audited. FindsFault audited → IsUnsafe session.now) }
     ensures fits { IfOk result AuditedFits }
 {
-    match audit_by(&Alone, alloc, session) {
+    match audit_by(&OneThread, alloc, session) {
         Ok(report) => Ok(Audited::Reported(report)),
         Err(error) => Err(error),
     }

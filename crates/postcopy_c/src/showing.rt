@@ -21,7 +21,7 @@ use completeness::Extent;
 use judged_texts::Audited;
 use migration_types::Session;
 use order_picture::print_picture_on;
-use page_facts::Alone;
+use page_facts::OneThread;
 use session_answers::{Form, LackForm, print_lack_of, print_refusal, print_told};
 use session_log::{read_session, session_texts_are_unambiguous};
 use session_story::Topic;
@@ -96,7 +96,7 @@ fn text_of_report(
     ensures { IfOk result (λ text. IsShownReport shown_as session.now report.now text.items) }
 {
     match shown_as {
-        ShownAs::Told(form) => print_told(&Alone, alloc, session, report, form),
+        ShownAs::Told(form) => print_told(&OneThread, alloc, session, report, form),
         ShownAs::Picture(topic) => print_picture_on(alloc, session, report, topic),
         ShownAs::Lack(extent) => lack_by_report(alloc, session, extent, report),
     }
@@ -144,7 +144,7 @@ fn show_session(alloc: Global, session: &Session, asked: &[ShownAs]) -> Result<S
     ensures exactly { IfOk result (λ showing. IsSafeExactlyIf (FindsClean showing.audited) session.now) }
     ensures faulty { IfOk result (λ showing. FindsFault showing.audited → IsUnsafe session.now) }
 {
-    let report = audit_by(&Alone, alloc, session)?;
+    let report = audit_by(&OneThread, alloc, session)?;
     let texts = texts_for(alloc, Judged::Reported(session, &report), asked)?;
     Ok(Showing {
         audited: Audited::Reported(report),
