@@ -1,14 +1,14 @@
 //! A run that cannot be taken, in words; or the records that no run takes.
 
 use cert_check::run_at;
-use merge_runs::{Taken, goes_to};
+use merge_runs::{TakenCounts, goes_to};
 use migration_types::{LogName, Run, Session, logs};
 use session_story::{log_word, push_place, push_record};
 use std::alloc::AllocError;
 
 /// How many records of each log these runs take.
-fn taken_by(runs: &[Run]) -> Taken {
-    let mut taken = Taken::nothing();
+fn taken_by(runs: &[Run]) -> TakenCounts {
+    let mut taken = TakenCounts::nothing();
     for run in runs {
         let count = taken.of(run.log).saturating_add(run.count as usize);
         taken = taken.with(run.log, count);
@@ -55,7 +55,7 @@ fn push_early(
 fn push_run(
     out: &mut String,
     session: &Session,
-    taken: &Taken,
+    taken: &TakenCounts,
     run: &Run,
 ) -> Result<(), AllocError> {
     let from = taken.of(run.log);
@@ -79,7 +79,7 @@ fn push_more(out: &mut String, log: LogName, more: usize) -> Result<(), AllocErr
 }
 
 /// Adds the records that are left where these were taken: of each log the first, and how many more there are.
-fn push_left(out: &mut String, session: &Session, taken: &Taken) -> Result<(), AllocError> {
+fn push_left(out: &mut String, session: &Session, taken: &TakenCounts) -> Result<(), AllocError> {
     let mut before = "no run takes the session's ";
     for log in logs() {
         let from = taken.of(log);

@@ -12,7 +12,7 @@ use crate::records::{Name, is_one};
 use crate::rows::rows_of;
 use audit_report::Report;
 use cert_maker::found_runs;
-use merge_runs::Taken;
+use merge_runs::TakenCounts;
 use migration_types::{GuestRec, LogName, Run, Session};
 use session_story::{Told, Topic, tell};
 use std::alloc::{AllocError, Global};
@@ -30,7 +30,7 @@ pub enum Row {
         mark: Mark,
     },
     /// A fold of this many records of each log.
-    Fold(Taken),
+    Fold(TakenCounts),
 }
 
 /// The plan of a picture.
@@ -41,7 +41,7 @@ pub struct Picture {
     /// For each row, the row whose record it receives, if there is one.
     pub senders: Vec<Option<usize>>,
     /// How many records of each log the picture has.
-    pub taken: Taken,
+    pub taken: TakenCounts,
     /// The place of the first run that cannot be taken, or the number of runs if records are left. `None` if the
     /// picture has all records.
     pub bad: Option<usize>,

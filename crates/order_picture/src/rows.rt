@@ -13,7 +13,7 @@ ghost use Rattle.order_picture.specs.inner.Built.{Extends, HasCertainBelow, IsBu
 use crate::focus::{Focus, Mark, mark_of};
 use crate::picture::Row;
 use crate::records::{Name, is_one};
-use merge_runs::Taken;
+use merge_runs::TakenCounts;
 use migration_types::{LogName, Session};
 use std::alloc::{AllocError, Global};
 
@@ -26,7 +26,7 @@ const MOST_OTHERS: usize = 194;
 pub(crate) struct Building {
     pub rows: Vec<Row>,
     /// How many records of each log came after the last row.
-    pub since: Taken,
+    pub since: TakenCounts,
     /// How many these are in all.
     pub folded: usize,
     /// How many more rows there may be for records other than the faulty one.
@@ -50,7 +50,7 @@ impl Building {
     {
         Building {
             rows: Vec::new(alloc),
-            since: Taken::nothing(),
+            since: TakenCounts::nothing(),
             folded: 0,
             room: MOST_OTHERS,
             fault_left: 1,
@@ -68,7 +68,7 @@ impl Building {
         if self.folded > 0 {
             self.rows.push(Row::Fold(self.since))?;
         }
-        self.since = Taken::nothing();
+        self.since = TakenCounts::nothing();
         self.folded = 0;
         Ok(())
     }
