@@ -8,7 +8,7 @@ ghost use Rattle.migration_model.specs.Orderly.{IsOrderly};
 ghost use Rattle.session_core.specs.States.{away_of, IsAfter};
 
 use crate::CoreFault;
-use crate::left::Left;
+use crate::remaining::Remaining;
 use active_push::SourceBook;
 use book_events::logs::{LentLogs, logs_of};
 use book_events::{Effect, paging, sending};
@@ -27,7 +27,7 @@ use target_side::{Access, PagerBook, TargetBook};
 pub struct AfterHalt<'a> {
     pub(crate) alloc: Global,
     pub(crate) script: &'a Script,
-    pub(crate) vcpus: Vec<Left<'a>>,
+    pub(crate) vcpus: Vec<Remaining<'a>>,
     pub(crate) source: SourceBook,
     pub(crate) link: LinkBook,
     pub(crate) pager: PagerBook,
