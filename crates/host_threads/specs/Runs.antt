@@ -23,7 +23,7 @@ IsLeft (Some s) link pager (Guest b) left = left ≡ None
 IsLeft (Some s) link pager Moving left = left ≡ None
 IsLeft (Some s) link pager (Target t) left = left ≡ Some (record { guest = t.held.log; source = s.log; link = link.log; lane = link.lane_log; pager = pager }, t.held.frames)
 
--- the result for a fault of the threads, before anything is checked
+-- the refusal of a run that stopped for this reason, before anything is checked
 abbrev pub told_as : StopReason → Option RunFault
 told_as LogFull = Some told.LogFull
 told_as Memory = Some told.Memory

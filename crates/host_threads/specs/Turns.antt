@@ -26,7 +26,7 @@ IsTurn (Stops fault) e old new = IsSame old new
 abbrev pub IsUntried : TurnReport → (BooksAfter → BooksAfter) → (BooksAfter → BooksAfter) → Type 0
 IsUntried turn old new = (turn ≡ Idle) × IsSame old new
 
--- the fault of a run in which an event was refused
+-- why a run stops in which an event was refused
 abbrev pub fault_by : EventFault → StopReason
 fault_by refused.LogFull = LogFull
 fault_by refused.Memory = Memory
