@@ -33,7 +33,7 @@ use Rattle.session_answers.specs.declared.forms.Form.{Form}
 use Rattle.session_answers.specs.declared.forms.Form.TheVariants as form
 use Rattle.session_answers.specs.declared.forms.Story.{Story}
 use Rattle.session_answers.specs.declared.forms.Story.TheVariants as tells
-use Rattle.judged_texts.specs.declared.wanted.Wanted.TheVariants as wanted
+use Rattle.judged_texts.specs.declared.audit_part.AuditPart.TheVariants as wanted
 use Rattle.command_words.specs.Table.{plain}
 use Rattle.completeness.specs.declared.lack.Extent.{Extent}
 use Rattle.completeness.specs.declared.lack.Extent.TheVariants as extent

@@ -8,7 +8,7 @@ use crate::topics::told_topic;
 use command_texts::Listing;
 use command_words::{Audits, Demand, Explains, ListForm, Lists, OneText, ReportForm, StoryForm};
 use completeness::Extent;
-use judged_texts::Wanted;
+use judged_texts::AuditPart;
 use session_answers::{Ask, Form, Story};
 
 /// What ends the list of what is told of several sessions, after how many of how many are clean.
@@ -30,8 +30,8 @@ fn report_form(form: ReportForm) -> Form
     ensures { result ≡ report_form form }
 {
     match form {
-        ReportForm::Lines => Form::Lines(Wanted::Report),
-        ReportForm::FirstLine => Form::Lines(Wanted::FirstLine),
+        ReportForm::Lines => Form::Lines(AuditPart::Report),
+        ReportForm::FirstLine => Form::Lines(AuditPart::FirstLine),
         ReportForm::AllFaults => Form::AllFaults,
         ReportForm::Object => Form::Object,
         ReportForm::AllFaultsObject => Form::AllFaultsObject,
@@ -43,7 +43,7 @@ fn list_form(form: ListForm) -> Form
     ensures { result ≡ list_form form }
 {
     match form {
-        ListForm::FirstLines => Form::Lines(Wanted::FirstLine),
+        ListForm::FirstLines => Form::Lines(AuditPart::FirstLine),
         ListForm::Objects => Form::Object,
         ListForm::AllFaultsObjects => Form::AllFaultsObject,
     }
@@ -105,7 +105,7 @@ pub(crate) fn ask_of(task: OneText) -> Ask
 {
     match task {
         OneText::Certify => Ask {
-            form: Form::Lines(Wanted::Certificate),
+            form: Form::Lines(AuditPart::Certificate),
             complete: None,
         },
         OneText::Audit(audits) => audit_ask(audits),

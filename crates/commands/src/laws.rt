@@ -1,7 +1,7 @@
 //! Laws on what the commands answer to one another's texts.
 
 ghost use Rattle.std.specs.Prelude.{◌≡◌, ℕ, List};
-ghost use Rattle.judged_texts.specs.declared.wanted.Wanted.{Wanted as Asked};
+ghost use Rattle.judged_texts.specs.declared.audit_part.AuditPart.{AuditPart as Asked};
 ghost use Rattle.command_texts.specs.Cutting.{IsCutAtEnd};
 ghost use Rattle.judge_commands.specs.Answers.{IsAuditAnswer, IsVerdictAnswer};
 ghost use Rattle.host_commands.specs.Migrations.{IsMigrateAnswer};

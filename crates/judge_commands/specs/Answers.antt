@@ -6,7 +6,7 @@ use Rattle.cert_check.specs.declared.verdict.Verdict.{Verdict}
 use Rattle.cert_check.specs.declared.verdict.Verdict.TheVariants.{SessionText, CertText, Shape, Pages, Runs, Page, Yes}
 use Rattle.audit_report.specs.ReportText.{shape_line}
 use Rattle.report_json.specs.JsonText.{verdict_object}
-use Rattle.judged_texts.specs.declared.wanted.Wanted.{Wanted}
+use Rattle.judged_texts.specs.declared.audit_part.AuditPart.{AuditPart}
 use Rattle.judge_commands.specs.Misfits.{AddsMisfit}
 use Rattle.command_texts.specs.Answers.{IsAnswer, numbered}
 use Rattle.command_texts.specs.declared.why.Telling.{Telling}
@@ -58,7 +58,7 @@ abbrev pub AddsMisfitOf : List ℕ × List ℕ → List ℕ → List ℕ → Lis
 AddsMisfitOf texts name before after = (verdict : Verdict) × IsTextVerdict texts.0 texts.1 verdict × AddsMisfit name verdict before after
 
 -- `audit` and `certify`: what is wanted of the report on the session
-abbrev pub IsAuditAnswer : Wanted → List ℕ → List ℕ → ℕ → Type 0
+abbrev pub IsAuditAnswer : AuditPart → List ℕ → List ℕ → ℕ → Type 0
 IsAuditAnswer wanted = IsJudgedTold (TellsWanted wanted)
 
 -- how much is told beside the answer of a text that is refused: more where what happened is told in words

@@ -3,8 +3,8 @@ use Rattle.std.specs.Prelude.{◌≡◌, ℕ, ◌<◌, ◌≤◌, ◌⊎◌, Lis
 use Rattle.std.specs.declared.alloc.AllocError.{AllocError}
 use Rattle.cert_check.specs.declared.verdict.Verdict.{Verdict}
 use Rattle.judged_texts.specs.Checked.{IsTextVerdict}
-use Rattle.judged_texts.specs.declared.auditing.Audited.{Audited}
-use Rattle.judged_texts.specs.declared.wanted.Wanted.{Wanted}
+use Rattle.judged_texts.specs.declared.auditing.TextAudit.{TextAudit}
+use Rattle.judged_texts.specs.declared.audit_part.AuditPart.{AuditPart}
 use Rattle.judged_texts.specs.Audited.{IsAudited}
 use Rattle.judged_texts.specs.AuditedText.{audited_text}
 use Rattle.judged_texts.specs.declared.replaying.Outcome.{Outcome}
@@ -30,13 +30,13 @@ pub record IsPut {X : Type 0} (items before after : List X) : Type 0 where
   pub short : length before < length items → after ≡ before
 
 -- this is told of an audit: its numbers, with the length of all of its text, and its text in the room
-pub record IsTold (wanted : Wanted) (audited : Audited) (before after : List ℕ) (answer : PostcopyAnswer) : Type 0 where
+pub record IsTold (wanted : AuditPart) (audited : TextAudit) (before after : List ℕ) (answer : PostcopyAnswer) : Type 0 where
   pub are_numbers : answer ≡ audited_numbers audited (length (audited_text wanted audited))
   pub is_put : IsPut (audited_text wanted audited) before after
 
 -- the audit of the text is told
-pub record TellsAudit (wanted : Wanted) (session before after : List ℕ) (answer : PostcopyAnswer) : Type 0 where
-  pub audited : Audited
+pub record TellsAudit (wanted : AuditPart) (session before after : List ℕ) (answer : PostcopyAnswer) : Type 0 where
+  pub audited : TextAudit
   pub is_audited : IsAudited session audited
   pub told : IsTold wanted audited before after answer
 
@@ -46,5 +46,5 @@ pub record WantsMemory (before after : List ℕ) (answer : PostcopyAnswer) : Typ
   pub stays : after ≡ before
 
 -- the audit of the text is told, or memory was refused
-abbrev pub IsAuditAnswer : Wanted → List ℕ → List ℕ → List ℕ → PostcopyAnswer → Type 0
+abbrev pub IsAuditAnswer : AuditPart → List ℕ → List ℕ → List ℕ → PostcopyAnswer → Type 0
 IsAuditAnswer wanted session before after answer = TellsAudit wanted session before after answer ⊎ WantsMemory before after answer

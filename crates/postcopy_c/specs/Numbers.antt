@@ -8,8 +8,8 @@ use Rattle.audit_model.specs.declared.reasons.PageReason.TheVariants as page
 use Rattle.cert_check.specs.declared.verdict.Verdict.{Verdict}
 use Rattle.cert_check.specs.declared.verdict.Verdict.TheVariants as verdict
 use Rattle.audit_report.specs.declared.report.Report.TheVariants as report
-use Rattle.judged_texts.specs.declared.auditing.Audited.{Audited}
-use Rattle.judged_texts.specs.declared.auditing.Audited.TheVariants.{Refused, Reported}
+use Rattle.judged_texts.specs.declared.auditing.TextAudit.{TextAudit}
+use Rattle.judged_texts.specs.declared.auditing.TextAudit.TheVariants.{Refused, Reported}
 use Rattle.judged_texts.specs.declared.replaying.Outcome.{Outcome}
 use Rattle.judged_texts.specs.declared.replaying.Outcome.TheVariants as outcome
 use Rattle.postcopy_c.specs.declared.answer.PostcopyAnswer.{PostcopyAnswer}
@@ -52,7 +52,7 @@ verdict_numbers (Ok (verdict.Page line)) = numbers 8 line 0 0
 verdict_numbers (Err e) = no_memory
 
 -- what becomes of an audit, with the length of its text
-abbrev pub audited_numbers : Audited → ℕ → PostcopyAnswer
+abbrev pub audited_numbers : TextAudit → ℕ → PostcopyAnswer
 audited_numbers (Refused line) text_len = numbers 3 line 0 text_len
 audited_numbers (Reported (report.Clean cert)) text_len = numbers 2 0 0 text_len
 audited_numbers (Reported (report.Shape fault)) text_len = numbers 5 fault.line (shape_number fault.reason) text_len

@@ -3,8 +3,8 @@ use Rattle.std.specs.Prelude.{◌≡◌, ◌⊎◌, ◌<◌, ℕ, List, length, 
 use Rattle.std.specs.Global.{Global}
 use Rattle.std.specs.List.{AllZip, Contains, concat}
 use Rattle.completeness.specs.declared.lack.Extent.TheVariants.{Whole, Pages}
-use Rattle.judged_texts.specs.declared.auditing.Audited.{Audited}
-use Rattle.judged_texts.specs.declared.wanted.Wanted.TheVariants as wanted
+use Rattle.judged_texts.specs.declared.auditing.TextAudit.{TextAudit}
+use Rattle.judged_texts.specs.declared.audit_part.AuditPart.TheVariants as wanted
 use Rattle.session_answers.specs.declared.forms.Form.TheVariants as form
 use Rattle.session_answers.specs.declared.forms.Story.TheVariants as story
 use Rattle.session_story.specs.declared.topics.Topic.TheVariants as topic
@@ -50,7 +50,7 @@ AsksAll questions None = HasUnknown questions
 -- The audit of the bytes is told by its numbers. The room has the texts that show it, one for each of what is asked and each behind
 -- the one before, and the ends have the place where each ends.
 pub record TellsAll (asked : List ShownAs) (session ends_before ends_after before after : List ℕ) (answer : PostcopyAnswer) : Type 0 where
-  pub audited : Audited
+  pub audited : TextAudit
   pub texts : List (List ℕ)
   pub are_shown : AreShown asked session audited texts
   pub are_numbers : answer ≡ audited_numbers audited (length (concat texts))

@@ -12,8 +12,8 @@ use Rattle.audit_report.specs.ToldLines.{own}
 use Rattle.audit_report.specs.declared.report.Report.TheVariants as report
 use Rattle.completeness.specs.declared.lack.Extent.{Extent}
 use Rattle.completeness.specs.Complete.{IsComplete}
-use Rattle.judged_texts.specs.declared.auditing.Audited.{Audited}
-use Rattle.judged_texts.specs.declared.auditing.Audited.TheVariants.{Refused, Reported}
+use Rattle.judged_texts.specs.declared.auditing.TextAudit.{TextAudit}
+use Rattle.judged_texts.specs.declared.auditing.TextAudit.TheVariants.{Refused, Reported}
 use Rattle.session_answers.specs.Forms.{Tells}
 use Rattle.session_answers.specs.Judged as told
 use Rattle.session_answers.specs.Lacks.{IsLack}
@@ -64,7 +64,7 @@ IsRightJudged (judged.Refused line) = ⊤
 IsRightJudged (judged.Reported s report) = IsReport s.now report.now × ReportFits report.now
 
 -- the text shows this audit of the bytes: the line at which they are refused, or the report on the session that they spell
-abbrev pub IsShown : ShownAs → List ℕ → Audited → List ℕ → Type 0
+abbrev pub IsShown : ShownAs → List ℕ → TextAudit → List ℕ → Type 0
 IsShown shown_as session (Refused line) text = IsRefusalLine SpellsSession session line × IsShownRefusal shown_as line text
 IsShown shown_as session (Reported report) text =
     (s : Recorded) × IsSpelling SpellsSession s session × IsReport s report × IsShownReport shown_as s report text
@@ -78,7 +78,7 @@ pub record IsShowingOf (asked : List ShownAs) (s : Recorded) (showing : Showing)
   pub measured : AreMeasured showing.texts
 
 -- texts that show this audit of the bytes, one for each of what is asked
-abbrev pub AreShown : List ShownAs → List ℕ → Audited → List (List ℕ) → Type 0
+abbrev pub AreShown : List ShownAs → List ℕ → TextAudit → List (List ℕ) → Type 0
 AreShown asked session audited texts = AllZip (λ shown_as text. IsShown shown_as session audited text) asked texts
 
 -- the audit of the bytes is shown
@@ -88,7 +88,7 @@ pub record IsShowing (asked : List ShownAs) (session : List ℕ) (showing : Show
 
 -- the audit of the bytes is told by its numbers, with the length of the text that shows it, and this text is in the room
 pub record TellsShown (shown_as : ShownAs) (session before after : List ℕ) (answer : PostcopyAnswer) : Type 0 where
-  pub audited : Audited
+  pub audited : TextAudit
   pub text : List ℕ
   pub is_shown : IsShown shown_as session audited text
   pub are_numbers : answer ≡ audited_numbers audited (length text)

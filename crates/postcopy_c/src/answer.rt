@@ -11,7 +11,7 @@ use crate::kinds::{
 use crate::reasons::{number_of_page, number_of_shape};
 use audit_report::Report;
 use cert_check::{ShapeFault, Verdict};
-use judged_texts::{Audited, Outcome};
+use judged_texts::{Outcome, TextAudit};
 use std::alloc::AllocError;
 
 /// An answer as C has it.
@@ -99,15 +99,15 @@ pub(crate) fn replay_answer(outcome: Result<Outcome, AllocError>) -> PostcopyAns
 }
 
 /// The numbers of an audit whose text has so many bytes.
-pub(crate) fn audited_answer(audited: &Audited, text_len: usize) -> PostcopyAnswer
+pub(crate) fn audited_answer(audited: &TextAudit, text_len: usize) -> PostcopyAnswer
     ensures { result ≡ audited_numbers audited.now text_len }
 {
     match audited {
-        Audited::Refused(line) => at_line(SESSION_TEXT, *line, text_len),
-        Audited::Reported(Report::Clean(_)) => at_line(CLEAN, 0, text_len),
-        Audited::Reported(Report::Shape(fault)) => misshapen(fault, text_len),
-        Audited::Reported(Report::Knot { left, .. }) => at_line(KNOT, left.line, text_len),
-        Audited::Reported(Report::Faulty { line, fault, .. }) => PostcopyAnswer {
+        TextAudit::Refused(line) => at_line(SESSION_TEXT, *line, text_len),
+        TextAudit::Reported(Report::Clean(_)) => at_line(CLEAN, 0, text_len),
+        TextAudit::Reported(Report::Shape(fault)) => misshapen(fault, text_len),
+        TextAudit::Reported(Report::Knot { left, .. }) => at_line(KNOT, left.line, text_len),
+        TextAudit::Reported(Report::Faulty { line, fault, .. }) => PostcopyAnswer {
             kind: FAULTY,
             line: *line,
             reason: number_of_page(fault.reason),

@@ -14,7 +14,7 @@ use crate::questions::{
 };
 use crate::showing::{ShownAs, tell_all};
 use completeness::Extent;
-use judged_texts::Wanted;
+use judged_texts::AuditPart;
 use session_answers::{Form, Story};
 use session_story::Topic;
 use std::alloc::{AllocError, Global};
@@ -35,8 +35,8 @@ fn asked_by(question: &PostcopyQuestion) -> Option<ShownAs>
 {
     let about = question.about;
     Some(match question.asks {
-        AUDIT => ShownAs::Told(Form::Lines(Wanted::Report)),
-        CERTIFY => ShownAs::Told(Form::Lines(Wanted::Certificate)),
+        AUDIT => ShownAs::Told(Form::Lines(AuditPart::Report)),
+        CERTIFY => ShownAs::Told(Form::Lines(AuditPart::Certificate)),
         AUDIT_ALL => ShownAs::Told(Form::AllFaults),
         MISSING => ShownAs::Lack(Extent::Whole),
         MISSING_PAGES => ShownAs::Lack(Extent::Pages),

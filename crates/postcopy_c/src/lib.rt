@@ -31,7 +31,7 @@ use crate::refusals::{PostcopyRefusal, tell_why};
 use crate::showing::{ShownAs, tell_shown};
 use crate::telling::tell_audit;
 use completeness::Extent;
-use judged_texts::{Wanted, check_texts_alone, replay_texts};
+use judged_texts::{AuditPart, check_texts_alone, replay_texts};
 use session_answers::{Form, Story};
 use session_story::Topic;
 use std::alloc::Global;
@@ -68,25 +68,25 @@ pub extern "C" fn postcopy_replay(alloc: Global, session: &[u8], runs: &[u8]) ->
 /// the room where it fits, and its whole length is answered; where it does not fit the room stays as it was.
 #[unsafe(no_mangle)]
 pub extern "C" fn postcopy_certify(alloc: Global, session: &[u8], room: &mut [u8]) -> PostcopyAnswer
-    ensures told { IsAuditAnswer Wanted.Certificate session.now room.old room.new result }
+    ensures told { IsAuditAnswer AuditPart.Certificate session.now room.old room.new result }
     ensures one_session { result.kind ≢ SESSION_TEXT → result.kind ≢ NO_MEMORY → SpellsOneSession session.now }
     ensures safe { result.kind ≡ CLEAN → OfSpelled session.now IsSafe }
     ensures exactly { result.kind ≢ NO_MEMORY → OfSpelled session.now (IsSafeExactlyIf (result.kind ≡ CLEAN)) }
     ensures faulty { result.kind ≡ FAULTY → OfSpelled session.now IsUnsafe }
 {
-    tell_audit(alloc, session, Wanted::Certificate, room)
+    tell_audit(alloc, session, AuditPart::Certificate, room)
 }
 
 /// The report on a session, as a text that is handed over as that of `postcopy_certify` is.
 #[unsafe(no_mangle)]
 pub extern "C" fn postcopy_audit(alloc: Global, session: &[u8], room: &mut [u8]) -> PostcopyAnswer
-    ensures told { IsAuditAnswer Wanted.Report session.now room.old room.new result }
+    ensures told { IsAuditAnswer AuditPart.Report session.now room.old room.new result }
     ensures one_session { result.kind ≢ SESSION_TEXT → result.kind ≢ NO_MEMORY → SpellsOneSession session.now }
     ensures safe { result.kind ≡ CLEAN → OfSpelled session.now IsSafe }
     ensures exactly { result.kind ≢ NO_MEMORY → OfSpelled session.now (IsSafeExactlyIf (result.kind ≡ CLEAN)) }
     ensures faulty { result.kind ≡ FAULTY → OfSpelled session.now IsUnsafe }
 {
-    tell_audit(alloc, session, Wanted::Report, room)
+    tell_audit(alloc, session, AuditPart::Report, room)
 }
 
 /// The first line of the report on a session, and each page that has a fault, as a text that is handed over as that of

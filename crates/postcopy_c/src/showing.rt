@@ -18,7 +18,7 @@ use crate::telling::put;
 use crate::texts::Texts;
 use audit_report::{OwnLines, Report, audit_by, print_first_line, print_refused_session};
 use completeness::Extent;
-use judged_texts::Audited;
+use judged_texts::TextAudit;
 use migration_types::Session;
 use order_picture::print_picture_on;
 use page_facts::OneThread;
@@ -52,7 +52,7 @@ pub enum Judged<'a> {
 #[derive(Drop)]
 pub struct Showing {
     /// The audit.
-    pub audited: Audited,
+    pub audited: TextAudit,
     /// The texts.
     pub texts: Texts,
 }
@@ -147,7 +147,7 @@ fn show_session(alloc: Global, session: &Session, asked: &[ShownAs]) -> Result<S
     let report = audit_by(&OneThread, alloc, session)?;
     let texts = texts_for(alloc, Judged::Reported(session, &report), asked)?;
     Ok(Showing {
-        audited: Audited::Reported(report),
+        audited: TextAudit::Reported(report),
         texts,
     })
 }
@@ -167,7 +167,7 @@ fn show_text(alloc: Global, session: &[u8], asked: &[ShownAs]) -> Result<Showing
             let line = fault.refused_line()?;
             let texts = texts_for(alloc, Judged::Refused(line), asked)?;
             Ok(Showing {
-                audited: Audited::Refused(line),
+                audited: TextAudit::Refused(line),
                 texts,
             })
         }

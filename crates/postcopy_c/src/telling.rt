@@ -8,7 +8,7 @@ ghost use Rattle.postcopy_c.specs.Answers.{IsPut, IsTold, IsAuditAnswer};
 
 use crate::answer::{PostcopyAnswer, audited_answer, out_of_memory};
 use crate::kinds::{CLEAN, FAULTY, NO_MEMORY, SESSION_TEXT};
-use judged_texts::{Audited, Wanted, audit_text, print_audited};
+use judged_texts::{AuditPart, TextAudit, audit_text, print_audited};
 use std::alloc::{AllocError, Global};
 
 /// Puts items at the front of the room where they fit; where they do not the room stays as it was.
@@ -23,8 +23,8 @@ pub(crate) fn put<T: Copy>(items: &[T], room: &mut [T])
 /// Tells an audit. After an error the room is as it was.
 fn told(
     alloc: Global,
-    audited: &Audited,
-    wanted: Wanted,
+    audited: &TextAudit,
+    wanted: AuditPart,
     room: &mut [u8],
 ) -> Result<PostcopyAnswer, AllocError>
     requires { AuditedFits audited.now }
@@ -40,7 +40,7 @@ fn told(
 pub(crate) fn tell_audit(
     alloc: Global,
     session: &[u8],
-    wanted: Wanted,
+    wanted: AuditPart,
     room: &mut [u8],
 ) -> PostcopyAnswer
     ensures told { IsAuditAnswer wanted session.now room.old room.new result }

@@ -9,7 +9,7 @@ use Rattle.audit_report.specs.RefusalText.{refusal_text}
 use Rattle.audit_report.specs.ToldLines.{own}
 use Rattle.report_json.specs.JsonText.{all_faults_object, at_line, report_object}
 use Rattle.judged_texts.specs.AuditedText.{wanted_text}
-use Rattle.judged_texts.specs.declared.wanted.Wanted.{Wanted}
+use Rattle.judged_texts.specs.declared.audit_part.AuditPart.{AuditPart}
 use Rattle.report_json.specs.RecordsText.{explained_object}
 use Rattle.session_story.specs.Explained.{IsExplanation}
 use Rattle.session_story.specs.Told.{IsRefusedText, IsToldText}
@@ -22,7 +22,7 @@ use Rattle.session_answers.specs.declared.forms.Story.{Story}
 use Rattle.session_answers.specs.declared.forms.Story.TheVariants as story
 
 -- lines: the wanted part of the report
-abbrev pub TellsWanted : Wanted → Judged → List ℕ → Type 0
+abbrev pub TellsWanted : AuditPart → Judged → List ℕ → Type 0
 TellsWanted wanted (Refused line) text = text ≡ refusal_text line
 TellsWanted wanted (Reported s report) text = text ≡ wanted_text wanted report
 

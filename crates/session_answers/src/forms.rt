@@ -4,7 +4,7 @@ ghost use Rattle.std.specs.Prelude.{◌≡◌};
 ghost use Rattle.session_answers.specs.Lacks.{lack_form, story_lack};
 
 use completeness::Extent;
-use judged_texts::Wanted;
+use judged_texts::AuditPart;
 use session_story::Topic;
 
 /// The form in which the story of a session is written.
@@ -20,7 +20,7 @@ pub enum Story {
 #[derive(Clone, Copy)]
 pub enum Form {
     /// Lines: the wanted part of the report.
-    Lines(Wanted),
+    Lines(AuditPart),
     /// Lines, with each page that has a fault.
     AllFaults,
     /// A JSON object.
