@@ -6,7 +6,7 @@
 use crate::focus::{Focus, Mark, mark_of};
 use crate::records::{Name, is_one};
 use migration_types::{GuestRec, LOG_COUNT, LogName, Session, logs};
-use session_story::{Told, tells_of};
+use session_story::{TopicStory, tells_of};
 use std::alloc::{AllocError, Global};
 
 /// How many are kept at each end of the order.
@@ -76,7 +76,7 @@ fn uses(session: &Session, name: Name) -> bool {
 #[derive(Clone, Copy)]
 pub(crate) struct Keeping<'a> {
     pub session: &'a Session,
-    pub told: &'a Told,
+    pub told: &'a TopicStory,
     pub focus: &'a Focus,
     /// The place of the order around which most is shown.
     pub middle: usize,
@@ -85,7 +85,7 @@ pub(crate) struct Keeping<'a> {
 /// Returns whether a picture is about the order: its story is that of the report, and the report names no record of a
 /// page.
 fn is_of_order(keeping: &Keeping<'_>) -> bool {
-    keeping.focus.page.is_none() && matches!(keeping.told, Told::Report(_))
+    keeping.focus.page.is_none() && matches!(keeping.told, TopicStory::Report(_))
 }
 
 /// Returns whether a record concerns what the picture is about: a page, or the order.

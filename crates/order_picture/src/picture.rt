@@ -14,7 +14,7 @@ use audit_report::Report;
 use cert_maker::found_runs;
 use merge_runs::TakenCounts;
 use migration_types::{GuestRec, LogName, Run, Session};
-use session_story::{Told, Topic, tell};
+use session_story::{Topic, TopicStory, tell};
 use std::alloc::{AllocError, Global};
 
 /// The greatest number of rows in a picture.
@@ -46,7 +46,7 @@ pub struct Picture {
     /// picture has all records.
     pub bad: Option<usize>,
     /// The story of the session.
-    pub told: Told,
+    pub told: TopicStory,
     /// What the picture is about.
     pub focus: Focus,
 }

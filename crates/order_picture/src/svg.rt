@@ -19,7 +19,7 @@ use crate::shapes::{Shape, picture_shapes};
 use crate::style::{COLUMNS_LEFT, DARK_COLOURS, FONT, FONTS, LEGEND_GAP, PAPER, heads};
 use audit_report::{Report, push_first_line};
 use migration_types::{LOG_COUNT, Run, Session};
-use session_story::{Told, Topic};
+use session_story::{Topic, TopicStory};
 use std::alloc::{AllocError, Global};
 use text_lines::push_number;
 
@@ -243,7 +243,7 @@ pub fn write_shapes(
     out: &mut Vec<u8>,
     session: &Session,
     report: &Report,
-    told: &Told,
+    told: &TopicStory,
     shapes: &[Shape],
 ) -> Result<(), AllocError>
     ensures { OnOk result ((text : List ℕ) × IsSvg text × (out.new.items ≡ out.old.items ++ text)) }
