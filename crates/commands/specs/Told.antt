@@ -29,8 +29,8 @@ use Rattle.command_words.specs.declared.asked.Topic.TheVariants as named
 use Rattle.session_story.specs.declared.topics.Topic.{Topic}
 use Rattle.session_story.specs.declared.topics.Topic.TheVariants as topic
 use Rattle.session_answers.specs.declared.forms.Ask.{Ask}
-use Rattle.session_answers.specs.declared.forms.Form.{Form}
-use Rattle.session_answers.specs.declared.forms.Form.TheVariants as form
+use Rattle.session_answers.specs.declared.forms.AnswerForm.{AnswerForm}
+use Rattle.session_answers.specs.declared.forms.AnswerForm.TheVariants as form
 use Rattle.session_answers.specs.declared.forms.Story.{Story}
 use Rattle.session_answers.specs.declared.forms.Story.TheVariants as tells
 use Rattle.judged_texts.specs.declared.audit_part.AuditPart.TheVariants as wanted
@@ -71,14 +71,14 @@ extent_of demand.Pages = Some extent.Pages
 extent_of demand.Whole = Some extent.Whole
 
 -- how a report is told, alone and in a list, and what happened
-abbrev pub report_form : ReportForm → Form
+abbrev pub report_form : ReportForm → AnswerForm
 report_form report.Lines = form.Lines wanted.Report
 report_form report.FirstLine = form.Lines wanted.FirstLine
 report_form report.AllFaults = form.AllFaults
 report_form report.Object = form.Object
 report_form report.AllFaultsObject = form.AllFaultsObject
 
-abbrev pub list_form : ListForm → Form
+abbrev pub list_form : ListForm → AnswerForm
 list_form list.FirstLines = form.Lines wanted.FirstLine
 list_form list.Objects = form.Object
 list_form list.AllFaultsObjects = form.AllFaultsObject

@@ -9,7 +9,7 @@ use command_texts::Listing;
 use command_words::{Audits, Demand, Explains, ListForm, Lists, OneText, ReportForm, StoryForm};
 use completeness::Extent;
 use judged_texts::AuditPart;
-use session_answers::{Ask, Form, Story};
+use session_answers::{AnswerForm, Ask, Story};
 
 /// What ends the list of what is told of several sessions, after how many of how many are clean.
 const ARE_CLEAN: &[u8] = b" sessions are clean\n";
@@ -26,26 +26,26 @@ pub(crate) fn extent_of(demand: Demand) -> Option<Extent>
 }
 
 // How the report on a session is told.
-fn report_form(form: ReportForm) -> Form
+fn report_form(form: ReportForm) -> AnswerForm
     ensures { result ≡ report_form form }
 {
     match form {
-        ReportForm::Lines => Form::Lines(AuditPart::Report),
-        ReportForm::FirstLine => Form::Lines(AuditPart::FirstLine),
-        ReportForm::AllFaults => Form::AllFaults,
-        ReportForm::Object => Form::Object,
-        ReportForm::AllFaultsObject => Form::AllFaultsObject,
+        ReportForm::Lines => AnswerForm::Lines(AuditPart::Report),
+        ReportForm::FirstLine => AnswerForm::Lines(AuditPart::FirstLine),
+        ReportForm::AllFaults => AnswerForm::AllFaults,
+        ReportForm::Object => AnswerForm::Object,
+        ReportForm::AllFaultsObject => AnswerForm::AllFaultsObject,
     }
 }
 
 // How the report on each of several sessions is told.
-fn list_form(form: ListForm) -> Form
+fn list_form(form: ListForm) -> AnswerForm
     ensures { result ≡ list_form form }
 {
     match form {
-        ListForm::FirstLines => Form::Lines(AuditPart::FirstLine),
-        ListForm::Objects => Form::Object,
-        ListForm::AllFaultsObjects => Form::AllFaultsObject,
+        ListForm::FirstLines => AnswerForm::Lines(AuditPart::FirstLine),
+        ListForm::Objects => AnswerForm::Object,
+        ListForm::AllFaultsObjects => AnswerForm::AllFaultsObject,
     }
 }
 
@@ -74,7 +74,7 @@ fn explain_ask(explains: Explains) -> Ask
     ensures { result ≡ explain_ask explains }
 {
     Ask {
-        form: Form::Story(story_form(explains.form)),
+        form: AnswerForm::Story(story_form(explains.form)),
         complete: extent_of(explains.demand),
     }
 }
@@ -105,7 +105,7 @@ pub(crate) fn ask_of(task: OneText) -> Ask
 {
     match task {
         OneText::Certify => Ask {
-            form: Form::Lines(AuditPart::Certificate),
+            form: AnswerForm::Lines(AuditPart::Certificate),
             complete: None,
         },
         OneText::Audit(audits) => audit_ask(audits),

@@ -15,8 +15,8 @@ use Rattle.command_words.specs.declared.asked.VerdictForm.{VerdictForm}
 use Rattle.command_words.specs.declared.asked.VerdictForm.TheVariants.{Line, Object}
 use Rattle.session_answers.specs.Judged.{IsJudgedTold}
 use Rattle.session_answers.specs.Forms.{TellsWanted}
-use Rattle.session_answers.specs.declared.forms.Form.{Form}
-use Rattle.session_answers.specs.declared.forms.Form.TheVariants as form
+use Rattle.session_answers.specs.declared.forms.AnswerForm.{AnswerForm}
+use Rattle.session_answers.specs.declared.forms.AnswerForm.TheVariants as form
 use Rattle.session_answers.specs.declared.forms.Story.TheVariants as story
 use Rattle.session_answers.specs.declared.forms.LackForm.{LackForm}
 use Rattle.session_answers.specs.declared.forms.LackForm.TheVariants as lack
@@ -62,6 +62,6 @@ abbrev pub IsAuditAnswer : AuditPart → List ℕ → List ℕ → ℕ → Type 
 IsAuditAnswer wanted = IsJudgedTold (TellsWanted wanted)
 
 -- how much is told beside the answer of a text that is refused: more where what happened is told in words
-abbrev pub how_much : Form → Telling
+abbrev pub how_much : AnswerForm → Telling
 how_much (form.Story (story.Words topic)) = Full
 how_much other = Short

@@ -18,7 +18,7 @@ use audit_report::{OwnLines, Report, audit};
 use command_texts::{Answer, Given, OnOne, REFUSED, Telling, given, status_where};
 use migration_types::Session;
 use page_facts::InThreads;
-use session_answers::{Ask, Form, print_refusal, print_told};
+use session_answers::{AnswerForm, Ask, print_refusal, print_told};
 use session_log::{SessionReader, session_texts_are_unambiguous};
 use std::alloc::{AllocError, Global};
 use std::thread::Threads;
@@ -33,7 +33,7 @@ pub fn report_status(report: &Report) -> u8
 /// The report on a session, told in this form.
 fn reported<R: Threads + Sync>(
     rt: &R,
-    form: Form,
+    form: AnswerForm,
     alloc: Global,
     session: &Session,
 ) -> Result<Answer, AllocError>
@@ -46,7 +46,7 @@ fn reported<R: Threads + Sync>(
 }
 
 /// The line at which a session's text is refused, told in this form.
-fn refused(form: Form, alloc: Global, line: u32) -> Result<Answer, AllocError>
+fn refused(form: AnswerForm, alloc: Global, line: u32) -> Result<Answer, AllocError>
     ensures { IfOk result (SaysRefusal (Tells form) line) }
 {
     let text = print_refusal(alloc, line, form)?;
@@ -59,7 +59,7 @@ fn refused(form: Form, alloc: Global, line: u32) -> Result<Answer, AllocError>
 /// What is judged of a session's text, told in this form, by what was read of the text.
 fn audit_read<R: Threads + Sync>(
     rt: &R,
-    form: Form,
+    form: AnswerForm,
     alloc: Global,
     session: &Result<Session, u32>,
 ) -> Result<Answer, AllocError>

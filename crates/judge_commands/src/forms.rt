@@ -8,7 +8,7 @@ use cert_check::Verdict;
 use command_texts::Telling;
 use command_words::VerdictForm;
 use report_json::push_verdict as push_verdict_object;
-use session_answers::{Form, LackForm, Story};
+use session_answers::{AnswerForm, LackForm, Story};
 use std::alloc::AllocError;
 
 /// Adds the text that tells a verdict in this form. An error: there is no memory for it.
@@ -36,15 +36,15 @@ pub(crate) fn lack_beside(form: VerdictForm) -> LackForm
 }
 
 /// How much is told beside the answer of a text that is refused, where a report is told in this form.
-pub(crate) fn telling_beside(form: Form) -> Telling
+pub(crate) fn telling_beside(form: AnswerForm) -> Telling
     ensures { result ≡ how_much form }
 {
     match form {
-        Form::Story(Story::Words(_)) => Telling::Full,
-        Form::Lines(_)
-        | Form::AllFaults
-        | Form::Object
-        | Form::AllFaultsObject
-        | Form::Story(Story::Object) => Telling::Short,
+        AnswerForm::Story(Story::Words(_)) => Telling::Full,
+        AnswerForm::Lines(_)
+        | AnswerForm::AllFaults
+        | AnswerForm::Object
+        | AnswerForm::AllFaultsObject
+        | AnswerForm::Story(Story::Object) => Telling::Short,
     }
 }

@@ -22,8 +22,8 @@ use Rattle.order_picture.specs.Svg.{IsPictureText}
 use Rattle.postcopy_c.specs.declared.answer.PostcopyAnswer.{PostcopyAnswer}
 use Rattle.postcopy_c.specs.declared.showing.ShownAs.{ShownAs}
 use Rattle.postcopy_c.specs.declared.showing.ShownAs.TheVariants.{Told, Picture, Lack}
-use Rattle.postcopy_c.specs.declared.showing.Judged.{Judged}
-use Rattle.postcopy_c.specs.declared.showing.Judged.TheVariants as judged
+use Rattle.postcopy_c.specs.declared.showing.JudgedText.{JudgedText}
+use Rattle.postcopy_c.specs.declared.showing.JudgedText.TheVariants as judged
 use Rattle.postcopy_c.specs.declared.showing.Showing.{Showing}
 use Rattle.postcopy_c.specs.Numbers.{audited_numbers, numbers}
 use Rattle.postcopy_c.specs.Answers.{IsPut, WantsMemory}
@@ -54,12 +54,12 @@ IsShownReport (Picture topic) s report text = IsPictureText s report topic text
 IsShownReport (Lack extent) s report text = IsLackByReport extent s report text
 
 -- what the text is that shows what is judged of a session's text
-abbrev pub IsShownJudged : ShownAs → Judged → List ℕ → Type 0
+abbrev pub IsShownJudged : ShownAs → JudgedText → List ℕ → Type 0
 IsShownJudged shown_as (judged.Refused line) text = IsShownRefusal shown_as line text
 IsShownJudged shown_as (judged.Reported s report) text = IsShownReport shown_as s.now report.now text
 
 -- where it spells a session, this is its report
-abbrev pub IsRightJudged : Judged → Type 0
+abbrev pub IsRightJudged : JudgedText → Type 0
 IsRightJudged (judged.Refused line) = ⊤
 IsRightJudged (judged.Reported s report) = IsReport s.now report.now × ReportFits report.now
 

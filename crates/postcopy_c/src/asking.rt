@@ -15,7 +15,7 @@ use crate::questions::{
 use crate::showing::{ShownAs, tell_all};
 use completeness::Extent;
 use judged_texts::AuditPart;
-use session_answers::{Form, Story};
+use session_answers::{AnswerForm, Story};
 use session_story::Topic;
 use std::alloc::{AllocError, Global};
 
@@ -35,19 +35,19 @@ fn asked_by(question: &PostcopyQuestion) -> Option<ShownAs>
 {
     let about = question.about;
     Some(match question.asks {
-        AUDIT => ShownAs::Told(Form::Lines(AuditPart::Report)),
-        CERTIFY => ShownAs::Told(Form::Lines(AuditPart::Certificate)),
-        AUDIT_ALL => ShownAs::Told(Form::AllFaults),
+        AUDIT => ShownAs::Told(AnswerForm::Lines(AuditPart::Report)),
+        CERTIFY => ShownAs::Told(AnswerForm::Lines(AuditPart::Certificate)),
+        AUDIT_ALL => ShownAs::Told(AnswerForm::AllFaults),
         MISSING => ShownAs::Lack(Extent::Whole),
         MISSING_PAGES => ShownAs::Lack(Extent::Pages),
-        EXPLAIN => ShownAs::Told(Form::Story(Story::Words(Topic::Report))),
-        EXPLAIN_PAGE => ShownAs::Told(Form::Story(Story::Words(Topic::Page(about)))),
-        EXPLAIN_LINE => ShownAs::Told(Form::Story(Story::Words(Topic::Line(about)))),
+        EXPLAIN => ShownAs::Told(AnswerForm::Story(Story::Words(Topic::Report))),
+        EXPLAIN_PAGE => ShownAs::Told(AnswerForm::Story(Story::Words(Topic::Page(about)))),
+        EXPLAIN_LINE => ShownAs::Told(AnswerForm::Story(Story::Words(Topic::Line(about)))),
         DRAW => ShownAs::Picture(Topic::Report),
         DRAW_PAGE => ShownAs::Picture(Topic::Page(about)),
-        AUDIT_OBJECT => ShownAs::Told(Form::Object),
-        AUDIT_ALL_OBJECT => ShownAs::Told(Form::AllFaultsObject),
-        EXPLAIN_OBJECT => ShownAs::Told(Form::Story(Story::Object)),
+        AUDIT_OBJECT => ShownAs::Told(AnswerForm::Object),
+        AUDIT_ALL_OBJECT => ShownAs::Told(AnswerForm::AllFaultsObject),
+        EXPLAIN_OBJECT => ShownAs::Told(AnswerForm::Story(Story::Object)),
         _ => return None,
     })
 }

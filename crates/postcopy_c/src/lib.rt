@@ -32,7 +32,7 @@ use crate::showing::{ShownAs, tell_shown};
 use crate::telling::tell_audit;
 use completeness::Extent;
 use judged_texts::{AuditPart, check_texts_alone, replay_texts};
-use session_answers::{Form, Story};
+use session_answers::{AnswerForm, Story};
 use session_story::Topic;
 use std::alloc::Global;
 
@@ -97,13 +97,13 @@ pub extern "C" fn postcopy_audit_all(
     session: &[u8],
     room: &mut [u8],
 ) -> PostcopyAnswer
-    ensures told { IsShownAnswer (ShownAs.Told Form.AllFaults) session.now room.old room.new result }
+    ensures told { IsShownAnswer (ShownAs.Told AnswerForm.AllFaults) session.now room.old room.new result }
     ensures one_session { result.kind ≢ SESSION_TEXT → result.kind ≢ NO_MEMORY → SpellsOneSession session.now }
     ensures safe { result.kind ≡ CLEAN → OfSpelled session.now IsSafe }
     ensures exactly { result.kind ≢ NO_MEMORY → OfSpelled session.now (IsSafeExactlyIf (result.kind ≡ CLEAN)) }
     ensures faulty { result.kind ≡ FAULTY → OfSpelled session.now IsUnsafe }
 {
-    tell_shown(alloc, session, ShownAs::Told(Form::AllFaults), room)
+    tell_shown(alloc, session, ShownAs::Told(AnswerForm::AllFaults), room)
 }
 
 /// The line that says what a clean session lacks first, and no byte where it tells of a whole migration; of another session the
@@ -141,7 +141,7 @@ pub extern "C" fn postcopy_missing_pages(
 /// `postcopy_certify` is.
 #[unsafe(no_mangle)]
 pub extern "C" fn postcopy_explain(alloc: Global, session: &[u8], room: &mut [u8]) -> PostcopyAnswer
-    ensures told { IsShownAnswer (ShownAs.Told (Form.Story (Story.Words Topic.Report))) session.now room.old room.new result }
+    ensures told { IsShownAnswer (ShownAs.Told (AnswerForm.Story (Story.Words Topic.Report))) session.now room.old room.new result }
     ensures one_session { result.kind ≢ SESSION_TEXT → result.kind ≢ NO_MEMORY → SpellsOneSession session.now }
     ensures safe { result.kind ≡ CLEAN → OfSpelled session.now IsSafe }
     ensures exactly { result.kind ≢ NO_MEMORY → OfSpelled session.now (IsSafeExactlyIf (result.kind ≡ CLEAN)) }
@@ -150,7 +150,7 @@ pub extern "C" fn postcopy_explain(alloc: Global, session: &[u8], room: &mut [u8
     tell_shown(
         alloc,
         session,
-        ShownAs::Told(Form::Story(Story::Words(Topic::Report))),
+        ShownAs::Told(AnswerForm::Story(Story::Words(Topic::Report))),
         room,
     )
 }
@@ -164,7 +164,7 @@ pub extern "C" fn postcopy_explain_page(
     page: u32,
     room: &mut [u8],
 ) -> PostcopyAnswer
-    ensures told { IsShownAnswer (ShownAs.Told (Form.Story (Story.Words (Topic.Page page)))) session.now room.old room.new result }
+    ensures told { IsShownAnswer (ShownAs.Told (AnswerForm.Story (Story.Words (Topic.Page page)))) session.now room.old room.new result }
     ensures one_session { result.kind ≢ SESSION_TEXT → result.kind ≢ NO_MEMORY → SpellsOneSession session.now }
     ensures safe { result.kind ≡ CLEAN → OfSpelled session.now IsSafe }
     ensures exactly { result.kind ≢ NO_MEMORY → OfSpelled session.now (IsSafeExactlyIf (result.kind ≡ CLEAN)) }
@@ -173,7 +173,7 @@ pub extern "C" fn postcopy_explain_page(
     tell_shown(
         alloc,
         session,
-        ShownAs::Told(Form::Story(Story::Words(Topic::Page(page)))),
+        ShownAs::Told(AnswerForm::Story(Story::Words(Topic::Page(page)))),
         room,
     )
 }
@@ -187,7 +187,7 @@ pub extern "C" fn postcopy_explain_line(
     line: u32,
     room: &mut [u8],
 ) -> PostcopyAnswer
-    ensures told { IsShownAnswer (ShownAs.Told (Form.Story (Story.Words (Topic.Line line)))) session.now room.old room.new result }
+    ensures told { IsShownAnswer (ShownAs.Told (AnswerForm.Story (Story.Words (Topic.Line line)))) session.now room.old room.new result }
     ensures one_session { result.kind ≢ SESSION_TEXT → result.kind ≢ NO_MEMORY → SpellsOneSession session.now }
     ensures safe { result.kind ≡ CLEAN → OfSpelled session.now IsSafe }
     ensures exactly { result.kind ≢ NO_MEMORY → OfSpelled session.now (IsSafeExactlyIf (result.kind ≡ CLEAN)) }
@@ -196,7 +196,7 @@ pub extern "C" fn postcopy_explain_line(
     tell_shown(
         alloc,
         session,
-        ShownAs::Told(Form::Story(Story::Words(Topic::Line(line)))),
+        ShownAs::Told(AnswerForm::Story(Story::Words(Topic::Line(line)))),
         room,
     )
 }

@@ -22,7 +22,7 @@ use judged_texts::TextAudit;
 use migration_types::Session;
 use order_picture::print_picture_on;
 use page_facts::OneThread;
-use session_answers::{Form, LackForm, print_lack_of, print_refusal, print_told};
+use session_answers::{AnswerForm, LackForm, print_lack_of, print_refusal, print_told};
 use session_log::{read_session, session_texts_are_unambiguous};
 use session_story::Topic;
 use std::alloc::{AllocError, Global};
@@ -31,7 +31,7 @@ use std::alloc::{AllocError, Global};
 #[derive(Clone, Copy)]
 pub enum ShownAs {
     /// The report, told in this form.
-    Told(Form),
+    Told(AnswerForm),
     /// The picture about a topic, in the order of the report.
     Picture(Topic),
     /// What a clean session lacks first, of what this extent asks for, or nothing where it is complete; and the first line of
@@ -41,7 +41,7 @@ pub enum ShownAs {
 
 /// What is judged of the text of a session.
 #[derive(Clone, Copy)]
-pub enum Judged<'a> {
+pub enum JudgedText<'a> {
     /// It is refused at this line.
     Refused(u32),
     /// It spells a session, which has this report.
@@ -113,18 +113,18 @@ fn text_of_refusal(alloc: Global, line: u32, shown_as: ShownAs) -> Result<Vec<u8
 }
 
 /// The text that shows what is judged of a session's text.
-fn text_of(alloc: Global, judged: Judged<'_>, shown_as: ShownAs) -> Result<Vec<u8>, AllocError>
+fn text_of(alloc: Global, judged: JudgedText<'_>, shown_as: ShownAs) -> Result<Vec<u8>, AllocError>
     requires { IsRightJudged judged }
     ensures { IfOk result (λ text. IsShownJudged shown_as judged.entry text.items) }
 {
     match judged {
-        Judged::Refused(line) => text_of_refusal(alloc, line, shown_as),
-        Judged::Reported(session, report) => text_of_report(alloc, session, report, shown_as),
+        JudgedText::Refused(line) => text_of_refusal(alloc, line, shown_as),
+        JudgedText::Reported(session, report) => text_of_report(alloc, session, report, shown_as),
     }
 }
 
 /// The texts that show what is judged of a session's text, one for each of what is asked.
-fn texts_for(alloc: Global, judged: Judged<'_>, asked: &[ShownAs]) -> Result<Texts, AllocError>
+fn texts_for(alloc: Global, judged: JudgedText<'_>, asked: &[ShownAs]) -> Result<Texts, AllocError>
     requires { IsRightJudged judged }
     ensures shown { IfOk result (λ held. AllZip (λ shown_as text. IsShownJudged shown_as judged.entry text) asked.now (texts_of held)) }
     ensures measured { IfOk result AreMeasured }
@@ -145,7 +145,7 @@ fn show_session(alloc: Global, session: &Session, asked: &[ShownAs]) -> Result<S
     ensures faulty { IfOk result (λ showing. FindsFault showing.audited → IsUnsafe session.now) }
 {
     let report = audit_by(&OneThread, alloc, session)?;
-    let texts = texts_for(alloc, Judged::Reported(session, &report), asked)?;
+    let texts = texts_for(alloc, JudgedText::Reported(session, &report), asked)?;
     Ok(Showing {
         audited: TextAudit::Reported(report),
         texts,
@@ -165,7 +165,7 @@ fn show_text(alloc: Global, session: &[u8], asked: &[ShownAs]) -> Result<Showing
         Ok(recorded) => show_session(alloc, &recorded, asked),
         Err(fault) => {
             let line = fault.refused_line()?;
-            let texts = texts_for(alloc, Judged::Refused(line), asked)?;
+            let texts = texts_for(alloc, JudgedText::Refused(line), asked)?;
             Ok(Showing {
                 audited: TextAudit::Refused(line),
                 texts,

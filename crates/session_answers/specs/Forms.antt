@@ -15,9 +15,9 @@ use Rattle.session_story.specs.Explained.{IsExplanation}
 use Rattle.session_story.specs.Told.{IsRefusedText, IsToldText}
 use Rattle.session_story.specs.declared.explaining.Explanation.{Explanation}
 use Rattle.session_answers.specs.Judged.{Judged, Refused, Reported}
-use Rattle.session_answers.specs.declared.forms.Form.{Form}
-use Rattle.session_answers.specs.declared.forms.Form.TheVariants.{Lines, AllFaults, Object, AllFaultsObject}
-use Rattle.session_answers.specs.declared.forms.Form.TheVariants as form
+use Rattle.session_answers.specs.declared.forms.AnswerForm.{AnswerForm}
+use Rattle.session_answers.specs.declared.forms.AnswerForm.TheVariants.{Lines, AllFaults, Object, AllFaultsObject}
+use Rattle.session_answers.specs.declared.forms.AnswerForm.TheVariants as form
 use Rattle.session_answers.specs.declared.forms.Story.{Story}
 use Rattle.session_answers.specs.declared.forms.Story.TheVariants as story
 
@@ -64,7 +64,7 @@ TellsAllFaultsObject (Refused line) text = TellsRefusalObject line text
 TellsAllFaultsObject (Reported s report) text = TellsPages (all_faults_object s report) s report text
 
 -- the text in this form, with the line numbers of the session's own text
-abbrev pub Tells : Form → Judged → List ℕ → Type 0
+abbrev pub Tells : AnswerForm → Judged → List ℕ → Type 0
 Tells (Lines wanted) = TellsWanted wanted
 Tells AllFaults = TellsAllFaults
 Tells Object = TellsObject

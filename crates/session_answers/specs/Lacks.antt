@@ -7,8 +7,8 @@ use Rattle.completeness.specs.declared.lack.Lack.{Lack}
 use Rattle.audit_report.specs.MissingText.{missing_text}
 use Rattle.report_json.specs.JsonText.{missing_object}
 use Rattle.session_story.specs.Told.{IsLackingText}
-use Rattle.session_answers.specs.declared.forms.Form.{Form}
-use Rattle.session_answers.specs.declared.forms.Form.TheVariants as form
+use Rattle.session_answers.specs.declared.forms.AnswerForm.{AnswerForm}
+use Rattle.session_answers.specs.declared.forms.AnswerForm.TheVariants as form
 use Rattle.session_answers.specs.declared.forms.Story.{Story}
 use Rattle.session_answers.specs.declared.forms.Story.TheVariants as story
 use Rattle.session_answers.specs.declared.forms.LackForm.{LackForm}
@@ -34,7 +34,7 @@ story_lack (story.Words topic) = Words
 story_lack story.Object = Object
 
 -- the form of a lack that goes with this form of a report
-abbrev pub lack_form : Form → LackForm
+abbrev pub lack_form : AnswerForm → LackForm
 lack_form (form.Lines wanted) = Line
 lack_form form.AllFaults = Line
 lack_form form.Object = Object
