@@ -10,40 +10,40 @@ use Rattle.clap.specs.declared.error.kind.ErrorKind.{ErrorKind}
 use Rattle.clap.specs.declared.error.kind.ErrorKind.TheVariants.{ArgumentConflict, OutOfMemory}
 use Rattle.clap.specs.ValueTests.{is_unsigned_in}
 use Rattle.clap.specs.Words.{App, Row, Rule, Text, all_of, first_of, new_app, new_rule, subcommand_of, with_rule, with_subcommand}
-use Rattle.command_words.specs.declared.asked.Asked.{Asked}
-use Rattle.command_words.specs.declared.asked.Asked.TheVariants.{One, Two, Migrate, Draw, Window}
-use Rattle.command_words.specs.declared.asked.Pages.{Pages}
+use Rattle.command_words.specs.declared.requests.Request.{Request}
+use Rattle.command_words.specs.declared.requests.Request.TheVariants.{One, Two, Migrate, Draw, Window}
+use Rattle.command_words.specs.declared.requests.Pages.{Pages}
 use Rattle.clap.specs.declared.builder.value_parser.ValueParser.{ValueParser}
 use Rattle.clap.specs.declared.builder.value_parser.ValueParser.TheVariants as parser
-use Rattle.command_words.specs.declared.asked.Carrier.{Carrier}
-use Rattle.command_words.specs.declared.asked.Checks.{Checks}
-use Rattle.command_words.specs.declared.asked.VerdictForm.{VerdictForm}
-use Rattle.command_words.specs.declared.asked.VerdictForm.TheVariants as verdict
-use Rattle.command_words.specs.declared.asked.ReportForm.{ReportForm}
-use Rattle.command_words.specs.declared.asked.ReportForm.TheVariants as report
-use Rattle.command_words.specs.declared.asked.StoryForm.{StoryForm}
-use Rattle.command_words.specs.declared.asked.StoryForm.TheVariants as story
-use Rattle.command_words.specs.declared.asked.Lists.{Lists}
-use Rattle.command_words.specs.declared.asked.ListForm.{ListForm}
-use Rattle.command_words.specs.declared.asked.ListForm.TheVariants as list
-use Rattle.command_words.specs.declared.asked.Audits.{Audits}
-use Rattle.command_words.specs.declared.asked.Explains.{Explains}
-use Rattle.command_words.specs.declared.asked.Topic.{Topic}
-use Rattle.command_words.specs.declared.asked.Topic.TheVariants.{Page, Line}
-use Rattle.command_words.specs.declared.asked.Topic.TheVariants as topic
-use Rattle.command_words.specs.declared.asked.Demand.{Demand}
-use Rattle.command_words.specs.declared.asked.Demand.TheVariants as demand
-use Rattle.command_words.specs.declared.asked.Format.{Format}
-use Rattle.command_words.specs.declared.asked.Format.TheVariants as format
-use Rattle.command_words.specs.declared.asked.OneText.{OneText}
-use Rattle.command_words.specs.declared.asked.OneText.TheVariants.{Certify, Audit, Explain}
-use Rattle.command_words.specs.declared.asked.TwoTexts.{TwoTexts}
-use Rattle.command_words.specs.declared.asked.TwoTexts.TheVariants.{Check, Replay, Steps}
-use Rattle.command_words.specs.declared.asked.TwoTexts.TheVariants as two
+use Rattle.command_words.specs.declared.requests.Carrier.{Carrier}
+use Rattle.command_words.specs.declared.requests.Checks.{Checks}
+use Rattle.command_words.specs.declared.requests.VerdictForm.{VerdictForm}
+use Rattle.command_words.specs.declared.requests.VerdictForm.TheVariants as verdict
+use Rattle.command_words.specs.declared.requests.ReportForm.{ReportForm}
+use Rattle.command_words.specs.declared.requests.ReportForm.TheVariants as report
+use Rattle.command_words.specs.declared.requests.StoryForm.{StoryForm}
+use Rattle.command_words.specs.declared.requests.StoryForm.TheVariants as story
+use Rattle.command_words.specs.declared.requests.Lists.{Lists}
+use Rattle.command_words.specs.declared.requests.ListForm.{ListForm}
+use Rattle.command_words.specs.declared.requests.ListForm.TheVariants as list
+use Rattle.command_words.specs.declared.requests.Audits.{Audits}
+use Rattle.command_words.specs.declared.requests.Explains.{Explains}
+use Rattle.command_words.specs.declared.requests.NamedTopic.{NamedTopic}
+use Rattle.command_words.specs.declared.requests.NamedTopic.TheVariants.{Page, Line}
+use Rattle.command_words.specs.declared.requests.NamedTopic.TheVariants as topic
+use Rattle.command_words.specs.declared.requests.Demand.{Demand}
+use Rattle.command_words.specs.declared.requests.Demand.TheVariants as demand
+use Rattle.command_words.specs.declared.requests.Format.{Format}
+use Rattle.command_words.specs.declared.requests.Format.TheVariants as format
+use Rattle.command_words.specs.declared.requests.OneText.{OneText}
+use Rattle.command_words.specs.declared.requests.OneText.TheVariants.{Certify, Audit, Explain}
+use Rattle.command_words.specs.declared.requests.TwoTexts.{TwoTexts}
+use Rattle.command_words.specs.declared.requests.TwoTexts.TheVariants.{Check, Replay, Steps}
+use Rattle.command_words.specs.declared.requests.TwoTexts.TheVariants as two
 use Rattle.clap.specs.declared.builder.action.ArgAction.TheVariants.{Append, SetTrue}
-use Rattle.command_words.specs.declared.asked.AnswerKind.{AnswerKind}
-use Rattle.command_words.specs.declared.asked.AnswerKind.TheVariants.{Artifact, Report}
-use Rattle.command_words.specs.declared.asked.Targets.{Targets}
+use Rattle.command_words.specs.declared.requests.AnswerKind.{AnswerKind}
+use Rattle.command_words.specs.declared.requests.AnswerKind.TheVariants.{Artifact, Report}
+use Rattle.command_words.specs.declared.requests.Targets.{Targets}
 use Rattle.command_words.specs.declared.building.Choices.{Choices}
 use Rattle.command_words.specs.Table.{carriers, carrier_name, carrier_named, format_name, format_named, formats, table}
 
@@ -135,7 +135,7 @@ with_further app None = app
 with_further app (Some word) = with_rule app (new_rule word)
 
 -- a command with a word for each of its texts, and its own options
-abbrev pub with_words : Choices → App → Asked Text → App
+abbrev pub with_words : Choices → App → Request Text → App
 with_words choices app (One task word) = with_one choices.formats task (with_rule app (text_word task word))
 with_words choices app (Two task first second) = with_two choices.formats task (with_rule (with_rule app (needed first)) (needed second))
 with_words choices app (Migrate carrier word) = with_rule (with_rule app (needed word)) (choice_rule (codes "link") choices.carriers (carrier_name carrier))
@@ -143,7 +143,7 @@ with_words choices app (Draw topic word further) = with_page (with_further (with
 with_words choices app (Window pages word lines) = with_lines (with_rule (with_rule (with_rule app (needed word)) (count_rule (codes "FIRST"))) (count_rule (codes "COUNT")))
 
 -- the command of a row of the table; each may have a file for its answer
-abbrev pub command_words : Choices → Text × Asked Text → App
+abbrev pub command_words : Choices → Text × Request Text → App
 command_words choices row = with_output (with_words choices (new_app row.0) row.1)
 
 -- `postcopy`, which has a version and wants a command
@@ -151,7 +151,7 @@ abbrev pub program_words : App
 program_words = on_top (λ s. record s { has_version = true; subcommand_required = true }) (new_app (codes "postcopy"))
 
 -- with the command of one more row
-abbrev pub with_command : Choices → App → Text × Asked Text → App
+abbrev pub with_command : Choices → App → Text × Request Text → App
 with_command choices app row = with_subcommand app (command_words choices row).top
 
 -- `postcopy` with the commands of the table, and these parsers of what options name
@@ -184,7 +184,7 @@ abbrev pub only_of : Text → List Row → Option Text
 only_of id rows = option_and_then only (all_of id rows)
 
 -- two names, where both are there
-abbrev pub both_names : TwoTexts → Option Text → Option Text → Option (Asked Text)
+abbrev pub both_names : TwoTexts → Option Text → Option Text → Option (Request Text)
 both_names task None second = None
 both_names task (Some first) None = None
 both_names task (Some first) (Some second) = Some (Two task first second)
@@ -271,21 +271,21 @@ abbrev pub pages_of : ℕ → ℕ → Pages
 pages_of first count = record { first = first; count = count }
 
 -- the window of these pages of the recording of this name, where all is there, with the file for its lines, if there is one
-abbrev pub window_given : Option Text → Option Text → Option ℕ → Option ℕ → Option (Asked Text)
+abbrev pub window_given : Option Text → Option Text → Option ℕ → Option ℕ → Option (Request Text)
 window_given lines None first count = None
 window_given lines (Some name) None count = None
 window_given lines (Some name) (Some first) None = None
 window_given lines (Some name) (Some first) (Some count) = Some (Window (pages_of first count) name lines)
 
-abbrev pub window_in : List Row → Text → Option (Asked Text)
+abbrev pub window_in : List Row → Text → Option (Request Text)
 window_in rows word = window_given (first_of (codes "lines") rows) (first_of word rows) (count_in (codes "FIRST") rows) (count_in (codes "COUNT") rows)
 
 -- what is told: the page that is named among what was given, or else this
-abbrev pub page_in : List Row → Topic → Topic
+abbrev pub page_in : List Row → NamedTopic → NamedTopic
 page_in rows otherwise = unwrap_or (option_map Page (number_in (codes "page") rows)) otherwise
 
 -- what is told: the line that is named among what was given, or the page, or else this
-abbrev pub topic_in : List Row → Topic → Topic
+abbrev pub topic_in : List Row → NamedTopic → NamedTopic
 topic_in rows otherwise = unwrap_or (option_map Line (number_in (codes "line") rows)) (page_in rows otherwise)
 
 -- how it is told what happened in a session, and what is asked of an explanation
@@ -308,7 +308,7 @@ two_in rows Steps = Steps
 two_in rows (two.Explain explains) = two.Explain explains
 
 -- a command on one text; an explanation is one on two where the file of a recording's lines is named
-abbrev pub told_with : Option Text → OneText → Text → Asked Text
+abbrev pub told_with : Option Text → OneText → Text → Request Text
 told_with None task name = One task name
 told_with (Some lines) (Explain explains) name = Two (two.Explain explains) name lines
 told_with (Some lines) (Audit audits) name = One (Audit audits) name
@@ -319,7 +319,7 @@ abbrev pub further_in : List Row → Option Text → Option Text
 further_in rows word = option_and_then (λ id. first_of id rows) word
 
 -- what a command asks for with the names among what it was given
-abbrev pub given_in : List Row → Asked Text → Option (Asked Text)
+abbrev pub given_in : List Row → Request Text → Option (Request Text)
 given_in rows (One task word) = option_map (λ name. told_with (first_of (codes "lines") rows) (one_in rows task) name) (only_of word rows)
 given_in rows (Two task first second) = both_names (two_in rows task) (first_of first rows) (first_of second rows)
 given_in rows (Migrate carrier word) = option_map (λ name. Migrate (carrier_in rows carrier) name) (first_of word rows)
@@ -327,7 +327,7 @@ given_in rows (Draw topic word further) = option_map (λ name. Draw (page_in row
 given_in rows (Window pages word lines) = window_in rows word
 
 -- what a command and what it was given ask for, by the table
-abbrev pub asked_of : Text × List Row → Option (Asked Text)
+abbrev pub asked_of : Text × List Row → Option (Request Text)
 asked_of given = option_and_then (λ row. given_in given.1 row.1) (find (λ row. bytes_eq row.0 given.0) table)
 
 -- some texts, if there are two or more
@@ -363,11 +363,11 @@ abbrev pub unclashed : {X : Type 0} → (Text × List Row → Option X) → Text
 unclashed tell given = if clashes given.1 then None else tell given
 
 -- what a command and what it was given ask for, where they do not clash
-abbrev pub asked_in : Text × List Row → Option (Asked Text)
+abbrev pub asked_in : Text × List Row → Option (Request Text)
 asked_in given = unclashed asked_of given
 
 -- what the words ask for
-abbrev pub asked : List Text → Option (Asked Text)
+abbrev pub asked : List Text → Option (Request Text)
 asked words = option_and_then asked_in (subcommand_of postcopy_words words)
 
 -- the sessions that `audit` was given, if they are several, with what is asked of them
@@ -404,14 +404,14 @@ abbrev pub output_in : Option (Text × List Row) → Option Text
 output_in given = option_and_then (λ given. first_of (codes "output") given.1) given
 
 -- the file for the lines of a window, where one is asked for
-abbrev pub lines_file_of : Asked Text → Option Text
+abbrev pub lines_file_of : Request Text → Option Text
 lines_file_of (Window pages name lines) = lines
 lines_file_of (One task name) = None
 lines_file_of (Two task first second) = None
 lines_file_of (Migrate carrier name) = None
 lines_file_of (Draw topic name further) = None
 
-abbrev pub lines_file : Option (Asked Text) → Option Text
+abbrev pub lines_file : Option (Request Text) → Option Text
 lines_file asked = option_and_then lines_file_of asked
 
 -- the files that are named for what is written: for the lines of a window, and for the answer
@@ -427,7 +427,7 @@ abbrev pub target_names : Targets → Option Text × Option Text
 target_names targets = (option_map (λ name. name.now) targets.lines, option_map (λ name. name.now) targets.output)
 
 -- what the answer of a command is: `certify` writes a certificate, `steps`, `migrate` and `window` a session, and `draw` a picture
-abbrev pub answer_of : Asked Text → AnswerKind
+abbrev pub answer_of : Request Text → AnswerKind
 answer_of (One Certify name) = Artifact
 answer_of (One (Audit audits) name) = Report
 answer_of (One (Explain explains) name) = Report
@@ -440,7 +440,7 @@ answer_of (Draw topic name further) = Artifact
 answer_of (Window pages name lines) = Artifact
 
 -- and of what is asked for; where it is no command on named texts, it is a report
-abbrev pub answer_kind : Option (Asked Text) → AnswerKind
+abbrev pub answer_kind : Option (Request Text) → AnswerKind
 answer_kind None = Report
 answer_kind (Some asked) = answer_of asked
 
@@ -457,7 +457,7 @@ abbrev pub IsPlainName : Text → Type 0
 IsPlainName name = (name ≡ codes "-") ⊎ ((rest : Text) → name ≢ codes "-" ++ rest)
 
 -- a command, where it has so many texts, with their names; of a window nothing is said, since its numbers may be none
-abbrev pub with_names : List Text → Asked Text → Option (Asked Text)
+abbrev pub with_names : List Text → Request Text → Option (Request Text)
 with_names (name ∷ []) (One task word) = Some (One task name)
 with_names (first ∷ second ∷ []) (Two task word other) = Some (Two task first second)
 with_names (name ∷ []) (Migrate carrier word) = Some (Migrate carrier name)
@@ -466,7 +466,7 @@ with_names (first ∷ second ∷ []) (Draw topic word (Some further)) = Some (Dr
 with_names names asked = None
 
 -- what the name of a command and the names of its texts ask for
-abbrev pub asked_by : Text → List Text → Option (Asked Text)
+abbrev pub asked_by : Text → List Text → Option (Request Text)
 asked_by name names = option_and_then (λ row. with_names names row.1) (find (λ row. bytes_eq row.0 name) table)
 
 -- the program's own name, the name of a command, and names that are no options

@@ -6,10 +6,10 @@ ghost use Rattle.command_words.specs.Words.{choice_rule, command_words, flag_rul
 ghost use Rattle.clap.specs.Words.{app_of, kind_of, rule_of, with_rule};
 ghost use Rattle.clap.specs.declared.builder.command.Command.TheViews.{out-Command as fields_of};
 
-use crate::asked::{Asked, Format, OneText, TwoTexts};
+use crate::requests::{Format, OneText, Request, TwoTexts};
 use crate::table::{
-    ALL, COMPLETE, COMPLETE_PAGES, COUNT, FIRST, FORMAT, LINE, LINES, LINK, OUTPUT, PAGE, QUIET,
-    Row, Word, commands,
+    ALL, COMPLETE, COMPLETE_PAGES, COUNT, CommandRow, FIRST, FORMAT, LINE, LINES, LINK, OUTPUT,
+    PAGE, QUIET, Word, commands,
 };
 use clap::builder::ValueParser;
 use clap::error::ErrorKind;
@@ -374,23 +374,23 @@ fn with_words<'a>(
     alloc: Global,
     command: Command<'a>,
     choices: Choices<'a>,
-    asked: &Asked<Word>,
+    asked: &Request<Word>,
 ) -> Result<Command<'a>, AllocError>
     requires { (fields_of command).has_globals ≡ false }
     ensures app { IfOk result (λ c. app_of c ≡ with_words choices.entry (app_of command.entry) (word_names asked.now)) }
     ensures local { IfOk result (λ c. (fields_of c).has_globals ≡ false) }
 {
     match asked {
-        Asked::One(task, word) => {
+        Request::One(task, word) => {
             let command = with_text(alloc, command, *task, word)?;
             with_one(alloc, command, choices.formats, *task)
         }
-        Asked::Two(task, first, second) => {
+        Request::Two(task, first, second) => {
             let command = with_word(alloc, command, first)?;
             let command = with_word(alloc, command, second)?;
             with_two(alloc, command, choices.formats, *task)
         }
-        Asked::Migrate(carrier, word) => {
+        Request::Migrate(carrier, word) => {
             let command = with_word(alloc, command, word)?;
             with_choice(
                 alloc,
@@ -400,12 +400,12 @@ fn with_words<'a>(
                 carrier.name(),
             )
         }
-        Asked::Draw(_, word, further) => {
+        Request::Draw(_, word, further) => {
             let command = with_word(alloc, command, word)?;
             let command = with_further_word(alloc, command, further)?;
             with_page(alloc, command)
         }
-        Asked::Window(_, word, _) => {
+        Request::Window(_, word, _) => {
             let command = with_word(alloc, command, word)?;
             let command = with_count(alloc, command, &FIRST)?;
             let command = with_count(alloc, command, &COUNT)?;
@@ -415,7 +415,11 @@ fn with_words<'a>(
 }
 
 // The command of a row, where these parsers read what options name.
-fn command_of<'a>(alloc: Global, choices: Choices<'a>, row: &Row) -> Result<Command<'a>, AllocError>
+fn command_of<'a>(
+    alloc: Global,
+    choices: Choices<'a>,
+    row: &CommandRow,
+) -> Result<Command<'a>, AllocError>
     ensures app { IfOk result (λ c. app_of c ≡ command_words choices.entry (row_of row.now)) }
     ensures local { IfOk result (λ c. (fields_of c).has_globals ≡ false) }
 {

@@ -7,15 +7,15 @@ ghost use Rattle.command_words.specs.Readings.{IsFoundIn};
 ghost use Rattle.command_words.specs.Words.{IsRefusedFor, all_faults_form_in, answer_kind, answer_of, asked_of, audits_in, carrier_in, checks_in, clash_in, clashes, clashing, count_in, count_of, demand_in, explains_in, faults_clash, further_in, given_in, has, is_set, lines_file, list_form_in, lists_in, number_in, number_of, one_in, only_of, page_in, postcopy_words, report_form_in, sessions_in, several_among, several_given, short_form_in, story_form_in, told_with, topic_in, topics_clash, two_in, verdict_form_in, wants_object, window_in, word_texts};
 ghost use Rattle.clap.specs.Words.{all_of, first_of, found_of, kind_of, rows_of, subcommand_of, subcommand_rows_of, takes};
 
-use crate::asked::{
-    AnswerKind, Asked, Audits, Carrier, Checks, Demand, Explains, Format, Found, Job, ListForm,
-    Lists, NO_TARGETS, OneText, Pages, ReportForm, Several, StoryForm, Targets, Topic, TwoTexts,
-    VerdictForm, Wish,
-};
 use crate::building::{Choices, command_line, refused_for};
+use crate::requests::{
+    AnswerKind, Audits, Carrier, Checks, Demand, Explains, Format, Intent, Invocation, Job,
+    ListForm, Lists, NO_TARGETS, NamedTopic, OneText, Pages, ReportForm, Request, Several,
+    StoryForm, Targets, TwoTexts, VerdictForm,
+};
 use crate::table::{
-    ALL, COMPLETE, COMPLETE_PAGES, COUNT, FIRST, FORMAT, LINE, LINES, LINK, OUTPUT, PAGE, QUIET,
-    Row, SESSION, Word, carrier_named, carrier_names, commands, format_named, format_names,
+    ALL, COMPLETE, COMPLETE_PAGES, COUNT, CommandRow, FIRST, FORMAT, LINE, LINES, LINK, OUTPUT,
+    PAGE, QUIET, SESSION, Word, carrier_named, carrier_names, commands, format_named, format_names,
 };
 use clap::ArgMatches;
 use clap::builder::ValueParser;
@@ -230,25 +230,25 @@ fn window_given<'a>(word: &Word, matches: &ArgMatches<'a>) -> Option<Job<'a>>
     let first = count_given(FIRST.name, matches)?;
     let count = count_given(COUNT.name, matches)?;
     let lines = name_given(LINES, matches);
-    Some(Asked::Window(Pages { first, count }, name, lines))
+    Some(Request::Window(Pages { first, count }, name, lines))
 }
 
 // What is told: the page that an option names, or else this.
-fn page_given(otherwise: Topic, matches: &ArgMatches<'_>) -> Topic
+fn page_given(otherwise: NamedTopic, matches: &ArgMatches<'_>) -> NamedTopic
     ensures { result ≡ page_in (rows_of (found_of matches.now)) otherwise }
 {
     match number_given(PAGE, matches) {
-        Some(page) => Topic::Page(page),
+        Some(page) => NamedTopic::Page(page),
         None => otherwise,
     }
 }
 
 // What is told: the line that an option names, or the page, or else this.
-fn topic_given(otherwise: Topic, matches: &ArgMatches<'_>) -> Topic
+fn topic_given(otherwise: NamedTopic, matches: &ArgMatches<'_>) -> NamedTopic
     ensures { result ≡ topic_in (rows_of (found_of matches.now)) otherwise }
 {
     match number_given(LINE, matches) {
-        Some(line) => Topic::Line(line),
+        Some(line) => NamedTopic::Line(line),
         None => page_given(otherwise, matches),
     }
 }
@@ -260,7 +260,7 @@ fn story_form(matches: &ArgMatches<'_>) -> StoryForm
     if wants_object(matches) {
         StoryForm::Object
     } else {
-        StoryForm::Words(topic_given(Topic::Report, matches))
+        StoryForm::Words(topic_given(NamedTopic::Report, matches))
     }
 }
 
@@ -301,9 +301,9 @@ fn told_with<'a>(lines: Option<&'a str>, task: OneText, name: &'a str) -> Job<'a
 {
     match (task, lines) {
         (OneText::Explain(explains), Some(lines)) => {
-            Asked::Two(TwoTexts::Explain(explains), name, lines)
+            Request::Two(TwoTexts::Explain(explains), name, lines)
         }
-        _ => Asked::One(task, name),
+        _ => Request::One(task, name),
     }
 }
 
@@ -318,35 +318,35 @@ fn further_given<'a>(word: &Option<Word>, matches: &ArgMatches<'a>) -> Option<&'
 }
 
 // What a command asks for, with the names that its words were given.
-fn given<'a>(asks: &Asked<Word>, matches: &ArgMatches<'a>) -> Option<Job<'a>>
+fn given<'a>(asks: &Request<Word>, matches: &ArgMatches<'a>) -> Option<Job<'a>>
     ensures { option_map asked_names result ≡ given_in (rows_of (found_of matches.now)) (word_names asks.now) }
 {
     match asks {
-        Asked::One(task, word) => {
+        Request::One(task, word) => {
             let name = only_given(word.name, matches)?;
             let lines = name_given(LINES, matches);
             Some(told_with(lines, one_given(*task, matches), name))
         }
-        Asked::Two(task, first, second) => {
+        Request::Two(task, first, second) => {
             let first = name_given(first.name, matches)?;
             let second = name_given(second.name, matches)?;
-            Some(Asked::Two(two_given(*task, matches), first, second))
+            Some(Request::Two(two_given(*task, matches), first, second))
         }
-        Asked::Migrate(carrier, word) => {
+        Request::Migrate(carrier, word) => {
             let name = name_given(word.name, matches)?;
-            Some(Asked::Migrate(carrier_given(*carrier, matches), name))
+            Some(Request::Migrate(carrier_given(*carrier, matches), name))
         }
-        Asked::Draw(topic, word, further) => {
+        Request::Draw(topic, word, further) => {
             let name = name_given(word.name, matches)?;
             let further = further_given(further, matches);
-            Some(Asked::Draw(page_given(*topic, matches), name, further))
+            Some(Request::Draw(page_given(*topic, matches), name, further))
         }
-        Asked::Window(_, word, _) => window_given(word, matches),
+        Request::Window(_, word, _) => window_given(word, matches),
     }
 }
 
 // The row of this name.
-fn row_named<'a>(rows: &'a [Row], name: &str) -> Option<&'a Row>
+fn row_named<'a>(rows: &'a [CommandRow], name: &str) -> Option<&'a CommandRow>
     ensures { option_map (λ row. row.now) result ≡ find (λ row. bytes_eq row.name.now name.now) rows.now }
 {
     rows.iter().find(|row| row.name == name)
@@ -459,28 +459,28 @@ fn wish_of<'a>(
     alloc: Global,
     name: &str,
     matches: &ArgMatches<'a>,
-) -> Result<Option<Wish<'a>>, AllocError>
+) -> Result<Option<Intent<'a>>, AllocError>
     ensures job { IfOk result (λ r. option_and_then job_of r ≡ asked_of (name.now, rows_of (found_of matches.now))) }
     ensures several { IfOk result (λ r. option_and_then several_of r ≡ several_given (name.now, rows_of (found_of matches.now))) }
 {
     if let Some(job) = job_of(name, matches) {
-        return Ok(Some(Wish::Job(job)));
+        return Ok(Some(Intent::Job(job)));
     }
     if name != "audit" {
         return Ok(None);
     }
     match sessions_asked(alloc, matches)? {
-        Some(several) => Ok(Some(Wish::Several(several))),
+        Some(several) => Ok(Some(Intent::Several(several))),
         None => Ok(None),
     }
 }
 
 // The file for the lines of a window, where one is asked for.
-fn lines_file<'a>(wish: &Option<Wish<'a>>) -> Option<&'a str>
+fn lines_file<'a>(wish: &Option<Intent<'a>>) -> Option<&'a str>
     ensures { option_map (λ name. name.now) result ≡ lines_file (option_and_then job_of wish.now) }
 {
     match wish {
-        Some(Wish::Job(Asked::Window(_, _, lines))) => *lines,
+        Some(Intent::Job(Request::Window(_, _, lines))) => *lines,
         _ => None,
     }
 }
@@ -490,25 +490,25 @@ fn answer_of(job: &Job<'_>) -> AnswerKind
     ensures { result ≡ answer_of (asked_names job.now) }
 {
     match job {
-        Asked::One(OneText::Certify, _)
-        | Asked::Two(TwoTexts::Steps, _, _)
-        | Asked::Migrate(..)
-        | Asked::Draw(..)
-        | Asked::Window(..) => AnswerKind::Artifact,
-        Asked::One(OneText::Audit(_) | OneText::Explain(_), _)
-        | Asked::Two(TwoTexts::Check(_) | TwoTexts::Replay | TwoTexts::Explain(_), _, _) => {
+        Request::One(OneText::Certify, _)
+        | Request::Two(TwoTexts::Steps, _, _)
+        | Request::Migrate(..)
+        | Request::Draw(..)
+        | Request::Window(..) => AnswerKind::Artifact,
+        Request::One(OneText::Audit(_) | OneText::Explain(_), _)
+        | Request::Two(TwoTexts::Check(_) | TwoTexts::Replay | TwoTexts::Explain(_), _, _) => {
             AnswerKind::Report
         }
     }
 }
 
 // What the answer to a wish is.
-fn answer_kind(wish: &Option<Wish<'_>>) -> AnswerKind
+fn answer_kind(wish: &Option<Intent<'_>>) -> AnswerKind
     ensures { result ≡ answer_kind (option_and_then job_of wish.now) }
 {
     match wish {
-        Some(Wish::Job(job)) => answer_of(job),
-        Some(Wish::Several(_)) | None => AnswerKind::Report,
+        Some(Intent::Job(job)) => answer_of(job),
+        Some(Intent::Several(_)) | None => AnswerKind::Report,
     }
 }
 
@@ -517,7 +517,7 @@ fn found_for<'a>(
     alloc: Global,
     name: &str,
     matches: &ArgMatches<'a>,
-) -> Result<Found<'a>, clap::Error>
+) -> Result<Invocation<'a>, clap::Error>
     ensures ok { IfOk result (IsFoundIn (Some (name.now, rows_of (found_of matches.now)))) }
     ensures err { IfErr result (λ e. IsRefusedFor (clashes (rows_of (found_of matches.now))) (kind_of e)) }
 {
@@ -530,17 +530,17 @@ fn found_for<'a>(
         output: name_given(OUTPUT, matches),
         answer: answer_kind(&wish),
     };
-    Ok(Found { wish, targets })
+    Ok(Invocation { wish, targets })
 }
 
 /// Nothing is found.
-pub(crate) const NOTHING: Found<'static> = Found {
+pub(crate) const NOTHING: Invocation<'static> = Invocation {
     wish: None,
     targets: NO_TARGETS,
 };
 
 // What is found in the matches. The error as for [`found_for`].
-fn found_in<'a>(alloc: Global, matches: &ArgMatches<'a>) -> Result<Found<'a>, clap::Error>
+fn found_in<'a>(alloc: Global, matches: &ArgMatches<'a>) -> Result<Invocation<'a>, clap::Error>
     ensures ok { IfOk result (IsFoundIn (subcommand_rows_of matches.now)) }
     ensures err { IfErr result (λ e. IsRefusedFor (clash_in (subcommand_rows_of matches.now)) (kind_of e)) }
 {
@@ -553,7 +553,10 @@ fn found_in<'a>(alloc: Global, matches: &ArgMatches<'a>) -> Result<Found<'a>, cl
 /// What is found in words, of which the first is the program's own name. The error is clap's: it tells why the words are no
 /// command, that they have options which mean nothing together, or is the help or the version that was asked for, or that
 /// memory ran out.
-pub(crate) fn find_in<'a>(alloc: Global, words: &'a [&'a str]) -> Result<Found<'a>, clap::Error>
+pub(crate) fn find_in<'a>(
+    alloc: Global,
+    words: &'a [&'a str],
+) -> Result<Invocation<'a>, clap::Error>
     ensures ok { IfOk result (IsFoundIn (subcommand_of postcopy_words (word_texts words.entry.now))) }
     ensures err { IfErr result (λ e. takes postcopy_words (word_texts words.entry.now) ≡ true → IsRefusedFor (clashing (word_texts words.entry.now)) (kind_of e)) }
 {

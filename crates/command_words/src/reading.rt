@@ -3,8 +3,8 @@
 ghost use Rattle.std.specs.Prelude.{◌≡◌, IfOk};
 ghost use Rattle.command_words.specs.Words.{word_texts};
 
-use crate::asked::{Found, NO_TARGETS, Targets, Wish};
 use crate::matching::{NOTHING, find_in};
+use crate::requests::{Intent, Invocation, NO_TARGETS, Targets};
 use clap::error::ErrorKind;
 use std::alloc::{AllocError, Global};
 use std::marker::Model;
@@ -13,7 +13,7 @@ use std::marker::Model;
 #[derive(Drop)]
 pub struct Reading<'a> {
     words: &'a [&'a str],
-    found: Result<Found<'a>, clap::Error>,
+    found: Result<Invocation<'a>, clap::Error>,
 }
 
 impl<'a> Model for Reading<'a> {
@@ -66,7 +66,7 @@ impl<'a> Reading<'a> {
     /// What the words ask for. `None`: they are the program's own name alone, or not even this. The error is clap's: it tells
     /// why the words are no command or that they have options which mean nothing together, or is the help or the version that
     /// was asked for.
-    pub fn wish(self) -> Result<Option<Wish<'a>>, clap::Error>
+    pub fn wish(self) -> Result<Option<Intent<'a>>, clap::Error>
         ensures bare { length self.entry ≤ 1 → result ≡ Ok None }
         ensures job { IfOk result (λ r. option_and_then job_of r ≡ asked self.entry) }
         ensures several { IfOk result (λ r. option_and_then several_of r ≡ several_asked self.entry) }

@@ -3,9 +3,9 @@
 ghost use Rattle.std.specs.Prelude.{◌≡◌, map};
 ghost use Rattle.command_words.specs.Table.{carriers, carrier_name, carrier_named, format_name, format_named, formats, rows_of, table};
 
-use crate::asked::{
-    Asked, Audits, Carrier, Checks, Demand, Explains, Format, OneText, Pages, ReportForm,
-    StoryForm, Topic, TwoTexts, VerdictForm,
+use crate::requests::{
+    Audits, Carrier, Checks, Demand, Explains, Format, NamedTopic, OneText, Pages, ReportForm,
+    Request, StoryForm, TwoTexts, VerdictForm,
 };
 
 /// A word of the command line that names a text.
@@ -19,11 +19,11 @@ pub struct Word {
 
 /// A command.
 #[derive(Clone, Copy)]
-pub struct Row {
+pub struct CommandRow {
     pub name: &'static str,
     /// What the command is for, with an example.
     pub about: &'static str,
-    pub asked: Asked<Word>,
+    pub asked: Request<Word>,
 }
 
 /// The word for a session.
@@ -153,62 +153,62 @@ pub fn carrier_named(name: &str) -> Option<Carrier>
         .copied()
 }
 
-static COMMANDS: [Row; 9] = [
-    Row {
+static COMMANDS: [CommandRow; 9] = [
+    CommandRow {
         name: "check",
         about: "Judge the certificate of a session. Example: postcopy check session cert",
-        asked: Asked::Two(TwoTexts::Check(PLAIN_CHECK), SESSION, CERT),
+        asked: Request::Two(TwoTexts::Check(PLAIN_CHECK), SESSION, CERT),
     },
-    Row {
+    CommandRow {
         name: "certify",
         about: "Write the certificate of a clean session, or the first line of the report on another. Example: postcopy certify session",
-        asked: Asked::One(OneText::Certify, SESSION),
+        asked: Request::One(OneText::Certify, SESSION),
     },
-    Row {
+    CommandRow {
         name: "audit",
         about: "Write the report on a session, or a line on each of several. Example: postcopy audit session",
-        asked: Asked::One(OneText::Audit(PLAIN_AUDIT), SESSION),
+        asked: Request::One(OneText::Audit(PLAIN_AUDIT), SESSION),
     },
-    Row {
+    CommandRow {
         name: "explain",
         about: "Explain what happened in a session, with the records of its fault. Example: postcopy explain session",
-        asked: Asked::One(
+        asked: Request::One(
             OneText::Explain(Explains {
                 demand: Demand::Safety,
-                form: StoryForm::Words(Topic::Report),
+                form: StoryForm::Words(NamedTopic::Report),
             }),
             SESSION,
         ),
     },
-    Row {
+    CommandRow {
         name: "replay",
         about: "Replay a session in the order of its runs. Example: postcopy replay session runs",
-        asked: Asked::Two(TwoTexts::Replay, SESSION, RUNS),
+        asked: Request::Two(TwoTexts::Replay, SESSION, RUNS),
     },
-    Row {
+    CommandRow {
         name: "steps",
         about: "Write the session that events record from a guest script. Example: postcopy steps script events",
-        asked: Asked::Two(TwoTexts::Steps, SCRIPT, EVENTS),
+        asked: Request::Two(TwoTexts::Steps, SCRIPT, EVENTS),
     },
-    Row {
+    CommandRow {
         name: "migrate",
         about: "Migrate the guest of a script, and write its session and certificate. Example: postcopy migrate script | postcopy",
-        asked: Asked::Migrate(Carrier::Memory, SCRIPT),
+        asked: Request::Migrate(Carrier::Memory, SCRIPT),
     },
-    Row {
+    CommandRow {
         name: "draw",
         about: "Draw the records of a session as SVG, in the order of its report or of runs. Example: postcopy draw session -o picture.svg",
-        asked: Asked::Draw(Topic::Report, SESSION, Some(RUNS)),
+        asked: Request::Draw(NamedTopic::Report, SESSION, Some(RUNS)),
     },
-    Row {
+    CommandRow {
         name: "window",
         about: "Write the session of some pages of a recording. Example: postcopy window recording 4096 1024 -o session",
-        asked: Asked::Window(NO_PAGES, RECORDING, None),
+        asked: Request::Window(NO_PAGES, RECORDING, None),
     },
 ];
 
 /// The commands.
-pub fn commands() -> &'static [Row]
+pub fn commands() -> &'static [CommandRow]
     ensures { rows_of result.now ≡ table }
 {
     &COMMANDS

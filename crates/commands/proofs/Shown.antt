@@ -2,11 +2,11 @@
 use Rattle.std.proofs.Common.{◌≡◌, ◌∙◌, ℕ, List, [], ◌∷◌, Option, Some, None, Result, Ok, inl, inr, refl, subst, sym}
 use Rattle.std.specs.Prelude.{codes}
 use Rattle.clap.specs.Words.{Text}
-use Rattle.command_words.specs.declared.asked.Asked.{Asked}
-use Rattle.command_words.specs.declared.asked.Asked.TheVariants.{Two}
-use Rattle.command_words.specs.declared.asked.Checks.{Checks}
-use Rattle.command_words.specs.declared.asked.VerdictForm.{VerdictForm}
-use Rattle.command_words.specs.declared.asked.TwoTexts.TheVariants.{Check}
+use Rattle.command_words.specs.declared.requests.Request.{Request}
+use Rattle.command_words.specs.declared.requests.Request.TheVariants.{Two}
+use Rattle.command_words.specs.declared.requests.Checks.{Checks}
+use Rattle.command_words.specs.declared.requests.VerdictForm.{VerdictForm}
+use Rattle.command_words.specs.declared.requests.TwoTexts.TheVariants.{Check}
 use Rattle.command_words.specs.Table.{plain}
 use Rattle.command_words.specs.Words.{asked, asked_by}
 use Rattle.command_words.proofs.Plain.{IsTaken, taken_plain}

@@ -1,9 +1,9 @@
 -- What a `check` shows that ends with status 0.
 use Rattle.std.specs.Prelude.{◌≡◌, ◌⊎◌, List, [], ◌∷◌, Some, true, codes, ℕ}
 use Rattle.clap.specs.Words.{Text, takes}
-use Rattle.command_words.specs.declared.asked.Asked.TheVariants.{Two}
-use Rattle.command_words.specs.declared.asked.Checks.{Checks}
-use Rattle.command_words.specs.declared.asked.TwoTexts.TheVariants.{Check}
+use Rattle.command_words.specs.declared.requests.Request.TheVariants.{Two}
+use Rattle.command_words.specs.declared.requests.Checks.{Checks}
+use Rattle.command_words.specs.declared.requests.TwoTexts.TheVariants.{Check}
 use Rattle.command_words.specs.Words.{IsPlain, asked, postcopy_words}
 use Rattle.judged_texts.specs.Checked.{HeadlineHolds}
 

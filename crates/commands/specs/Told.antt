@@ -1,31 +1,31 @@
 -- What the program tells of the texts that the words name.
 use Rattle.std.specs.Prelude.{◌≡◌, ◌<◌, ◌⊎◌, ℕ, List, Option, Some, None, Result, Ok, Err, MatchOption, MatchResult, codes}
 use Rattle.std.specs.Global.{Vec}
-use Rattle.command_words.specs.declared.asked.Asked.{Asked}
-use Rattle.command_words.specs.declared.asked.Asked.TheVariants.{One, Two, Migrate, Draw, Window}
-use Rattle.command_words.specs.declared.asked.Pages.{Pages}
+use Rattle.command_words.specs.declared.requests.Request.{Request}
+use Rattle.command_words.specs.declared.requests.Request.TheVariants.{One, Two, Migrate, Draw, Window}
+use Rattle.command_words.specs.declared.requests.Pages.{Pages}
 use Rattle.window_cut.specs.declared.pages.Window.{Window as CutWindow}
 use Rattle.window_commands.specs.Windows.{EndsWindow, HasWindowLines}
-use Rattle.command_words.specs.declared.asked.Demand.{Demand}
-use Rattle.command_words.specs.declared.asked.Demand.TheVariants.{Safety}
-use Rattle.command_words.specs.declared.asked.Demand.TheVariants as demand
-use Rattle.command_words.specs.declared.asked.Audits.{Audits}
-use Rattle.command_words.specs.declared.asked.Explains.{Explains}
-use Rattle.command_words.specs.declared.asked.Lists.{Lists}
-use Rattle.command_words.specs.declared.asked.ReportForm.{ReportForm}
-use Rattle.command_words.specs.declared.asked.ReportForm.TheVariants as report
-use Rattle.command_words.specs.declared.asked.ListForm.{ListForm}
-use Rattle.command_words.specs.declared.asked.ListForm.TheVariants as list
-use Rattle.command_words.specs.declared.asked.StoryForm.{StoryForm}
-use Rattle.command_words.specs.declared.asked.StoryForm.TheVariants as story
-use Rattle.command_words.specs.declared.asked.OneText.{OneText}
-use Rattle.command_words.specs.declared.asked.OneText.TheVariants.{Certify, Audit, Explain}
-use Rattle.command_words.specs.declared.asked.TwoTexts.{TwoTexts}
-use Rattle.command_words.specs.declared.asked.TwoTexts.TheVariants.{Check, Replay, Steps}
-use Rattle.command_words.specs.declared.asked.TwoTexts.TheVariants as two
+use Rattle.command_words.specs.declared.requests.Demand.{Demand}
+use Rattle.command_words.specs.declared.requests.Demand.TheVariants.{Safety}
+use Rattle.command_words.specs.declared.requests.Demand.TheVariants as demand
+use Rattle.command_words.specs.declared.requests.Audits.{Audits}
+use Rattle.command_words.specs.declared.requests.Explains.{Explains}
+use Rattle.command_words.specs.declared.requests.Lists.{Lists}
+use Rattle.command_words.specs.declared.requests.ReportForm.{ReportForm}
+use Rattle.command_words.specs.declared.requests.ReportForm.TheVariants as report
+use Rattle.command_words.specs.declared.requests.ListForm.{ListForm}
+use Rattle.command_words.specs.declared.requests.ListForm.TheVariants as list
+use Rattle.command_words.specs.declared.requests.StoryForm.{StoryForm}
+use Rattle.command_words.specs.declared.requests.StoryForm.TheVariants as story
+use Rattle.command_words.specs.declared.requests.OneText.{OneText}
+use Rattle.command_words.specs.declared.requests.OneText.TheVariants.{Certify, Audit, Explain}
+use Rattle.command_words.specs.declared.requests.TwoTexts.{TwoTexts}
+use Rattle.command_words.specs.declared.requests.TwoTexts.TheVariants.{Check, Replay, Steps}
+use Rattle.command_words.specs.declared.requests.TwoTexts.TheVariants as two
 use Rattle.window_commands.specs.Tables.{SpellsTable}
-use Rattle.command_words.specs.declared.asked.Topic.{Topic as Named}
-use Rattle.command_words.specs.declared.asked.Topic.TheVariants as named
+use Rattle.command_words.specs.declared.requests.NamedTopic.{NamedTopic}
+use Rattle.command_words.specs.declared.requests.NamedTopic.TheVariants as named
 use Rattle.session_story.specs.declared.topics.Topic.{Topic}
 use Rattle.session_story.specs.declared.topics.Topic.TheVariants as topic
 use Rattle.session_answers.specs.declared.forms.Ask.{Ask}
@@ -59,7 +59,7 @@ use Rattle.host_commands.specs.Migrations.{IsMigrateAnswer}
 use Rattle.commands.specs.Drawings.{IsDrawAnswer, IsDrawAlongAnswer}
 
 -- of what is told, by the topic that the words name
-abbrev pub told_topic : Named → Topic
+abbrev pub told_topic : NamedTopic → Topic
 told_topic named.Report = topic.Report
 told_topic (named.Page page) = topic.Page page
 told_topic (named.Line line) = topic.Line line
@@ -154,7 +154,7 @@ abbrev pub window_of : Pages → CutWindow
 window_of pages = record { first = pages.first; count = pages.count }
 
 -- what a command asks for was told of the texts under its names, or it came to a fault
-abbrev pub EndsAsked : Asked (List ℕ) → (List ℕ → Option (List ℕ)) → Option (List ℕ) → Streams → Streams → Result ℕ Fault → Type 0
+abbrev pub EndsAsked : Request (List ℕ) → (List ℕ → Option (List ℕ)) → Option (List ℕ) → Streams → Streams → Result ℕ Fault → Type 0
 EndsAsked (One task name) files input =
     Ends (IsFaultOf name) (IsNamed name files input) (IsOneAnswer task) (IsBesideOne task name)
 EndsAsked (Two task first second) files input =
@@ -168,7 +168,7 @@ EndsAsked (Draw topic first (Some second)) files input =
 EndsAsked (Window pages name lines) files input = EndsWindow (window_of pages) name files
 
 -- where the lines of a window are asked for, this is their table, and otherwise it stays
-abbrev pub HasLines : Asked (List ℕ) → (List ℕ → Option (List ℕ)) → Option (List ℕ) → Option (List ℕ) → Option (Vec ℕ) → Option (Vec ℕ) → Type 0
+abbrev pub HasLines : Request (List ℕ) → (List ℕ → Option (List ℕ)) → Option (List ℕ) → Option (List ℕ) → Option (Vec ℕ) → Option (Vec ℕ) → Type 0
 HasLines (Window pages name (Some lines)) files old new before after = MatchOption after ⊥ (λ table. HasWindowLines (window_of pages) name files old new table.items)
 HasLines other files old new before after = after ≡ before
 

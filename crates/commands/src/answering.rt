@@ -19,7 +19,7 @@ use command_texts::{
     Console, Fault, Gathered, Telling, TextSource, perform_one, perform_two, read_named, tell_why,
     written,
 };
-use command_words::{Asked, Carrier, Job, OneText, Pages, Topic, TwoTexts};
+use command_words::{Carrier, Job, NamedTopic, OneText, Pages, Request, TwoTexts};
 use guest_script::ScriptParts;
 use host_commands::{StepsCommand, migrate_read};
 use judge_commands::{AuditCommand, CheckCommand, ExplainByTable, ReplayCommand};
@@ -113,12 +113,12 @@ fn asked_migrate<
 // Draws the session under a name, along the runs under a further one where there is one.
 fn asked_draw<'a, R: Threads + Sync, S: TextSource, I: Read + Send, O: Write, E: Write>(
     console: &mut Console<'_, R, S, I, O, E>,
-    asked: Topic,
+    asked: NamedTopic,
     name: &'a str,
     further: Option<&'a str>,
 ) -> Result<u8, Fault<'a>>
     ensures few { IfOk result (λ status. status < 2) }
-    ensures told { EndsAsked (asked_names (Asked.Draw asked name.entry further.entry)) (S.bytes_of console.old.texts.now) (I.remaining console.old.input) (O.contents console.old.output, E.contents console.old.errors) (O.contents console.new.output, E.contents console.new.errors) result }
+    ensures told { EndsAsked (asked_names (Request.Draw asked name.entry further.entry)) (S.bytes_of console.old.texts.now) (I.remaining console.old.input) (O.contents console.old.output, E.contents console.old.errors) (O.contents console.new.output, E.contents console.new.errors) result }
     ensures gains { BothGain (O.contents console.old.output, E.contents console.old.errors) (O.contents console.new.output, E.contents console.new.errors) }
 {
     let topic = told_topic(asked);
@@ -171,11 +171,11 @@ pub fn perform<
     ensures gains { BothGain (O.contents console.old.output, E.contents console.old.errors) (O.contents console.new.output, E.contents console.new.errors) }
 {
     match job {
-        Asked::One(task, name) => asked_one(console, task, name),
-        Asked::Two(task, first, second) => asked_two(console, task, first, second),
-        Asked::Migrate(carrier, name) => asked_migrate(console, carrier, name),
-        Asked::Draw(topic, name, further) => asked_draw(console, topic, name, further),
-        Asked::Window(pages, name, file) => {
+        Request::One(task, name) => asked_one(console, task, name),
+        Request::Two(task, first, second) => asked_two(console, task, first, second),
+        Request::Migrate(carrier, name) => asked_migrate(console, carrier, name),
+        Request::Draw(topic, name, further) => asked_draw(console, topic, name, further),
+        Request::Window(pages, name, file) => {
             asked_window(console, pages, name, file.is_some(), lines)
         }
     }

@@ -18,7 +18,7 @@ use command_texts::{
     ACCEPTED, Console, Fault, STANDARD_OUTPUT, TextSource, USAGE, perform_two, tell, write_or_why,
     write_whole,
 };
-use command_words::{Reading, VerdictForm, Wish};
+use command_words::{Intent, Reading, VerdictForm};
 use judge_commands::CheckCommand;
 use judged_texts::headline_holds_at_yes;
 use std::alloc::{AllocError, Global};
@@ -102,7 +102,7 @@ fn grant<
     I: Read + Send,
     O: Write,
     E: Write,
->(console: &mut Console<'_, R, S, I, O, E>, wish: Wish<'_>, lines: &mut Option<Vec<u8>>) -> u8
+>(console: &mut Console<'_, R, S, I, O, E>, wish: Intent<'_>, lines: &mut Option<Vec<u8>>) -> u8
     ensures known { (result ≢ 2) × (result ≤ 4) }
     ensures fault { 2 < result → IsFaultTold (E.contents console.old.errors) (E.contents console.new.errors) result }
     ensures job { IfSome (job_of wish.entry) (λ job. IsSettled (EndsAsked job (S.bytes_of console.old.texts.now) (I.remaining console.old.input) (O.contents console.old.output, E.contents console.old.errors)) (O.contents console.new.output, E.contents console.new.errors) result) }
@@ -113,11 +113,11 @@ fn grant<
     ensures gains { BothGain (O.contents console.old.output, E.contents console.old.errors) (O.contents console.new.output, E.contents console.new.errors) }
 {
     match wish {
-        Wish::Job(job) => {
+        Intent::Job(job) => {
             let done = perform(console, job, lines);
             settle(done, &mut console.errors)
         }
-        Wish::Several(several) => {
+        Intent::Several(several) => {
             let done = asked_several(console, &several);
             settle(done, &mut console.errors)
         }

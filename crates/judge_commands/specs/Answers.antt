@@ -11,8 +11,8 @@ use Rattle.judge_commands.specs.Misfits.{AddsMisfit}
 use Rattle.command_texts.specs.Answers.{IsAnswer, numbered}
 use Rattle.command_texts.specs.declared.why.Telling.{Telling}
 use Rattle.command_texts.specs.declared.why.Telling.TheVariants.{Short, Full}
-use Rattle.command_words.specs.declared.asked.VerdictForm.{VerdictForm}
-use Rattle.command_words.specs.declared.asked.VerdictForm.TheVariants.{Line, Object}
+use Rattle.command_words.specs.declared.requests.VerdictForm.{VerdictForm}
+use Rattle.command_words.specs.declared.requests.VerdictForm.TheVariants.{Line, Object}
 use Rattle.session_answers.specs.Judged.{IsJudgedTold}
 use Rattle.session_answers.specs.Forms.{TellsWanted}
 use Rattle.session_answers.specs.declared.forms.AnswerForm.{AnswerForm}

@@ -6,7 +6,7 @@ use Rattle.session_log.specs.Grammar.{SpellsSession}
 use Rattle.completeness.specs.Complete.{IsComplete, Lacks}
 use Rattle.completeness.specs.declared.lack.Extent.{Extent}
 use Rattle.completeness.specs.declared.lack.Lack.{Lack}
-use Rattle.command_words.specs.declared.asked.VerdictForm.{VerdictForm}
+use Rattle.command_words.specs.declared.requests.VerdictForm.{VerdictForm}
 use Rattle.judged_texts.specs.Checked.{OfSpelled}
 use Rattle.session_answers.specs.declared.forms.Ask.{Ask}
 use Rattle.session_answers.specs.declared.forms.Story.{Story}

@@ -1,4 +1,4 @@
-//! What a command is asked with.
+//! What the words of the command line may ask for.
 
 ghost use Rattle.std.specs.Prelude.{◌≡◌, None, if◌then◌else◌};
 ghost use Rattle.command_words.specs.Table.{carrier_name, format_name};
@@ -92,7 +92,7 @@ pub struct Lists {
 
 /// What of a session is told, or drawn.
 #[derive(Clone, Copy)]
-pub enum Topic {
+pub enum NamedTopic {
     /// What the report on it names.
     Report,
     /// The page of this number.
@@ -105,7 +105,7 @@ pub enum Topic {
 #[derive(Clone, Copy)]
 pub enum StoryForm {
     /// In words, of this topic.
-    Words(Topic),
+    Words(NamedTopic),
     /// As an object, of what the report names.
     Object,
 }
@@ -174,20 +174,20 @@ pub struct Pages {
 
 /// A command, with a word for each of its texts.
 #[derive(Clone, Copy)]
-pub enum Asked<W> {
+pub enum Request<W> {
     One(OneText, W),
     Two(TwoTexts, W, W),
     /// The migration of a script's guest, over what carries its packets.
     Migrate(Carrier, W),
     /// The picture of a session, of this topic, along runs where these are named.
-    Draw(Topic, W, Option<W>),
+    Draw(NamedTopic, W, Option<W>),
     /// The session of these pages of a recording, and which line of the recording each of its lines was, where a file is named
     /// for them.
     Window(Pages, W, Option<W>),
 }
 
 /// What the words ask for, with the names of its texts.
-pub type Job<'a> = Asked<&'a str>;
+pub type Job<'a> = Request<&'a str>;
 
 /// Several sessions that are to be audited.
 #[derive(Drop)]
@@ -199,7 +199,7 @@ pub struct Several<'a> {
 
 /// What the words ask for.
 #[derive(Drop)]
-pub enum Wish<'a> {
+pub enum Intent<'a> {
     /// A command, with a name for each of its texts.
     Job(Job<'a>),
     /// The audit of several sessions.
@@ -248,8 +248,8 @@ impl<'a> Targets<'a> {
 
 /// What is found in words.
 #[derive(Drop)]
-pub struct Found<'a> {
+pub struct Invocation<'a> {
     /// What they ask for.
-    pub wish: Option<Wish<'a>>,
+    pub wish: Option<Intent<'a>>,
     pub targets: Targets<'a>,
 }
