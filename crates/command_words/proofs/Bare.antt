@@ -15,7 +15,7 @@ enters_none (word ∷ []) le = refl
 enters_none (word ∷ other ∷ rest) le = absurd (omega arith)
 
 abbrev pub nothing : Invocation
-nothing = record { wish = None; targets = record { lines = None; output = None; answer = Report } }
+nothing = record { intent = None; targets = record { lines = None; output = None; answer = Report } }
 
 none_in_none : IsFoundIn None nothing
 none_in_none = record { job = refl; several = refl; alike = refl; targets = record { names = refl; answer = refl } }

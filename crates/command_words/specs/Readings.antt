@@ -15,8 +15,8 @@ pub record AreTargetsIn (given : Option (Text × List Row)) (targets : Targets) 
 
 -- this is what a command and what it was given ask for, and their options do not clash
 pub record IsFoundIn (given : Option (Text × List Row)) (found : Invocation) : Type 0 where
-  pub job : option_and_then job_of found.wish ≡ option_and_then asked_in given
-  pub several : option_and_then several_of found.wish ≡ option_and_then several_in given
+  pub job : option_and_then job_of found.intent ≡ option_and_then asked_in given
+  pub several : option_and_then several_of found.intent ≡ option_and_then several_in given
   pub alike : clash_in given ≡ false
   pub targets : AreTargetsIn given found.targets
 
@@ -27,7 +27,7 @@ AreTargets words = AreTargetsIn (subcommand_of postcopy_words words)
 -- this is found in the words, and in fewer than two nothing is
 pub record IsFound (words : List Text) (found : Invocation) : Type 0 where
   pub asks : IsFoundIn (subcommand_of postcopy_words words) found
-  pub bare : length words ≤ 1 → found.wish ≡ None
+  pub bare : length words ≤ 1 → found.intent ≡ None
 
 -- the words, which are two or more, are refused by this; if the command line takes them, then for options that clash
 pub record IsRefused (words : List Text) (error : Error) : Type 0 where

@@ -19,7 +19,7 @@ use Rattle.command_words.specs.declared.requests.Several.{Several}
 use Rattle.command_words.specs.declared.requests.NamedTopic.TheVariants as topic
 use Rattle.command_words.specs.declared.requests.Intent.{Intent}
 use Rattle.command_words.specs.declared.requests.Intent.TheVariants.{Job}
-use Rattle.command_words.specs.declared.requests.Intent.TheVariants as wish
+use Rattle.command_words.specs.declared.requests.Intent.TheVariants as intent
 use Rattle.command_words.specs.declared.requests.Demand.TheVariants.{Safety}
 use Rattle.command_words.specs.declared.requests.Format.{Format}
 use Rattle.command_words.specs.declared.requests.Format.TheVariants as format
@@ -101,15 +101,15 @@ asked_names asked = asked_map (λ name. name.now) asked
 abbrev pub several_names : Several → Lists × List Text
 several_names several = (several.lists, map (λ name. name.now) several.names.items)
 
--- the command that is wished
+-- the command that is asked for
 abbrev pub job_of : Intent → Option (Request Text)
 job_of (Job job) = Some (asked_names job)
-job_of (wish.Several several) = None
+job_of (intent.Several several) = None
 
--- the sessions that are wished to be audited
+-- the sessions that are to be audited
 abbrev pub several_of : Intent → Option (Lists × List Text)
 several_of (Job job) = None
-several_of (wish.Several several) = Some (several_names several)
+several_of (intent.Several several) = Some (several_names several)
 
 -- what a row of the program's table asks with
 abbrev pub word_names : Request Word → Request Text

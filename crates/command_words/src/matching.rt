@@ -455,7 +455,7 @@ fn sessions_asked<'a>(
 }
 
 // What the matches of the command of this name ask for: a command on named texts, or else the audit of several sessions.
-fn wish_of<'a>(
+fn intent_of<'a>(
     alloc: Global,
     name: &str,
     matches: &ArgMatches<'a>,
@@ -476,10 +476,10 @@ fn wish_of<'a>(
 }
 
 // The file for the lines of a window, where one is asked for.
-fn lines_file<'a>(wish: &Option<Intent<'a>>) -> Option<&'a str>
-    ensures { option_map (λ name. name.now) result ≡ lines_file (option_and_then job_of wish.now) }
+fn lines_file<'a>(intent: &Option<Intent<'a>>) -> Option<&'a str>
+    ensures { option_map (λ name. name.now) result ≡ lines_file (option_and_then job_of intent.now) }
 {
-    match wish {
+    match intent {
         Some(Intent::Job(Request::Window(_, _, lines))) => *lines,
         _ => None,
     }
@@ -502,11 +502,11 @@ fn answer_of(job: &Job<'_>) -> AnswerKind
     }
 }
 
-// What the answer to a wish is.
-fn answer_kind(wish: &Option<Intent<'_>>) -> AnswerKind
-    ensures { result ≡ answer_kind (option_and_then job_of wish.now) }
+// What the answer to an intent is.
+fn answer_kind(intent: &Option<Intent<'_>>) -> AnswerKind
+    ensures { result ≡ answer_kind (option_and_then job_of intent.now) }
 {
-    match wish {
+    match intent {
         Some(Intent::Job(job)) => answer_of(job),
         Some(Intent::Several(_)) | None => AnswerKind::Report,
     }
@@ -524,18 +524,18 @@ fn found_for<'a>(
     if let Some(clash) = clash_of(matches) {
         return Err(refused_for(alloc, clash)?);
     }
-    let wish = wish_of(alloc, name, matches)?;
+    let intent = intent_of(alloc, name, matches)?;
     let targets = Targets {
-        lines: lines_file(&wish),
+        lines: lines_file(&intent),
         output: name_given(OUTPUT, matches),
-        answer: answer_kind(&wish),
+        answer: answer_kind(&intent),
     };
-    Ok(Invocation { wish, targets })
+    Ok(Invocation { intent, targets })
 }
 
 /// Nothing is found.
 pub(crate) const NOTHING: Invocation<'static> = Invocation {
-    wish: None,
+    intent: None,
     targets: NO_TARGETS,
 };
 

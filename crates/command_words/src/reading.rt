@@ -66,7 +66,7 @@ impl<'a> Reading<'a> {
     /// What the words ask for. `None`: they are the program's own name alone, or not even this. The error is clap's: it tells
     /// why the words are no command or that they have options which mean nothing together, or is the help or the version that
     /// was asked for.
-    pub fn wish(self) -> Result<Option<Intent<'a>>, clap::Error>
+    pub fn intent(self) -> Result<Option<Intent<'a>>, clap::Error>
         ensures bare { length self.entry ≤ 1 → result ≡ Ok None }
         ensures job { IfOk result (λ r. option_and_then job_of r ≡ asked self.entry) }
         ensures several { IfOk result (λ r. option_and_then several_of r ≡ several_asked self.entry) }
@@ -74,7 +74,7 @@ impl<'a> Reading<'a> {
         ensures err { IfErr result (λ e. takes postcopy_words self.entry ≡ true → (clashing self.entry ≡ true) × (kind_of e ≡ ArgumentConflict)) }
     {
         match self.found {
-            Ok(found) => Ok(found.wish),
+            Ok(found) => Ok(found.intent),
             Err(error) => Err(error),
         }
     }

@@ -250,6 +250,6 @@ impl<'a> Targets<'a> {
 #[derive(Drop)]
 pub struct Invocation<'a> {
     /// What they ask for.
-    pub wish: Option<Intent<'a>>,
+    pub intent: Option<Intent<'a>>,
     pub targets: Targets<'a>,
 }

@@ -95,24 +95,24 @@ fn refuse<O: Write, E: Write>(
     }
 }
 
-// Does what is wished, and tells a fault of it.
+// Does what the words ask for, and tells a fault of it.
 fn grant<
     R: Threads + Wait + Sync + Net<Listener = TcpListener, Stream = TcpStream>,
     S: TextSource,
     I: Read + Send,
     O: Write,
     E: Write,
->(console: &mut Console<'_, R, S, I, O, E>, wish: Intent<'_>, lines: &mut Option<Vec<u8>>) -> u8
+>(console: &mut Console<'_, R, S, I, O, E>, intent: Intent<'_>, lines: &mut Option<Vec<u8>>) -> u8
     ensures known { (result ≢ 2) × (result ≤ 4) }
     ensures fault { 2 < result → IsFaultTold (E.contents console.old.errors) (E.contents console.new.errors) result }
-    ensures job { IfSome (job_of wish.entry) (λ job. IsSettled (EndsAsked job (S.bytes_of console.old.texts.now) (I.remaining console.old.input) (O.contents console.old.output, E.contents console.old.errors)) (O.contents console.new.output, E.contents console.new.errors) result) }
-    ensures several { IfSome (several_of wish.entry) (λ asked. IsSettledList (EndsSeveral asked (S.bytes_of console.old.texts.now) (O.contents console.old.output, E.contents console.old.errors)) (O.contents console.new.output, E.contents console.new.errors) result) }
-    ensures lines { result ≡ 0 → IfSome (job_of wish.entry) (λ job. HasLines job (S.bytes_of console.old.texts.now) (O.contents console.old.output) (O.contents console.new.output) lines.old lines.new) }
-    ensures unlined { job_of wish.entry ≡ None → lines.new ≡ lines.old }
+    ensures job { IfSome (job_of intent.entry) (λ job. IsSettled (EndsAsked job (S.bytes_of console.old.texts.now) (I.remaining console.old.input) (O.contents console.old.output, E.contents console.old.errors)) (O.contents console.new.output, E.contents console.new.errors) result) }
+    ensures several { IfSome (several_of intent.entry) (λ asked. IsSettledList (EndsSeveral asked (S.bytes_of console.old.texts.now) (O.contents console.old.output, E.contents console.old.errors)) (O.contents console.new.output, E.contents console.new.errors) result) }
+    ensures lines { result ≡ 0 → IfSome (job_of intent.entry) (λ job. HasLines job (S.bytes_of console.old.texts.now) (O.contents console.old.output) (O.contents console.new.output) lines.old lines.new) }
+    ensures unlined { job_of intent.entry ≡ None → lines.new ≡ lines.old }
     ensures kept { result ≢ 0 → lines.new ≡ lines.old }
     ensures gains { BothGain (O.contents console.old.output, E.contents console.old.errors) (O.contents console.new.output, E.contents console.new.errors) }
 {
-    match wish {
+    match intent {
         Intent::Job(job) => {
             let done = perform(console, job, lines);
             settle(done, &mut console.errors)
@@ -181,8 +181,8 @@ pub fn run<
     ensures headline { (first second : List ℕ) → AsksCheck reading.entry first second → result ≡ 0 → ShowsHeadline (AreNamed first second (S.bytes_of console.old.texts.now) (I.remaining console.old.input)) }
 {
     headline_holds_at_yes();
-    match reading.wish() {
-        Ok(Some(wish)) => grant(console, wish, lines),
+    match reading.intent() {
+        Ok(Some(intent)) => grant(console, intent, lines),
         Ok(None) => check_bare(console),
         Err(error) => refuse(
             console.alloc,
