@@ -60,7 +60,7 @@ pub fn read_name(line: &[u8]) -> Option<&[u8]>
 
 /// What the head of a file says, and where in a buffer what was read behind it stands.
 #[derive(Drop)]
-pub(crate) struct Head {
+pub(crate) struct FileHead {
     pub(crate) name: Vec<u8>,
     pub(crate) opening: Opening,
     pub(crate) start: usize,
@@ -153,7 +153,7 @@ pub(crate) fn take_head<R: Read>(
     party: Party,
     reader: &mut R,
     buffer: &mut [u8],
-) -> Result<Option<Head>, FileFault>
+) -> Result<Option<FileHead>, FileFault>
     requires room { longest_line < length buffer.old }
     ensures order { IfOk result (λ found. IfSome found (λ head. head.start ≤ head.end)) }
     ensures within { IfOk result (λ found. IfSome found (λ head. head.end ≤ length buffer.new)) }
@@ -168,7 +168,7 @@ pub(crate) fn take_head<R: Read>(
         return Ok(None);
     };
     match take_opening(party, reader, buffer, second)? {
-        Some((opening, third)) => Ok(Some(Head {
+        Some((opening, third)) => Ok(Some(FileHead {
             name,
             opening,
             start: third.end + 1,

@@ -15,7 +15,7 @@ const LONGEST_LINE: usize = 8_459;
 
 /// What comes next.
 #[derive(Clone, Copy)]
-pub(crate) enum Found {
+pub(crate) enum NextLine {
     /// A line of so many bytes, with a line feed behind them.
     Line(usize),
     /// No line that was written to its end.
@@ -25,14 +25,14 @@ pub(crate) enum Found {
 }
 
 /// What some bytes begin with, where they tell.
-fn look(bytes: &[u8]) -> Option<Found>
+fn look(bytes: &[u8]) -> Option<NextLine>
     ensures { MatchOption result (IsWritten bytes.now) (λ found. (rest : Option (List ℕ)) → Finds rest bytes.now found) }
 {
     match memchr2(b'\n', 0, bytes) {
         Some(at) => Some(found_at(bytes, at)),
         None => {
             if bytes.len() > LONGEST_LINE {
-                Some(Found::Long)
+                Some(NextLine::Long)
             } else {
                 None
             }
@@ -41,17 +41,17 @@ fn look(bytes: &[u8]) -> Option<Found>
 }
 
 /// What bytes begin with, where this is the first line feed or 0.
-fn found_at(bytes: &[u8], at: usize) -> Found
+fn found_at(bytes: &[u8], at: usize) -> NextLine
     requires { IsFirstByte (is_byte2 10 0) bytes.now (Some at) }
     ensures { (rest : Option (List ℕ)) → Finds rest bytes.now result }
 {
     if at > LONGEST_LINE {
-        return Found::Long;
+        return NextLine::Long;
     }
     if bytes[at] == 0 {
-        return Found::End;
+        return NextLine::End;
     }
-    Found::Line(at)
+    NextLine::Line(at)
 }
 
 /// Finds what comes next in what a buffer holds from one place to another, and behind that in a reader, of which as much is
@@ -61,7 +61,7 @@ pub(crate) fn find<R: Read>(
     buffer: &mut [u8],
     start: usize,
     end: usize,
-) -> Result<(usize, usize, Found), FileFault>
+) -> Result<(usize, usize, NextLine), FileFault>
     requires order { start ≤ end }
     requires within { end ≤ length buffer.old }
     requires room { longest_line < length buffer.old }
@@ -83,7 +83,7 @@ pub(crate) fn find<R: Read>(
             Err(fault) => return Err(fault_of(fault)),
         };
         if filled == kept {
-            return Ok((0, filled, Found::End));
+            return Ok((0, filled, NextLine::End));
         }
         if let Some(found) = look(&buffer[..filled]) {
             return Ok((0, filled, found));
@@ -122,13 +122,13 @@ pub(crate) fn take_line<R: Read>(
 {
     let (start, end, found) = find(reader, buffer, start, end)?;
     match found {
-        Found::Line(len) => Ok(Some(Cut {
+        NextLine::Line(len) => Ok(Some(Cut {
             start,
             end: start + len,
             held: end,
         })),
-        Found::End => Ok(None),
-        Found::Long => Err(FileFault::Line(number)),
+        NextLine::End => Ok(None),
+        NextLine::Long => Err(FileFault::Line(number)),
     }
 }
 

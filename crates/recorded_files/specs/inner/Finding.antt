@@ -7,8 +7,8 @@ use Rattle.recorded_files.specs.Said.{longest_line, IsInside, IsWritten, HasLine
 use Rattle.recorded_files.specs.declared.files.FileFault.{FileFault}
 use Rattle.recorded_files.specs.declared.files.FileFault.TheVariants.{Line as FaultLine, Order, File, Memory}
 use Rattle.recorded_files.specs.declared.pieces.Cut.{Cut}
-use Rattle.recorded_files.specs.declared.pieces.Found.{Found}
-use Rattle.recorded_files.specs.declared.pieces.Found.TheVariants.{Line, End, Long}
+use Rattle.recorded_files.specs.declared.pieces.NextLine.{NextLine}
+use Rattle.recorded_files.specs.declared.pieces.NextLine.TheVariants.{Line, End, Long}
 
 -- nothing is left, or a byte 0 comes first
 abbrev pub StopsAt : Option (List ℕ) → List ℕ → Type 0
@@ -17,7 +17,7 @@ StopsAt rest (b ∷ more) = b ≡ 0
 
 -- what these bytes begin with, where so much is left behind them: a line of this length, the end of what was written, or a line
 -- that is too long
-abbrev pub Finds : Option (List ℕ) → List ℕ → Found → Type 0
+abbrev pub Finds : Option (List ℕ) → List ℕ → NextLine → Type 0
 Finds rest bytes (Line n) = (line : List ℕ) × (after : List ℕ) × (bytes ≡ line ++ 10 ∷ after) × IsWritten line × (length line ≡ n)
 Finds rest bytes End = (line : List ℕ) × (more : List ℕ) × (bytes ≡ line ++ more) × IsWritten line × StopsAt rest more
 Finds rest bytes Long = (line : List ℕ) × (more : List ℕ) × (bytes ≡ line ++ more) × AllByRecursion IsInside line × (suc longest_line ≤ length line)
