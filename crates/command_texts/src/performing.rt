@@ -98,8 +98,8 @@ pub trait OnTwo {
         ensures said { (texts : List ℕ × List ℕ) → Self.First.is_found texts.0 first.now → Self.Second.is_found texts.1 second.now → IfOk result (λ given. is_said self.now texts given.1) }
         ensures fault { IfErr result (λ fault. fault ≡ Fault.Memory) };
 
-    /// Adds more words for people about what the answer says. `name` is the name of the second text, as shown. Many
-    /// commands add nothing. Fails only if memory runs out.
+    /// Appends more words for people about what the answer says. `name` is the name of the second text, as shown. Many
+    /// commands append nothing. Fails only if memory runs out.
     fn push_more(
         &self,
         out: &mut Vec<u8>,

@@ -32,7 +32,7 @@ pub enum Listing<'a> {
     Objects,
 }
 
-// Adds an object, with the name of its text before its other fields.
+// Appends an object, with the name of its text before its other fields.
 fn push_object(out: &mut Vec<u8>, name: &str, object: &[u8]) -> Result<(), AllocError>
     ensures { OnOk result (out.new.items ≡ out.old.items ++ in_object name.now object.now) }
 {
@@ -47,7 +47,7 @@ fn push_object(out: &mut Vec<u8>, name: &str, object: &[u8]) -> Result<(), Alloc
 }
 
 impl Listing<'_> {
-    // Adds an answer.
+    // Appends an answer.
     fn push_answer(self, out: &mut Vec<u8>, name: &str, answer: &Answer) -> Result<(), AllocError>
         ensures { OnOk result (out.new.items ≡ out.old.items ++ listed_as (style_of self.entry) name.now answer.now.text.items) }
     {
@@ -61,7 +61,7 @@ impl Listing<'_> {
         }
     }
 
-    // Adds the end of the list, given how many of how many answers say that all is well.
+    // Appends the end of the list, given how many of how many answers say that all is well.
     fn push_end(self, out: &mut Vec<u8>, well: usize, all: usize) -> Result<(), AllocError>
         ensures { OnOk result (out.new.items ≡ out.old.items ++ list_end (style_of self.entry) well all) }
     {

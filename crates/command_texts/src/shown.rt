@@ -129,7 +129,7 @@ pub(crate) fn write_line_on<W: Write>(output: &mut W, name: &str, words: &str) -
     write_whole(output, b"\n")
 }
 
-/// Adds a name as shown.
+/// Appends a name as shown.
 pub fn push_shown(out: &mut Vec<u8>, name: &str) -> Result<(), AllocError>
     ensures { OnOk result (out.new.items ≡ out.old.items ++ shown name.now) }
 {
@@ -140,7 +140,7 @@ pub fn push_shown(out: &mut Vec<u8>, name: &str) -> Result<(), AllocError>
     }
 }
 
-/// Adds a name between quotation marks, as a JSON string.
+/// Appends a name between quotation marks, as a JSON string.
 pub(crate) fn push_quoted(out: &mut Vec<u8>, name: &str) -> Result<(), AllocError>
     ensures { OnOk result (out.new.items ≡ out.old.items ++ quoted name.now) }
 {

@@ -35,7 +35,7 @@ pub fn verdict_status(verdict: Verdict) -> u8
     status_where(matches!(verdict, Verdict::Yes))
 }
 
-/// Adds the line of a verdict.
+/// Appends the line of a verdict.
 pub fn push_verdict(out: &mut Vec<u8>, verdict: Verdict) -> Result<(), AllocError>
     ensures { OnOk result (out.new.items ≡ out.old.items ++ verdict_line verdict) }
 {

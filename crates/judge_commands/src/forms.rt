@@ -11,7 +11,7 @@ use report_json::push_verdict as push_verdict_object;
 use session_answers::{Form, LackForm, Story};
 use std::alloc::AllocError;
 
-/// Adds the text of a verdict in this form. Fails only if memory runs out.
+/// Appends the text of a verdict in this form. Fails only if memory runs out.
 pub(crate) fn push_told(
     out: &mut Vec<u8>,
     form: VerdictForm,

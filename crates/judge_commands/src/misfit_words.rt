@@ -25,7 +25,7 @@ fn misfit_line(verdict: Verdict) -> Option<u32>
     }
 }
 
-/// Adds that the session and the certificate have different numbers of pages.
+/// Appends that the session and the certificate have different numbers of pages.
 fn push_pages(out: &mut String, session: &Session, cert: &Cert) -> Result<(), AllocError> {
     let found = cert.entries().len();
     let wanted = session.geometry().pages();
@@ -35,7 +35,7 @@ fn push_pages(out: &mut String, session: &Session, cert: &Cert) -> Result<(), Al
     )
 }
 
-/// Adds what does not fit.
+/// Appends what does not fit.
 fn push_words(
     out: &mut String,
     session: &Session,
@@ -50,7 +50,7 @@ fn push_words(
     }
 }
 
-/// Adds one line that says why a certificate does not fit its session, if the verdict is about a line of the
+/// Appends one line that says why a certificate does not fit its session, if the verdict is about a line of the
 /// certificate. It begins with `NAME:LINE: `, where `NAME` is the name of the certificate. For an entry it says what
 /// the logs say, which takes a few passes over them and memory for one page. For a run it takes one pass over the runs.
 /// Fails only if memory runs out.

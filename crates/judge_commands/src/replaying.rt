@@ -22,7 +22,7 @@ fn outcome_status(outcome: Outcome) -> u8
     status_where(matches!(outcome, Outcome::Safe))
 }
 
-/// Adds the line of an outcome.
+/// Appends the line of an outcome.
 fn push_outcome(out: &mut Vec<u8>, outcome: Outcome) -> Result<(), AllocError>
     ensures { OnOk result (out.new.items ≡ out.old.items ++ outcome_line outcome) }
 {

@@ -18,7 +18,7 @@ fn most_lines() -> usize
     10 + limits.pages as usize + LOG_COUNT * limits.records as usize
 }
 
-/// Adds the number of a line, on a line of its own.
+/// Appends the number of a line, on a line of its own.
 fn push_row(out: &mut Vec<u8>, line: &u64) -> Result<(), AllocError>
     ensures { OnOk result (out.new.items ≡ out.old.items ++ (decimal line.now ++ 10 ∷ [])) }
 {
@@ -26,7 +26,7 @@ fn push_row(out: &mut Vec<u8>, line: &u64) -> Result<(), AllocError>
     end_line(out)
 }
 
-/// Adds the text of a table. Fails only if memory runs out.
+/// Appends the text of a table. Fails only if memory runs out.
 pub fn push_table(out: &mut Vec<u8>, table: &[u64]) -> Result<(), AllocError>
     ensures { OnOk result (out.new.items ≡ out.old.items ++ table_text table.now) }
 {
