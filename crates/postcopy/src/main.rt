@@ -92,7 +92,7 @@ fn word_bytes<R: Env>(rt: &R, alloc: Global, number: usize) -> Result<Option<Vec
     Err(AllocError)
 }
 
-// Adds which word is the first that is not UTF-8.
+// Appends which word is the first that is not UTF-8.
 fn push_wrong_word<R: Env>(rt: &R, alloc: Global, out: &mut String) -> Result<(), AllocError> {
     for number in 0..usize::MAX {
         let Some(bytes) = word_bytes(rt, alloc, number)? else {
