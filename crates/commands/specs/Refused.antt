@@ -1,4 +1,4 @@
--- What the program does if the words ask for nothing to be run.
+-- The outcome for words that ask for the help or the version, or that are no command.
 use Rattle.std.specs.Prelude.{◌≡◌, ◌≢◌, ◌⊎◌, ℕ}
 use Rattle.std.specs.Io.KnownBytes.{Keeps}
 use Rattle.clap.specs.declared.error.kind.ErrorKind.{ErrorKind}
