@@ -97,11 +97,11 @@ with_output app = with_rule app (record (new_rule (codes "output")) { short = So
 abbrev pub with_lines : App → App
 with_lines app = with_rule app (record (new_rule (codes "lines")) { long = Some (codes "lines"); value_names = 1 })
 
--- a command with the option that demands a session of a whole migration
+-- a command with the option that requires a session of a whole migration
 abbrev pub with_complete : App → App
 with_complete app = with_rule app (flag_rule (codes "complete"))
 
--- a command with the option that demands a session that says how each owed page came
+-- a command with the option that requires a session that says how each owed page came
 abbrev pub with_complete_pages : App → App
 with_complete_pages app = with_rule app (flag_rule (codes "complete-pages"))
 
@@ -198,7 +198,7 @@ abbrev pub is_set : Option Text → Bool
 is_set None = false
 is_set (Some text) = bytes_eq text (codes "true")
 
--- what is demanded of a session: a whole migration, or how its pages came, if the arguments have that option, or else
+-- what is required of a session: a whole migration, or how its pages came, if the arguments have that option, or else
 -- that it is safe
 abbrev pub demand_in : List Row → Demand
 demand_in rows =

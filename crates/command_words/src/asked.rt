@@ -4,7 +4,7 @@ ghost use Rattle.std.specs.Prelude.{◌≡◌, None, if◌then◌else◌};
 ghost use Rattle.command_words.specs.Table.{carrier_name, format_name};
 ghost use Rattle.command_words.specs.Words.{is_due, target_names};
 
-/// What is demanded of a session before the answer is that all is well.
+/// What is required of a session before the answer is that all is well.
 #[derive(Clone, Copy)]
 pub enum Demand {
     /// That it is safe.

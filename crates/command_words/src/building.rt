@@ -174,7 +174,7 @@ fn with_flag<'a>(
     command.arg(arg)
 }
 
-// Returns the command with the option that demands a session of a whole migration.
+// Returns the command with the option that requires a session of a whole migration.
 fn with_complete<'a>(alloc: Global, command: Command<'a>) -> Result<Command<'a>, AllocError>
     requires { (fields_of command).has_globals ≡ false }
     ensures app { IfOk result (λ c. app_of c ≡ with_complete (app_of command.entry)) }
@@ -183,7 +183,7 @@ fn with_complete<'a>(alloc: Global, command: Command<'a>) -> Result<Command<'a>,
     with_flag(alloc, command, COMPLETE, COMPLETE_HELP)
 }
 
-// Returns the command with the option that demands a session that says how each owed page came.
+// Returns the command with the option that requires a session that says how each owed page came.
 fn with_complete_pages<'a>(alloc: Global, command: Command<'a>) -> Result<Command<'a>, AllocError>
     requires { (fields_of command).has_globals ≡ false }
     ensures app { IfOk result (λ c. app_of c ≡ with_complete_pages (app_of command.entry)) }

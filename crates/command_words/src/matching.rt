@@ -76,7 +76,7 @@ fn is_given(option: &str, matches: &ArgMatches<'_>) -> bool
     }
 }
 
-// Returns what is demanded of a session: that it is complete, if an option says so, or else that it is safe. If both
+// Returns what is required of a session: that it is complete, if an option says so, or else that it is safe. If both
 // options are given, the session must tell of a whole migration.
 fn demand_given(matches: &ArgMatches<'_>) -> Demand
     ensures { result ≡ demand_in (rows_of (found_of matches.now)) }

@@ -72,10 +72,10 @@ pub const COUNT: Word = Word {
 /// The option for the carrier of a migration.
 pub const LINK: &str = "link";
 
-/// The option that demands a session of a whole migration.
+/// The option that requires a session of a whole migration.
 pub const COMPLETE: &str = "complete";
 
-/// The option that demands a session that has the halt, the resume, and how each owed page came.
+/// The option that requires a session that has the halt, the resume, and how each owed page came.
 pub const COMPLETE_PAGES: &str = "complete-pages";
 
 /// The option for the first line alone.

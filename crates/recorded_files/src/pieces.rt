@@ -132,7 +132,7 @@ pub(crate) fn take_line<R: Read>(
     }
 }
 
-/// Checks that the file has no more lines, where this is the number of the next one. Fails if it has, or if a read
+/// Checks that the file has no more lines. `number` is that of the next line. Fails if there is one, or if a read
 /// failed.
 pub(crate) fn take_end<R: Read>(
     reader: &mut R,
