@@ -21,7 +21,7 @@ BUILT = {"walk": ("walk.c", ("-static", "-pthread")),
 
 def require_rights():
     if os.geteuid() != 0:
-        raise Missing("CRIU wants to be root: it freezes a process, and restores one with its number, in namespaces of its own")
+        raise Missing("CRIU must run as root: it freezes a process, and restores one with its number, in namespaces of its own")
 
 
 def version_in(root):

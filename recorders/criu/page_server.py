@@ -57,7 +57,7 @@ class Status:
 def message_of(header, data):
     command, pages, address, whose = header.unpack_from(data)
     if command & 0xffff not in COMMANDS:
-        raise Strange(f"a message of the page server's protocol has the command {command & 0xffff}, which is not known")
+        raise Strange(f"a message of the page server's protocol has the unknown command {command & 0xffff}")
     if pages > MOST_PAGES:
         raise Strange(f"a message of the page server's protocol is of {pages} pages")
     return Message(COMMANDS[command & 0xffff], pages, address, whose, command >> 16)
@@ -105,7 +105,7 @@ class Answers:
         if len(self.data) == at:
             return None
         if not self.waiting:
-            raise Strange("the page server answered what nobody asked")
+            raise Strange("the page server answered, but nobody had asked")
         if self.waiting[0].command != "get":
             return (Status(*STATUS.unpack_from(self.data, at)), STATUS.size) if len(self.data) - at >= STATUS.size else None
         begin = at + self.header.size

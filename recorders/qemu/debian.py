@@ -30,7 +30,7 @@ def top():
 def require_tools():
     lacks = [tool for tool in TOOLS if not shutil.which(tool)]
     if lacks:
-        raise Missing(f"{', '.join(lacks)} not found: the kernel is got by apt, on Debian. Elsewhere name one by --kernel and --initrd")
+        raise Missing(f"{', '.join(lacks)} not found: apt downloads the kernel, on Debian. Elsewhere name one with --kernel and --initrd")
 
 
 def ask(*words, folder="."):

@@ -43,10 +43,10 @@ def look_at(folder, files=FILES):
     except OSError as fault:
         raise NotOurs(f"{folder} cannot be recorded into: {fault.strerror}") from None
     if names and not is_ours(folder):
-        raise NotOurs(f"{folder} is not empty, and was not made by this recorder: name a folder that is not there yet, or an empty one")
+        raise NotOurs(f"{folder} is not empty, and was not made by this recorder: name a new or an empty folder")
     for name in files:
         if os.path.isdir(f"{folder}/{name}") and not os.path.islink(f"{folder}/{name}"):
-            raise NotOurs(f"{folder}/{name} is a folder, and a file of the recording would have its name")
+            raise NotOurs(f"{folder}/{name} is a folder, but a file of the recording needs this name")
 
 
 def take(folder, files=FILES, recorder="qemu"):

@@ -41,7 +41,7 @@ class TargetSide:
         if not self.is_ready:
             raise Hole("target.raw: the target never listened")
         if not self.is_guarded:
-            raise Hole("target.raw: the preloaded library told of no memory that is guarded")
+            raise Hole("target.raw: the preloaded library reported no guarded memory")
 
     def is_told_first(self, access):
         """Whether the first access at the target is told there.
@@ -139,7 +139,7 @@ class TargetSide:
         connection = self.wire.of(is_lane, self.over[is_lane])
         place, self.count[is_lane] = self.count[is_lane], self.count[is_lane] + 1
         if not connection or place >= len(connection.handed):
-            raise Hole(f"target.raw: page {place} of a connection that handed over fewer")
+            raise Hole(f"target.raw: page {place} of a connection that handed over fewer pages")
         page = connection.taken[connection.handed[place]].page
         if page is None:
             return
@@ -165,7 +165,7 @@ class TargetSide:
 
     def place(self, page, contents):
         if page not in self.arrived:
-            raise Hole(f"target.raw: page {page} is put in place, and no packet with it was taken")
+            raise Hole(f"target.raw: page {page} is placed, but no packet with it was taken")
         self.placements += 1
         self.placed.setdefault(page, self.placements)
         self.add("place", name=("placement", self.placements), page=page, got=self.arrived[page],
