@@ -34,9 +34,9 @@ fn held_to<L: Lines>(
     }
 }
 
-/// Returns an answer, given what was read from a session's text. If the session must be complete to an extent, the
-/// answer says that all is well, and something is missing, it returns the answer that says what is missing. `lines`
-/// gives the line numbers.
+/// Returns an answer, or the answer that says what is missing from a session, given what was read from its text.
+/// Something counts as missing only if the session must be complete to an extent, and the answer says that all is well.
+/// `lines` gives the line numbers.
 pub(crate) fn held<L: Lines>(
     lines: &L,
     form: LackForm,
