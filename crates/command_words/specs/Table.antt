@@ -1,4 +1,4 @@
--- The table of commands: the name of each, and the words that name its texts.
+-- The table of commands: the name of each, and the words for its texts.
 use Rattle.std.specs.Prelude.{List, Option, Some, None, map, find, codes, option_map, [], ◌∷◌}
 use Rattle.std.specs.Str.{bytes_eq}
 use Rattle.std.specs.Borrow.{Bor}
@@ -28,25 +28,25 @@ use Rattle.command_words.specs.declared.requests.TwoTexts.TheVariants.{Check, Re
 use Rattle.command_words.specs.declared.table.Word.{Word}
 use Rattle.command_words.specs.declared.table.CommandRow.{CommandRow}
 
--- what is asked of a certificate where no option says more: a safe session, and the verdict in a line
+-- what `check` asks for without options: a safe session, and the verdict as a line
 abbrev pub plain : Checks
 plain = record { demand = Safety; form = verdict.Line }
 
--- and of an audit: a safe session, and the report in lines
+-- what `audit` asks for without options: a safe session, and the report in lines
 abbrev pub plain_audit : Audits
 plain_audit = record { demand = Safety; form = report.Lines }
 
--- and of an explanation: a safe session, and what the report names, in words
+-- what `explain` asks for without options: a safe session, and the story of its report in words
 abbrev pub plain_explanation : Explains
 plain_explanation = record { demand = Safety; form = story.Words topic.Report }
 
--- the pages of a window, in the place of those that its words tell
+-- no pages: a placeholder for those that the words of `window` give
 abbrev pub no_pages : Pages
 no_pages = record { first = 0; count = 0 }
 
--- `check SESSION CERT`, `certify SESSION`, `audit SESSION`, `explain SESSION`, `replay SESSION RUNS`,
--- `steps SCRIPT EVENTS`, `migrate SCRIPT`, `draw SESSION`, `draw SESSION RUNS`, `window RECORDING FIRST COUNT`; with no option,
--- this is asked
+-- what each of these asks for without options: `check SESSION CERT`, `certify SESSION`, `audit SESSION`, `explain
+-- SESSION`, `replay SESSION RUNS`, `steps SCRIPT EVENTS`, `migrate SCRIPT`, `draw SESSION`, `draw SESSION RUNS`,
+-- `window RECORDING FIRST COUNT`
 abbrev pub table : List (Text × Request Text)
 table =
     (codes "check", Two (Check plain) (codes "SESSION") (codes "CERT")) ∷
@@ -59,16 +59,16 @@ table =
     (codes "draw", Draw topic.Report (codes "SESSION") (Some (codes "RUNS"))) ∷
     (codes "window", Window no_pages (codes "RECORDING") None) ∷ []
 
--- the name of what carries a migration
+-- the name of a carrier of a migration
 abbrev pub carrier_name : Carrier → Text
 carrier_name Memory = codes "memory"
 carrier_name Tcp = codes "tcp"
 
--- what may carry a migration
+-- the carriers of a migration
 abbrev pub carriers : List Carrier
 carriers = Memory ∷ Tcp ∷ []
 
--- what has this name, of what may carry a migration
+-- the carrier with this name
 abbrev pub carrier_named : Text → Option Carrier
 carrier_named name = find (λ carrier. bytes_eq (carrier_name carrier) name) carriers
 
@@ -77,11 +77,11 @@ abbrev pub format_name : Format → Text
 format_name format.Text = codes "text"
 format_name format.Json = codes "json"
 
--- the forms that an answer may have by the option `--format`
+-- the forms of an answer that the option `--format` can name
 abbrev pub formats : List Format
 formats = format.Text ∷ format.Json ∷ []
 
--- what has this name, of these forms
+-- the form with this name
 abbrev pub format_named : Text → Option Format
 format_named name = find (λ format. bytes_eq (format_name format) name) formats
 
@@ -97,7 +97,7 @@ asked_map f (Window pages word lines) = Window pages (f word) (option_map f line
 abbrev pub asked_names : Request (Bor Text) → Request Text
 asked_names asked = asked_map (λ name. name.now) asked
 
--- the sessions that are to be audited, by their names, with what is asked of them
+-- the names of the sessions to audit, with what is asked about each
 abbrev pub several_names : Several → Lists × List Text
 several_names several = (several.lists, map (λ name. name.now) several.names.items)
 
@@ -106,16 +106,16 @@ abbrev pub job_of : Intent → Option (Request Text)
 job_of (Job job) = Some (asked_names job)
 job_of (intent.Several several) = None
 
--- the sessions that are to be audited
+-- the sessions to audit to asked for
 abbrev pub several_of : Intent → Option (Lists × List Text)
 several_of (Job job) = None
 several_of (intent.Several several) = Some (several_names several)
 
--- what a row of the program's table asks with
+-- what a row of the program's table asks for, with the names of its words
 abbrev pub word_names : Request Word → Request Text
 word_names asked = asked_map (λ word. word.name.now) asked
 
--- what a further word of a row names
+-- the name of a row's optional word
 abbrev pub further_name : Option Word → Option Text
 further_name word = option_map (λ w. w.name.now) word
 

@@ -32,21 +32,21 @@ const ALL_IN_A_LINE: &str = "the argument '--all' cannot be used with '--quiet'"
 const ALL_OF_SEVERAL: &str =
     "the argument '--all' cannot be used with several sessions, unless '--format json' is given";
 
-// What was given for a word or an option.
+// Returns the argument for a word or an option.
 fn name_given<'a>(id: &str, matches: &ArgMatches<'a>) -> Option<&'a str>
     ensures { option_map (λ name. name.now) result ≡ first_of id.now (rows_of (found_of matches.now)) }
 {
     matches.get_str(id)
 }
 
-// All that was given for a word.
+// Returns all arguments for a word.
 fn names_given<'m, 'a>(id: &str, matches: &'m ArgMatches<'a>) -> Option<&'m [&'a str]>
     ensures { option_map (λ names. word_texts names.now) result ≡ all_of id.now (rows_of (found_of matches.now)) }
 {
     matches.get_strs(id)
 }
 
-// The only name that was given for a word.
+// Returns the argument for a word, if it has only one.
 fn only_given<'a>(id: &str, matches: &ArgMatches<'a>) -> Option<&'a str>
     ensures { option_map (λ name. name.now) result ≡ only_of id.now (rows_of (found_of matches.now)) }
 {
@@ -56,7 +56,7 @@ fn only_given<'a>(id: &str, matches: &ArgMatches<'a>) -> Option<&'a str>
     }
 }
 
-// What carries a migration: what was named, or else this.
+// Returns the carrier of a migration that was named, or else this one.
 fn carrier_given(otherwise: Carrier, matches: &ArgMatches<'_>) -> Carrier
     ensures { result ≡ carrier_in (rows_of (found_of matches.now)) otherwise }
 {
@@ -66,7 +66,7 @@ fn carrier_given(otherwise: Carrier, matches: &ArgMatches<'_>) -> Carrier
     }
 }
 
-// Whether an option without a value was given.
+// Returns whether an option without a value was given.
 fn is_given(option: &str, matches: &ArgMatches<'_>) -> bool
     ensures { result ≡ is_set (first_of option.now (rows_of (found_of matches.now))) }
 {
@@ -76,7 +76,8 @@ fn is_given(option: &str, matches: &ArgMatches<'_>) -> bool
     }
 }
 
-// What is asked of a session: that it is complete where an option was given, or else that it is safe. Of both the whole counts.
+// Returns what is required of a session: that it is complete, if an option says so, or else that it is safe. If both
+// options are given, the session must tell of a whole migration.
 fn demand_given(matches: &ArgMatches<'_>) -> Demand
     ensures { result ≡ demand_in (rows_of (found_of matches.now)) }
 {
@@ -89,7 +90,7 @@ fn demand_given(matches: &ArgMatches<'_>) -> Demand
     }
 }
 
-// Whether an object was asked for.
+// Returns whether an object is asked for.
 fn wants_object(matches: &ArgMatches<'_>) -> bool
     ensures { result ≡ wants_object (rows_of (found_of matches.now)) }
 {
@@ -99,7 +100,7 @@ fn wants_object(matches: &ArgMatches<'_>) -> bool
     }
 }
 
-// How the verdict on a certificate is told.
+// Returns the form of the verdict on a certificate.
 fn verdict_form(matches: &ArgMatches<'_>) -> VerdictForm
     ensures { result ≡ verdict_form_in (rows_of (found_of matches.now)) }
 {
@@ -110,7 +111,7 @@ fn verdict_form(matches: &ArgMatches<'_>) -> VerdictForm
     }
 }
 
-// What is asked of a session and its certificate.
+// Returns what is asked about a session and its certificate.
 fn checks_given(matches: &ArgMatches<'_>) -> Checks
     ensures { result ≡ checks_in (rows_of (found_of matches.now)) }
 {
@@ -120,7 +121,7 @@ fn checks_given(matches: &ArgMatches<'_>) -> Checks
     }
 }
 
-// How the faults of all pages are told.
+// Returns the form of a report with the faults of all pages.
 fn all_faults_form(matches: &ArgMatches<'_>) -> ReportForm
     ensures { result ≡ all_faults_form_in (rows_of (found_of matches.now)) }
 {
@@ -131,7 +132,7 @@ fn all_faults_form(matches: &ArgMatches<'_>) -> ReportForm
     }
 }
 
-// How a report is told, of which the first line is asked for where it is told in lines.
+// Returns the form of a report in lines: all of them, or the first alone.
 fn short_form(matches: &ArgMatches<'_>) -> ReportForm
     ensures { result ≡ short_form_in (rows_of (found_of matches.now)) }
 {
@@ -142,7 +143,7 @@ fn short_form(matches: &ArgMatches<'_>) -> ReportForm
     }
 }
 
-// How the report on a session is told.
+// Returns the form of the report on a session.
 fn report_form(matches: &ArgMatches<'_>) -> ReportForm
     ensures { result ≡ report_form_in (rows_of (found_of matches.now)) }
 {
@@ -155,7 +156,7 @@ fn report_form(matches: &ArgMatches<'_>) -> ReportForm
     }
 }
 
-// What is asked of an audit.
+// Returns what an audit asks.
 fn audits_given(matches: &ArgMatches<'_>) -> Audits
     ensures { result ≡ audits_in (rows_of (found_of matches.now)) }
 {
@@ -165,7 +166,7 @@ fn audits_given(matches: &ArgMatches<'_>) -> Audits
     }
 }
 
-// How the reports on several sessions are told.
+// Returns the form of the reports on several sessions.
 fn list_form(matches: &ArgMatches<'_>) -> ListForm
     ensures { result ≡ list_form_in (rows_of (found_of matches.now)) }
 {
@@ -178,7 +179,7 @@ fn list_form(matches: &ArgMatches<'_>) -> ListForm
     }
 }
 
-// What is asked of the audit of several sessions.
+// Returns what the audit of several sessions asks about each.
 fn lists_given(matches: &ArgMatches<'_>) -> Lists
     ensures { result ≡ lists_in (rows_of (found_of matches.now)) }
 {
@@ -188,14 +189,14 @@ fn lists_given(matches: &ArgMatches<'_>) -> Lists
     }
 }
 
-// The number that a text tells, if it does.
+// Returns the number that a text gives, if it gives one.
 fn number_of(text: &str) -> Option<u32>
     ensures { result ≡ number_of text.now }
 {
     text.parse::<u32>().ok()
 }
 
-// The number that was given for an option.
+// Returns the number that was given for an option.
 fn number_given(option: &str, matches: &ArgMatches<'_>) -> Option<u32>
     ensures { result ≡ number_in option.now (rows_of (found_of matches.now)) }
 {
@@ -205,14 +206,14 @@ fn number_given(option: &str, matches: &ArgMatches<'_>) -> Option<u32>
     }
 }
 
-// The number of pages that a text tells, if it does.
+// Returns the number of pages that a text gives, if it gives one.
 fn count_of(text: &str) -> Option<u64>
     ensures { result ≡ count_of text.now }
 {
     text.parse::<u64>().ok()
 }
 
-// The number of pages that was given for a word.
+// Returns the number of pages that was given for a word.
 fn count_given(word: &str, matches: &ArgMatches<'_>) -> Option<u64>
     ensures { result ≡ count_in word.now (rows_of (found_of matches.now)) }
 {
@@ -222,7 +223,7 @@ fn count_given(word: &str, matches: &ArgMatches<'_>) -> Option<u64>
     }
 }
 
-// The window that was given.
+// Returns the window that was given.
 fn window_given<'a>(word: &Word, matches: &ArgMatches<'a>) -> Option<Job<'a>>
     ensures { option_map asked_names result ≡ window_in (rows_of (found_of matches.now)) word.now.name.now }
 {
@@ -233,7 +234,7 @@ fn window_given<'a>(word: &Word, matches: &ArgMatches<'a>) -> Option<Job<'a>>
     Some(Request::Window(Pages { first, count }, name, lines))
 }
 
-// What is told: the page that an option names, or else this.
+// Returns the topic: the page that an option names, or else this one.
 fn page_given(otherwise: NamedTopic, matches: &ArgMatches<'_>) -> NamedTopic
     ensures { result ≡ page_in (rows_of (found_of matches.now)) otherwise }
 {
@@ -243,7 +244,7 @@ fn page_given(otherwise: NamedTopic, matches: &ArgMatches<'_>) -> NamedTopic
     }
 }
 
-// What is told: the line that an option names, or the page, or else this.
+// Returns the topic: the line that an option names, or else the page, or else this one.
 fn topic_given(otherwise: NamedTopic, matches: &ArgMatches<'_>) -> NamedTopic
     ensures { result ≡ topic_in (rows_of (found_of matches.now)) otherwise }
 {
@@ -253,7 +254,7 @@ fn topic_given(otherwise: NamedTopic, matches: &ArgMatches<'_>) -> NamedTopic
     }
 }
 
-// How it is told what happened in a session.
+// Returns the form of the story of a session.
 fn story_form(matches: &ArgMatches<'_>) -> StoryForm
     ensures { result ≡ story_form_in (rows_of (found_of matches.now)) }
 {
@@ -264,7 +265,7 @@ fn story_form(matches: &ArgMatches<'_>) -> StoryForm
     }
 }
 
-// What is asked of an explanation.
+// Returns what an explanation asks.
 fn explains_given(matches: &ArgMatches<'_>) -> Explains
     ensures { result ≡ explains_in (rows_of (found_of matches.now)) }
 {
@@ -274,7 +275,7 @@ fn explains_given(matches: &ArgMatches<'_>) -> Explains
     }
 }
 
-// A command on one text, with what is asked of it.
+// Returns a command on one text, with what the arguments ask for.
 fn one_given(task: OneText, matches: &ArgMatches<'_>) -> OneText
     ensures { result ≡ one_in (rows_of (found_of matches.now)) task }
 {
@@ -285,7 +286,7 @@ fn one_given(task: OneText, matches: &ArgMatches<'_>) -> OneText
     }
 }
 
-// A command on two texts, with what is asked of them.
+// Returns a command on two texts, with what the arguments ask for.
 fn two_given(task: TwoTexts, matches: &ArgMatches<'_>) -> TwoTexts
     ensures { result ≡ two_in (rows_of (found_of matches.now)) task }
 {
@@ -295,7 +296,7 @@ fn two_given(task: TwoTexts, matches: &ArgMatches<'_>) -> TwoTexts
     }
 }
 
-// A command on one text; an explanation is one on two where the file of a recording's lines is named.
+// Returns a command on one text. An explanation is a command on two if the file of a recording's lines is named.
 fn told_with<'a>(lines: Option<&'a str>, task: OneText, name: &'a str) -> Job<'a>
     ensures { asked_names result ≡ told_with (option_map (λ name. name.now) lines.entry) task name.now }
 {
@@ -307,7 +308,7 @@ fn told_with<'a>(lines: Option<&'a str>, task: OneText, name: &'a str) -> Job<'a
     }
 }
 
-// What was given for a word that may be there.
+// Returns the argument for an optional word.
 fn further_given<'a>(word: &Option<Word>, matches: &ArgMatches<'a>) -> Option<&'a str>
     ensures { option_map (λ name. name.now) result ≡ further_in (rows_of (found_of matches.now)) (further_name word.now) }
 {
@@ -317,7 +318,7 @@ fn further_given<'a>(word: &Option<Word>, matches: &ArgMatches<'a>) -> Option<&'
     }
 }
 
-// What a command asks for, with the names that its words were given.
+// Returns what a command asks for, with the names that were given for its words.
 fn given<'a>(asks: &Request<Word>, matches: &ArgMatches<'a>) -> Option<Job<'a>>
     ensures { option_map asked_names result ≡ given_in (rows_of (found_of matches.now)) (word_names asks.now) }
 {
@@ -345,14 +346,14 @@ fn given<'a>(asks: &Request<Word>, matches: &ArgMatches<'a>) -> Option<Job<'a>>
     }
 }
 
-// The row of this name.
+// Returns the row with this name.
 fn row_named<'a>(rows: &'a [CommandRow], name: &str) -> Option<&'a CommandRow>
     ensures { option_map (λ row. row.now) result ≡ find (λ row. bytes_eq row.name.now name.now) rows.now }
 {
     rows.iter().find(|row| row.name == name)
 }
 
-// What the matches of the command of this name ask for.
+// Returns what the matches of the command with this name ask for.
 fn job_of<'a>(name: &str, matches: &ArgMatches<'a>) -> Option<Job<'a>>
     ensures { option_map asked_names result ≡ asked_of (name.now, rows_of (found_of matches.now)) }
 {
@@ -362,14 +363,14 @@ fn job_of<'a>(name: &str, matches: &ArgMatches<'a>) -> Option<Job<'a>>
     }
 }
 
-// Whether an option that has a value was given.
+// Returns whether an option with a value was given.
 fn is_named(option: &str, matches: &ArgMatches<'_>) -> bool
     ensures { result ≡ has option.now (rows_of (found_of matches.now)) }
 {
     name_given(option, matches).is_some()
 }
 
-// The sessions that were given, if they are several.
+// Returns the sessions that were given, if there are several.
 fn sessions_given<'m, 'a>(matches: &'m ArgMatches<'a>) -> Option<&'m [&'a str]>
     ensures { option_map (λ names. word_texts names.now) result ≡ sessions_in (rows_of (found_of matches.now)) }
 {
@@ -379,7 +380,7 @@ fn sessions_given<'m, 'a>(matches: &'m ArgMatches<'a>) -> Option<&'m [&'a str]>
     }
 }
 
-// Which of the options that name what is told mean nothing together, if they do.
+// Returns the message on the options for topics that clash, if some do.
 fn clash_of_topics(matches: &ArgMatches<'_>) -> Option<&'static str>
     ensures { is_some result ≡ topics_clash (rows_of (found_of matches.now)) }
 {
@@ -394,7 +395,7 @@ fn clash_of_topics(matches: &ArgMatches<'_>) -> Option<&'static str>
     None
 }
 
-// Why the faults of all pages cannot be told so, if they cannot.
+// Returns the message on why the option for the faults of all pages clashes with the others, if it does.
 fn clash_of_faults(matches: &ArgMatches<'_>) -> Option<&'static str>
     ensures { is_some result ≡ faults_clash (rows_of (found_of matches.now)) }
 {
@@ -410,7 +411,7 @@ fn clash_of_faults(matches: &ArgMatches<'_>) -> Option<&'static str>
     None
 }
 
-// Which options mean nothing together, if some do.
+// Returns the message on options that clash, if some do.
 fn clash_of(matches: &ArgMatches<'_>) -> Option<&'static str>
     ensures { is_some result ≡ clashes (rows_of (found_of matches.now)) }
 {
@@ -420,7 +421,7 @@ fn clash_of(matches: &ArgMatches<'_>) -> Option<&'static str>
     }
 }
 
-// What the command line finds in the words.
+// Returns what the command line finds in the words.
 fn matches_in<'a>(alloc: Global, words: &'a [&'a str]) -> Result<ArgMatches<'a>, clap::Error>
     ensures ok { IfOk result (λ m. subcommand_rows_of m ≡ subcommand_of postcopy_words (word_texts words.entry.now)) }
     ensures err { IfErr result (λ e. takes postcopy_words (word_texts words.entry.now) ≡ true → kind_of e ≡ ErrorKind.OutOfMemory) }
@@ -436,7 +437,7 @@ fn matches_in<'a>(alloc: Global, words: &'a [&'a str]) -> Result<ArgMatches<'a>,
     }
 }
 
-// What is asked of the sessions of an audit, if they are several.
+// Returns what is asked about the sessions of an audit, if there are several.
 fn sessions_asked<'a>(
     alloc: Global,
     matches: &ArgMatches<'a>,
@@ -454,7 +455,8 @@ fn sessions_asked<'a>(
     }))
 }
 
-// What the matches of the command of this name ask for: a command on named texts, or else the audit of several sessions.
+// Returns what the matches of the command with this name ask for: a command on named texts, or else the audit of
+// several sessions.
 fn intent_of<'a>(
     alloc: Global,
     name: &str,
@@ -475,7 +477,7 @@ fn intent_of<'a>(
     }
 }
 
-// The file for the lines of a window, where one is asked for.
+// Returns the file for the lines of a window, if one is named.
 fn lines_file<'a>(intent: &Option<Intent<'a>>) -> Option<&'a str>
     ensures { option_map (λ name. name.now) result ≡ lines_file (option_and_then job_of intent.now) }
 {
@@ -485,7 +487,7 @@ fn lines_file<'a>(intent: &Option<Intent<'a>>) -> Option<&'a str>
     }
 }
 
-// What the answer of a command is.
+// Returns the kind of a command's answer.
 fn answer_of(job: &Job<'_>) -> AnswerKind
     ensures { result ≡ answer_of (asked_names job.now) }
 {
@@ -502,7 +504,7 @@ fn answer_of(job: &Job<'_>) -> AnswerKind
     }
 }
 
-// What the answer to an intent is.
+// Returns the kind of the answer to an intent is asked for.
 fn answer_kind(intent: &Option<Intent<'_>>) -> AnswerKind
     ensures { result ≡ answer_kind (option_and_then job_of intent.now) }
 {
@@ -512,7 +514,7 @@ fn answer_kind(intent: &Option<Intent<'_>>) -> AnswerKind
     }
 }
 
-// What is found of the command of this name. The error: its options clash, or there is no memory.
+// Returns what is found for the command with this name. Fails if its options clash, or memory runs out.
 fn found_for<'a>(
     alloc: Global,
     name: &str,
@@ -539,7 +541,7 @@ pub(crate) const NOTHING: Invocation<'static> = Invocation {
     targets: NO_TARGETS,
 };
 
-// What is found in the matches. The error as for [`found_for`].
+// Returns what is found in the matches. Fails as [`found_for`] does.
 fn found_in<'a>(alloc: Global, matches: &ArgMatches<'a>) -> Result<Invocation<'a>, clap::Error>
     ensures ok { IfOk result (IsFoundIn (subcommand_rows_of matches.now)) }
     ensures err { IfErr result (λ e. IsRefusedFor (clash_in (subcommand_rows_of matches.now)) (kind_of e)) }
@@ -550,9 +552,8 @@ fn found_in<'a>(alloc: Global, matches: &ArgMatches<'a>) -> Result<Invocation<'a
     }
 }
 
-/// What is found in words, of which the first is the program's own name. The error is clap's: it tells why the words are no
-/// command, that they have options which mean nothing together, or is the help or the version that was asked for, or that
-/// memory ran out.
+/// Returns what is found in words. The first word is the program's own name. The error is clap's: the words are no
+/// command, they have options that clash, they ask for the help or the version, or memory ran out.
 pub(crate) fn find_in<'a>(
     alloc: Global,
     words: &'a [&'a str],

@@ -1,4 +1,4 @@
-//! Who answers to what is asked: an arm for each command.
+//! Running what is asked for: an arm for each command.
 
 ghost use Rattle.std.specs.Prelude.{◌≡◌, ◌≢◌, ◌⊎◌, ◌<◌, Ok, true, false, IfOk, MatchOption};
 ghost use Rattle.guest_script.specs.Scripts.{SpellsScript};
@@ -30,7 +30,7 @@ use std::thread::Threads;
 use window_commands::perform_window;
 use window_cut::Window;
 
-// Does a command on the text under a name.
+// Runs a command on the text under a name.
 fn asked_one<'a, R: Threads + Sync, S: TextSource, I: Read + Send, O: Write, E: Write>(
     console: &mut Console<'_, R, S, I, O, E>,
     task: OneText,
@@ -47,7 +47,7 @@ fn asked_one<'a, R: Threads + Sync, S: TextSource, I: Read + Send, O: Write, E: 
     perform_one(console, &command, name)
 }
 
-// Does a command on the texts under two names, read in this order.
+// Runs a command on the texts under two names, which are read in this order.
 fn asked_two<'a, R: Threads + Sync, S: TextSource, I: Read + Send, O: Write, E: Write>(
     console: &mut Console<'_, R, S, I, O, E>,
     task: TwoTexts,
@@ -110,7 +110,7 @@ fn asked_migrate<
     Ok(status)
 }
 
-// Draws the session under a name, along the runs under a further one where there is one.
+// Draws the session under a name, along the runs under a second name if there is one.
 fn asked_draw<'a, R: Threads + Sync, S: TextSource, I: Read + Send, O: Write, E: Write>(
     console: &mut Console<'_, R, S, I, O, E>,
     asked: NamedTopic,
@@ -129,7 +129,8 @@ fn asked_draw<'a, R: Threads + Sync, S: TextSource, I: Read + Send, O: Write, E:
     }
 }
 
-// Cuts the window of these pages out of the recording under a name, with the table of its lines where a file is named for it.
+// Cuts the window of these pages out of the recording under a name. Also makes the table of its lines if a file is
+// named for it.
 fn asked_window<'a, R, S: TextSource, I, O: Write, E: Write>(
     console: &mut Console<'_, R, S, I, O, E>,
     pages: Pages,
@@ -151,7 +152,7 @@ fn asked_window<'a, R, S: TextSource, I, O: Write, E: Write>(
     perform_window(console, window, lined, name, lines)
 }
 
-/// Does what the words ask for. Where a window is written, and its lines are asked for, their table is put into `lines`.
+/// Does what the words ask for. If a window is written and its lines are asked for, puts their table into `lines`.
 pub fn perform<
     'a,
     R: Threads + Wait + Sync + Net<Listener = TcpListener, Stream = TcpStream>,

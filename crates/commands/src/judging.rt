@@ -1,4 +1,4 @@
-//! What the words ask of a session, as the commands that judge one take it.
+//! What the words ask about a session, in the form that the judging commands take.
 
 ghost use Rattle.std.specs.Prelude.{◌≡◌};
 ghost use Rattle.command_texts.specs.Several.{style_of};
@@ -11,10 +11,10 @@ use completeness::Extent;
 use judged_texts::AuditPart;
 use session_answers::{AnswerForm, Ask, Story};
 
-/// What ends the list of what is told of several sessions, after how many of how many are clean.
+/// The end of the last line of a list, after how many of how many sessions are clean.
 const ARE_CLEAN: &[u8] = b" sessions are clean\n";
 
-/// To what extent a session has to be complete, where that is asked.
+/// Returns to what extent a session must be complete, if that is asked.
 pub(crate) fn extent_of(demand: Demand) -> Option<Extent>
     ensures { result ≡ extent_of demand }
 {
@@ -25,7 +25,7 @@ pub(crate) fn extent_of(demand: Demand) -> Option<Extent>
     }
 }
 
-// How the report on a session is told.
+// Returns the form of the report on a session.
 fn report_form(form: ReportForm) -> AnswerForm
     ensures { result ≡ report_form form }
 {
@@ -38,7 +38,7 @@ fn report_form(form: ReportForm) -> AnswerForm
     }
 }
 
-// How the report on each of several sessions is told.
+// Returns the form of the report on each of several sessions.
 fn list_form(form: ListForm) -> AnswerForm
     ensures { result ≡ list_form form }
 {
@@ -49,7 +49,7 @@ fn list_form(form: ListForm) -> AnswerForm
     }
 }
 
-/// How it is told what happened in a session.
+/// Returns the form of the story of a session.
 pub(crate) fn story_form(form: StoryForm) -> Story
     ensures { result ≡ story_form form }
 {
@@ -59,7 +59,7 @@ pub(crate) fn story_form(form: StoryForm) -> Story
     }
 }
 
-// What an audit asks of a session.
+// Returns what an audit asks about a session.
 fn audit_ask(audits: Audits) -> Ask
     ensures { result ≡ audit_ask audits }
 {
@@ -69,7 +69,7 @@ fn audit_ask(audits: Audits) -> Ask
     }
 }
 
-// What an explanation asks of a session.
+// Returns what an explanation asks about a session.
 fn explain_ask(explains: Explains) -> Ask
     ensures { result ≡ explain_ask explains }
 {
@@ -79,7 +79,7 @@ fn explain_ask(explains: Explains) -> Ask
     }
 }
 
-/// What the audit of several sessions asks of each.
+/// Returns what the audit of several sessions asks about each.
 pub(crate) fn list_ask(lists: Lists) -> Ask
     ensures { result ≡ list_ask lists }
 {
@@ -89,7 +89,8 @@ pub(crate) fn list_ask(lists: Lists) -> Ask
     }
 }
 
-/// How the answers to several sessions are listed: by lines after their names, and how many are clean, or by objects.
+/// Returns how the answers to several sessions are listed: as lines after their names, with how many are clean, or as
+/// objects.
 pub(crate) fn listing_of(form: ListForm) -> Listing<'static>
     ensures { style_of result ≡ list_style form }
 {
@@ -99,7 +100,7 @@ pub(crate) fn listing_of(form: ListForm) -> Listing<'static>
     }
 }
 
-/// What a command on one text asks of it.
+/// Returns what a command on one text asks about it.
 pub(crate) fn ask_of(task: OneText) -> Ask
     ensures { result ≡ ask_of task }
 {

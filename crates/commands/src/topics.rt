@@ -1,4 +1,4 @@
-//! What of a session is told, or drawn.
+//! The topic of a story or a picture.
 
 ghost use Rattle.std.specs.Prelude.{◌≡◌};
 ghost use Rattle.commands.specs.Told.{told_topic};
@@ -6,7 +6,7 @@ ghost use Rattle.commands.specs.Told.{told_topic};
 use command_words::NamedTopic;
 use session_story::Topic;
 
-/// The topic that the words name.
+/// Returns the topic that the words name.
 pub(crate) fn told_topic(named: NamedTopic) -> Topic
     ensures { result ≡ told_topic named }
 {

@@ -1,4 +1,4 @@
-//! What is asked of a session, answered with a status.
+//! What is asked about a session, answered with a text and a status.
 
 ghost use Rattle.std.specs.Prelude.{◌≡◌, ℕ, List, IfOk};
 ghost use Rattle.std.specs.Thread.{IsSync};
@@ -23,14 +23,14 @@ use session_log::{SessionReader, session_texts_are_unambiguous};
 use std::alloc::{AllocError, Global};
 use std::thread::Threads;
 
-/// The status of a report.
+/// Returns the status of a report.
 pub fn report_status(report: &Report) -> u8
     ensures { result ≡ report_status report.now }
 {
     status_where(matches!(report, Report::Clean(_)))
 }
 
-/// The report on a session, told in this form.
+/// Returns the report on a session, in this form.
 fn reported<R: Threads + Sync>(
     rt: &R,
     form: AnswerForm,
@@ -45,7 +45,7 @@ fn reported<R: Threads + Sync>(
     Ok(Answer { text, status })
 }
 
-/// The line at which a session's text is refused, told in this form.
+/// Returns the answer for a session's text that is refused at this line, in this form.
 fn refused(form: AnswerForm, alloc: Global, line: u32) -> Result<Answer, AllocError>
     ensures { IfOk result (SaysRefusal (Tells form) line) }
 {
@@ -56,7 +56,7 @@ fn refused(form: AnswerForm, alloc: Global, line: u32) -> Result<Answer, AllocEr
     })
 }
 
-/// What is judged of a session's text, told in this form, by what was read of the text.
+/// Returns the audit of a session's text in this form, given what was read from the text.
 fn audit_read<R: Threads + Sync>(
     rt: &R,
     form: AnswerForm,
@@ -71,7 +71,7 @@ fn audit_read<R: Threads + Sync>(
     }
 }
 
-/// The answer to what is asked of a session, by what was read of its text.
+/// Returns the answer to what is asked about a session, given what was read from its text.
 fn answered<R: Threads + Sync>(
     rt: &R,
     ask: Ask,
@@ -92,7 +92,7 @@ fn answered<R: Threads + Sync>(
     )
 }
 
-/// `audit`, `certify` and `explain`: what is asked of a session.
+/// `audit`, `certify` and `explain`: what is asked about a session.
 #[derive(Clone, Copy)]
 pub struct AuditCommand<'a, R> {
     pub rt: &'a R,

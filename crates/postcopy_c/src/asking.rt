@@ -1,4 +1,4 @@
-//! Several questions of one session, which is read once and judged once.
+//! Several questions about one session, which is read once and judged once.
 
 ghost use Rattle.std.specs.Prelude.{◌≡◌, ◌≢◌, IfOk};
 ghost use Rattle.audit_model.specs.World.{IsSafe};
@@ -19,17 +19,17 @@ use session_answers::{AnswerForm, Story};
 use session_story::Topic;
 use std::alloc::{AllocError, Global};
 
-/// A question of a session, as C has it.
+/// A question about a session, as C has it.
 #[repr(C)]
 #[derive(Clone, Copy)]
 pub struct PostcopyQuestion {
-    /// What is asked, by the numbers of `questions`.
+    /// What it asks: a number of `questions`.
     pub asks: u32,
-    /// The page, or the line of the session's text, that is asked about. A question about neither does not read it.
+    /// The page, or the line of the session's text, that it asks about. Other questions ignore it.
     pub about: u32,
 }
 
-/// What a question asks to be shown, or nothing where its number is no question's.
+/// Returns what a question asks to be shown, or `None` if its number is unknown.
 fn asked_by(question: &PostcopyQuestion) -> Option<ShownAs>
     ensures { IsAsked question.now result }
 {
@@ -52,7 +52,7 @@ fn asked_by(question: &PostcopyQuestion) -> Option<ShownAs>
     })
 }
 
-/// What the questions ask to be shown, or nothing where the number of one is no question's.
+/// Returns what each question asks to be shown, or `None` if the number of one is unknown.
 fn asked_by_all(
     alloc: Global,
     questions: &[PostcopyQuestion],
@@ -69,7 +69,7 @@ fn asked_by_all(
     Ok(Some(asked))
 }
 
-/// Tells what the questions ask of the session that a text spells.
+/// Answers the questions about the session that a text spells.
 pub(crate) fn tell_answers(
     alloc: Global,
     session: &[u8],
