@@ -106,7 +106,7 @@ abbrev pub job_of : Intent → Option (Request Text)
 job_of (Job job) = Some (asked_names job)
 job_of (intent.Several several) = None
 
--- the sessions to audit to asked for
+-- the sessions to audit
 abbrev pub several_of : Intent → Option (Lists × List Text)
 several_of (Job job) = None
 several_of (intent.Several several) = Some (several_names several)

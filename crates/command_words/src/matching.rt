@@ -504,7 +504,7 @@ fn answer_of(job: &Job<'_>) -> AnswerKind
     }
 }
 
-// Returns the kind of the answer to an intent is asked for.
+// Returns the kind of the answer to an intent.
 fn answer_kind(intent: &Option<Intent<'_>>) -> AnswerKind
     ensures { result ≡ answer_kind (option_and_then job_of intent.now) }
 {

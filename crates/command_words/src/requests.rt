@@ -1,4 +1,4 @@
-//! What the words of the words line may ask for.
+//! What the words of the command line may ask for.
 
 ghost use Rattle.std.specs.Prelude.{◌≡◌, None, if◌then◌else◌};
 ghost use Rattle.command_words.specs.Table.{carrier_name, format_name};
