@@ -1,11 +1,11 @@
-"""Recordings in one small file, and out of it again. The same recording gives the same file."""
+"""Packs recordings into one small file, and unpacks them. The same recording gives the same file."""
 import io
 import lzma
 import tarfile
 
 
 def pack(folder, names, path):
-    """Packs these files of a folder."""
+    """Packs these files of a folder into the file `path`."""
     packed = io.BytesIO()
     with tarfile.open(fileobj=packed, mode="w", format=tarfile.USTAR_FORMAT) as archive:
         for name in names:
@@ -19,10 +19,10 @@ def pack(folder, names, path):
 
 
 def unpacked(path, names):
-    """The files of a packed recording, by their names. Raises ValueError where it holds any other."""
+    """Returns the files of a packed recording, by their names. Raises ValueError if it contains any other file."""
     with open(path, "rb") as file:
         packed = io.BytesIO(lzma.decompress(file.read()))
     with tarfile.open(fileobj=packed) as archive:
         if strange := set(archive.getnames()) - set(names):
-            raise ValueError(f"{path} holds {', '.join(sorted(strange))}, and a recording has no such file")
+            raise ValueError(f"{path} contains {', '.join(sorted(strange))}; a recording has no such file")
         return {member.name: archive.extractfile(member).read() for member in archive}

@@ -1,38 +1,38 @@
-"""Sessions of records that name one another by what their recorder calls them.
+"""Sessions whose records name one another with names that the recorder chooses.
 
-A recorder appends to the log of a party what happened there, with the calls and fields of postcopy.records, and under a name
-that it chooses:
+A recorder appends what happened to the log of a party, with the calls and fields of postcopy.records, and under a name that it
+chooses:
 
     session.add("source", "send", name=("sent", 7), page=3, contents="00000000000000ff")
     session.add("link", "down", name=("handed over", 7), sent=("sent", 7))
 
-A field that names another record has that record's name; its number comes from where the record stands. It need not be there
-yet: logs may be written in any order.
+A field that names another record has that record's name. Its number is the place of the record. The record need not exist yet:
+logs can be written in any order.
 """
 from postcopy import sessions
 from postcopy.records import LOGS, LOST, RECEIVED, RECORDS
 
-# By log and by call: the word, and the names of the fields. What stands for a log that nobody wrote is in no session.
+# By log and by call: the word, and the names of the fields. Records that replace a log that nobody wrote are in no session.
 CALLS = {log: {kind.call: (kind.word, tuple(field.name for field in kind.fields))
                for kind in kinds.values() if kind.word not in RECEIVED} for log, kinds in RECORDS.items()}
 
-# By log and by word: where a record names another one, and of which log.
+# By log and by word: the fields of a record that name another one, by their places, and the log of each.
 NAMING = {log: {kind.word: [(place, field.log) for place, field in enumerate(kind.fields, 1) if field.log]
                 for kind in kinds.values()} for log, kinds in RECORDS.items()}
 
 
 class Hole(Exception):
-    """What a recording lacks, in words."""
+    """Something is missing from a recording. The message says what."""
 
 
 class Session:
-    """The logs of a migration. A record is a tuple of its word and its fields, with names in the place of numbers."""
+    """The logs of a migration. A record is a tuple of its word and its fields, with names in place of numbers."""
 
     def __init__(self, pages, cells, has_lane=False):
         self.pages, self.cells, self.has_lane = pages, cells, has_lane
         self.logs = {log: [] for log in LOGS}
         self.numbers = {log: {} for log in LOGS}
-        self.initial = {}  # by page, the contents that it began with
+        self.initial = {}  # the initial contents of pages, by page
 
     def add(self, log, call, name=None, **fields):
         """Appends a record."""
@@ -44,18 +44,18 @@ class Session:
         self.logs[log].append((word, *map(fields.__getitem__, names)))
 
     def name_too(self, log, name, other):
-        """Gives a record another name as well."""
+        """Gives a record a second name."""
         self.numbers[log][other] = self.numbers[log][name]
 
     def number(self, log, name):
-        """The number of the record of this name."""
+        """Returns the number of the record with this name."""
         return self.numbers[log].get(name, LOST)
 
     def is_last(self, log, name):
         return self.number(log, name) == len(self.logs[log]) - 1
 
     def numbered(self, log, record):
-        """The record with numbers in the place of names."""
+        """Returns the record with numbers in place of names."""
         places = NAMING[log][record[0]]
         if not places:
             return record
@@ -71,9 +71,9 @@ class Session:
         return sessions.Session(self.pages, self.cells, initial, logs, self.has_lane)
 
     def cut(self):
-        """Cuts the logs to a whole. Answers how many records were left out.
+        """Cuts the logs so that no record names a missing one. Returns how many records were left out.
 
-        So are logs judged that end early: what is found in what is left is a fault of the migration.
+        This makes it possible to judge logs that end early: a fault in what is left is a fault of the migration.
         """
         whole, left_out = self.with_numbers(), 0
         whole.cut()
@@ -83,7 +83,7 @@ class Session:
         return left_out
 
     def check(self):
-        """Raises Hole where a record names one that is not there."""
+        """Raises Hole if a record names one that does not exist."""
         for log, records in self.logs.items():
             for number, record in enumerate(records):
                 for place, other in NAMING[log][record[0]]:

@@ -1,12 +1,12 @@
-"""Roots of other releases of Debian, in a cache folder of the user, and programs that run in one.
+"""Root file systems of other releases of Debian, in the user's cache folder, and programs that run in one.
 
-A root is made once, by debootstrap from Debian's mirror, and is never written to again: a program that runs in it has a root of
-its own in memory, a mount as CRIU wants it, into which the release's /usr and /etc are bound read-only, beside this machine's
-/proc, /sys and /dev and the folders that it is given, each under its own path.
+debootstrap makes a root once, from Debian's mirror, and nothing writes to it afterwards. A program that runs in it has its own root
+in memory, which is a mount, as CRIU requires. The release's /usr and /etc are mounted there read-only. This machine's /proc, /sys and
+/dev are there too, and the folders that the program is given, each under its own path.
 
     roots.inside(roots.path(ROOT), ["criu", "--version"], folders=["/var/tmp/seen"])
 
-answers the words of a command that does so. Both want root's rights.
+returns the words of a command that runs one. Both need root's rights.
 """
 import ctypes
 import fcntl
@@ -31,12 +31,12 @@ MNT_DETACH = 2
 
 
 class Missing(Exception):
-    """What this machine lacks, in words."""
+    """Something is missing on this machine. The message says what."""
 
 
 @dataclass(frozen=True)
 class Root:
-    """What a root is made of: a suite of Debian, and packages. With `newer` these are of another suite, such as backports."""
+    """What a root is made from: a suite of Debian, and packages. With `newer`, the packages come from another suite, such as backports."""
     name: str
     suite: str
     packages: tuple
@@ -50,12 +50,12 @@ class Root:
 # Where roots are
 
 def cache(name):
-    """A folder of the user's cache for what is made once."""
+    """Returns a folder in the user's cache for things that are made once."""
     return f"{os.environ.get('XDG_CACHE_HOME') or os.path.expanduser('~/.cache')}/postcopy/{name}"
 
 
 def folder():
-    """Where roots are kept: POSTCOPY_ROOTS, or a folder in the user's cache."""
+    """Returns the folder of all roots: POSTCOPY_ROOTS, or a folder in the user's cache."""
     return os.path.abspath(os.environ.get("POSTCOPY_ROOTS") or cache("roots"))
 
 
@@ -64,7 +64,7 @@ def path(root):
 
 
 def is_made(root):
-    """Whether a root is there, whole, and of what it is made of today."""
+    """Returns whether a root exists, is whole, and was made from what it is made from today."""
     try:
         with open(f"{path(root)}/{MARK}", encoding="ascii") as mark:
             return mark.read() == root.mark
@@ -75,16 +75,16 @@ def is_made(root):
 # Making one
 
 def require_tools():
-    """Raises Missing where no root can be made here."""
+    """Raises Missing if no root can be made here."""
     if os.geteuid() != 0:
-        raise Missing("a root is made by debootstrap, which wants to be root")
+        raise Missing("debootstrap makes the root, and must run as root")
     if not shutil.which("debootstrap") or not os.path.exists(KEYRING):
         raise Missing("debootstrap not found. On Debian:\n"
                       "    apt-get install --no-install-recommends debootstrap debian-archive-keyring")
 
 
 def make(root, say=lambda line: None):
-    """Makes a root where it is not there. `say` is called with each line of progress. A root that is not whole has another name."""
+    """Makes a root if it does not exist. Calls `say` with each line of progress. A root that is not whole yet has another name."""
     require_tools()
     os.makedirs(folder(), exist_ok=True)
     with open(f"{folder()}/{root.name}.lock", "w", encoding="ascii") as lock:
@@ -97,7 +97,7 @@ def make(root, say=lambda line: None):
         with open(f"{part}/etc/apt/sources.list", "w", encoding="ascii") as sources:
             for suite in filter(None, (root.suite, root.newer)):
                 sources.write(f"deb {MIRROR} {suite} main\n")
-        # As by debootstrap, signatures are checked, and not by this machine's clock whether a list is the newest.
+        # Like debootstrap, this checks signatures, but does not use the machine's clock to check that a list is up to date.
         apt_get = ["chroot", part, "apt-get", "-q", "-o", "APT::Sandbox::User=root", "-o", "Acquire::Check-Valid-Until=no"]
         run(root, say, [*apt_get, "update"])
         of = ["-t", root.newer] if root.newer else []
@@ -110,13 +110,13 @@ def make(root, say=lambda line: None):
 
 
 def remove(tree):
-    """Removes a root, and nothing that is mounted in it."""
+    """Removes a root, but nothing that is mounted in it."""
     if os.path.isdir(tree):
         subprocess.run(["rm", "-rf", "--one-file-system", tree], check=True)
 
 
 def run(root, say, words, proc_in=None):
-    """Runs a step of making a root, whose mounts end with it; `say` hears a line every few seconds, and Missing has the last ones."""
+    """Runs one step of making a root. Its mounts end with it. `say` gets a line every few seconds, and Missing has the last lines."""
     def alone():
         unshare_mounts()
         if proc_in:
@@ -139,7 +139,7 @@ def run(root, say, words, proc_in=None):
 # Running in one
 
 def inside(tree, words, folders=(), cwd="/"):
-    """The words of a command that runs `words` in a root. `folders` are there too, under their paths."""
+    """Returns the words of a command that runs `words` in a root. `folders` are there too, under their own paths."""
     return [sys.executable, "-B", os.path.abspath(__file__), tree, cwd, *map(os.path.abspath, folders), "--", *words]
 
 
@@ -151,7 +151,7 @@ def libc(name, *arguments):
 
 
 def die_with_parent():
-    """From here on this process is killed when the thread ends that started it."""
+    """Has the system kill this process when the thread that started it ends."""
     libc("prctl", PR_SET_PDEATHSIG, signal.SIGKILL)
 
 
@@ -160,7 +160,7 @@ def mount(what, where, kind, flags):
 
 
 def unshare_mounts():
-    """From here on this process has mounts of its own."""
+    """Gives this process its own mounts."""
     libc("unshare", CLONE_NEWNS)
     mount(None, "/", None, MS_REC | MS_PRIVATE)
 
@@ -173,7 +173,7 @@ def bind(what, where, is_read_only=False):
 
 
 def enter(tree, folders):
-    """Takes a root of memory for this process, with what a release of Debian has in /usr and /etc."""
+    """Gives this process a root in memory, with the /usr and /etc of a release of Debian."""
     unshare_mounts()
     new = f"{tree}/mnt"
     mount("root", new, "tmpfs", 0)

@@ -1,4 +1,4 @@
-# What the scripts that read shipped/ have in common, for a POSIX shell. They set `top`, the folder of the checkout, first.
+# What the scripts that read shipped/ share, for a POSIX shell. They set `top`, the folder of the checkout, first.
 # shellcheck shell=sh disable=SC2154
 shipped=$top/shipped/x86_64-linux
 shipped_page=$top/shipped/web
@@ -6,7 +6,7 @@ shipped_page=$top/shipped/web
 shipped_files="postcopy libpostcopy.so libpostcopy.a"
 sources=
 
-# What the manifest of a folder has under a name; nothing where it has none, or there is no manifest.
+# Prints what the manifest of a folder has under a name, or nothing if it has none, or if there is no manifest.
 told_in() {
     [ ! -f "$1/manifest" ] || awk -v name="$2" '$1 == name { print $2; exit }' "$1/manifest"
 }

@@ -1,4 +1,4 @@
-"""Builds what the recorder needs of C, and finds CRIU in a root of a release of Debian that has 4.1 or a newer one."""
+"""Builds the C parts of the recorder, and finds CRIU in a root of a release of Debian that has 4.1 or newer."""
 import fcntl
 import os
 import re
@@ -10,10 +10,10 @@ from roots import Missing, Root
 HERE = os.path.dirname(os.path.abspath(__file__))
 OUT = f"{HERE}/out"
 
-# Suites of Debian that have a CRIU of 4.1 or newer.
+# Suites of Debian with CRIU 4.1 or newer.
 ROOTS = {suite: Root(f"criu-{suite}", suite, ("criu",)) for suite in ("trixie", "sid")}
 
-# By the name of what is built: its source, and how.
+# By the name of what is built: its source, and how it is built.
 BUILT = {"walk": ("walk.c", ("-static", "-pthread")),
          "library.so": ("library.c", ("-shared", "-fPIC", "-ldl")),
          "pipe_size.so": ("pipe_size.c", ("-shared", "-fPIC", "-ldl"))}
@@ -21,11 +21,11 @@ BUILT = {"walk": ("walk.c", ("-static", "-pthread")),
 
 def require_rights():
     if os.geteuid() != 0:
-        raise Missing("CRIU wants to be root: it freezes a process, and restores one with its number, in namespaces of its own")
+        raise Missing("CRIU must run as root: it freezes a process, and restores one with its number, in namespaces of its own")
 
 
 def version_in(root):
-    """The version of CRIU in a root."""
+    """Returns the version of CRIU in a root."""
     done = subprocess.run(roots.inside(roots.path(root), ["criu", "--version"]), capture_output=True, text=True)
     found = re.search(r"^Version: ([0-9.]+)", done.stdout, re.MULTILINE)
     if not found:
@@ -34,7 +34,7 @@ def version_in(root):
 
 
 def versions():
-    """The version of CRIU in each root that is there, by its suite. Raises Missing where none is."""
+    """Returns the version of CRIU in each root that exists, by its suite. Raises Missing if there is none."""
     found = {suite: version_in(root) for suite, root in ROOTS.items() if roots.is_made(root)}
     if not found:
         raise Missing(f"no CRIU of 4.1 or newer is there. This makes a root with one, by debootstrap, in {roots.folder()}:\n"
@@ -43,7 +43,7 @@ def versions():
 
 
 def root_and_version(wanted=""):
-    """The folder of a root, and the version of CRIU in it: of the suite or the version that is wanted, or of the first that is there."""
+    """Returns the folder of a root, and the version of CRIU in it: for the suite or the version that is wanted, or for the first root."""
     found = versions()
     for suite, version in found.items():
         if wanted in ("", suite, version):
@@ -64,7 +64,8 @@ def compile_one(name):
 
 
 def build():
-    """The paths of the walk, of the library and of what gives CRIU its pipe, built where they are not there or older than their sources."""
+    """Returns the paths of the walk, of the library and of what gives CRIU its pipe. Builds those that are missing or older than their
+    sources."""
     os.makedirs(OUT, exist_ok=True)
     with open(f"{OUT}/lock", "w", encoding="ascii") as lock:
         fcntl.flock(lock, fcntl.LOCK_EX)

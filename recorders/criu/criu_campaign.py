@@ -1,4 +1,4 @@
-"""Plans of lazy migrations, drawn at random, and the table of what became of them."""
+"""Random plans of lazy migrations, and the table of their results."""
 import collections
 import re
 from dataclasses import dataclass
@@ -10,7 +10,7 @@ DRAWN = ("live", "live", "wide", "cells", "threads", "released", "releases")
 
 
 def random_plan(drawn, suites, with_faults=False, kinds=DRAWN):
-    """A plan of one of these kinds. `drawn` is a random.Random."""
+    """Returns a random plan of one of these kinds. `drawn` is a random.Random."""
     kind = drawn.choice(kinds)
     plan = plan_of(kind, criu=drawn.choice(sorted(suites)))
     plan.pages = plan.pages if kind in ("wide", "cells") else drawn.choice((64, 128, 256, 512, 1024))
@@ -34,7 +34,7 @@ def random_plan(drawn, suites, with_faults=False, kinds=DRAWN):
 
 @dataclass
 class Result:
-    """What became of one. `version` is CRIU's, and `was_put_in` whether its fault was."""
+    """The result of one. `version` is that of CRIU, and `was_put_in` says whether the fault was put in."""
     plan: object
     version: str
     verdict: str
@@ -47,12 +47,12 @@ class Result:
 
     @property
     def is_settled(self):
-        """Whether nothing of it has to be kept."""
+        """Whether nothing about it must be kept."""
         return self.is_clean and not self.plan.fault
 
     @property
     def reason(self):
-        """The verdict without the number of its line or page."""
+        """Returns the verdict without the number of its line or page."""
         return re.sub(r" line \d+|(?<=page) \d+", "", self.verdict.split(":")[0])
 
     @property

@@ -1,4 +1,4 @@
-"""What the program says of a recording, whether it tells of a whole migration too, and what is seen of it without the program."""
+"""The program's verdict on a recording, whether the recording is complete, and what can be seen in it without the program."""
 import judge
 from criu_session import recording_in, whole_lines
 from records import Hole
@@ -7,14 +7,14 @@ ZERO = "0" * 16
 
 
 def session_of(folder, is_whole):
-    """The recording's session. Where CRIU did not come to its end the logs are cut to a whole."""
+    """Returns the recording's session. If CRIU did not come to its end, the logs are cut so that no record names a missing one."""
     session = recording_in(folder).session()
     left_out = 0 if is_whole else session.cut()
     return session, left_out
 
 
 def judged(folder, is_whole=True):
-    """Judges a recording, and leaves what was found in its folder."""
+    """Judges a recording, and writes what was found to its folder."""
     try:
         session, left_out = session_of(folder, is_whole)
         judge.write(f"{folder}/session", session.text())
@@ -27,7 +27,7 @@ def judged(folder, is_whole=True):
 
 
 def wrong_reads(folder):
-    """How often the process read what it had not written, by what it told alone: its accesses stand in the file in their order."""
+    """Returns how often the process read a value that it had not written, from its own record alone: the file has its accesses in order."""
     memory, wrong = {}, 0
     with open(f"{folder}/log", "rb") as log:
         for words in map(str.split, whole_lines(log.read())):
@@ -44,7 +44,7 @@ def wrong_reads(folder):
 
 
 def waited_for(folder):
-    """The pages that threads wait for at the end, by what the process told alone."""
+    """Returns the pages that threads wait for at the end, from the process's own record alone."""
     with open(f"{folder}/log", "rb") as log:
         last = {words[1]: words for words in map(str.split, whole_lines(log.read())) if words[0] == "g"}
     return sorted({int(words[3]) for words in last.values() if words[2] == "m"})

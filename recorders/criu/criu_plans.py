@@ -1,4 +1,4 @@
-"""The kinds of lazy migrations, as plans: what the process is, and how it is moved."""
+"""The kinds of lazy migrations, as plans: the process, and how it is moved."""
 import json
 from dataclasses import asdict, dataclass, replace
 
@@ -32,19 +32,19 @@ IN_LIBRARY = ("early",)
 
 @dataclass
 class Plan:
-    """How one migration is made."""
+    """How to make one migration."""
     kind: str = "live"
     pages: int = 256        # of the window
     words: int = 16         # of each page that the process uses, which are the cells
     threads: int = 1
-    pace: int = 12          # visits, behind which a thread rests for a millisecond
+    pace: int = 12          # visits, after which a thread rests for a millisecond
     writes: int = 16        # of 64 visits
     releases: int = 0       # of 64 visits
-    ahead: int = 0          # of 64 visits that give up a page which is on its way to the target
-    keep_at_target: bool = False  # whether the process gives no page up at the target
+    ahead: int = 0          # of 64 visits that release a page that is on its way to the target
+    keep_at_target: bool = False  # whether the process releases no pages at the target
     warm: int = 1000        # accesses before the halt
-    after: int = 1000       # accesses at the target, behind the end
-    delay: int = 5          # milliseconds by which the relay hands over each answer later
+    after: int = 1000       # accesses at the target, after the end
+    delay: int = 5          # milliseconds by which the relay delays each answer
     fault: str = ""
     skip: int = 3           # of the pages or the answers that the fault could take
     limit: float = 60.0     # seconds for each part of the migration
@@ -60,7 +60,7 @@ class Plan:
 
 
 def plan_of(kind, **changes):
-    """The plan of a kind, with changes."""
+    """Returns the plan of a kind, with changes."""
     return replace(Plan(kind=kind, **KINDS[kind][1]), **changes)
 
 

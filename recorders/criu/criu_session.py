@@ -1,7 +1,7 @@
-"""The session of what was recorded of a lazy migration.
+"""Makes the session from the recording of a lazy migration.
 
-A page that was answered has the name (answer, place in it), a request for one the name (request, place in it): the n-th message that
-was sent over a connection is the n-th that came over it. By these names the parties' logs tell of one another.
+A page in an answer has the name (answer, place in it), and a request for a page has the name (request, place in it). The n-th message
+that was sent over a connection is the n-th that arrived over it. The parties' logs name each other's records with these names.
 """
 from contents import cells_of
 from criu_plans import BASE, plan_from_text
@@ -10,18 +10,18 @@ from records import Hole, Session
 
 
 def whole_lines(data):
-    """The lines, but a last one that was not written to its end."""
+    """Returns the lines, without a last one that was not written to its end."""
     return data.decode("ascii").split("\n")[:-1]
 
 
 class Wire:
-    """The logs of the source and of the link, by what the relay told."""
+    """The logs of the source and of the link, from the relay's log."""
 
     def __init__(self, recording, session):
         self.recording, self.session = recording, session
         self.contents, self.sent = recording.contents("relay.pages"), {}
         self.requests = self.answers = 0
-        self.handed = []  # of each answer that was handed over: how many bytes those up to it have, its number, and its pages' addresses
+        self.handed = []  # for each answer that was handed over: the bytes up to its end, its number, and its pages' addresses
         self.end = 0
         session.add("source", "halted", halt="halt")
         session.add("source", "state", name="state")
@@ -37,7 +37,7 @@ class Wire:
             self.handed_over(4, [])
 
     def up(self, command, pages, address):
-        """The source's side has no recorder of its own: it takes what the relay hands over."""
+        """The source's side has no recorder of its own. What the relay hands over counts as what the source takes."""
         names = [("request", self.requests, place) for place in range(pages) if self.page(address, place) is not None]
         if command != "get":
             names = [("end", self.requests)]
@@ -52,7 +52,7 @@ class Wire:
         return self.recording.page_of(address + place * PAGE_BYTES)
 
     def pages(self, count, address, first, given):
-        """An answer: of its pages the first `given` were handed over."""
+        """Takes an answer. The first `given` of its pages were handed over."""
         addresses = [address + place * PAGE_BYTES for place in range(count)]
         for place, at in enumerate(addresses):
             page = self.recording.page_of(at)
@@ -76,17 +76,17 @@ class Wire:
 
 
 class Sides:
-    """The logs of the guest and of the pager, by the file to which the process and lazy-pages both told."""
+    """The logs of the guest and of the pager, from the file that the process and lazy-pages both write."""
 
     def __init__(self, recording, session, wire):
         self.recording, self.session, self.wire = recording, session, wire
         self.contents = recording.contents("target.pages")
         self.requests, self.asked = Requests(recording.header), 0
-        self.taken = 0          # answers that the pager took whole
-        self.arrived = {}       # by page, what the pager took and has not put in place: the name of its record
+        self.taken = 0          # whole answers that the pager took
+        self.arrived = {}       # by page, what the pager took and has not placed: the name of its record
         self.placed = {}        # by page, the number of its placement
         self.placements = self.seen = self.misses = 0
-        self.waiting = {}       # by page, misses of it that no fault was told of
+        self.waiting = {}       # by page, its misses without a recorded fault
         self.released = set()   # pages that are released at the halt
         self.settled = set()    # pages that were released at the target
         self.giving_up = None   # a thread and a page that it is about to release
@@ -131,15 +131,15 @@ class Sides:
                 self.give_up()
 
     def look(self, page):
-        """What a look at a page shows: its placement, if it was told before."""
+        """Takes a look at a page, which shows its placement, if that was recorded before."""
         number = self.placed.get(page, 0)
         if self.is_resumed and page not in self.settled and number > self.seen:
             self.seen = number
             self.session.add("guest", "see", placement=("placement", number))
 
     def give_up(self):
-        """The page that was about to be released is: at the target where lazy-pages took the message, and at the latest where the
-        process goes on, which waits for that."""
+        """Releases the page that was about to be released. At the target this is when lazy-pages takes the message, and at the latest
+        when the process continues, because it waits for that."""
         if self.giving_up is None:
             return
         thread, page = self.giving_up
@@ -151,7 +151,7 @@ class Sides:
     # The pager
 
     def be_ready(self):
-        """Memory is guarded before lazy-pages has the descriptor by which it does anything, and before the process runs."""
+        """Memory is guarded before lazy-pages has the descriptor that it needs for everything, and before the process runs."""
         if not self.is_ready:
             self.is_ready = True
             self.session.add("pager", "got", down="state")
@@ -163,7 +163,7 @@ class Sides:
             if (page := self.recording.page_of(int(fields[0], 16))) is not None:
                 self.place(page, int(fields[1])) if what == "place" else self.zero(page)
         elif what in ("refused", "early"):
-            pass  # what is refused is dropped, and the page that was opened too early is placed
+            pass  # what is refused is dropped, but a page that was opened too early is placed
         else:
             self.drop_arrived()
             self.went_on(what, fields)
@@ -182,7 +182,7 @@ class Sides:
             self.give_up_guard()
 
     def fault(self, page):
-        """A message tells no thread: it is the miss of the only one that waits for the page."""
+        """A message names no thread. It is the miss of the only thread that waits for the page."""
         if len(misses := self.waiting.get(page, [])) == 1:
             self.session.add("pager", "fault", miss=misses.pop())
 
@@ -200,7 +200,7 @@ class Sides:
         self.asked += 1
 
     def take(self, count):
-        """So many bytes were taken of the answers, in all."""
+        """Takes this many bytes of the answers, in all."""
         handed = self.wire.handed
         while self.taken < len(handed) and handed[self.taken][0] <= count:
             _, answer, addresses = handed[self.taken]
@@ -211,7 +211,7 @@ class Sides:
             self.taken += 1
 
     def drop_arrived(self):
-        """CRIU puts an answer in place, or what it can of it, before it does anything else: what is left is dropped."""
+        """CRIU places as much of an answer as it can before it does anything else. What is left is dropped."""
         for name in self.arrived.values():
             self.session.add("pager", "skip", got=name)
         self.arrived.clear()
@@ -222,12 +222,12 @@ class Sides:
         self.put(page, "place", got=self.arrived.pop(page), contents=self.contents(contents))
 
     def zero(self, page):
-        """Zeros are a placement where the page was released at the halt. On another page they are nobody's."""
+        """Zeros are a placement if the page was released at the halt. For any other page they are nobody's."""
         if page in self.released and page not in self.settled and page not in self.placed:
             self.put(page, "zero")
 
     def give_up_guard(self):
-        """Without a guard the kernel gives zeros in each page that is absent: in those that were released at the halt they are right."""
+        """Without a guard the kernel gives zeros for each absent page. They are right for pages that were released at the halt."""
         for page in sorted(self.released):
             self.zero(page)
 
@@ -239,7 +239,7 @@ class Sides:
 
 
 class Recording:
-    """The files of a recording; `read(name)` answers the bytes of one."""
+    """The files of a recording; `read(name)` returns the bytes of one."""
 
     wire, sides = Wire, Sides
 
@@ -249,12 +249,12 @@ class Recording:
         self.header = header_of(self.plan.criu)
 
     def page_of(self, address):
-        """The number of a page of the window, or None."""
+        """Returns the number of a page of the window, or None."""
         page = (address - BASE) // PAGE_BYTES
         return page if 0 <= page < self.plan.pages else None
 
     def contents(self, name):
-        """What reads the cells of a page in a file of contents."""
+        """Returns a function that reads the cells of a page in a file of contents."""
         data = self.read(name)
         return lambda place: cells_of(data[place * PAGE_BYTES:(place + 1) * PAGE_BYTES], self.plan.words)
 

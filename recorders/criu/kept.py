@@ -1,8 +1,8 @@
-"""Kept recordings: each in one small file, with the hash of its session and its verdict.
+"""Kept recordings: each is one small file, with the hash of its session and its verdict.
 
     python3 recorders/criu/kept.py FOLDER NAME
 
-keeps the recording of FOLDER as NAME. `recorders/tests/criu_test.py` makes the session of each anew.
+keeps the recording in FOLDER as NAME. `recorders/tests/criu_test.py` makes each session again.
 """
 import hashlib
 import os
@@ -17,7 +17,7 @@ FILES = ("plan.json", "log", "relay.log", "relay.pages", "target.pages")
 
 
 def expected():
-    """By the name of each kept recording, the hash of its session and its verdict."""
+    """Returns the hash of the session, and the verdict, for each kept recording, by its name."""
     with open(f"{RECORDINGS}/expected", encoding="ascii") as lines:
         return {name: tuple(rest) for name, *rest in (line.rstrip("\n").split(" ", 2) for line in lines)}
 

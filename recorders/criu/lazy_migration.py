@@ -16,15 +16,15 @@ from sides import PROCESS, Failed, Side
 
 FILES = ("plan.json", "log", "relay.log", "relay.pages", "target.pages", "outcome.json", "errors", "dump.log", "lazy-pages.log",
          "restore.log", "session", "report", "certificate", "explained", "picture.svg", "verdict")
-RECORDED = ("log", "relay.log", "relay.pages", "target.pages")  # and the plan, which is there at once: what a session is made from
-QUIET = 3.0  # seconds in which nothing is told, once the process hangs
+RECORDED = ("log", "relay.log", "relay.pages", "target.pages")  # a session is made from these, and from the plan, which is there at once
+QUIET = 3.0  # seconds without a record, after which the process hangs
 REPEATS = 50  # of a request in a row, once lazy-pages does nothing else
 SAMPLES, LEAST_SAMPLES, LEAST_TICKS = 200, 10, 20  # looks whether it does, 0.05 s apart; ticks are of 0.01 s
 
 
 @dataclass
 class Outcome:
-    """What became of CRIU's three programs: a status, `hangs`, or nothing where it was never started."""
+    """The results of CRIU's three programs: a status, `hangs`, or nothing if a program was never started."""
     dump: object = None
     lazy_pages: object = None
     restore: object = None
@@ -41,11 +41,11 @@ class Outcome:
 
 
 class GaveUp(Exception):
-    """A part of the migration did not come to its end, in words."""
+    """A part of the migration did not come to its end. The message says which."""
 
 
 def ended(process, seconds):
-    """The status of a process, or `hangs`, once it was waited for."""
+    """Waits for a process, and returns its status, or `hangs`."""
     try:
         return process.wait(max(seconds, 0))
     except subprocess.TimeoutExpired:
@@ -53,7 +53,7 @@ def ended(process, seconds):
 
 
 def signalled(descriptor, process, seconds):
-    """Whether a program wrote to a descriptor that it is ready, before it ended and in time."""
+    """Returns whether a program wrote to a descriptor that it is ready, before it ended and in time."""
     until = time.monotonic() + seconds
     os.set_blocking(descriptor, False)
     while time.monotonic() < until:
@@ -70,10 +70,10 @@ class Migration:
     def __init__(self, plan, folder, say):
         self.plan, self.folder, self.say, self.outcome = plan, folder, say, Outcome()
         self.relay = None
-        self.rest = None  # since when lazy-pages tells nothing, and its processor time at that moment
+        self.rest = None  # since when lazy-pages has recorded nothing, and its processor time then
 
     def run(self):
-        """Makes the migration; answers the outcome."""
+        """Makes the migration, and returns the outcome."""
         criu_build.require_rights()
         self.root, self.plan.criu = criu_build.root_and_version(self.plan.criu)
         built = criu_build.build()
@@ -108,11 +108,11 @@ class Migration:
     # The log
 
     def told(self):
-        """How many bytes the log has."""
+        """Returns how many bytes the log has."""
         return os.stat(self.log).st_size
 
     def wait_for_accesses(self, count, seconds, is_over=lambda: False):
-        """Waits until the process has told so many accesses more, or hangs. Answers whether it did."""
+        """Waits until the process has recorded this many more accesses, or hangs. Returns whether it did."""
         found, at, until, last = 0, self.told(), time.monotonic() + seconds, time.monotonic()
         while found < count and time.monotonic() < until and not is_over():
             time.sleep(0.01)
@@ -131,11 +131,11 @@ class Migration:
         return found >= count
 
     def repeats_itself(self):
-        """Whether lazy-pages asks for the same pages over and over."""
+        """Returns whether lazy-pages asks for the same pages again and again."""
         return self.relay is not None and self.relay.repeats >= REPEATS
 
     def does_nothing(self):
-        """Whether lazy-pages has told nothing for some time in which it looked for messages, while no answer was on its way."""
+        """Returns whether lazy-pages has recorded nothing for some time in which it looked for messages, while no answer was on its way."""
         if self.rest is None:
             self.rest = time.monotonic(), self.ticks_of_pager()
         since, ticks = self.rest
@@ -145,7 +145,7 @@ class Migration:
         return self.repeats_itself() or self.does_nothing()
 
     def has_become(self, lazy):
-        """What has become of lazy-pages: its status, or what it does in place of ending."""
+        """Returns the status of lazy-pages, or what it does instead of ending."""
         if lazy.poll() is not None:
             return lazy.poll()
         if self.repeats_itself():
@@ -153,8 +153,8 @@ class Migration:
         return "hangs" if self.is_at_rest() else "does nothing more" if self.does_nothing() else "has not ended"
 
     def is_at_rest(self):
-        """Whether nothing goes on: nothing is told, no answer is on its way, and neither the process nor the page server runs or waits
-        for a processor. lazy-pages may run: it looks for messages over and over, so it has had its time where it finds none."""
+        """Returns whether nothing happens: nothing is recorded, no answer is on its way, and neither the process nor the page server runs or
+        waits for a processor. lazy-pages may run, because it looks for messages again and again. If it finds none, it has had time."""
         told, used, samples = self.told(), self.ticks_of_pager(), 0
         for _ in range(SAMPLES):
             time.sleep(0.05)
@@ -166,17 +166,17 @@ class Migration:
         return self.ticks_of_pager() == used
 
     def is_running(self):
-        """Whether a thread of the process, or the page server, runs or waits for a processor."""
+        """Returns whether a thread of the process, or the page server, runs or waits for a processor."""
         *sources, target = [side.processes() for side in self.sides]
         states = [states for side in sources for states, _ in side.values()]
         return any("R" in it for it in [*states, target.get(PROCESS, "X")[0]])
 
     def ticks_of_pager(self):
-        """The processor time of what runs beside the process, on the side where that runs."""
+        """Returns the processor time of what runs beside the process, on its side."""
         return sum(ticks for number, (_, ticks) in self.sides[-1].processes().items() if number != PROCESS)
 
     def lock_gate(self, seconds):
-        """Stops the process between accesses; answers whether it could be."""
+        """Stops the process between accesses, and returns whether that was possible."""
         until = time.monotonic() + seconds
         while time.monotonic() < until:
             try:
@@ -190,8 +190,8 @@ class Migration:
 
     def move(self, walk, library, pipe_size):
         plan, source = self.plan, self.side("source")
-        # What has the number that comes next in the namespace is the process itself: at the target nothing else has it.
-        # Its descriptors are opened within the side, where CRIU finds what they are of, and none is of a device.
+        # The next number in the namespace is that of the process itself, so nothing else has it at the target.
+        # Its descriptors are opened within the side, where CRIU can find their files, and none is that of a device.
         start = f'echo {PROCESS - 1} > /proc/sys/kernel/ns_last_pid && exec setsid --fork "$@" 0<&- >> "$0" 2>&1'
         words = [walk, self.log, self.room.name("gate"), plan.pages, plan.words, plan.threads, plan.pace, plan.writes, plan.releases, plan.ahead]
         source.run("sh", "-c", start, f"{self.folder}/errors", *map(str, words)).wait()
@@ -230,11 +230,11 @@ class Migration:
         return {"RECORD_LOG": self.log}
 
     def dump(self, source, connection, pipe_size):
-        """Freezes the process between accesses, and has its pages served."""
+        """Freezes the process between accesses, and starts to serve its pages."""
         if not self.lock_gate(self.plan.limit):
             raise GaveUp("the process could not be stopped between accesses")
         if self.plan.keep_at_target:
-            os.ftruncate(self.gate.fileno(), 1)  # from here on it gives no page up
+            os.ftruncate(self.gate.fileno(), 1)  # from here on it releases no pages
         ready, written = os.pipe()
         with connection as theirs:
             dump = source.run(
@@ -269,7 +269,7 @@ class Migration:
         return lazy
 
     def stop(self):
-        """Ends both sides, with the process between accesses where it can be stopped there."""
+        """Ends both sides, with the process between accesses if it can be stopped there."""
         self.lock_gate(2)  # until nothing of the sides is left
         for side in reversed(self.sides):
             side.end()

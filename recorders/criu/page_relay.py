@@ -1,6 +1,6 @@
 """Stands between `criu lazy-pages` and the page server, forwards both directions, and writes down what it hands over.
 
-Each message is handed over whole, once it is written down, under one lock. The lines of the log are
+Each message is handed over whole, after it is written down, under one lock. The lines of the log are
 
     up COMMAND PAGES ADDRESS
     down pages PAGES ADDRESS FIRST GIVEN   contents as they came, places in the file of contents from FIRST on; the first GIVEN went on
@@ -25,7 +25,7 @@ def shut(end, how):
 
 
 class Relay:
-    """`pager` and `server` are ends of the two connections; the other ends are CRIU's."""
+    """`pager` and `server` are our ends of the two connections; CRIU has the other ends."""
 
     def __init__(self, folder, header, pager, server, plan, before):
         self.log = open(f"{folder}/relay.log", "w", encoding="ascii")
@@ -45,7 +45,7 @@ class Relay:
         print(*fields, file=self.log, flush=True)
 
     def guarded(self, work, source, sink):
-        """Forwards until the connection ends, and then ends the other one in this direction."""
+        """Forwards until the connection ends, and then ends the other connection in this direction."""
         try:
             while not self.is_cut and (data := source.recv(PIECE)):
                 work(data, sink)
@@ -58,7 +58,7 @@ class Relay:
             shut(end, socket.SHUT_RDWR if is_over else socket.SHUT_WR)
 
     def is_waited_for(self):
-        """Whether an answer is still to come, or to be handed over."""
+        """Returns whether an answer is still to come, or to be handed over."""
         with self.lock:
             return bool(self.answers.waiting) or self.is_delaying
 
@@ -88,7 +88,7 @@ class Relay:
         self.is_delaying = False
 
     def told(self, answer):
-        """Writes an answer down, and answers what is handed over in its place, or None."""
+        """Writes an answer down, and returns what is handed over in its place, or None."""
         if isinstance(answer, Status):
             self.tell("down", "status", answer.value)
             return answer
@@ -100,7 +100,7 @@ class Relay:
         return given
 
     def end(self):
-        """Ends both connections; behind this nothing is told."""
+        """Ends both connections. Nothing is recorded after this."""
         for one in (self.pager, self.server):
             shut(one, socket.SHUT_RDWR)
         for thread in self.threads:

@@ -1,7 +1,7 @@
-"""What goes over the connection between `criu lazy-pages` and the page server of `criu dump --lazy-pages`.
+"""The protocol between `criu lazy-pages` and the page server of `criu dump --lazy-pages`.
 
-A message is a header: a command, a count of pages, an address, and whose memory it is. What asks goes to the page server, which
-answers in the order in which it was asked: a request for pages with a header and their contents, and the end with a number.
+A message is a header: a command, a count of pages, an address, and the owner of the memory. The page server answers requests in their
+order: a request for pages with a header and their contents, and the end with a number.
 """
 import struct
 from collections import deque
@@ -19,17 +19,17 @@ NARROW, WIDE = struct.Struct("<IIQQ"), struct.Struct("<I4xQQQ")
 
 
 class Strange(Exception):
-    """What is not known of the protocol, in words."""
+    """The protocol has something unknown. The message says what."""
 
 
 def header_of(version):
-    """The form of the headers of a version of CRIU, such as `4.1.1`."""
+    """Returns the form of the headers for a version of CRIU, such as `4.1.1`."""
     return WIDE if tuple(int(part) for part in version.split(".")[:2]) >= (4, 2) else NARROW
 
 
 @dataclass(frozen=True)
 class Message:
-    """`contents` are those of the pages that came with it."""
+    """A message. `contents` are those of the pages that came with it."""
     command: str
     pages: int
     address: int
@@ -41,7 +41,7 @@ class Message:
         return header.pack(NUMBERS[self.command] | self.flags << 16, self.pages, self.address, self.whose) + self.contents
 
     def addresses(self):
-        """The address of each page."""
+        """Returns the address of each page."""
         return range(self.address, self.address + self.pages * PAGE_BYTES, PAGE_BYTES)
 
 
@@ -57,14 +57,14 @@ class Status:
 def message_of(header, data):
     command, pages, address, whose = header.unpack_from(data)
     if command & 0xffff not in COMMANDS:
-        raise Strange(f"a message of the page server's protocol has the command {command & 0xffff}, which is not known")
+        raise Strange(f"a message of the page server's protocol has the unknown command {command & 0xffff}")
     if pages > MOST_PAGES:
         raise Strange(f"a message of the page server's protocol is of {pages} pages")
     return Message(COMMANDS[command & 0xffff], pages, address, whose, command >> 16)
 
 
 class Requests:
-    """Reads what is asked. `feed` answers the messages that are whole with these bytes."""
+    """Reads requests. `feed` returns the messages that are whole with these bytes."""
 
     def __init__(self, header):
         self.header, self.data = header, bytearray()
@@ -80,7 +80,7 @@ class Requests:
 
 
 class Answers:
-    """Reads what is answered, in the order in which `asked` was called."""
+    """Reads answers, in the order in which `asked` was called."""
 
     def __init__(self, header):
         self.header, self.data, self.waiting = header, bytearray(), deque()
@@ -101,11 +101,11 @@ class Answers:
         return found
 
     def whole(self, at):
-        """The answer that stands whole at a place, with its length, or None."""
+        """Returns the whole answer at a place, with its length, or None."""
         if len(self.data) == at:
             return None
         if not self.waiting:
-            raise Strange("the page server answered what nobody asked")
+            raise Strange("the page server answered, but nobody had asked")
         if self.waiting[0].command != "get":
             return (Status(*STATUS.unpack_from(self.data, at)), STATUS.size) if len(self.data) - at >= STATUS.size else None
         begin = at + self.header.size

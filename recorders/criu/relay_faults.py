@@ -1,7 +1,7 @@
-"""Faults that the relay can put in, each once: what a broken page server or connection would do.
+"""Faults that the relay can put in, each once: those of a broken page server or connection.
 
-A fault sees each answer with pages, and answers what is handed over in its place. `skip` is how many pages, or answers, that it could
-take it leaves alone.
+A fault sees each answer with pages, and returns what is handed over in its place. `skip` is how many pages, or answers, it leaves alone
+before it acts.
 """
 from dataclasses import replace
 
@@ -10,7 +10,7 @@ from page_server import PAGE_BYTES
 
 
 class Fault:
-    """None: all is handed over as it came."""
+    """No fault: everything is handed over as it came."""
     ends_connections = False
 
     def __init__(self, plan, before, tell):
@@ -21,7 +21,7 @@ class Fault:
         return answer
 
     def is_taken(self, address):
-        """Whether the fault is to be put in here, and if so that is told."""
+        """Returns whether the fault is to be put in here. If so, records that."""
         if self.is_done:
             return False
         self.skip -= 1
@@ -31,13 +31,13 @@ class Fault:
         return self.is_done
 
     def page_of(self, address):
-        """The number of a page of the window, or None."""
+        """Returns the number of a page of the window, or None."""
         page = (address - BASE) // PAGE_BYTES
         return page if 0 <= page < self.pages else None
 
 
 class OfAPage(Fault):
-    """One that changes the contents of a page."""
+    """A fault that changes the contents of a page."""
 
     def of(self, answer):
         contents = answer.contents
@@ -94,7 +94,7 @@ class Lose(Fault):
 
 
 class Cut(Lose):
-    """Nothing comes any more: the relay ends both connections where this is put in."""
+    """Nothing arrives any more: the relay ends both connections when this is put in."""
     ends_connections = True
 
 
@@ -102,5 +102,5 @@ IN_RELAY = {"flip": Flip, "flip-end": FlipEnd, "zero": Zero, "stale": Stale, "sw
 
 
 def fault_of(plan, before, tell):
-    """The fault of a plan. `before` is the memory of the window some time before the halt."""
+    """Returns the fault of a plan. `before` is the memory of the window some time before the halt."""
     return (Fault if not plan.fault or plan.fault in IN_LIBRARY else IN_RELAY[plan.fault])(plan, before, tell)

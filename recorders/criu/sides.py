@@ -1,4 +1,4 @@
-"""The two sides of a migration on this machine: namespaces of their own for processes and mounts, with CRIU's root."""
+"""The two sides of a migration on this machine: each has its own namespaces for processes and mounts, with CRIU's root."""
 import glob
 import os
 import signal
@@ -12,11 +12,11 @@ PROCESS = 1000  # the number of the process that is moved, at both sides
 
 
 class Failed(Exception):
-    """What did not start, in words."""
+    """Something did not start. The message says what."""
 
 
 class Side:
-    """A root with a namespace of its own for processes. Whatever runs in it ends with it, and it with who made it."""
+    """A root with its own namespace for processes. Everything in it ends with it, and it ends with its creator."""
 
     def __init__(self, name, root, folders, errors):
         self.name, self.errors = name, errors
@@ -29,7 +29,7 @@ class Side:
                                 env={"PATH": "/usr/sbin:/usr/bin:/sbin:/bin", "LC_ALL": "C", **dict(environment)}, start_new_session=True, preexec_fn=begin)
 
     def child_of_keeper(self):
-        """The first process of the namespace, once it is there with mounts of its own."""
+        """Returns the first process of the namespace, once it exists and has its own mounts."""
         until = time.monotonic() + SECONDS_TO_START
         while time.monotonic() < until and self.keeper.poll() is None:
             try:
@@ -47,13 +47,13 @@ class Side:
         return self.started(["nsenter", "--target", self.first, "--mount", "--pid", "--", *words], environment, descriptors)
 
     def memory(self, address, length):
-        """Memory of the process that is moved."""
+        """Returns memory of the process that is moved."""
         with open(f"/proc/{self.first}/root/proc/{PROCESS}/mem", "rb", buffering=0) as memory:
             memory.seek(address)
             return memory.read(length)
 
     def processes(self):
-        """By the number of each process of the side: the states of its threads, and its ticks of processor time."""
+        """Returns, by the number of each process of the side, the states of its threads, and its ticks of processor time."""
         found = {}
         for path in glob.glob(f"/proc/{self.first}/root/proc/[0-9]*/task/*/stat"):
             try:
@@ -69,6 +69,6 @@ class Side:
         return bool(set(self.processes().get(PROCESS, "X")[0]) - set("ZX"))
 
     def end(self):
-        """Ends all that runs in the side: its first process ends behind all others, and the keeper behind it."""
+        """Ends everything in the side: its first process ends after all others, and the keeper after that."""
         os.kill(int(self.first), signal.SIGKILL)
         self.keeper.wait()

@@ -1,4 +1,4 @@
-"""Builds what the recorder needs of C: the test guest's ROM and the library that is preloaded into QEMU."""
+"""Builds the C parts of the recorder: the test guest's ROM, and the library that is preloaded into QEMU."""
 import ctypes
 import fcntl
 import os
@@ -21,7 +21,7 @@ GUEST_FLAGS = ("-m32", "-O2", "-Wall", "-Wextra", "-ffreestanding", "-Wno-array-
 
 
 def can_guard_memory():
-    """Whether a process of ours may guard its memory with userfaultfd, against the kernel's own accesses too."""
+    """Returns whether a process may guard its memory with userfaultfd, also against the kernel's own accesses."""
     number = USERFAULTFD.get(platform.machine())
     if number is None:
         return False
@@ -33,7 +33,7 @@ def can_guard_memory():
 
 
 def require_tools():
-    """Raises Missing where this machine cannot record a migration."""
+    """Raises Missing if this machine cannot record a migration."""
     lacks = [tool for tool in TOOLS if not shutil.which(tool)]
     if lacks:
         raise Missing(f"{', '.join(lacks)} not found. On Debian:\n"
@@ -71,7 +71,7 @@ def build_library(library):
 
 
 def built(path, names, headers, *how):
-    """A program or library of these sources, built where it is not there or older than they are."""
+    """Returns a program or library for these sources. Builds it if it is missing or older than they are."""
     os.makedirs(OUT, exist_ok=True)
     sources = [f"{HERE}/{name}" for name in names]
     with open(f"{path}.lock", "w") as lock:
@@ -83,23 +83,23 @@ def built(path, names, headers, *how):
 
 
 def build_recorder(interface):
-    """The library that records accesses too, for a version of the plugins' interface."""
+    """Returns the library that also records accesses, for a version of the plugin interface."""
     return built(f"{OUT}/accesses-{interface}.so", ("accesses.c", "preload.c"), ("accesses.h", "preload.h", "plugin.h"),
                  "-shared", "-fPIC", f"-DINTERFACE={interface}")
 
 
 def build_guest_log():
-    """The program that makes the guest's log."""
+    """Returns the program that makes the guest's log."""
     return built(f"{OUT}/guest_log", ("guest_log.c",), ("accesses.h",))
 
 
 def build_work():
-    """The work of a Linux guest."""
+    """Returns the workload of a Linux guest."""
     return built(f"{OUT}/work", ("linux_guest/work.c",), (), "-static")
 
 
 def build():
-    """The paths of the ROM and of the library, built where they are not there or older than their sources."""
+    """Returns the paths of the ROM and of the library. Builds them if they are missing or older than their sources."""
     os.makedirs(OUT, exist_ok=True)
     rom, library = f"{OUT}/guest.bin", f"{OUT}/preload.so"
     with open(f"{OUT}/lock", "w") as lock:

@@ -1,7 +1,7 @@
 """Pages' contents as cells.
 
-A page of 4,096 bytes has as many cells as the guest uses words of it. The rest of the page is zeros; where it is not, the last
-cell is mixed with a hash of the rest, so that it differs.
+A page of 4,096 bytes has one cell for each word that the guest uses. The rest of the page should be zeros. If it is not, the last cell
+is mixed with a hash of the rest, so that it differs.
 """
 import array
 import hashlib

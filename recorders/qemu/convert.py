@@ -1,4 +1,4 @@
-"""A session of what was recorded of a migration; and whether the source started its guest again."""
+"""Makes the session from the recording of a migration, and says whether the source started its guest again."""
 from dataclasses import dataclass
 
 from contents import Contents
@@ -16,8 +16,8 @@ from wire import Wire
 
 @dataclass(frozen=True)
 class Restart:
-    """The source started its guest again behind the halt: the accesses that are told since, at each side, and how many of them
-    are the same from the first on. `is_both` says that the target had started the guest too."""
+    """The source started its guest again after the halt. This has the accesses on each side since then, and how many of them are the
+    same, from the first on. `is_both` says that the target had started the guest too."""
     is_both: bool
     at_source: int
     at_target: int
@@ -35,7 +35,7 @@ class Restart:
 
 
 class Recording:
-    """The files of a recording; `read(name)` answers the bytes of one."""
+    """The files of a recording; `read(name)` returns the bytes of one."""
 
     source_side, target_side = SourceSide, TargetSide
 
@@ -44,11 +44,11 @@ class Recording:
         self.plan = plan_from_text(read("plan.json"))
         self.window = Window(self.plan.base, self.plan.pages)
         self.contents = Contents(read, self.plan.words)
-        whole_lines = read("relay.log").decode().split("\n")[:-1]  # a last line that was not written to its end goes
+        whole_lines = read("relay.log").decode().split("\n")[:-1]  # without a last line that was not written to its end
         self.wire = Wire(whole_lines, self.window.page, self.plan.pages)
 
     def session(self, is_from_halt=False):
-        """The session. With `is_from_halt` it begins with the memory at the halt."""
+        """Returns the session. With `is_from_halt` it begins with the memory at the halt."""
         plan = self.plan
         session = Session(plan.pages, plan.words, plan.preempt)
         if not self.wire.has_state and self.wire.strange:
@@ -67,7 +67,7 @@ class Recording:
         return session
 
     def done_before(self, in_flight):
-        """The access that the halt came into, where it was done before the halt."""
+        """Returns the access that the halt interrupted, if it was done before the halt."""
         return in_flight.done(self.read("target.raw"), self.cell_at_halt)
 
     def cell_at_halt(self, page, cell):
@@ -75,7 +75,7 @@ class Recording:
         return int.from_bytes(self.read("halt.mem")[place:place + 8], "little")
 
     def restart(self):
-        """The Restart, or None where the source did not start its guest again."""
+        """Returns the Restart, or None if the source did not start its guest again."""
         told = text_of(self.read("source.raw"))
         halt = told.find(STOPS)
         if not self.wire.has_state or halt < 0 or told.find(RUNS, halt) < 0:
@@ -92,12 +92,12 @@ class Recording:
         try:
             there.extend(token for token in Pipe(in_flight).tokens(self.read("target.raw")) if isinstance(token, Access))
         except Hole:
-            pass  # a guest that lost its stack: what it told before is counted
+            pass  # a guest that lost its stack: what it recorded before that counts
         same = next((place for place, (one, other) in enumerate(zip(since, there)) if one != other), min(len(since), len(there)))
         return Restart(RUNS in text_of(self.read("target.raw")), len(since), len(there), same)
 
     def links(self, session):
-        """The logs of the link and of the lane, in the relay's order."""
+        """Makes the logs of the link and of the lane, in the relay's order."""
         for log, what, name in self.wire.order:
             if what == "up":
                 session.add(log, "up", name=name, sent=name)

@@ -1,4 +1,4 @@
-"""A Linux to boot: Debian's kernel and busybox out of its packages, in a folder of the user's cache, and an initramfs made here."""
+"""A Linux to boot: Debian's kernel and busybox from its packages, in the user's cache folder, and an initramfs that is made here."""
 import contextlib
 import fcntl
 import glob
@@ -30,7 +30,7 @@ def top():
 def require_tools():
     lacks = [tool for tool in TOOLS if not shutil.which(tool)]
     if lacks:
-        raise Missing(f"{', '.join(lacks)} not found: the kernel is got by apt, on Debian. Elsewhere name one by --kernel and --initrd")
+        raise Missing(f"{', '.join(lacks)} not found: apt downloads the kernel, on Debian. Elsewhere name one with --kernel and --initrd")
 
 
 def ask(*words, folder="."):
@@ -45,7 +45,7 @@ def ask(*words, folder="."):
 
 
 def kernel_package():
-    """The package of the newest kernel that apt knows."""
+    """Returns the package of the newest kernel that apt knows."""
     told = ask("apt-cache", "show", "--no-all-versions", META)
     match = re.search(r"^Depends: (linux-image-\S+)", told, re.MULTILINE)
     if not match:
@@ -54,7 +54,7 @@ def kernel_package():
 
 
 def download(package, folder):
-    """Downloads a package, whose file it answers; tries again what a mirror refuses for a moment."""
+    """Downloads a package, and returns its file. Tries again if a mirror refuses it for a moment."""
     for _ in range(TRIES - 1):
         with contextlib.suppress(Missing):
             ask("apt-get", "download", "-q", package, folder=folder)
@@ -65,7 +65,7 @@ def download(package, folder):
 
 
 def take_out(package, name, folder):
-    """Takes a file out of a package."""
+    """Extracts a file from a package."""
     with opened(package) as archive:
         for member in archive:
             if FILES[name].fullmatch(member.name) and member.isreg():
@@ -76,7 +76,7 @@ def take_out(package, name, folder):
 
 
 def get(say):
-    """Where the kernel and busybox are: got where they are not there yet, both or none."""
+    """Returns where the kernel and busybox are. Downloads them if they are missing, both or none."""
     folder = top()
     os.makedirs(os.path.dirname(folder), exist_ok=True)
     with open(f"{folder}.lock", "w", encoding="ascii") as lock:
@@ -109,7 +109,7 @@ def entry(number, name, mode, data=b""):
 
 
 def initramfs(files):
-    """The bytes of an initramfs: by name, the mode and the contents. The same files give the same bytes."""
+    """Returns the bytes of an initramfs with these files: the mode and the contents of each, by name. The same files give the same bytes."""
     entries = [entry(number, name, mode, data) for number, (name, (mode, data)) in enumerate(sorted(files.items()), 1)]
     return gzip.compress(b"".join([*entries, entry(0, "TRAILER!!!", 0)]), mtime=0)
 
@@ -120,7 +120,7 @@ def read(path):
 
 
 def build_initramfs(busybox, path):
-    """Makes the initramfs of busybox, the work and the first process."""
+    """Makes the initramfs from busybox, the workload and the first process."""
     program, folder = stat.S_IFREG | 0o755, (stat.S_IFDIR | 0o755, b"")
     with open(path, "wb") as out:
         out.write(initramfs({

@@ -1,26 +1,25 @@
-"""What differs between versions of QEMU: moments in its trace, commands of its stream, and names of states.
+"""What differs between versions of QEMU: moments in the trace, commands of the stream, and names of states.
 
-A moment of a migration is a line of the trace. `halt`: the guest stands still at `vm_state_notify running 0`; `runstate_set`
-comes before the processors do. `ready`: memory is guarded `after uffd`; pages are taken before
-`loadvm_postcopy_handle_listen` returns. Placements are the preloaded library's lines: QEMU's own `postcopy_place_page` comes
-behind the wake. A version stands here as (major, minor); what stands without one is the same in all that were tried, 5.2 to
-11.1.
+A moment of a migration is a line of the trace. `halt`: the guest has stopped at `vm_state_notify running 0`; at `runstate_set` the
+processors may still run. `ready`: memory is guarded `after uffd`; pages are taken before `loadvm_postcopy_handle_listen` returns.
+Placements are lines of the preloaded library, because QEMU's own `postcopy_place_page` comes after the wake. A version is (major,
+minor) here. What has no version is the same in all that were tried, 5.2 to 11.1.
 """
 import re
 from dataclasses import dataclass
 
 FIRST = (0, 0)
 PC_RAM = "pc.ram"  # the guest's memory, in all versions
-KEPT = "7.2"  # the version of recordings that tell of none
-STAMP = re.compile(r"^\d+@\d+\.\d+:")  # in front of a line of the trace, as long as STAMPED_BEFORE
+KEPT = "7.2"  # the version of recordings that have none
+STAMP = re.compile(r"^\d+@\d+\.\d+:")  # before a line of the trace, in versions before STAMPED_BEFORE
 STAMPED_BEFORE = (7, 0)
 
-# Commands of the stream by their numbers. A version has those of earlier ones too.
+# Commands of the stream, by their numbers. A version also has those of earlier versions.
 COMMANDS = {1: "open-return-path", 2: "ping", 3: "advise", 4: "listen", 5: "run", 6: "discard", 7: "package",
             8: "colo", 9: "resume", 10: "recv-bitmap",
             11: "switchover-start"}  # 10.0
 
-# Where a migration stands, by `query-migrate`.
+# The states of a migration, from `query-migrate`.
 ENDS = ("completed", "failed", "cancelled", "postcopy-paused")
 IN_POSTCOPY = ("postcopy-active", "postcopy-recover", "postcopy-recover-setup",  # 10.0
                "postcopy-device")  # 11.1: the target loads the package
@@ -32,7 +31,7 @@ LIBRARY = "uffd"  # what the lines of the preloaded library begin with
 
 @dataclass(frozen=True)
 class Form:
-    """A form of a moment's line, in the versions from `since` on and before `before`."""
+    """A form of a moment's line, in the versions from `since` on, up to `before`, which is not included."""
     moment: str
     form: str
     since: tuple = FIRST
@@ -69,12 +68,12 @@ TARGET = (
     Form("guard", rf"{LIBRARY} guard "),
     Form("have", rf"{LIBRARY} have (?P<page>\d+) (?P<place>\d+)"),
     Form("fault", rf"{LIBRARY} fault (?P<page>\d+) (?P<thread>\d+)"),
-    Form("miss", rf"{LIBRARY} miss (?P<number>\d+)"),  # of a guest whose accesses a plugin records: the fault told last is this one's
+    Form("miss", rf"{LIBRARY} miss (?P<number>\d+)"),  # of a guest whose accesses a plugin records: it belongs to the last fault
     Form("place", rf"{LIBRARY} place (?P<page>\d+) (?P<place>\d+)"),
     Form("zero", rf"{LIBRARY} zero (?P<page>\d+)"),
     Form("refused", rf"{LIBRARY} refused (?P<page>\d+) (?P<error>\d+)"),
 )
-# What is traced besides, for who reads a recording. A version that has not all of it is recorded all the same.
+# Further trace events, for people who read a recording. A version that does not have all of them is recorded anyway.
 BESIDES = {
     "source": ("runstate_set", "postcopy_start", "migrate_set_state", "postcopy_pause_return_path",
                "migration_completion_postcopy_end_after_complete", "migration_return_path_end_before",
@@ -84,27 +83,27 @@ BESIDES = {
                "postcopy_ram_fault_thread_quit"),
 }
 FORMS = {"source": SOURCE, "target": TARGET}
-# The version of the interface that a plugin asks for, from a version of QEMU on: recorders/qemu/plugin.h has what differs.
+# The version of the interface that a plugin asks for, from a version of QEMU on. recorders/qemu/plugin.h has the differences.
 INTERFACES = (((7, 2), 1), ((10, 0), 4), ((11, 0), 7))
 
 
 def version_of(text):
-    """A version's text as (major, minor)."""
+    """Returns a version as (major, minor), from its text."""
     return tuple(int(part) for part in text.split(".")[:2])
 
 
 def interface_of(version):
-    """The version of the plugins' interface, or None before there is one that is known."""
+    """Returns the version of the plugin interface, or None if the version of QEMU has none that is known."""
     return next((interface for since, interface in reversed(INTERFACES) if since <= version), None)
 
 
 def events_of(side, version):
-    """The trace events that the moments of a side need."""
+    """Returns the trace events that the moments of a side need."""
     return sorted({form.event for form in FORMS[side] if form.is_of(version) and form.event != LIBRARY})
 
 
 class Moments:
-    """Finds in a line of a side's trace the moments that it is."""
+    """Finds the moments in the lines of a side's trace."""
 
     def __init__(self, side, version=KEPT):
         version = version_of(version)
@@ -115,7 +114,7 @@ class Moments:
                 self.words.setdefault(form.event, []).append((form.moment, re.compile(form.form)))
 
     def of(self, line):
-        """Each moment that the line is, with its fields."""
+        """Yields each moment of the line, with its fields."""
         if self.is_stamped:
             line = STAMP.sub("", line)
         for moment, form in self.words.get(line.split(" ", 1)[0], ()):

@@ -1,4 +1,4 @@
-"""A QEMU, as a program: its version, and what it lacks for a migration that is to be recorded."""
+"""A QEMU as a program: its version, and what it lacks for a recorded migration."""
 import functools
 import json
 import os
@@ -13,7 +13,7 @@ LONGEST = 60  # seconds for an answer
 
 
 def free_huge_pages():
-    """How many pages of 2 MiB this machine has free."""
+    """Returns how many free pages of 2 MiB this machine has."""
     try:
         with open("/sys/kernel/mm/hugepages/hugepages-2048kB/free_hugepages", encoding="ascii") as file:
             return int(file.read())
@@ -48,12 +48,12 @@ class Emulator:
 
     @functools.cached_property
     def events(self):
-        """All events that it can trace."""
-        told = self.ask("-trace", "help")  # 5.2 tells them on its standard error
+        """Returns all events that it can trace."""
+        told = self.ask("-trace", "help")  # 5.2 writes them to standard error
         return set((told.stdout or told.stderr).split())
 
     def trace(self, side):
-        """The events that a side is to trace. Raises Missing where it lacks one that a moment needs."""
+        """Returns the events that a side must trace. Raises Missing if it lacks one that a moment needs."""
         needed = dialect.events_of(side, self.version)
         if lacks := [event for event in needed if event not in self.events]:
             raise Missing(f"{self} ({self.path}) has no trace event {', '.join(lacks)}: recorders/qemu/dialect.py has to know "
@@ -61,13 +61,13 @@ class Emulator:
         return needed + [event for event in dialect.BESIDES[side] if event in self.events and event not in needed]
 
     def machines(self):
-        """The types of machines, and what `pc` stands for."""
+        """Returns the types of machines, and what `pc` stands for."""
         told = self.ask("-machine", "help").stdout
         alias = re.search(r"^pc +.*\(alias of (\S+)\)", told, re.MULTILINE)
         return set(re.findall(r"^(\S+)", told, re.MULTILINE)), alias[1] if alias else "pc"
 
     def machine_for(self, target):
-        """The type of machine that both sides have: the source's `pc`, or the target's where the source is newer."""
+        """Returns the type of machine for both sides: the source's `pc`, or the target's if the source is newer."""
         if self.path == target.path:
             return "pc"
         older, newer = sorted((self, target), key=lambda one: one.version)
@@ -77,7 +77,7 @@ class Emulator:
         return machine
 
     def require(self, plan, library):
-        """Raises Missing where it cannot make a plan's migrations, in QEMU's own words where it has some."""
+        """Raises Missing if it cannot make the migrations of a plan, with QEMU's own message if there is one."""
         if plan.huge and (free := free_huge_pages()) < plan.ram:
             raise Missing(f"{plan.ram} free pages of 2 MiB are needed, and there are {free}: left out. As root:\n"
                           f"    sysctl vm.nr_hugepages={plan.ram}")

@@ -1,8 +1,8 @@
-"""Faults that the relay can put in, each once: what a broken source, link or target would do.
+"""Faults that the relay can put in, each once: those of a broken source, link or target.
 
-A fault sees each page of the window that has contents, and answers what is handed over in its place: a list of pages with
-their contents. What it holds back without handing it over later is lost. `skip` is how many pages that it could take it
-leaves alone. `tell` writes into the relay's log what was done.
+A fault sees each page of the window that has contents, and returns what is handed over in its place: a list of pages with their
+contents. A page that it holds back, and does not hand over later, is lost. `skip` is how many pages it leaves alone before it acts.
+`tell` records in the relay's log what was done.
 """
 from dataclasses import replace
 
@@ -27,13 +27,13 @@ FOUND_BY_QEMU = ("keep", "twice")
 
 
 def flipped(page, at):
-    """A page with a bit of its contents flipped."""
+    """Returns a page with a flipped bit in its contents."""
     contents = page.contents[:at] + bytes([page.contents[at] ^ 0x10]) + page.contents[at + 1:]
     return replace(page, contents=contents)
 
 
 class Fault:
-    """None: all is handed over as it came."""
+    """No fault: everything is handed over as it came."""
     held = None  # a page that is held back
 
     def __init__(self, kind, skip, window, tell):
@@ -41,7 +41,7 @@ class Fault:
         self.is_done = False
 
     def is_taken(self):
-        """Whether the fault is to be put in here."""
+        """Returns whether the fault is to be put in here."""
         if self.is_done:
             return False
         self.skip -= 1
@@ -52,22 +52,22 @@ class Fault:
         self.tell("fault", self.kind, *(self.window.page(page.block, page.offset) for page in pages))
 
     def before(self, page):
-        """A page of pre-copy."""
+        """Takes a page of pre-copy."""
         return [page]
 
     def after(self, page):
-        """A page of post-copy."""
+        """Takes a page of post-copy."""
         return [page]
 
     def end_of_section(self):
-        """What was held back and has to go now."""
+        """Returns what was held back and must go now."""
         return []
 
     def discarded(self, block, ranges):
         return ranges
 
     def bitmap(self, bitmap, lost):
-        """The bitmap's bytes; `lost` are the offsets of the pages that were lost with the connection."""
+        """Returns the bitmap's bytes. `lost` has the offsets of the pages that were lost with the connection."""
         return bitmap.raw
 
 
@@ -119,7 +119,7 @@ class Swap(Fault):
         return []
 
     def end_of_section(self):
-        """No other page came in this section: the page goes as it is, and the fault waits for the next section."""
+        """If no other page came in this section, the page goes as it is, and the fault waits for the next section."""
         if not self.held:
             return []
         page, self.held, self.is_done = self.held, None, False
@@ -129,7 +129,7 @@ class Swap(Fault):
 class Drop(Fault):
     def after(self, page):
         if page.names_block or not self.is_taken():
-            return [page]  # a header that names the block has to come
+            return [page]  # a header that names the block must come
         self.told(page)
         return []
 
@@ -143,7 +143,7 @@ class Twice(Fault):
 
 
 class Keep(Fault):
-    """A page that pre-copy sent is not discarded; with keep-drop, nor sent again."""
+    """A page that pre-copy sent is not discarded. With keep-drop it is not sent again either."""
     kept = None
 
     def __init__(self, *words):
@@ -174,7 +174,7 @@ class Keep(Fault):
 
 
 class Forget(Fault):
-    """The target's bitmap tells of a page that was lost that it came."""
+    """The target's bitmap says that a lost page has arrived."""
 
     def bitmap(self, bitmap, lost):
         if bitmap.block != "pc.ram" or not lost or not self.is_taken():

@@ -1,7 +1,7 @@
-"""The folders of a recording: the user's, where it is left, and a room for sockets and pipes while it is made.
+"""The folders of a recording: the user's folder, where it stays, and a folder for sockets and pipes while it is made.
 
-Nothing is removed from a folder that was not made here. One that was made here holds MARK, and of it exactly the files that a
-recorder writes are replaced.
+Nothing is removed from a folder that was not made here. A folder that was made here has the file MARK, and only the files that a
+recorder writes are replaced in it.
 """
 import os
 import re
@@ -23,11 +23,11 @@ PLAIN = re.compile(r"/[A-Za-z0-9/._-]*")
 
 
 class NotOurs(Exception):
-    """A folder that nothing is recorded into, in words."""
+    """Nothing can be recorded into a folder. The message says why."""
 
 
 def is_ours(folder):
-    """Whether a folder was made here."""
+    """Returns whether a folder was made here."""
     try:
         return stat.S_ISREG(os.lstat(f"{folder}/{MARK}").st_mode)
     except OSError:
@@ -35,7 +35,7 @@ def is_ours(folder):
 
 
 def look_at(folder, files=FILES):
-    """Raises NotOurs where a folder cannot be taken: it has to be one that is not there yet, an empty one, or one made here."""
+    """Raises NotOurs if a folder cannot be taken. It must be new, empty, or made here."""
     try:
         names = os.listdir(folder)
     except FileNotFoundError:
@@ -43,14 +43,14 @@ def look_at(folder, files=FILES):
     except OSError as fault:
         raise NotOurs(f"{folder} cannot be recorded into: {fault.strerror}") from None
     if names and not is_ours(folder):
-        raise NotOurs(f"{folder} is not empty, and was not made by this recorder: name a folder that is not there yet, or an empty one")
+        raise NotOurs(f"{folder} is not empty, and was not made by this recorder: name a new or an empty folder")
     for name in files:
         if os.path.isdir(f"{folder}/{name}") and not os.path.islink(f"{folder}/{name}"):
-            raise NotOurs(f"{folder}/{name} is a folder, and a file of the recording would have its name")
+            raise NotOurs(f"{folder}/{name} is a folder, but a file of the recording needs this name")
 
 
 def take(folder, files=FILES, recorder="qemu"):
-    """Makes a folder, or takes one that `look_at` lets pass, without what an earlier run left in it. `recorder` is who does."""
+    """Makes a folder, or takes one that `look_at` accepts, and removes what an earlier run left in it. `recorder` names the recorder."""
     look_at(folder, files)
     try:
         os.makedirs(folder, exist_ok=True)
@@ -70,7 +70,7 @@ def clear(folder, files):
 
 
 def remove(folder, files=FILES):
-    """Removes what was recorded into a folder that was made here, and the folder where nothing else is in it."""
+    """Removes what was recorded into a folder that was made here, and the folder itself if nothing else is in it."""
     if not is_ours(folder):
         return
     clear(folder, files)
@@ -80,7 +80,7 @@ def remove(folder, files=FILES):
 
 
 class Room:
-    """A folder that this user alone can enter, for the sockets and pipes of a migration. Its path is short and plain."""
+    """A folder that only this user can enter, for the sockets and pipes of a migration. Its path is short and has no special characters."""
 
     def __init__(self):
         tops = [top for top in (tempfile.gettempdir(), "/tmp", "/var/tmp") if len(top) <= LONGEST_TOP and PLAIN.fullmatch(top)]

@@ -1,4 +1,4 @@
-"""Parts of pages that a command writes: between two marks that name it."""
+"""Parts of pages that a command writes, between two marks that name it."""
 
 
 def marks(command):
@@ -6,7 +6,7 @@ def marks(command):
 
 
 def put(page, text, both):
-    """The page with this part. Raises ValueError where it has no place for it."""
+    """Returns the page with this part. Raises ValueError if the page has no place for it."""
     begin, end = both
     start = page.index(begin) + len(begin)
     return f"{page[:start]}\n{text}\n{page[page.index(end):]}"

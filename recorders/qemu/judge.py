@@ -1,4 +1,4 @@
-"""What the program says of a recording: its session, the verdict, the words and the picture."""
+"""The program's answers about a recording: its session, the verdict, the story and the picture."""
 import os
 import re
 import subprocess
@@ -11,13 +11,13 @@ TOP = os.path.dirname(os.path.dirname(os.path.dirname(os.path.abspath(__file__))
 
 
 def program():
-    """The program: the checkout's launcher, or what POSTCOPY names."""
+    """Returns the program: the checkout's launcher, or the one that POSTCOPY names."""
     name = os.environ.get("POSTCOPY", f"{TOP}/postcopy")
     return os.path.abspath(name) if "/" in name else name
 
 
 def ask(folder, *words):
-    """What the program writes, and its status. It finds in the folder what the words name, whatever the folder's own name is."""
+    """Returns what the program writes, and its status. It runs in the folder, so the words name files there."""
     done = subprocess.run([program(), *words], cwd=folder, stdout=subprocess.PIPE)
     return done.stdout.decode(), done.returncode
 
@@ -28,14 +28,14 @@ def write(path, text):
 
 
 class Verdict:
-    """A verdict in a line, as `clean, yes` or `faulty line 7 read` or `not judged: ..`; and a Restart or None."""
+    """A verdict as a line, such as `clean, yes`, `faulty line 7 read` or `not judged: ..`; and a Restart or None."""
 
     def __init__(self, line, session=None, left_out=0, restart=None):
         self.line, self.session, self.left_out, self.restart = line, session, left_out, restart
 
     @property
     def reason(self):
-        """The verdict without its line's number."""
+        """Returns the verdict without its line's number."""
         return re.sub(r" line \d+", "", self.line.split(":")[0])
 
     @property
@@ -44,14 +44,14 @@ class Verdict:
 
 
 def session_of(folder, is_whole, is_from_halt):
-    """The recording's session. Where a QEMU ended early its logs are cut to a whole."""
+    """Returns the recording's session. If a QEMU ended early, the logs are cut so that no record names a missing one."""
     session = recording_in(folder).session(is_from_halt)
     left_out = 0 if is_whole else session.cut()
     return session, left_out
 
 
 def judge(folder, is_whole=True, is_from_halt=False):
-    """Judges a recording, and leaves what was found in its folder."""
+    """Judges a recording, and writes what was found to its folder."""
     restart = restart_of(folder)
     try:
         session, left_out = session_of(folder, is_whole, is_from_halt)
@@ -72,7 +72,7 @@ def restart_of(folder):
     try:
         return recording_in(folder).restart()
     except (Hole, OSError):
-        return None  # which the verdict tells of
+        return None  # the verdict says so
 
 
 def verdict_line(folder):
@@ -87,14 +87,14 @@ def verdict_line(folder):
 
 
 def complete_line(folder):
-    """The verdict in a line; `incomplete ..` where the session is clean, and does not tell of a whole migration."""
+    """Returns the verdict as a line. It is `incomplete ..` if the session is clean, but does not tell of a whole migration."""
     line = verdict_line(folder)
     whole = ask(folder, "audit", "--complete", "--quiet", "session")[0].strip()
     return whole if whole.startswith("incomplete ") else line
 
 
 def explain_and_draw(folder, *options):
-    """The words, and where the picture is; None where the program does not have them."""
+    """Returns the story, and the path of the picture, or None if the program cannot make them."""
     words, status = ask(folder, "explain", *options, "session")
     if status not in (0, 1) or not words.count("\n") > 1:
         return None

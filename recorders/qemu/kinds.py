@@ -1,4 +1,4 @@
-"""The kinds of migrations, as plans: what the guest is and how it is moved."""
+"""The kinds of migrations, as plans: the guest, and how it is moved."""
 import json
 from dataclasses import asdict, dataclass, field, replace
 
@@ -9,41 +9,41 @@ BASE = 0x400000
 
 @dataclass
 class Plan:
-    """How one migration is made. Rates are in bytes a second, `warm` and `after` in accesses of the guest."""
+    """How to make one migration. Rates are in bytes per second, `warm` and `after` in accesses of the guest."""
     kind: str = "live"
     pages: int = 256          # of the window
     words: int = 16           # of each page that the guest uses, which are the cells
     ram: int = 32             # MiB
     cpus: int = 1
     writes: int = 4           # of 16 accesses
-    pace: int = 0             # how long the guest waits behind each access
+    pace: int = 0             # how long the guest waits after each access
     flush: bool = True        # whether the guest drops a page's translation before each access
     bandwidth: int = 1 << 20  # of pre-copy
     post_bandwidth: int = 500_000
     warm: int = 2000          # before the migration starts
-    pre_pages: int = 0        # the switch waits until pre-copy has sent so many pages of the window,
-    pre: float = 0.5          # and then so many seconds
-    left: int = -1            # or until no more than so many bytes are left to send; -1: whatever is left
+    pre_pages: int = 0        # the switch waits until pre-copy has sent this many pages of the window,
+    pre: float = 0.5          # and then this many seconds
+    left: int = -1            # or until at most this many bytes are left to send; -1: any number
     after: int = 3000         # at the target, behind the end
     preempt: bool = False
-    multifd: int = 0          # connections of their own for the pages of pre-copy, which the relay does not read
-    kvm: bool = False         # the guest runs on the processor, and not on an emulated one
-    huge: bool = False        # the guest's memory is of pages of 2 MiB
-    paused: bool = False      # the guest is stopped first, and goes on at the target behind the end
-    cuts: list = field(default_factory=list)  # the connection is cut behind so many pages; -1: behind the package
+    multifd: int = 0          # separate connections for the pages of pre-copy, which the relay does not read
+    kvm: bool = False         # the guest runs on the real processor, not on an emulated one
+    huge: bool = False        # the guest's memory has pages of 2 MiB
+    paused: bool = False      # the guest is stopped first, and resumes at the target after the end
+    cuts: list = field(default_factory=list)  # the connection is cut after this many pages; -1: after the package
     fault: str = ""
     skip: int = 3             # of the pages that the fault could take
-    linger: int = 0           # milliseconds by which a QEMU that ends with an error ends later
+    linger: int = 0           # milliseconds by which a QEMU that ends with an error is delayed
     limit: float = 40.0       # seconds for each part of the migration
     workload: str = ""        # of a Linux guest, whose accesses a plugin records: words of its kernel's command line
     recorded: float = 0.0     # and for how many seconds it is recorded before the migration starts
     run_on: float = 0.0       # and goes on at the target, behind the end
     base: int = BASE
-    source_version: str = KEPT  # of QEMU; written by who makes the migration
+    source_version: str = KEPT  # of QEMU; whoever makes the migration fills it in
     target_version: str = KEPT
 
     def capabilities(self):
-        """What both QEMUs are asked to be capable of."""
+        """Returns the capabilities that both QEMUs are asked for."""
         return ["postcopy-ram", "postcopy-blocktime", *["postcopy-preempt"] * self.preempt, *["multifd"] * bool(self.multifd)]
 
     def to_text(self):
@@ -80,7 +80,7 @@ KINDS = {
 
 
 def plan_of(kind, **changes):
-    """The plan of a kind, with changes."""
+    """Returns the plan of a kind, with changes."""
     plan = replace(Plan(kind=kind, **KINDS[kind][1]), **changes)
     return replace(plan, cuts=list(plan.cuts))
 

@@ -1,9 +1,9 @@
-"""Cuts of the recording of a Linux guest some of its pages, as a recording of its own.
+"""Cuts some pages out of the recording of a Linux guest, as a recording of its own.
 
     python3 recorders/qemu/linux_cut.py FOLDER FIRST COUNT OUT
 
-The window of a recording's session is the session of what this leaves in OUT, but for numbers. Of the trace the lines stay that a
-session is made from. It has to be a recording of one connection.
+The window of a recording's session is the session of what this leaves in OUT, except for numbers. Only those lines of the trace stay
+from which a session is made. The recording must have one connection.
 """
 import os
 import struct
@@ -24,13 +24,13 @@ MEMORIES = ("init.mem", "halt.mem", "end.mem")
 
 
 class Pages:
-    """A file of pages, of which some go into another one."""
+    """A file of pages, some of which go into another file."""
 
     def __init__(self, path, out):
         self.source, self.out, self.places = open(path, "rb"), open(out, "wb"), {}
 
     def place(self, place):
-        """The place there of a page, which may be `zero` or `-`."""
+        """Returns the place of a page there, which may be `zero` or `-`."""
         if place in (ZEROS, "-"):
             return place
         if place not in self.places:
@@ -88,7 +88,7 @@ class Cut:
         pages.close()
 
     def relay_line(self, words, pages):
-        """A line of the relay's log, or None where it is of other pages."""
+        """Returns a line of the relay's log, or None if it is about other pages."""
         what, *fields = words
         if what in ("open", "strange"):
             return words

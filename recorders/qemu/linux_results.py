@@ -1,4 +1,4 @@
-"""What became of migrations of Linux guests, one line each, and the table of them by version."""
+"""The results of migrations of Linux guests, one line for each, and the table of them by version."""
 import json
 import os
 from dataclasses import asdict, dataclass
@@ -9,7 +9,7 @@ from results import markdown, was_put_in
 from witness import pages_that_differ
 
 FILE = "result.json"
-WRONG = ("guest: WRONG", "BUG", "Oops", "panic", "segfault", "general protection")  # in a line of the console that tells of something wrong
+WRONG = ("guest: WRONG", "BUG", "Oops", "panic", "segfault", "general protection")  # in a line of the console that reports something wrong
 IN_FIRST_ROUND = "the switch in pre-copy's first round"
 LATER = "the switch in a later round"
 NOT_REACHED = ", not reached"
@@ -23,10 +23,10 @@ class Result:
     cpus: int
     workload: str        # its name
     is_first_round: bool  # whether the switch came before pre-copy had sent each page once
-    fault: str           # the kind that was put in, or one for which there was no occasion
-    verdict: str         # of the audit, or `not judged: ..`; of a bare one nothing, or that
-    lost: int            # pages that were left at the target, and are not what the source has at the halt
-    says: list           # what the guest says on its console of something wrong
+    fault: str           # the kind that was put in, or that had no chance to be
+    verdict: str         # of the audit, or `not judged: ..`; for a bare migration nothing, or the latter
+    lost: int            # pages that were left at the target, and differ from the source's at the halt
+    says: list           # what the guest reports on its console as wrong
     seconds: float = 0.0
     load: float = 0.0    # of the machine
 
@@ -43,7 +43,7 @@ class Result:
 
     @property
     def row(self):
-        """What is told of the runs that are counted together."""
+        """Returns a row about the runs that are counted together."""
         return (f"{'bare' if self.is_bare else 'recorded'}, {self.cpus} processor{'s' if self.cpus > 1 else ''}, `{self.workload}`, "
                 f"{IN_FIRST_ROUND if self.is_first_round else LATER}" + (f", with {self.fault}" if self.fault else ""))
 
@@ -53,7 +53,7 @@ def result_from_text(text):
 
 
 def what_guest_says(folder):
-    """Lines of the consoles that tell of something wrong."""
+    """Returns lines of the consoles that report something wrong."""
     lines = []
     for side in ("source", "target"):
         path = f"{folder}/{side}.console"
@@ -64,7 +64,7 @@ def what_guest_says(folder):
 
 
 def result_of(folder, workload, is_bare, verdict, seconds):
-    """What became of the migration in a folder, which is left there too."""
+    """Returns the result of the migration in a folder, and writes it there."""
     recording = recording_in(folder)
     plan, lost = recording.plan, []
     if os.path.exists(f"{folder}/halt.mem"):
@@ -80,7 +80,7 @@ def result_of(folder, workload, is_bare, verdict, seconds):
 
 
 def table(results):
-    """How often what became of the runs of each kind, by version."""
+    """Returns the table of how often the runs of each kind had each result, by version."""
     versions = sorted({result.version for result in results}, key=dialect.version_of)
     lines = []
     for row in sorted({result.row for result in results}):

@@ -1,4 +1,4 @@
-"""One migration of a Linux guest, recorded: it boots in one QEMU, and every access of it is recorded from then on."""
+"""Records one migration of a Linux guest. It boots in one QEMU, and from then on every access is recorded."""
 import os
 import re
 import time
@@ -16,8 +16,8 @@ BOOTED = "guest: booted"
 RECORD_BYTES = 16
 FILES = (*folders.FILES, "vmlinuz", "initrd", "start", "gates", "idt", "init.mem", "end.mem", "placements", "guest.lines", "self-test", "lines", "page", "result.json",
          *(f"{side}.{what}" for side in ("source", "target") for what in ("accesses", "counts", "console")))
-WITH_ERROR_CODE = {8, 10, 11, 12, 13, 14, 17, 21, 29, 30}  # the interrupts at which a processor pushes one cell more than 5
-WORDS = "console=ttyS0 quiet no_timer_check"  # a busy machine is late, and the kernel's look at its timer then ends in a panic
+WITH_ERROR_CODE = {8, 10, 11, 12, 13, 14, 17, 21, 29, 30}  # the interrupts for which a processor pushes 6 cells, not 5
+WORDS = "console=ttyS0 quiet no_timer_check"  # on a busy machine the timer is late, and the kernel's check of it ends in a panic
 PANIC = "Kernel panic"
 
 
@@ -35,7 +35,7 @@ class LinuxMachine(Machine):
                 "-serial", f"file:./{self.name}.console", "-action", "reboot=shutdown,shutdown=pause"]
 
     def said(self):
-        """What the guest has said on its console at this side."""
+        """Returns what the guest has written to its console on this side."""
         try:
             with open(f"{self.folder}/{self.name}.console", encoding="utf-8", errors="replace") as file:
                 return file.read()
@@ -43,7 +43,7 @@ class LinuxMachine(Machine):
             return ""
 
     def recorded(self):
-        """How many accesses stand in its file."""
+        """Returns how many accesses are in its file."""
         try:
             return os.path.getsize(f"{self.folder}/{self.name}.accesses") // RECORD_BYTES
         except FileNotFoundError:
@@ -51,8 +51,8 @@ class LinuxMachine(Machine):
 
 
 def gates_of(table):
-    """The lines of the file of gates: from the 256 entries of the guest's interrupt table, where each goes and how many cells are
-    pushed there."""
+    """Returns the lines of the file of gates, from the 256 entries of the guest's interrupt table: the target of each, and how many
+    cells are pushed there."""
     lines = []
     for number in range(256):
         entry = table[16 * number:16 * number + 16]
@@ -63,8 +63,9 @@ def gates_of(table):
 
 
 class LinuxMigration(Migration):
-    """`guest` is where the kernel and the initramfs are. A bare one has no plugin and no library, so nothing is recorded but what the
-    relay hands over. `ready` is what the guest says on its console when it is to be recorded; or it is waited for `boot` seconds."""
+    """`guest` says where the kernel and the initramfs are. A bare migration has no plugin and no library, so only what the relay hands over
+    is recorded. `ready` is what the guest writes to its console when recording can start; without it, recording starts after `boot`
+    seconds."""
 
     files, machine_class, seconds_between_lines = FILES, LinuxMachine, 5
 
@@ -123,7 +124,7 @@ class LinuxMigration(Migration):
         return next((line for line in lines if PANIC in line), lines[-1])
 
     def read_gates(self):
-        """Writes where the guest's interrupts go, for both libraries."""
+        """Writes the targets of the guest's interrupts, for both libraries."""
         told = self.source("human-monitor-command", **{"command-line": "info registers"})
         match = re.search(r"^IDT= *([0-9a-f]+) ([0-9a-f]+)", told, re.MULTILINE)
         if not match:
@@ -143,7 +144,7 @@ class LinuxMigration(Migration):
             time.sleep(0.02)
 
     def rate(self, machine):
-        """How many accesses were recorded, and how many a second since this was told last."""
+        """Returns how many accesses were recorded, and how many per second since the last call."""
         now, records = time.monotonic(), machine.recorded()
         since, more = now - self.told_at, records - self.told_records
         is_new = more < 0 or since > 60

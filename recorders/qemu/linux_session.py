@@ -1,6 +1,6 @@
-"""The session of a Linux guest that was recorded, whose log is a file; the self-test of the recording; and the verdict.
+"""The session of a recorded Linux guest, whose log is a file; the self-test of the recording; and the verdict.
 
-The guest's log is too long for lists: a program in C makes its lines, and they go into the session's text as they are.
+The guest's log is too long for lists. A program in C makes its lines, and they go into the session's text unchanged.
 """
 import mmap
 import os
@@ -25,11 +25,11 @@ NONE = 0xFFFFFFFF
 GATES = 256
 RECORD_BYTES = 16
 SIDES = ("source", "target")
-UNTOLD = ("unseen", "frames_untold", "parts_untold")  # what both libraries count of what they could not record
+UNTOLD = ("unseen", "frames_untold", "parts_untold")  # what both libraries could not record, and count
 
 
 class LazyCells:
-    """Contents that are spelled where they are written, so that a session holds the place of each page's and not the text."""
+    """Contents that are spelled when they are written, so that a session holds their place for each page, and not their text."""
 
     def __init__(self, contents, file, place):
         self.contents, self.file, self.place = contents, file, place
@@ -49,7 +49,7 @@ class LinuxSource(SourceSide):
 
 
 class LinuxTarget(TargetSide):
-    """`told` has each placement that the library told: the name of the pager's record or None, the page, and the place of its contents."""
+    """`told` has each placement that the library recorded: the name of the pager's record or None, the page, and the place of its contents."""
 
     def __init__(self, *words):
         super().__init__(*words)
@@ -74,7 +74,7 @@ class LinuxTarget(TargetSide):
 
 
 class Lines:
-    """In the place of the guest's log: so many records, which stand in a file."""
+    """Stands in for the guest's log: this many records, which are in a file."""
 
     def __init__(self, count):
         self.count = count
@@ -88,13 +88,13 @@ class Lines:
 
 @dataclass
 class SelfTest:
-    """What the recorder says of its own work. `counts` are by side, and those of guest_log under `log`; `cells` are some that differ."""
+    """What the recorder reports about its own work. `counts` are by side, with those of guest_log under `log`; `cells` are some that differ."""
     counts: dict
     cells: list = field(default_factory=list)
     has_end: bool = True
 
     def faults(self):
-        """Each thing for which nothing can be said of the migration, in words."""
+        """Yields each reason why nothing can be said about the migration, in words."""
         log = self.counts["log"]
         for when, what in (("halt", "the source's memory at the halt"), ("end", "the target's memory at the end")):
             if log[f"{when}-differs"]:
@@ -119,7 +119,7 @@ class SelfTest:
                          for told, page, cell, recorded, found in self.cells if told == when)
 
     def line(self):
-        """What is told of a recording that passes."""
+        """Returns the line about a recording that passes."""
         log, target = self.counts["log"], self.counts["target"]
         return (f"memory at the halt and at the end is what was recorded, but for {log['halt-marks']} and {log['end-marks']} marks in page "
                 f"tables; frames {self.counts['source']['frames']} and {target['frames']}, unseen writes 0; the target waited {target['misses']} "
@@ -127,7 +127,7 @@ class SelfTest:
 
 
 class LinuxRecording(Recording):
-    """The recording of a folder."""
+    """The recording in a folder."""
 
     source_side, target_side = LinuxSource, LinuxTarget
 
@@ -137,7 +137,7 @@ class LinuxRecording(Recording):
         self.contents = LazyContents(self.file, self.plan.words)
 
     def file(self, name):
-        """A file's bytes; those of memory and of pages as they are in the file."""
+        """Returns a file's bytes. Files of memory and of pages are mapped, and not read."""
         path = f"{self.folder}/{name}"
         if not name.endswith((".mem", ".pages")) or not os.path.getsize(path):
             with open(path, "rb") as file:
@@ -159,7 +159,7 @@ class LinuxRecording(Recording):
                 out.write(struct.pack("=3I", number, page, NONE if contents == ZERO else int(contents)))
 
     def make_guest_log(self, session):
-        """Makes the lines of the guest's log, and enters the numbers of its records into the session. Answers the SelfTest."""
+        """Makes the lines of the guest's log, and enters the numbers of its records into the session. Returns the SelfTest."""
         self.write_placements(session)
         done = subprocess.run([build.build_guest_log(), str(session.pages), str(session.numbers["pager"][("ready",)])], cwd=self.folder, capture_output=True, text=True)
         if done.returncode > 1:
@@ -180,13 +180,13 @@ class LinuxRecording(Recording):
         return found
 
     def initial(self):
-        """By page, what memory held when recording began, of those that are not zeros alone."""
+        """Returns, by page, what memory held when recording began, for pages that were not all zeros."""
         memory, zeros = self.file("init.mem"), bytes(PAGE_BYTES)
         return {page: self.contents.cells("init.mem", page) for page in range(self.plan.pages)
                 if memory[page * PAGE_BYTES:(page + 1) * PAGE_BYTES] != zeros}
 
     def write_session(self):
-        """Writes the session, and answers the SelfTest."""
+        """Writes the session, and returns the SelfTest."""
         session = self.session()
         found = self.make_guest_log(session)
         session.initial = self.initial()
@@ -208,7 +208,8 @@ class LinuxRecording(Recording):
 
 
 def verdict_line(folder):
-    """The verdict in a line, of the session of a whole migration. The certificate is the report's: a session of a gigabyte is read twice."""
+    """Returns the verdict on a session of a whole migration, as a line. The certificate is that of the report: a session of a gigabyte is
+    read twice."""
     report, _ = judge.ask(folder, "audit", "--complete", "session")
     judge.write(f"{folder}/report", report)
     first, _, certificate = report.partition("\n")
@@ -219,8 +220,8 @@ def verdict_line(folder):
 
 
 def judged(folder, is_whole, ended, say=lambda line: None):
-    """Judges a recording and leaves what was found in its folder. There is no verdict where the self-test fails, or where the migration
-    did not come to its end; `ended` says how it did. Answers the Verdict, and the SelfTest or None."""
+    """Judges a recording, and writes what was found to its folder. There is no verdict if the self-test fails, or if the migration did not
+    come to its end; `ended` says how it ended. Returns the Verdict, and the SelfTest or None."""
     found = None
     try:
         found = LinuxRecording(folder).write_session()
@@ -240,13 +241,13 @@ def judged(folder, is_whole, ended, say=lambda line: None):
 
 
 def faulty_pages(folder):
-    """The pages that have a fault, from a session that is not clean."""
+    """Returns the pages that have a fault, from a session that is not clean."""
     report, _ = judge.ask(folder, "audit", "--all", "session")
     return [int(line.split()[1]) for line in report.splitlines() if line.startswith("page ")]
 
 
 def waited_for(folder):
-    """The first page that the guest waited for, or 0."""
+    """Returns the first page that the guest waited for, or 0."""
     page = 0
     with open(f"{folder}/target.raw", "rb") as lines:
         for line in lines:
@@ -258,8 +259,8 @@ def waited_for(folder):
 
 
 def explain_and_draw(folder, is_clean):
-    """Explains and draws the window of one page, the first that has a fault or, where none has, the first that the guest waited for:
-    the words, and the page; or None."""
+    """Explains and draws the window of one page: the first that has a fault, or if none has, the first that the guest waited for. Returns
+    the story and the page, or None."""
     page = next(iter([] if is_clean else faulty_pages(folder)), None)
     page = waited_for(folder) if page is None else page
     _, status = judge.ask(folder, "window", "session", str(page), "1", "-o", "page", "--lines", "lines")

@@ -1,4 +1,4 @@
-"""One of the two QEMUs, with a pipe that takes all that it tells."""
+"""One of the two QEMUs, with a pipe for everything that it records."""
 import glob
 import os
 import select
@@ -10,21 +10,21 @@ from dialect import PC_RAM
 from qmp import Gone, Hangs, Qmp, Refused
 from roots import die_with_parent
 
-DEAD = ("ended", "hangs")  # what `migration` says of a QEMU that does not say it itself
+DEAD = ("ended", "hangs")  # what `migration` returns if QEMU cannot say it itself
 EVENT_BYTES = 27  # of an access
 
 
 def seconds_waited(path):
-    """For how long the thread of a folder in /proc wanted to run and had no processor."""
+    """Returns how many seconds a thread, given its folder in /proc, has waited for a processor."""
     try:
         with open(f"{path}/schedstat", encoding="ascii") as file:
             return int(file.read().split()[1]) / 1e9
     except (OSError, IndexError):
-        return 0.0  # it ended, or the kernel does not count
+        return 0.0  # it has ended, or the kernel does not count this
 
 
 class PipeReader:
-    """Reads a pipe into a file, until QEMU has ended and all is read."""
+    """Reads a pipe into a file, until QEMU has ended and everything is read."""
 
     def __init__(self, pipe, path):
         self.descriptor = os.open(pipe, os.O_RDONLY | os.O_NONBLOCK)
@@ -41,7 +41,7 @@ class PipeReader:
                 self.length += len(data)
                 if data:
                     continue
-                time.sleep(0.01)  # nobody writes, yet or any more
+                time.sleep(0.01)  # nobody writes yet, or any more
             if is_last:
                 break
         self.file.close()
@@ -53,9 +53,9 @@ class PipeReader:
 
 
 class Machine:
-    """QEMU stands in `folder`, and finds there what it reads and writes. Its sockets, its pipe and a link to the library that it
-    preloads are in `room`. So whatever the name of the folder has in it, no option of QEMU does. `machine` is the type of the machine,
-    and `trace` the events that it traces. Without a library it is bare: nothing is preloaded."""
+    """QEMU runs in `folder`, which has the files that it reads and writes. Its sockets, its pipe and a link to the preloaded library are in
+    `room`, so the name of the folder is in no option of QEMU. `machine` is the type of the machine, and `trace` has the events that it
+    traces. Without a library it is bare: nothing is preloaded."""
 
     def __init__(self, name, folder, room, plan, library, path, machine="pc", trace=(), extra=()):
         self.name, self.folder = name, folder
@@ -78,7 +78,7 @@ class Machine:
         self.qmp, self.lock, self.hangs = None, threading.Lock(), False
 
     def environment(self, plan):
-        """What the preloaded library is told."""
+        """Returns the environment for the preloaded library."""
         return dict(
             LD_PRELOAD=self.library, RECORD_PIPE=self.pipe, RECORD_CONTENTS=f"{self.name}.pages",
             RECORD_RAM=str(plan.ram << 20), RECORD_BASE=str(plan.base), RECORD_PAGES=str(plan.pages),
@@ -86,20 +86,20 @@ class Machine:
             RECORD_EARLY=str(plan.skip + 1 if plan.fault == "early" and self.name == "target" else 0))
 
     def hardware(self, machine, plan):
-        """The machine, its processors and its memory, as QEMU's options."""
+        """Returns QEMU's options for the machine, its processors and its memory."""
         memory = ["-object", f"memory-backend-memfd,id={PC_RAM},size={plan.ram}M,hugetlb=on,hugetlbsize=2M",
                   "-machine", f"memory-backend={PC_RAM}"] if plan.huge else []
         return ["-machine", f"{machine},accel={'kvm' if plan.kvm else 'tcg'}", *memory]
 
     def guest(self, plan):
-        """The guest, and where it tells what it does."""
+        """Returns QEMU's options for the guest and its record of what it does."""
         return ["-bios", "./guest.bin", "-chardev", f"file,id=told,path={self.pipe}", "-device", "isa-debugcon,iobase=0xe9,chardev=told"]
 
     def is_running(self):
         return self.process.poll() is None
 
     def __call__(self, command, **arguments):
-        with self.lock:  # the relay asks too
+        with self.lock:  # the relay asks, too
             if self.hangs:
                 raise Hangs("it does not answer")
             if not self.qmp:
@@ -111,18 +111,18 @@ class Machine:
                 raise
 
     def waited(self):
-        """For how long the one of its threads that waited longest had no processor."""
+        """Returns how many seconds its threads have waited for a processor: the longest of them."""
         return max(map(seconds_waited, glob.glob(f"/proc/{self.process.pid}/task/*")), default=0.0)
 
     def wait_for_accesses(self, count, seconds):
-        """Waits until the guest has told so many accesses more. Answers whether it did."""
+        """Waits until the guest has recorded this many more accesses. Returns whether it did."""
         wanted, until = self.reader.length + count * EVENT_BYTES, time.monotonic() + seconds
         while self.reader.length < wanted and time.monotonic() < until and self.is_running():
             time.sleep(0.01)
         return self.reader.length >= wanted
 
     def migration(self):
-        """Where the migration stands, or one of DEAD."""
+        """Returns the state of the migration, or one of DEAD."""
         try:
             return self("query-migrate").get("status", "none")
         except Hangs:
@@ -151,7 +151,7 @@ class Machine:
         return lines[-1] if lines else f"status {self.process.poll()}, and it said nothing"
 
     def end(self, is_well):
-        """Ends QEMU, and reads what it told to the last. One that is not well would not answer."""
+        """Ends QEMU, and reads everything that it recorded. (A QEMU that is not well would not answer a command.)"""
         try:
             if is_well and self.is_running():
                 self("quit")

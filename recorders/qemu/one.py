@@ -1,4 +1,4 @@
-"""One migration of a campaign: a plan comes in as JSON, and what became of it is left in a folder.
+"""Makes one migration of a campaign. Reads a plan as JSON, and writes the result to a folder.
 
     one.py FOLDER SOURCE TARGET     the QEMUs of both sides
 """

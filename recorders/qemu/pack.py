@@ -1,4 +1,4 @@
-"""Recordings in one small file, and out of it again.
+"""Packs recordings into one small file, and unpacks them.
 
     python3 recorders/qemu/pack.py FOLDER FILE     packs what a session of FOLDER is made from
     python3 recorders/qemu/pack.py --out FILE FOLDER
@@ -14,12 +14,12 @@ OF_LINUX = ("init.mem", "end.mem", *(f"{side}.{what}" for side in ("source", "ta
 
 
 def pack(folder, path):
-    """Packs what a session is made from; of a Linux guest, what its log is made from too."""
+    """Packs what a session is made from. For a Linux guest, also packs what its log is made from."""
     packing.pack(folder, (*FILES, *OF_LINUX) if os.path.exists(f"{folder}/init.mem") else FILES, path)
 
 
 def unpacked(path):
-    """The files of a packed recording, by their names. Raises ValueError where it holds any other."""
+    """Returns the files of a packed recording, by their names. Raises ValueError if it contains any other file."""
     return packing.unpacked(path, (*FILES, *OF_LINUX))
 
 

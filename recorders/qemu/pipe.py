@@ -1,6 +1,6 @@
-"""What one QEMU told over its pipe, in its order: the guest's events, and lines of QEMU's trace and of the preloaded library.
+"""What one QEMU wrote to its pipe, in order: the guest's events, and lines of QEMU's trace and of the preloaded library.
 
-The guest's bytes have bit 7 set and all else is ASCII, so they are told apart even within a line.
+The guest's bytes have bit 7 set, and everything else is ASCII, so they can be told apart even within a line.
 """
 import re
 from dataclasses import dataclass
@@ -10,12 +10,12 @@ from records import Hole
 GUEST = re.compile(rb"\xc0(?P<actor>[\x80-\xbf])|\xc1(?P<look>[\x80-\xbf]{3})|\xc2(?P<read>[\x80-\xbf]{16})"
                    rb"|\xc3(?P<write>[\x80-\xbf]{16})\xc4", re.S)
 PARTS = re.compile(rb"[\x80-\xff]+|[\x00-\x7f]+")
-GUESTS = bytes(range(0x80, 0x100))  # the bytes that are the guest's
+GUESTS = bytes(range(0x80, 0x100))  # the guest's bytes
 CELL = (1 << 64) - 1
 READ, WRITE = 0xc2, 0xc3
-READ_HEAD = 6     # bytes of a read in front of its value
-WRITE_WHOLE = 17  # bytes of a write in front of its last one
-LOOKS = 2         # of the guest, in front of each access
+READ_HEAD = 6     # bytes of a read before its value
+WRITE_WHOLE = 17  # bytes of a write before its last one
+LOOKS = 2         # looks of the guest before each access
 
 
 @dataclass(frozen=True)
@@ -38,30 +38,30 @@ def number(data):
 
 
 def text_of(data):
-    """The lines of a pipe, without what the guest told."""
+    """Returns the lines of a pipe, without the guest's bytes."""
     return data.translate(None, GUESTS).decode()
 
 
 @dataclass(frozen=True)
 class InFlight:
-    """What the guest has told of the access that it is at: the bytes of an event that it has begun, and looks before it."""
+    """What the guest has written about its current access: the bytes of an event that it has begun, and the looks before it."""
     begun: bytes = b""
     actor: int = 0
     looks: int = 0
 
     def is_behind_touch(self, is_by_block):
-        """Whether the guest may have touched the page of its access already, so that no later look of it waits for the page.
+        """Returns whether the guest may have touched the page of its access already, so that no later look at it waits for the page.
 
-        The touch stands between the first look and the second; `is_by_block` says that a processor stops between an `out` and
-        what follows it, and nowhere else.
+        The touch is between the first look and the second. `is_by_block` says that a processor stops only between an `out` and what
+        follows it.
         """
         return self.looks == LOOKS or self.looks == 1 and (bool(self.begun) or not is_by_block)
 
     def done(self, rest, memory_at):
-        """The access where it was done already, or None. `rest` is what is told behind, `memory_at(page, cell)` the memory now.
+        """Returns the access if it was done already, or None. `rest` is what follows, and `memory_at(page, cell)` is the memory now.
 
-        A read was done where a byte of its value is told; the others come behind. A write was done where it was told but for its
-        last byte, and the memory has its value.
+        A read was done if a byte of its value was written; the other bytes follow. A write was done if everything but its last byte was
+        written, and the memory has its value.
         """
         if len(self.begun) == WRITE_WHOLE and self.begun[0] == WRITE:
             page, cell, value = number(self.begun[1:4]), number(self.begun[4:6]), number(self.begun[6:]) & CELL
@@ -72,7 +72,7 @@ class InFlight:
 
 
 class Pipe:
-    """Reads tokens: Look, Access, or a line of text. What the guest had begun to tell goes on in the next pipe."""
+    """Reads tokens: Look, Access, or a line of text. An event that the guest has begun continues in the next pipe."""
 
     def __init__(self, in_flight=InFlight()):
         self.begun, self.actor, self.looks = bytearray(in_flight.begun), in_flight.actor, in_flight.looks
@@ -91,7 +91,7 @@ class Pipe:
                 yield from whole
 
     def events(self, part):
-        """The guest's events that these bytes complete. The moment of an event is its last byte."""
+        """Yields the guest's events that these bytes complete. The moment of an event is its last byte."""
         self.begun += part
         end = 0
         for match in GUEST.finditer(self.begun):

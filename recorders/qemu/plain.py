@@ -1,4 +1,4 @@
-"""A QEMU with the test guest and nothing else: no preload, no trace, no relay. It is asked by QMP alone."""
+"""A QEMU with only the test guest: no preloaded library, no trace, no relay. All questions to it are in QMP."""
 import os
 import subprocess
 import time
@@ -7,7 +7,7 @@ from build import Missing
 from qmp import Gone, Hangs, Qmp
 from roots import die_with_parent
 
-SECONDS = 10  # for each thing that is waited for
+SECONDS = 10  # for each wait
 
 
 class Side:
@@ -34,7 +34,7 @@ class Side:
             return (file.read().strip().splitlines() or [""])[-1]
 
     def stands(self):
-        """Where the migration stands and where the guest does, in QEMU's words."""
+        """Returns the states of the migration and of the guest, in QEMU's words."""
         if self.hangs:
             return "hangs", "hangs"
         try:
@@ -55,7 +55,7 @@ class Side:
 
 
 def wait_until(is_so, pause=0.01, seconds=SECONDS):
-    """Waits until something is so, and answers what was found."""
+    """Waits until a condition holds, and returns what was found."""
     until = time.monotonic() + seconds
     while not (found := is_so()) and time.monotonic() < until:
         time.sleep(pause)

@@ -1,4 +1,4 @@
-"""Plans of migrations: drawn at random, and those by which versions are compared."""
+"""Plans of migrations: random ones, and those that compare versions."""
 from faults import KINDS as FAULTS
 from faults import NEED_CUT
 from kinds import plan_of
@@ -7,7 +7,7 @@ DRAWN = ("live", "left", "cells", "wide", "paused", "processors", "preempt", "re
 
 CUT_BEHIND_PACKAGE = {"pages": 64, "warm": 200, "cuts": [-1]}
 
-# What is done, the kind, and what differs in its plan.
+# What the migration does, its kind, and what differs in its plan.
 COMPARED = {
     "live": ("none", "live", {"warm": 200, "after": 500}),
     "recovery": ("none, with a recovery", "recovery", {"pages": 256, "warm": 200, "after": 500, "cuts": [100]}),
@@ -30,12 +30,12 @@ def plan_compared(name):
 
 
 def ram_for(plan):
-    """MiB of memory that the window fits into."""
+    """Returns how many MiB of memory the window needs."""
     return max(32, (plan.base >> 20) + (plan.pages >> 8) + 8)
 
 
 def random_plan(drawn, with_faults=False, without_flush=False):
-    """A plan. `drawn` is a random.Random."""
+    """Returns a random plan. `drawn` is a random.Random."""
     kind = drawn.choice(DRAWN)
     plan = plan_of(kind)
     plan.words = plan.words if kind in ("cells", "wide") else drawn.choice((1, 2, 8, 16, 32))
@@ -64,6 +64,6 @@ def random_plan(drawn, with_faults=False, without_flush=False):
 
 
 def random_cuts(drawn, plan):
-    """Where the connection is cut, once or twice: behind the package, at its first page, or later."""
+    """Returns where the connection is cut, once or twice: after the package, at its first page, or later."""
     first = drawn.choice((-1, 0, drawn.randrange(plan.pages), drawn.randrange(plan.pages)))
     return [first] if drawn.random() < 0.7 else [first, drawn.randrange(plan.pages)]

@@ -5,20 +5,20 @@ import time
 
 
 class Refused(Exception):
-    """QEMU's answer to a command that it does not do."""
+    """QEMU refuses a command. The message is its answer."""
 
 
 class Gone(Exception):
-    """QEMU is not there any more."""
+    """QEMU has ended."""
 
 
 class Hangs(Gone):
-    """QEMU is there, and does not answer."""
+    """QEMU runs, but does not answer."""
 
 
 class Qmp:
-    """`waited` answers for how many seconds in all QEMU's main thread, which answers, wanted to run and had no processor: one that
-    had none in half of the time or more is given the same time again, TIMES in all."""
+    """`waited` returns how many seconds QEMU's main thread, which answers, has waited for a processor. If it waited for half of the time
+    or more, it gets the same time again, TIMES in all."""
 
     TIMES = 10
 

@@ -1,16 +1,16 @@
 """Stands between two QEMUs that migrate, forwards both directions, and writes down what it hands over.
 
-Each item is handed over whole, once it is written down, under one lock. A connection is taken without that lock: a target may read
-nothing of the first before it has the second. `before_package` is called when the package came and before it goes on: the guest
-stands still then, and cannot run at the target yet. A line of the log begins with what is told and with the connection's number;
-connections count from 0 as they come:
+Each item is handed over whole, after it is written down, under one lock. A connection is accepted without that lock, because a target
+may read nothing from the first before it has the second. `before_package` is called when the package has arrived, before it is handed
+on: the guest has stopped then, and cannot run at the target yet. A line of the log begins with the kind of item and with the number of
+the connection. Connections are counted from 0 in the order in which they open:
 
     open C main|lane new|resumed
-    down C page pre|post BLOCK OFFSET TAKEN GIVEN   contents as they came and as they went on: places in the file of
-                                                    contents, `zero`, or `-` for a page outside of the window
+    down C page pre|post BLOCK OFFSET TAKEN GIVEN   contents as they arrived and as they were handed on: places in the file
+                                                    of contents, `zero`, or `-` for a page outside the window
     again C page ..             handed over a second time
     lost C page ..              never handed over
-    down C discard BLOCK START LENGTH   a range that the target shall forget, in bytes, as it came
+    down C discard BLOCK START LENGTH   a range that the target must forget, in bytes, as it arrived
     down C state LENGTH         the package
     down C command NAME
     up C request BLOCK OFFSET LENGTH
@@ -18,11 +18,11 @@ connections count from 0 as they come:
     up C message
     cut C
     fault KIND PAGE..           what was put in
-    multifd                     a connection of multifd is opened: it is handed on, and nothing of it is read
-    late                        so is one that was on its way at a cut, until the recovery
-    strange WORDS               what the stream has next is not known; from there on it is handed on, and not told
+    multifd                     a connection of multifd was opened: it is handed on unread
+    late                        a connection that was on its way at a cut: it is handed on unread, until the recovery
+    strange WORDS               the stream has something unknown next; from there on it is handed on, and not recorded
 
-Once a connection is cut nothing more is told of it: what is still read from it went nowhere.
+After a connection is cut, nothing more is recorded about it: what is still read from it went nowhere.
 """
 import select
 import socket
@@ -33,11 +33,11 @@ from dialect import PC_RAM
 from faults import fault_of
 
 LONGEST_LOSS = 0.5  # seconds from the first page that is lost to the cut
-LONGEST_SILENCE = 0.3  # seconds in which a connection of multifd begins
+LONGEST_SILENCE = 0.3  # seconds within which a connection of multifd begins
 
 
 class Cut(Exception):
-    """The connection is cut."""
+    """The connection was cut."""
 
 
 class Window:
@@ -47,13 +47,13 @@ class Window:
         self.base, self.pages = base, pages
 
     def page(self, block, offset):
-        """The number of a page, or None outside of the window."""
+        """Returns the number of a page, or None outside the window."""
         page = (offset - self.base) // stream.PAGE_BYTES
         return page if block == PC_RAM and 0 <= page < self.pages else None
 
 
 class CutPlan:
-    """When a connection is cut: behind so many pages of the window the following `lose` are lost, and then it is cut."""
+    """When to cut a connection: after this many pages of the window the next `lose` pages are lost, and then it is cut."""
 
     def __init__(self, behind, lose=21):
         self.behind, self.lose = behind, lose
@@ -78,13 +78,13 @@ class Connection:
 
 
 class Relay:
-    """Listens on a socket of its own in `room`, `path`, and goes to the socket `target`.
+    """Listens on a socket of its own in `room`, `path`, and connects to the socket `target`.
 
-    A connection that comes between a cut and `recover`, which names the socket that the next ones go to, was on its way before: it is
-    handed on unread, and closed by `recover`.
+    `recover` names the socket for the next connections. A connection that opens between a cut and `recover` was on its way before: it is
+    handed on unread, and `recover` closes it.
 
-    `lock` is held while an item is told and handed over, so it may wait for a peer. `books` guards the log and the connections: it is
-    held for a moment, also by who has `lock`, and who has it waits for nobody.
+    `lock` is held while an item is recorded and handed over, so its holder may wait for a peer. `books` guards the log and the
+    connections. It is held only for a moment, also by the holder of `lock`, and its holder waits for nobody.
     """
 
     def __init__(self, folder, room, window, target, fault=None, skip=0, cuts=(), has_multifd=False, before_package=lambda: None):
@@ -119,9 +119,9 @@ class Relay:
         return self.stored - 1
 
     def end(self):
-        self.listener.shutdown(socket.SHUT_RDWR)  # which wakes who waits for the next one
+        self.listener.shutdown(socket.SHUT_RDWR)  # which wakes whoever waits for the next one
         self.listener.close()
-        self.accepting.join(5)  # so none comes that would not be shut
+        self.accepting.join(5)  # so no connection opens that would not be closed
         for connection in self.connections:
             connection.shut()
         self.shut_unread()
@@ -166,7 +166,7 @@ class Relay:
             self.start(self.up, connection)
 
     def recover(self, target):
-        """The next connections go to this socket. Those that came since the cut are of the migration before, and are closed."""
+        """Sends the next connections to this socket. Closes those that opened since the cut, because they belong to the migration before it."""
         with self.books:
             while select.select([self.listener], [], [], 0)[0]:
                 self.listener.accept()[0].close()
@@ -180,7 +180,7 @@ class Relay:
 
     @staticmethod
     def begins_with(source, magic):
-        """Whether a connection begins so; one that begins with nothing for a moment does not."""
+        """Returns whether a connection begins with this. If nothing arrives for a moment, it does not."""
         source.settimeout(LONGEST_SILENCE)
         try:
             return source.recv(len(magic), socket.MSG_PEEK) == magic
@@ -204,7 +204,8 @@ class Relay:
         there.shutdown(socket.SHUT_WR)
 
     def opened(self, source, target):
-        """The first connection, and the first one after a cut, is the main one; the next one is the lane. To be called with `books`."""
+        """Notes that a connection was opened. The first one, and the first after a cut, is the main connection; the next is the lane. The caller
+        holds `books`."""
         is_lane = any(not (one.is_cut or one.is_lane) for one in self.connections)
         connection = Connection(len(self.connections), is_lane, bool(self.connections) and not is_lane, source, target)
         self.connections.append(connection)
@@ -218,7 +219,7 @@ class Relay:
             pass  # the connection is at its end, or closed by us
 
     def cut(self):
-        """Cuts all connections that stand. To be called with `lock`."""
+        """Cuts all open connections. The caller holds `lock`."""
         with self.books:
             self.is_cut_off = True
             for connection in self.connections:
@@ -237,7 +238,7 @@ class Relay:
                 pass
 
     def cut_losing(self):
-        """Cuts what loses pages: there may not come as many as were to be lost."""
+        """Cuts connections that lose pages: there may be fewer pages than the plan loses."""
         with self.lock:
             if any(one.is_losing and not one.is_cut for one in self.connections):
                 if self.cuts and self.cuts[0].behind == 0:
@@ -273,14 +274,14 @@ class Relay:
                 pass
 
     def copy_rest(self, connection, tap):
-        """Hands on what is not understood."""
+        """Hands on the rest, which is not understood."""
         data = tap.end()
         while data:
             connection.target.sendall(data)
             data = tap.reader.read1(1 << 16)
 
     def take(self, connection, item):
-        """Tells of an item and hands it over."""
+        """Records an item, and hands it over."""
         if isinstance(item, stream.Page):
             self.take_page(connection, item)
             return
@@ -328,7 +329,7 @@ class Relay:
             self.sent_before += not self.is_post
 
     def loses(self, connection, page):
-        """Whether the page is lost with its connection, which is cut when enough were."""
+        """Returns whether the page is lost with its connection, which is cut when enough pages were lost."""
         if not self.cuts or self.cuts[0].behind < 0:
             return False
         cut = self.cuts[0]

@@ -1,7 +1,7 @@
-"""QEMUs of other releases of Debian, in a folder of the user's cache: each by its own loader and its own libraries.
+"""QEMUs from other releases of Debian, in the user's cache folder: each with its own loader and its own libraries.
 
-A root has what debootstrap resolves and downloads for QEMU, of which QEMU itself, its libraries and its data are unpacked.
-Nothing of it is installed or run but QEMU, and neither a chroot nor root's rights are needed.
+debootstrap resolves and downloads the packages for QEMU. A root has QEMU itself, its libraries and its data, unpacked from them. Only
+QEMU runs, nothing is installed, and neither a chroot nor root's rights are needed.
 """
 import contextlib
 import glob
@@ -24,7 +24,7 @@ SUITE = re.compile("[a-z][a-z0-9.-]*")
 
 
 def top():
-    """Where the roots are."""
+    """Returns the folder of the roots."""
     return cache("qemu")
 
 
@@ -39,9 +39,9 @@ def require_tools():
 
 
 def download(suite, folder, mirror, say):
-    """Has debootstrap resolve what QEMU of a suite needs, and download it. Answers the packages' files.
+    """Has debootstrap resolve and download the packages that QEMU needs, for a suite. Returns their files.
 
-    It goes on with what a try before has downloaded, so a mirror that fails for a moment is tried again.
+    It continues with what an earlier try has downloaded, and tries again if a mirror fails for a moment.
     """
     for _ in range(TRIES - 1):
         with contextlib.suppress(Missing):
@@ -64,14 +64,14 @@ def try_download(suite, folder, mirror, say):
 
 
 def merged(name):
-    """A path within a root where `lib` is `usr/lib`, as in each release since Debian 12."""
+    """Returns a path within a root in which `lib` is `usr/lib`, as in each release since Debian 12."""
     name = os.path.normpath(name.lstrip("./") or ".")
     return f"usr/{name}" if re.match("lib(64)?(/|$)", name) else name
 
 
 @contextlib.contextmanager
 def opened(package):
-    """The archive of a package's files, to be read from its start to its end."""
+    """Returns the archive of a package's files, which is read from its start to its end."""
     with subprocess.Popen(["dpkg-deb", "--fsys-tarfile", package], stdout=subprocess.PIPE) as process:
         with tarfile.open(fileobj=process.stdout, mode="r|") as archive:
             yield archive
@@ -80,7 +80,7 @@ def opened(package):
 
 
 def unpack(package, root):
-    """Unpacks of a package what QEMU runs with: no rights of others, no device, nothing outside of the root."""
+    """Unpacks the files of a package that QEMU needs: no special rights, no devices, nothing outside the root."""
     with opened(package) as archive:
         for member in archive:
             member.name = merged(member.name)
@@ -102,7 +102,7 @@ def loader_of(root):
 
 
 def write_start(root, place):
-    """Writes the program that starts the root's QEMU, where the root is to stand in `place`."""
+    """Writes the program that starts the root's QEMU. `place` is where the root will be."""
     loader = os.path.relpath(loader_of(root), os.path.realpath(root))
     here, libraries = shlex.quote(place), f"{place}/{LIBRARIES}"
     start = qemu_of(root)
@@ -115,7 +115,7 @@ def write_start(root, place):
 
 
 def make(suite, mirror, say):
-    """Makes the root of a suite; it is there as a whole, or not at all."""
+    """Makes the root of a suite. It appears as a whole, or not at all."""
     if not SUITE.fullmatch(suite):
         raise Missing(f"'{suite}' is no name of a release of Debian")
     root = f"{top()}/{suite}"
@@ -140,7 +140,7 @@ def make(suite, mirror, say):
 
 
 def found(name):
-    """The path of a QEMU: of a release whose root is there, of a program in PATH, or the path that is named."""
+    """Returns the path of a QEMU: that of a release whose root exists, that of a program in PATH, or the path itself."""
     if "/" in name:
         path = os.path.abspath(name)
     elif SUITE.fullmatch(name) and os.path.exists(qemu_of(f"{top()}/{name}")):

@@ -1,4 +1,4 @@
-"""What became of the migrations of a campaign, and the table of it."""
+"""The results of the migrations of a campaign, and the table of them."""
 import collections
 import json
 import os
@@ -8,7 +8,7 @@ from dataclasses import asdict, dataclass
 from kinds import plan_from_text
 
 BUSY = "not at its end on a busy machine"
-# What ends of a migration are called in the table; any other stands there in QEMU's words.
+# The names of a migration's ends in the table. Any other end is there in QEMU's words.
 ENDS = (
     ("source waits for itself", "Cannot resume if there is no paused migration"),
     ("target aborted", "target ENDED.*Assertion .* failed"),
@@ -23,7 +23,7 @@ ENDS = (
     ("not at its end within its limit", "it took more than"),
 )
 
-# What a recording that is not judged is called where it is told in a word.
+# The word for a recording that is not judged.
 UNJUDGED = (("no post-copy", "there was no post-copy"), ("lost stack", "are no event"))
 
 
@@ -33,10 +33,10 @@ class Result:
     verdict: str
     outcome: str
     is_put_in: bool = False  # whether the plan's fault was put in
-    restart: str = ""        # what is told where the source started its guest again
+    restart: str = ""        # the message, if the source started its guest again
     version: str = ""        # of QEMU, or of both
-    is_cut_missed: bool = False  # whether it came to its end before a cut that was planned
-    load: float = 0.0        # of the machine, once it was made: how many processes wanted to run
+    is_cut_missed: bool = False  # whether it ended before a planned cut
+    load: float = 0.0        # of the machine, after the migration: how many processes wanted to run
 
     def to_text(self):
         return json.dumps({**asdict(self), "plan": json.loads(self.plan.to_text())})
@@ -48,13 +48,13 @@ class Result:
 
     @property
     def reason(self):
-        """The verdict without its line's number, and without what only this one has."""
+        """Returns the verdict without its line's number, and without what only this one has."""
         verdict = re.sub(r" line \d+|0x[0-9a-f]+|\d+", "", self.verdict).strip()
         return f"{self.ran}; {verdict}" if self.ran else verdict
 
     @property
     def in_a_word(self):
-        """What became of it, as a table of versions has it."""
+        """Returns the result, in the words of a table of versions."""
         if self.ran:
             return " and ".join([self.ran, *([self.end] if self.end.endswith("hangs") else [])])
         if self.verdict.startswith("faulty"):
@@ -73,13 +73,13 @@ class Result:
 
     @property
     def end(self):
-        """The end's name, or what was told of it."""
+        """Returns the name of the end, or the message about it."""
         names = (name for name, form in ENDS if re.search(form, self.outcome))
         return self.outcome if self.outcome == "completed" else next(names, re.sub(r"\d+", "N", self.outcome))
 
     @property
     def is_settled(self):
-        """Whether there is nothing to look at: all went well, and no fault was put in that should have been found."""
+        """Returns whether there is nothing to look at: everything went well, and no fault was put in that should have been found."""
         return self.is_clean and not self.is_put_in
 
     @property
@@ -109,7 +109,7 @@ def read(path):
 
 
 def result_of(plan, folder, done):
-    """`done` is the process that made the migration."""
+    """Returns the result of a migration. `done` is the process that made it."""
     verdict = read(f"{folder}/verdict").strip()
     if done.returncode or not verdict:
         said = (done.stderr.strip().splitlines() or ["nothing"])[-1]
@@ -121,7 +121,7 @@ def result_of(plan, folder, done):
 
 
 def was_put_in(folder):
-    """Whether the relay or the preloaded library put a fault in."""
+    """Returns whether the relay or the preloaded library put a fault in."""
     if any(line.startswith("fault ") for line in read(f"{folder}/relay.log").splitlines()):
         return True
     path = f"{folder}/target.raw"
@@ -144,13 +144,13 @@ def rows(head, counts):
 
 
 def markdown(lines):
-    """A table of Markdown. The first line is its head."""
+    """Returns a Markdown table. The first line is its head."""
     head, *rest = lines
     return "\n".join(f"| {' | '.join(line)} |".replace("|  ", "| ") for line in [head, ["---"] * len(head), *rest])
 
 
 def table(results, seconds):
-    """How often each version had each verdict of each kind, and what was told of those that were not clean."""
+    """Returns the table of how often each version had each verdict for each kind, and messages about those that were not clean."""
     counts = collections.Counter(
         (result.version, result.plan.kind, result.fault, result.reason, result.end)
         for result in results)

@@ -1,4 +1,4 @@
-"""One migration, recorded: both QEMUs, the relay between them, and what they tell, in a folder."""
+"""Records one migration: both QEMUs, the relay between them, and what they record, in a folder."""
 import json
 import time
 from dataclasses import asdict, dataclass, field, replace
@@ -10,29 +10,29 @@ from machine import DEAD, Machine
 from qmp import Gone, Refused
 from relay import CutPlan, Relay, Window
 
-TOO_LONG = ("it took more than", "gave up: the guest does not walk")  # what remarks of a limit of time begin with
-SECONDS_TO_END = 2  # in which a target whose load failed ends, if it does
+TOO_LONG = ("it took more than", "gave up: the guest does not walk")  # the beginnings of messages about a time limit
+SECONDS_TO_END = 2  # within which a target whose load failed ends, if it does
 
 
 @dataclass
 class Outcome:
-    """How a migration ended, by what the QEMUs say of it."""
+    """How a migration ended, according to the QEMUs."""
     source: str = "none"
     target: str = "none"
     recoveries: int = 0
     requests: int = 0
     seconds: float = 0.0
-    waited: float = 0.0  # seconds for which a thread of a QEMU wanted to run and had no processor
+    waited: float = 0.0  # seconds for which a thread of a QEMU has waited for a processor
     remarks: list = field(default_factory=list)
 
     @property
     def is_whole(self):
-        """Whether both came to the end, so that the logs have to be whole."""
+        """Returns whether both came to the end, so that the logs must be whole."""
         return self.source == self.target == "completed"
 
     @property
     def is_held_up(self):
-        """Whether it took too long, on a machine that gave it no processor for half of the time or more."""
+        """Returns whether it took too long, on a machine that gave it no processor for half of the time or more."""
         return any(remark.startswith(TOO_LONG) for remark in self.remarks) and self.waited >= self.seconds / 2
 
     def line(self):
@@ -43,8 +43,8 @@ class Outcome:
 
 
 class Migration:
-    """Recorded into `folder`, which has to be one that folders.take takes. `say` takes lines of progress. `emulators` are those of
-    the source and of the target."""
+    """A migration that is recorded into `folder`, which folders.take must accept. `say` takes lines of progress. `emulators` are those of the
+    source and of the target."""
 
     files, machine_class, seconds_between_lines = folders.FILES, Machine, 1
 
@@ -79,16 +79,16 @@ class Migration:
         return self.outcome
 
     def build(self):
-        """The library that both QEMUs preload."""
+        """Returns the library that both QEMUs preload."""
         self.rom, library = build.build()
         return library
 
     def put_guest(self):
-        """Puts into the folder what the guest is started from."""
+        """Writes the files to the folder from which the guest starts."""
         build.rom_for(self.plan, self.rom, f"{self.folder}/guest.bin")
 
     def prepare(self, library):
-        """The type of both machines, and what each side traces. Raises Missing where a QEMU lacks what the plan needs."""
+        """Decides the type of both machines, and what each side traces. Raises Missing if a QEMU lacks something that the plan needs."""
         for emulator in {self.source_emulator, self.target_emulator}:
             emulator.require(self.plan, library)
         return (self.source_emulator.machine_for(self.target_emulator),
@@ -116,7 +116,7 @@ class Migration:
             self.relay.end()
 
     def save_memory(self):
-        """Saves the source's memory where the package came and the target has not got it: so it is the memory at the halt, also where
+        """Saves the source's memory when the package has arrived and the target does not have it yet. So it is the memory at the halt, even if
         the source starts its guest again later."""
         try:
             self.source("pmemsave", val=self.plan.base, size=self.plan.pages * 4096, filename="halt.mem")
@@ -149,12 +149,12 @@ class Migration:
         return f"guest: {plan.pages} pages of {plan.words} words, {plan.cpus} processor{'s' if plan.cpus > 1 else ''}"
 
     def warm_up(self):
-        """Waits until the guest has done what it is to do before it is moved."""
+        """Waits until the guest has done its accesses before the migration."""
         if not self.source.wait_for_accesses(self.plan.pages * 3 // 4 + self.plan.warm, self.plan.limit):
             raise Gone("the guest does not walk")
 
     def run_on(self):
-        """Waits until the guest has done what it is to do at the target, behind the end."""
+        """Waits until the guest has done its accesses at the target, after the end."""
         self.target.wait_for_accesses(self.plan.after, self.plan.limit / 4)
 
     def set_up(self):
@@ -163,12 +163,12 @@ class Migration:
             machine("migrate-set-capabilities", capabilities=capabilities)
             if self.plan.multifd:
                 machine("migrate-set-parameters", **{"multifd-channels": self.plan.multifd})
-        # With a downtime of 1 ms pre-copy does not end by itself, which would leave nothing to post-copy.
+        # With a downtime of 1 ms, pre-copy does not end by itself. If it did, nothing would be left for post-copy.
         self.source("migrate-set-parameters", **{
             "max-bandwidth": self.plan.bandwidth, "max-postcopy-bandwidth": self.plan.post_bandwidth, "downtime-limit": 1})
 
     def wait_for_precopy(self):
-        """Pre-copy has to run before post-copy can be asked for; and it may come to its end by itself."""
+        """Waits for pre-copy, which must run before post-copy can be asked for. It may come to its end by itself."""
         until = time.monotonic() + self.plan.limit
         status = self.source.wait_for(("active", *ENDS), self.plan.limit)
         pages = 0 if self.plan.multifd else self.plan.pre_pages  # multifd's are not read
@@ -182,7 +182,7 @@ class Migration:
             pass  # the moment is short: pre-copy comes to its end at its next look
 
     def follow(self):
-        """Waits for the end, and has the migration go on where a connection is cut."""
+        """Waits for the end, and resumes the migration if a connection is cut."""
         cuts_seen = 0
         while True:
             self.wait_with_progress()
@@ -196,7 +196,7 @@ class Migration:
             self.remark(f"{len(self.plan.cuts) - cuts_seen} cut not reached")
 
     def wait_with_progress(self):
-        """Waits for an end, for a cut, or for the target to have failed."""
+        """Waits for an end, for a cut, or for a failure of the target."""
         until, told = time.monotonic() + self.plan.limit, time.monotonic()
         while True:
             status, there = self.source.migration(), self.target.migration()
@@ -214,11 +214,11 @@ class Migration:
             time.sleep(0.02)
 
     def stands(self):
-        """How far post-copy has come."""
+        """Returns how far post-copy has come."""
         return f"{self.relay.sent_after} pages"
 
     def paused(self, machine):
-        """Waits until a QEMU has noticed the cut; one that does not is told to pause."""
+        """Waits until a QEMU has noticed the cut. If it does not notice, tells it to pause."""
         status = machine.wait_for(("postcopy-paused", "completed", "failed"), 2)
         if status in IN_POSTCOPY:
             try:
@@ -230,7 +230,7 @@ class Migration:
         return status
 
     def recover(self):
-        """Has the migration go on over a new connection. Answers whether there is more to wait for."""
+        """Resumes the migration over a new connection. Returns whether there is more to wait for."""
         stands = {machine.name: self.paused(machine) for machine in (self.source, self.target)}
         self.relay.was_cut.clear()
         if stands["target"] != "postcopy-paused" or stands["source"] not in ("postcopy-paused", "postcopy-active"):
@@ -253,7 +253,7 @@ class Migration:
         return True
 
     def finish(self):
-        """What is asked of both at the end."""
+        """Asks both QEMUs what is needed at the end."""
         plan, outcome = self.plan, self.outcome
         outcome.source, outcome.target = self.source.migration(), self.target.wait_for(ENDS, 3)
         try:
@@ -276,10 +276,10 @@ class Migration:
         self.say(outcome.line())
 
     def at_end(self):
-        """What is to be done where the guest stands still at the target."""
+        """Does what must be done while the guest is stopped at the target."""
 
     def end_of(self, machine, status):
-        """How a QEMU ended: ENDED where the process did, HANGS where it does not answer, or what it says."""
+        """Returns how a QEMU ended: ENDED if the process has ended, HANGS if it does not answer, or otherwise what it says."""
         if not machine.is_running():
             self.remark(f"{machine.name}: {machine.last_error()}")
             return "ENDED"

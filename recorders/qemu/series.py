@@ -1,4 +1,4 @@
-"""Many migrations, each made and judged in a process of its own."""
+"""Makes many migrations, each in its own process, which also judges it."""
 import concurrent.futures
 import os
 import subprocess
@@ -12,7 +12,7 @@ HERE = os.path.dirname(os.path.abspath(__file__))
 
 
 def make(plan, folder, names):
-    """Makes one migration, by the QEMUs of these names, and answers its result. A folder with nothing to look at is removed."""
+    """Makes one migration with the QEMUs of these names, and returns its result. Removes a folder with nothing to look at."""
     words = [sys.executable, "-B", f"{HERE}/one.py", folder, *names]
     try:
         done = subprocess.run(words, input=plan.to_text(), capture_output=True, text=True, timeout=plan.limit * 8)
@@ -26,7 +26,7 @@ def make(plan, folder, names):
 
 
 def make_all(todo, jobs, until=None):
-    """Results of `todo`, of (plan, folder, names), in its order. From the moment `until` on no more are begun."""
+    """Yields the results of `todo`, a list of (plan, folder, names), in order. After `until`, no more are begun."""
     def make_in_time(one):
         return None if until is not None and time.monotonic() > until else make(*one)
 

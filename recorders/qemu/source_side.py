@@ -1,4 +1,4 @@
-"""The guest's log as far as the halt, and the source's."""
+"""The guest's log up to the halt, and the source's log."""
 from dialect import Moments
 from pipe import Access, InFlight
 from records import Hole
@@ -6,15 +6,15 @@ from wire import ZERO
 
 
 class SourceSide:
-    """`done(in_flight)` answers the access that the halt came into, where it was done before the halt."""
+    """`done(in_flight)` returns the access that the halt interrupted, if it was done before the halt."""
 
     def __init__(self, session, wire, contents, is_from_halt, version, done):
         self.session, self.wire, self.contents, self.is_from_halt, self.done_before = session, wire, contents, is_from_halt, done
         self.moments = Moments("source", version)
         self.is_halted = self.is_done = self.is_started_again = False
-        self.in_flight, self.last = InFlight(), None  # at the halt; the access that it came into, where that was done before
-        self.pages_over = self.asks_over = 0   # behind so many recoveries
-        self.asked = 0                         # requests that were taken, of their connection
+        self.in_flight, self.last = InFlight(), None  # at the halt; the access that it interrupted, if that was done before
+        self.pages_over = self.asks_over = 0   # after this many recoveries
+        self.asked = 0                         # requests that were taken from their connection
         self.position = {connection.number: 0 for connection in wire.connections}
         self.sent = set()
 
@@ -24,7 +24,7 @@ class SourceSide:
     def read(self, pipe, data):
         for token in pipe.tokens(data):
             if isinstance(token, Access):
-                if not self.is_started_again:  # no record tells of a guest that goes on at the source
+                if not self.is_started_again:  # no record is about a guest that continues at the source
                     self.access(token)
             elif isinstance(token, str):
                 for moment, fields in self.moments.of(token):
@@ -73,7 +73,7 @@ class SourceSide:
         self.send_untraced()
 
     def guest_halts(self):
-        """The end of the guest's log at the source."""
+        """Ends the guest's log at the source."""
         self.last = self.done_before(self.in_flight)
         if self.last:
             self.access(self.last)
@@ -83,12 +83,12 @@ class SourceSide:
         self.session.add("guest", "halt", name=("halt",))
 
     def start_again(self):
-        """The last record of the source: nothing that it does for a migration comes behind it."""
+        """Writes the last record of the source: after it, the source does nothing for a migration."""
         self.send_rest()
         self.add("back")
         self.is_started_again = True
 
-    # Pages go in the order of each connection; between them, and among the requests, in that of the trace.
+    # Pages have the order of their connection. Between connections, and among requests, the order is that of the trace.
 
     def connections(self):
         both = (self.wire.of(is_lane, self.pages_over) for is_lane in (False, True))
@@ -113,7 +113,7 @@ class SourceSide:
         self.session.name_too("source", name, ("sent", taken.page))
 
     def send_untraced(self):
-        """A page of zeros is in no trace: it is put as early as its connection allows, so never behind what it led to."""
+        """A page of zeros is in no trace. It is sent as early as its connection allows, so never after something that it caused."""
         for connection in self.connections():
             while (taken := self.next_of(connection)) and (taken.page is None or taken.contents == ZERO):
                 self.send(connection)
@@ -129,7 +129,7 @@ class SourceSide:
                 return
 
     def send_rest(self, upto=None):
-        """What was taken from connections that are at their end, and was not traced."""
+        """Sends what was taken from connections that have ended, and was not traced."""
         rest = []
         for generation in range(len(self.wire.connections) if upto is None else upto + 1):
             for is_lane in (False, True):
@@ -143,7 +143,7 @@ class SourceSide:
     # Answers
 
     def ask(self):
-        """The n-th request that the source takes is the n-th that its connection handed over."""
+        """Takes a request: the n-th that the source takes is the n-th that its connection handed over."""
         connection = self.wire.of(False, self.asks_over)
         place, self.asked = self.asked, self.asked + 1
         if connection and place < len(connection.requests) and connection.requests[place] is not None:

@@ -1,10 +1,10 @@
-"""The migration stream of QEMU as items, as far as a post-copy of memory alone needs it, and the answers that go back.
+"""The migration stream of QEMU as items, as far as a post-copy migration of memory needs it, and the answers that go back.
 
-Down the main connection come, behind a header that a resumed stream has not: sections of `ram`, commands and the end. The
-devices' state stands in a package whose length is told, and is not read. Down the second connection of postcopy-preempt come
-pages alone. A tap reads from anything with `read(length)`, which answers fewer bytes only at its end.
+The main connection carries sections of `ram`, commands and the end, after a header, which a resumed stream does not have. The devices'
+state is in a package with a length, and is not read. The second connection of postcopy-preempt carries only pages. A tap reads from
+anything with `read(length)`, which returns fewer bytes only at its end.
 
-Each item has the bytes that it was read from, so what is handed on is what came.
+Each item has the bytes that it was read from, so that exactly these bytes can be handed on.
 """
 import struct
 from dataclasses import dataclass, field
@@ -12,33 +12,33 @@ from dataclasses import dataclass, field
 from dialect import COMMANDS
 
 PAGE_BYTES = 4096
-ZERO, MEM_SIZE, PAGE, EOS, CONTINUE, MULTIFD_FLUSH = 0x02, 0x04, 0x08, 0x10, 0x20, 0x200  # flags of a page's header
+ZERO, MEM_SIZE, PAGE, EOS, CONTINUE, MULTIFD_FLUSH = 0x02, 0x04, 0x08, 0x10, 0x20, 0x200  # flags in a page's header
 EOF, SECTION_START, SECTION_PART, SECTION_END, SECTION_FULL = 0x00, 0x01, 0x02, 0x03, 0x04
 CONFIGURATION, COMMAND, FOOTER = 0x07, 0x08, 0x7E
 MAGIC = b"QEVM\0\0\0\3"
-MULTIFD_MAGIC = b"\x11\x22\x33\x44"  # what a connection of multifd begins with
+MULTIFD_MAGIC = b"\x11\x22\x33\x44"  # the beginning of a connection of multifd
 SHUT, PONG, REQUEST_WITH_BLOCK, REQUEST, BITMAP = 1, 2, 3, 4, 5  # kinds of answers
 
 
 class Strange(Exception):
-    """What a stream has that this does not understand."""
+    """A stream has something that is not understood here. The message says what."""
 
 
 class DeviceOutside(Strange):
-    """A device's state outside of a package: pre-copy came to its end, and there is no post-copy."""
+    """A device's state outside a package: pre-copy came to its end, and there is no post-copy."""
 
 
 @dataclass
 class Item:
-    """What needs no closer look."""
+    """An item that needs no closer look."""
     raw: bytes
 
 
 @dataclass
 class Page(Item):
-    """A page of post-copy or of pre-copy: `head` is its header, with the block's name or without.
+    """A page of post-copy or of pre-copy. `head` is its header, with or without the block's name.
 
-    `came` is the contents that came, where `contents` are to be others.
+    `came` has the contents that arrived, if `contents` are to be different.
     """
     block: str = ""
     offset: int = 0
@@ -68,13 +68,13 @@ class Command(Item):
 
 @dataclass
 class Package(Item):
-    """The devices' state, with what has to be handled in order with it."""
+    """The devices' state, with what must be handled in order with it."""
     length: int = 0
 
 
 @dataclass
 class Discard(Item):
-    """Ranges of a block, in bytes, that the target shall forget."""
+    """Ranges of a block, in bytes, that the target must forget."""
     block: str = ""
     ranges: list = field(default_factory=list)
 
@@ -88,19 +88,19 @@ class Request(Item):
 
 @dataclass
 class Shut(Item):
-    """The target's word that all is there, or that it failed."""
+    """The target says that it has everything, or that it failed."""
     value: int = 0
 
 
 @dataclass
 class Bitmap(Item):
-    """The pages of a block that the target has: `bits` is where they stand in `raw`."""
+    """The pages of a block that the target has: `bits` is their place in `raw`."""
     block: str = ""
     bits: slice = None
 
 
 class Tap:
-    """Reads exactly, and keeps the bytes of the item."""
+    """Reads exactly as many bytes as are asked for, and keeps the bytes of the item."""
 
     def __init__(self, reader):
         self.reader, self.raw = reader, bytearray()
@@ -124,7 +124,7 @@ class Tap:
 
 
 def items(tap, is_resumed=False):
-    """What comes down the main connection. Ends with EOFError, as each stream does here."""
+    """Yields what comes down the main connection. Ends with EOFError, as each stream does here."""
     if not is_resumed:
         if tap.take(len(MAGIC)) != MAGIC:
             raise Strange("this is no migration stream of version 3")
@@ -155,14 +155,14 @@ def items(tap, is_resumed=False):
 
 
 def pages(tap):
-    """What comes down the second connection."""
+    """Yields what comes down the second connection."""
     blocks = [""]
     while True:
         yield from section(tap, blocks)
 
 
 def section(tap, blocks):
-    """A section's pages as far as their end. `blocks` holds the block that was named last."""
+    """Yields a section's pages, up to their end. `blocks` has the block that was named last."""
     while True:
         head = tap.number("Q")
         flags, offset = head & 0xFFF, head & ~0xFFF
@@ -188,8 +188,8 @@ def section(tap, blocks):
 
 
 def lengths(tap, total):
-    """The blocks and their lengths. One of huge pages has the length of these behind its own, in 64 bits, and nothing says so; it begins
-    with 0, as no name's length does."""
+    """Returns the blocks and their lengths. A block of huge pages has the length of these pages after its own, in 64 bits, and nothing says
+    so. It begins with 0, as no name's length does."""
     while total > 0:
         name = tap.number("B")
         if name == 0:
@@ -215,13 +215,13 @@ def command(tap):
 
 
 def with_ranges(discard, ranges):
-    """A discard of other ranges. The bytes before the ranges are those that came; the lengths are made anew."""
+    """Returns a discard with other ranges. The bytes before the ranges stay; the lengths are new."""
     data = discard.raw[5:5 + 2 + len(discard.block) + 1] + b"".join(struct.pack(">QQ", *part) for part in ranges)
     return Discard(discard.raw[:3] + struct.pack(">H", len(data)) + data, discard.block, ranges)
 
 
 def answers(tap):
-    """What goes back. A bitmap is a message with a name, and behind it its size in 64 bits, the bits, and an ending."""
+    """Yields the answers. A bitmap is a message with a name, followed by its size in 64 bits, the bits, and an ending."""
     block = ""
     while True:
         kind, data = tap.number("H"), tap.take(tap.number("H"))

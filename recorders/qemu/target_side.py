@@ -1,4 +1,4 @@
-"""The guest's log from the resume on, and the pager's."""
+"""The guest's log from the resume on, and the pager's log."""
 from dialect import Moments
 from pipe import Access, Look
 from records import Hole
@@ -8,23 +8,23 @@ from wire import ZERO
 
 
 class TargetSide:
-    """`is_in_flight` says that the guest may have touched the page of its first access at the source, and `is_first_done` that it
-    did that access there."""
+    """`is_in_flight` says that the guest may have touched the page of its first access at the source, and `is_first_done` that it did
+    this access there."""
 
     def __init__(self, session, wire, contents, base, version, is_in_flight, is_first_done):
         self.session, self.wire, self.contents, self.base = session, wire, contents, base
         self.moments = Moments("target", version)
         self.is_in_flight, self.is_first_done = is_in_flight, is_first_done
         self.is_guarded = self.is_ready = self.is_resumed = self.has_state = self.is_shut = False
-        self.is_first, self.is_shown = True, False  # whether no access was told yet, and whether the last look showed its page
+        self.is_first, self.is_shown = True, False  # whether there was no access yet, and whether the last look showed its page
         self.have = []        # pages that were there when memory was guarded, with the places of their contents
         self.placed = {}      # by page, the number of its first placement among all placements
         self.placements = self.seen = self.misses = 0
         self.missed = {}      # by page, the name of its last miss
         self.arrived = {}     # by page, the name of its last packet
-        self.over = {False: 0, True: 0}           # main connection, lane: behind so many recoveries
+        self.over = {False: 0, True: 0}           # main connection, lane: after this many recoveries
         self.messages_over = 0
-        self.count = {False: 0, True: 0}          # pages that came by each
+        self.count = {False: 0, True: 0}          # pages that came over each
         self.requested = 0
 
     def read(self, pipe, data):
@@ -41,13 +41,13 @@ class TargetSide:
         if not self.is_ready:
             raise Hole("target.raw: the target never listened")
         if not self.is_guarded:
-            raise Hole("target.raw: the preloaded library told of no memory that is guarded")
+            raise Hole("target.raw: the preloaded library reported no guarded memory")
 
     def is_told_first(self, access):
-        """Whether the first access at the target is told there.
+        """Returns whether the first access at the target belongs to the target's log.
 
-        Where its page was touched at the source no look at the target waited for the page. Then a read is left out: it may have
-        been at the source. A write was at the target; that it waited is the kernel's word.
+        If its page was touched at the source, no look at the target waited for the page. Then a read is left out, because it may have
+        been done at the source. A write was done at the target; only the kernel says that it waited.
         """
         if self.is_first_done:
             return False
@@ -96,7 +96,7 @@ class TargetSide:
     # The guest
 
     def look(self, look):
-        """A look shows the page's placement where that stands before it in the pipe."""
+        """Takes a look. It shows the page's placement, if that comes before it in the pipe."""
         self.is_shown = look.page in self.placed
         if self.is_shown:
             self.see(self.placed[look.page])
@@ -133,13 +133,13 @@ class TargetSide:
                 self.place(page, place)
 
     def take(self, is_lane, offset, flags):
-        """The n-th page that is taken from a connection is the n-th that was handed over there."""
+        """Takes a page: the n-th that is taken from a connection is the n-th that was handed over there."""
         if not flags & (ZERO_FLAG | PAGE):
             return
         connection = self.wire.of(is_lane, self.over[is_lane])
         place, self.count[is_lane] = self.count[is_lane], self.count[is_lane] + 1
         if not connection or place >= len(connection.handed):
-            raise Hole(f"target.raw: page {place} of a connection that handed over fewer")
+            raise Hole(f"target.raw: page {place} of a connection that handed over fewer pages")
         page = connection.taken[connection.handed[place]].page
         if page is None:
             return
@@ -150,7 +150,7 @@ class TargetSide:
         self.add("pull" if is_lane else "got", name=name, down=("handed", connection.number, place))
 
     def message(self, kind):
-        """The n-th request that the target makes is the n-th that its connection hands over; those behind a cut are lost."""
+        """Takes a request: the n-th that the target makes is the n-th that its connection hands over. Those after a cut are lost."""
         if kind == SHUT:
             if not self.is_shut:
                 self.is_shut = True
@@ -165,7 +165,7 @@ class TargetSide:
 
     def place(self, page, contents):
         if page not in self.arrived:
-            raise Hole(f"target.raw: page {page} is put in place, and no packet with it was taken")
+            raise Hole(f"target.raw: page {page} is placed, but no packet with it was taken")
         self.placements += 1
         self.placed.setdefault(page, self.placements)
         self.add("place", name=("placement", self.placements), page=page, got=self.arrived[page],

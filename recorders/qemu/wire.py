@@ -1,7 +1,7 @@
-"""What the relay told, as what went over which connection, and the order of the link and of the lane.
+"""The relay's log: what went over which connection, and the order of the link and of the lane.
 
-A page has the name (connection, place among the pages that were taken from it), a request the name (connection, place among
-its requests). By these names the parties' logs tell of one another.
+A page has the name (connection, place among the pages that were taken from it), and a request has the name (connection, place among
+its requests). The parties' logs name each other's records with these names.
 """
 from dataclasses import dataclass, field
 
@@ -13,7 +13,7 @@ ZERO = "zero"
 
 @dataclass(frozen=True)
 class Taken:
-    """A page as the relay took it. `page` is None outside of the window."""
+    """A page as the relay took it. `page` is None outside the window."""
     page: object
     contents: str
 
@@ -34,12 +34,12 @@ class Connection:
 
 class Wire:
     def __init__(self, lines, page_of, pages):
-        """`page_of(block, offset)` answers a page of the window or None."""
+        """`page_of(block, offset)` returns a page of the window or None."""
         self.page_of, self.pages = page_of, pages
         self.connections, self.discarded, self.last_before = [], set(), {}
         self.order = []       # (log, "down" or "up", name), which is ("state",), ("left", page), ("page", c, n) ..
         self.has_state = self.is_shut = False
-        self.strange = ""     # what of the stream was not understood
+        self.strange = ""     # what was not understood in the stream
         for line in lines:
             self.read(line.split())
 
@@ -90,7 +90,7 @@ class Wire:
             page for offset in range(start, start + length, PAGE_BYTES) if (page := self.page_of(block, offset)) is not None)
 
     def state(self, connection):
-        """The package. Pages that are not discarded are there already: they stand as if they went with it."""
+        """Takes the package. Pages that are not discarded are at the target already: they count as if they went with it."""
         if self.has_state:
             raise Hole("relay.log: a second package")
         self.has_state = True
@@ -104,6 +104,6 @@ class Wire:
             self.order.append((connection.log, "up", ("request", connection.number, len(connection.requests) - 1)))
 
     def of(self, is_lane, generation):
-        """The main connection or the lane behind so many recoveries, or None."""
+        """Returns the main connection or the lane after this many recoveries, or None."""
         same = [connection for connection in self.connections if connection.is_lane == is_lane]
         return same[generation] if generation < len(same) else None

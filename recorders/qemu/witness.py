@@ -1,6 +1,6 @@
-"""What is seen of a lost write without the auditor.
+"""What can be seen of a lost write without the auditor.
 
-Of the pages that the target was not told to forget, what pre-copy sent last has to be what the source has at the halt.
+For each page that the target was not told to forget, the contents that pre-copy sent last must be those at the source at the halt.
 """
 import os
 
@@ -9,7 +9,7 @@ from stream import PAGE_BYTES
 
 
 def pages_that_differ(recording):
-    """The pages that were left at the target and that differ from the source's memory at the halt, and how many were left."""
+    """Returns the pages that were left at the target and differ from the source's memory at the halt, and how many were left."""
     memory, wire = recording.read("halt.mem"), recording.wire
     left = [page for page in getattr(wire, "left", ()) if page in wire.last_before]
     differ = [page for page in left

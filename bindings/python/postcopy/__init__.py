@@ -8,11 +8,11 @@
     clean
 
 Each function takes a text as bytes, or as the path of a file, which is mapped and not copied. Bytes and files must not change
-while a call runs; other threads go on meanwhile. `help(postcopy.Kind)` and `help(postcopy.Reason)` tell
-what the answers mean.
+while a call runs. Other threads run during a call. `help(postcopy.Kind)` and `help(postcopy.Reason)` say what the answers mean.
 
-What is proved: YES and CLEAN are answered only of a session in every merging of whose logs each read or write after the handover
-finds its page resident, and each read gives what one machine that never moved gives. That the logs say what happened is a premise.
+It is proved that a session with the answer YES or CLEAN is safe: in every merging of its logs, each read or write after the
+handover finds its page resident, and each read gives what one machine that never moved gives. It is assumed that the logs say
+what happened.
 """
 from __future__ import annotations
 
@@ -42,13 +42,13 @@ Text = Union[bytes, bytearray, memoryview, str, "os.PathLike[str]"]
 
 
 class OutOfMemory(MemoryError):
-    """Memory was refused, and nothing is said of the texts."""
+    """Memory ran out, and nothing is said about the texts."""
 
 
 class Refused(ValueError):
-    """A text is refused: `kind` tells which, SESSION_TEXT, CERT_TEXT or RUNS_TEXT, `line` and `column` where, both counted from 1
-    and the column in bytes, and `why` in words what was found there and what may stand there. The words may change with a version,
-    and no program should read them."""
+    """A text is refused. `kind` says which one: SESSION_TEXT, CERT_TEXT or RUNS_TEXT. `line` and `column` say where, both counted
+    from 1, and the column in bytes. `why` says in words what was found there and what is allowed there. The words may change with
+    a version, and no program should parse them."""
 
     def __init__(self, kind: "Kind", line: int, column: int = 0, why: str = "") -> None:
         super().__init__(kind, line, column, why)
@@ -62,15 +62,15 @@ class Kind(enum.IntEnum):
     """Which answer it is.
 
     YES: the certificate is right, and every merging of the session is safe. CLEAN: every merging is safe. SESSION_TEXT, CERT_TEXT,
-    RUNS_TEXT: the text is refused at the line. SHAPE: the session has not the right shape. PAGES: session and certificate are of
-    machines of different sizes. RUNS, PAGE: the run, or the entry, at the line of the certificate is not right. KNOT: the session's
+    RUNS_TEXT: the text is refused at the line. SHAPE: the session does not have the right shape. PAGES: the session and the
+    certificate have different numbers of pages. RUNS, PAGE: the run, or the entry, at the line of the certificate is not right. KNOT: the session's
     records wait for one another in a cycle. FAULTY: the session is not safe, because of the record at the line.
 
-    READ: a text is read, and no line of it is refused; `why` answers None then. INCOMPLETE, of `missing` and `missing_pages` alone:
-    every merging is safe, but the session does not tell of a whole migration, or not of each owed page.
+    READ: no line of a text is refused; `why` returns None then. INCOMPLETE, only from `missing` and `missing_pages`: every merging
+    is safe, but the session is not complete, or not complete as to its pages.
 
-    Of a replay, and so of one order alone: SAFE: each record finds what it demands; other orders may go wrong. NO_MERGING: the runs
-    spell no merging of the session. BROKEN: the record at the line is the first that does not find what it demands.
+    Only from `replay`, and so about one order: SAFE: the demand of each record holds; other orders may go wrong. NO_MERGING: the
+    runs spell no merging of the session. BROKEN: the record at the line is the first whose demand fails.
     """
 
     YES = 1
@@ -94,18 +94,19 @@ class Kind(enum.IntEnum):
 
     @property
     def word(self) -> str:
-        """The word of the kind in what the program writes."""
+        """The word that the program writes for the kind."""
         return "certificate-text" if self is Kind.CERT_TEXT else self.name.lower().replace("_", "-")
 
 
 class Reason(enum.IntEnum):
-    """Why a session has not the right shape, or a page is faulty.
+    """Why a session does not have the right shape, or a page is faulty.
 
-    PHASES: a record in the wrong phase. NAMED: it names what is not there, or of the wrong kind. START: a log does not begin as it
-    has to, or the source's `back` is not its log's last record. SECOND_SEND: a page is sent twice. BOTH: the source starts the guest
-    again that was resumed at the target. READ: a wrong value. EARLY: a use of a page that was not seen to be placed. GIVEN: a
-    released page is sent. STALE, ALTERED: a page is sent, or placed, with other contents than it has at the halt. TWICE: a second
-    placement. UNFIT: zeros for a page that was not released. OVER: a placement over the guest's release at the target.
+    PHASES: a record in the wrong phase. NAMED: it names a record that does not exist, or one of the wrong kind. START: a log does
+    not begin as it must, or the source's `back` is not the last record of its log. SECOND_SEND: a page is sent twice. BOTH: the
+    source starts the guest again, although it was resumed at the target. READ: a wrong value. EARLY: a use of a page before a look
+    showed its placement. GIVEN: a released page is sent. STALE, ALTERED: a page is sent, or placed, with other contents than it has
+    at the halt. TWICE: a second placement. UNFIT: zeros for a page that was not released. OVER: a placement over the guest's
+    release at the target.
     """
 
     PHASES = 1
@@ -124,15 +125,16 @@ class Reason(enum.IntEnum):
 
     @property
     def word(self) -> str:
-        """The word of the reason in what the program writes."""
+        """The word that the program writes for the reason."""
         return self.name.lower().replace("_", "-")
 
 
 class Asks(enum.IntEnum):
     """What a question of `answers` asks.
 
-    A question is answered as the function of its name does: EXPLAIN_PAGE and EXPLAIN_LINE as `explain` with a page or a line,
-    DRAW_PAGE as `draw` with a page. Those that end with OBJECT ask for an object of JSON, as the program writes it with `--format json`.
+    The answer is that of the function with this name. EXPLAIN_PAGE and EXPLAIN_LINE are `explain` with a page or a line, and
+    DRAW_PAGE is `draw` with a page. A name that ends in OBJECT asks for a JSON object, as the program writes it with
+    `--format json`.
     """
 
     AUDIT = 1
@@ -150,7 +152,7 @@ class Asks(enum.IntEnum):
     EXPLAIN_OBJECT = 13
 
 
-#: What is asked, with the number of the page or of the line where one is asked about.
+#: What is asked, with the number of the page or of the line if the question is about one.
 Question = Union[Asks, Tuple[Asks, int]]
 
 
@@ -170,10 +172,10 @@ _REFUSED = (Kind.SESSION_TEXT, Kind.CERT_TEXT, Kind.RUNS_TEXT)
 class Answer:
     """An answer: its kind, the line of a text that it names, its reason, and its text.
 
-    The text is that which the program's command writes: of `certify` the certificate, or the first line of the report, of
-    `audit` the report, of `audit_all` its first line and each page that has a fault, of `missing` and `missing_pages` the line of what
-    is missing, of `explain` what happened in words, and of `draw` a picture as SVG. `check` and `replay` have none. A notebook shows a picture.
-    Where a text is refused, `column` and `why` tell more of it, as Refused has them.
+    The text is the one that the program's command writes. For `certify` it is the certificate, or the first line of the report;
+    for `audit` the report; for `audit_all` its first line and each page that has a fault; for `missing` and `missing_pages` the
+    line that says what is missing; for `explain` the story in words; and for `draw` a picture as SVG. `check` and `replay` have no
+    text. A notebook shows a picture. If a text is refused, `column` and `why` say more, as in Refused.
     """
 
     kind: Kind
@@ -185,16 +187,16 @@ class Answer:
 
     @property
     def is_safe(self) -> bool:
-        """Whether every merging of the session is safe: by a right certificate, or by the audit. A replay never says so."""
+        """Whether a right certificate or the audit says that every merging of the session is safe. A replay never says so."""
         return self.kind in (Kind.YES, Kind.CLEAN, Kind.INCOMPLETE)
 
     @property
     def verdict(self) -> str:
-        """The word of the kind, as "faulty"."""
+        """The word of the kind, such as "faulty"."""
         return self.kind.word
 
     def raise_if_refused(self) -> None:
-        """Raises Refused where the answer is that a text is refused."""
+        """Raises Refused if the answer is that a text is refused."""
         if self.kind in _REFUSED:
             raise Refused(self.kind, self.line or 0, self.column or 0, self.why or "")
 
@@ -207,15 +209,15 @@ class Answer:
         return f"{self.verdict}{line}{reason}"
 
     def _repr_svg_(self) -> Optional[str]:
-        """The picture, of the answer of `draw`, for a notebook."""
+        """The picture in the answer of `draw`, for a notebook."""
         return self.text.decode("ascii") if self.text.startswith(b"<svg ") else None
 
 
 @dataclass(frozen=True)
 class Report(Answer):
-    """What `audit` answers: the report on a session, which is kept as it was given.
+    """The answer of `audit`: the report on a session, and the session as it was given.
 
-    `page`, `faults`, `explain` and `draw` read the session again when they are asked for, so its file has to be there, as it was.
+    `page`, `faults`, `explain` and `draw` read the session again at each call, so its file must still be there, unchanged.
     A notebook shows a report as the picture of its session.
     """
 
@@ -223,31 +225,31 @@ class Report(Answer):
 
     @property
     def certificate(self) -> Optional[bytes]:
-        """The certificate of the session, where it is clean."""
+        """The certificate of the session, if it is clean."""
         return self._behind_first_line() if self.kind is Kind.CLEAN else None
 
     @property
     def runs(self) -> Optional[bytes]:
-        """The runs of an order in which it goes wrong, where the session is faulty."""
+        """The runs of an order that shows the fault, if the session is faulty."""
         return self._behind_first_line() if self.kind is Kind.FAULTY else None
 
     @functools.cached_property
     def page(self) -> Optional[int]:
-        """The page that went wrong, where the session is faulty: the record at the line names it."""
+        """The page of the first fault, if the session is faulty: the one that the record at the line names."""
         return page_in(_line(self.session, self.line or 0)) if self.kind is Kind.FAULTY else None
 
     def faults(self) -> List[Fault]:
-        """Each page that has a fault, in ascending order, with its first. They are none where the session is not faulty."""
+        """Each page that has a fault, in ascending order, with its first fault. The list is empty if the session is not faulty."""
         return _faults(audit_all(self.session).text) if self.kind is Kind.FAULTY else []
 
     def explain(self, page: Optional[int] = None, line: Optional[int] = None) -> str:
-        """What happened in the session, in words after the first line of the report; or what became of a page, or of the record
-        at a line of the session's text and of its page."""
+        """The story of the session in words, after the first line of the report; or that of a page, or of the record at a line of
+        the session's text and of its page."""
         return explain(self.session, page, line).text.decode("ascii")
 
     def draw(self, page: Optional[int] = None) -> str:
-        """The picture of the session in the order of the report, as SVG, about what the report names, or about a page. Raises
-        Refused where its text is refused."""
+        """The picture of the session in the order of the report, as SVG. It is about what the report is about, or about a page.
+        Raises Refused if the session's text is refused."""
         self.raise_if_refused()
         return draw(self.session, page).text.decode("ascii")
 
@@ -285,7 +287,7 @@ _Numbers = TypeVar("_Numbers", _Answer, _Refusal)
 
 
 class _Bytes:
-    """Bytes in memory: where they stand, and how many they are. They stay there until it is closed."""
+    """Bytes in memory: their address and their number. They stay there until this is closed."""
 
     def __init__(self, text: Text) -> None:
         self._file: Optional[mmap.mmap] = None
@@ -295,7 +297,7 @@ class _Bytes:
             self._held: object = (ctypes.c_char * self.length).from_buffer(taken)
             self.at = ctypes.addressof(self._held)
         else:
-            # (bytes, also no bytes at all, have a place of their own)
+            # (bytes have an address of their own, even if there are none)
             self._held = bytes(taken)
             self.at = ctypes.cast(ctypes.c_char_p(self._held), ctypes.c_void_p).value or 0
 
@@ -312,7 +314,7 @@ class _Bytes:
         with open(name, "rb") as file:
             if os.fstat(file.fileno()).st_size == 0:
                 return file.read()
-            # (ctypes wants memory that could be written; nothing writes it, and the file would stay as it is)
+            # (ctypes needs writable memory; nothing writes to it, and the file would not change)
             self._file = mmap.mmap(file.fileno(), 0, access=mmap.ACCESS_COPY)
             return self._file
 
@@ -332,8 +334,8 @@ def _line(text: Text, number: int) -> str:
 
 
 def _beside() -> Optional[str]:
-    """The library of the wheel, or that of a checkout: the one of the sources there, as tools/library tells, or where there is none,
-    the one that was built there last."""
+    """The library of the wheel, or that of a checkout: the one for the sources there, as tools/library says, or else the one that
+    was built there last."""
     here = Path(__file__).resolve().parent
     top = here.parent.parent.parent
     of_wheel, built = here / "libpostcopy.so", top / "crates/postcopy_c/out/libpostcopy.so"
@@ -355,7 +357,7 @@ def _library() -> ctypes.CDLL:
     library = ctypes.CDLL(name)
     text = [ctypes.c_void_p, ctypes.c_size_t]
     for name in ("check", "replay", "certify", "audit", "audit_all", "missing", "missing_pages", "explain", "draw"):
-        call = getattr(library, f"postcopy_{name}", None)  # (an older library lacks some: who calls those is told so)
+        call = getattr(library, f"postcopy_{name}", None)  # (an older library does not have all: calling one of those fails)
         if call is not None:
             call.argtypes, call.restype = text + text, _Answer
     for name in ("explain_page", "explain_line", "draw_page"):
@@ -378,7 +380,7 @@ def _kind(numbers: Union[_Answer, _Refusal]) -> Kind:
 
 
 def _told(numbers: _Answer, text: bytes, *given: _Bytes) -> Answer:
-    """The answer to the texts that were given, with why one of them is refused."""
+    """The answer about the given texts, with why one of them is refused."""
     kind = _kind(numbers)
     answer = Answer(kind, numbers.line or None, Reason(numbers.reason) if numbers.reason else None, text)
     refused = _why(given[0 if kind is Kind.SESSION_TEXT else -1], kind) if kind in _REFUSED else None
@@ -386,9 +388,9 @@ def _told(numbers: _Answer, text: bytes, *given: _Bytes) -> Answer:
 
 
 def _in_room(length: int, call: "Callable[[object, int], _Numbers]") -> "tuple[_Numbers, bytes]":
-    """What a call answers that writes a text into the room that it is handed, and this text. The room has so many bytes at first."""
+    """The answer of a call that writes a text into a room, and this text. `length` is the size of the first room, in bytes."""
     while True:
-        # (memory that is mapped and not touched takes none)
+        # (mapped memory that nobody touches takes up none)
         with mmap.mmap(-1, length) as room:
             held = (ctypes.c_char * length).from_buffer(room)
             numbers = call(held, length)
@@ -399,14 +401,14 @@ def _in_room(length: int, call: "Callable[[object, int], _Numbers]") -> "tuple[_
 
 
 def _with_text(call: "ctypes._FuncPointer", session: Text, *topic: int) -> Answer:
-    """What a call answers that writes a text on a session, about the page or the line that it takes, if it takes one."""
+    """The answer of a call that writes a text about a session. Some calls also take a page or a line."""
     with _Bytes(session) as given:
         numbers, text = _in_room(given.length + mmap.PAGESIZE, lambda room, length: call(given.at, given.length, *topic, room, length))
         return _told(numbers, text, given)
 
 
 def _topic(what: str, number: int) -> int:
-    """The number of a page or of a line, where a call can take it. (ctypes would cut any other.)"""
+    """The number of a page or of a line, if a call can take it. (ctypes would truncate any other.)"""
     number = operator.index(number)
     if not 0 <= number < 1 << 32:
         raise ValueError(f"no {what} has the number {number}")
@@ -414,7 +416,7 @@ def _topic(what: str, number: int) -> int:
 
 
 def _faults(text: bytes) -> List[Fault]:
-    """The pages that have a fault, by what `audit_all` writes of them."""
+    """The pages that have a fault, from the text that `audit_all` writes."""
     pages = (it.split(" ") for it in text.decode("ascii").splitlines() if it.startswith("page "))
     return [Fault(int(page), int(line), Reason[reason.upper().replace("-", "_")]) for _, page, _, line, reason in pages]
 
@@ -425,58 +427,59 @@ def _on_two(call: "ctypes._FuncPointer", session: Text, other: Text) -> Answer:
 
 
 def _why(given: _Bytes, kind: Kind) -> Optional[Refused]:
-    """Why bytes are refused as a text of a kind, or None where they are read."""
+    """Why bytes are refused as a text of a kind, or None if they are not."""
     call = _library().postcopy_why
     numbers, words = _in_room(mmap.PAGESIZE, lambda room, length: call(given.at, given.length, kind, room, length))
     return None if _kind(numbers) is Kind.READ else Refused(kind, numbers.line, numbers.column, words.decode("utf-8", "replace"))
 
 
 def check(session: Text, certificate: Text) -> Answer:
-    """Judges the certificate of a session, as the command `check` does. Raises OutOfMemory where memory is refused."""
+    """Checks the certificate of a session, as the command `check` does. Raises OutOfMemory if memory runs out."""
     return _on_two(_library().postcopy_check, session, certificate)
 
 
 def replay(session: Text, runs: Text) -> Answer:
-    """Replays a session in the one order that a text of runs, a certificate or a report tells, as the command `replay` does. SAFE is
-    said of this order alone. Raises OutOfMemory where memory is refused."""
+    """Replays a session in the one order that a text of runs, a certificate or a report gives, as the command `replay` does. SAFE is
+    about this order alone. Raises OutOfMemory if memory runs out."""
     return _on_two(_library().postcopy_replay, session, runs)
 
 
 def certify(session: Text) -> Answer:
-    """The certificate of a session that is clean, and of another the first line of its report, as the command `certify` writes
-    it. Raises OutOfMemory where memory is refused."""
+    """Returns the certificate of a clean session, or for any other session the first line of its report, as the command `certify`
+    writes it. Raises OutOfMemory if memory runs out."""
     return _with_text(_library().postcopy_certify, session)
 
 
 def audit(session: Text) -> Report:
-    """The report on a session, as the command `audit` writes it. Raises OutOfMemory where memory is refused."""
+    """Returns the report on a session, as the command `audit` writes it. Raises OutOfMemory if memory runs out."""
     answer = _with_text(_library().postcopy_audit, session)
     return Report(answer.kind, answer.line, answer.reason, answer.text, answer.column, answer.why, session)
 
 
 def audit_all(session: Text) -> Answer:
-    """The first line of the report on a session, and each page that has a fault, as the command `audit --all` writes them. Raises
-    OutOfMemory where memory is refused."""
+    """Returns the first line of the report on a session, and each page that has a fault, as the command `audit --all` writes them.
+    Raises OutOfMemory if memory runs out."""
     return _with_text(_library().postcopy_audit_all, session)
 
 
 def missing(session: Text) -> Answer:
-    """What a clean session lacks first to tell of a whole migration, by the line that `audit --complete` writes of it, with the kind
-    INCOMPLETE; CLEAN, with no text, where it lacks nothing; and of another session the first line of its report. Raises OutOfMemory
-    where memory is refused."""
+    """Returns what is missing first from a clean session: the line that `audit --complete` writes, with the kind INCOMPLETE. If
+    the session tells of a whole migration, the kind is CLEAN, with no text. For any other session, returns the first line of its
+    report. Raises OutOfMemory if memory runs out."""
     return _with_text(_library().postcopy_missing, session)
 
 
 def missing_pages(session: Text) -> Answer:
-    """The same as `missing`, but asked only that the guest was halted, that it was resumed, and that each page that the target was
-    owed was placed or released there: by the line that `audit --complete-pages` writes. Raises OutOfMemory where memory is refused."""
+    """Like `missing`, but a clean session needs only this: the guest was halted and resumed, and each page that the target was
+    owed was placed or released there. The line is the one that `audit --complete-pages` writes. Raises OutOfMemory if memory runs
+    out."""
     return _with_text(_library().postcopy_missing_pages, session)
 
 
 def explain(session: Text, page: Optional[int] = None, line: Optional[int] = None) -> Answer:
-    """What happened in a session, in words after the first line of its report, as the command `explain` writes it; or what became
-    of a page, as `explain --page` does, or of the record at a line of the text and of its page, as `explain --line` does. Raises
-    ValueError where both are named, and OutOfMemory where memory is refused."""
+    """Returns the story of a session in words, after the first line of its report, as the command `explain` writes it; or that of a
+    page, as with `explain --page`; or that of the record at a line of the text and of its page, as with `explain --line`. Raises
+    ValueError if both are given, and OutOfMemory if memory runs out."""
     if page is not None and line is not None:
         raise ValueError("it is told of a page or of a line, and not of both")
     if page is not None:
@@ -487,8 +490,8 @@ def explain(session: Text, page: Optional[int] = None, line: Optional[int] = Non
 
 
 def draw(session: Text, page: Optional[int] = None) -> Answer:
-    """The picture of a session in the order of its report, as the command `draw` writes it, or about a page, as `draw --page` does.
-    The answer is of the kind of the report. Raises OutOfMemory where memory is refused."""
+    """Returns the picture of a session in the order of its report, as the command `draw` writes it, or about a page, as with
+    `draw --page`. The answer has the kind of the report. Raises OutOfMemory if memory runs out."""
     if page is not None:
         return _with_text(_library().postcopy_draw_page, session, _topic("page", page))
     return _with_text(_library().postcopy_draw, session)
@@ -501,7 +504,7 @@ def _asked(question: Question) -> Tuple[Asks, int]:
 
 
 def _answer_to(asks: Asks, told: Answer, text: bytes, session: Text) -> Answer:
-    """What the function of a question's name answers, by what is told of the session and the text for the question."""
+    """The answer of the function with a question's name, given the answer about the session and the text for the question."""
     if asks is Asks.AUDIT:
         return Report(told.kind, told.line, told.reason, text, told.column, told.why, session)
     is_lack = asks in (Asks.MISSING, Asks.MISSING_PAGES) and told.kind is Kind.CLEAN and text
@@ -509,9 +512,9 @@ def _answer_to(asks: Asks, told: Answer, text: bytes, session: Text) -> Answer:
 
 
 def answers(session: Text, *questions: Question) -> List[Answer]:
-    """The answers to several questions of one session, which is read once and judged once: to each what the function of its name
-    answers. A question about a page or a line comes with its number, as (Asks.DRAW_PAGE, 7). Raises ValueError where a question is
-    none, and OutOfMemory where memory is refused."""
+    """Returns the answers to several questions about one session, which is read once and judged once. Each answer is that of the
+    function with the question's name. A question about a page or a line comes with its number, as in (Asks.DRAW_PAGE, 7). Raises
+    ValueError if a question is unknown, and OutOfMemory if memory runs out."""
     asked = [_asked(it) for it in questions]
     taken, ends = (_Question * len(asked))(*asked), (ctypes.c_size_t * len(asked))()
     call = _library().postcopy_answers
@@ -522,8 +525,8 @@ def answers(session: Text, *questions: Question) -> List[Answer]:
 
 
 def why(text: Text, kind: Kind = Kind.SESSION_TEXT) -> Optional[Refused]:
-    """Why a text is refused as a session, or with CERT_TEXT as a certificate, or with RUNS_TEXT as what `replay` takes as an order;
-    None where it is read. Raises OutOfMemory where memory is refused."""
+    """Returns why a text is refused as a session, with CERT_TEXT as a certificate, or with RUNS_TEXT as an order that `replay`
+    takes; or None if it is not refused. Raises OutOfMemory if memory runs out."""
     if kind not in _REFUSED:
         raise ValueError(f"no text is of the kind {kind!r}")
     with _Bytes(text) as given:
@@ -531,6 +534,6 @@ def why(text: Text, kind: Kind = Kind.SESSION_TEXT) -> Optional[Refused]:
 
 
 def version() -> str:
-    """The version of the library."""
+    """Returns the version of the library."""
     number = _library().postcopy_version()
     return f"{number // 10000}.{number // 100 % 100}.{number % 100}"

@@ -1,17 +1,18 @@
-"""Makes a session of the files that recorders wrote: of bindings/c/postcopy_record.h, and of postcopy.recorder.
+"""Makes a session from the files of recorders: those of bindings/c/postcopy_record.h, and those of postcopy.recorder.
 
-A log's records stand in the files PARTY.PROCESS.N of a folder or of several, one for each thread that appended to it:
+A log's records are in files with the name PARTY.PROCESS.N, in one folder or in several. Each thread that appended to the log has
+a file:
 
     postcopy-records 1
     recording NAME
     log PARTY FIRST OPENING
-    NUMBER RECORD       a line for each
-    end COUNT           in one of the files, where the log was closed
+    NUMBER RECORD       for each record
+    end COUNT           in one of the files, if the log was closed
 
-So a process tells of its part of the log: the records from FIRST on and in front of COUNT. OPENING is the N of the part's first file.
-The last line is `next COUNT` where the log was handed over to another process, and `lost ERRNO` where a record was not written. A file ends at a byte 0 or with a line
-that has no end, where its process died. A log is whole where each of its parts was closed, and they have each number from 0 on
-once. Nothing here needs the library.
+So a process writes a part of the log: the records from FIRST on, up to COUNT, which is not included. OPENING is the N of the
+part's first file. In place of `end COUNT`, the last line is `next COUNT` if the log was handed over to another process, and `lost
+ERRNO` if a record was not written. A file ends at a byte 0, or with a line that has no end, if its process died. A log is whole
+if each of its parts was closed, and if they have each number from 0 on once. Nothing here needs the library.
 """
 from __future__ import annotations
 
@@ -33,7 +34,7 @@ _MACHINE = re.compile("pages ([1-9][0-9]{0,9}) ([1-9][0-9]{0,2})|page (0|[1-9][0
 
 
 class Unfit(ValueError):
-    """Why the files are those of no session, in words."""
+    """Why no session can be made from the files, in words."""
 
 
 def _quoted(text: str) -> str:
@@ -41,14 +42,14 @@ def _quoted(text: str) -> str:
 
 
 def _lines(path: str) -> List[str]:
-    """The lines of a file that were written to their ends."""
+    """Returns the lines of a file that were written to their ends."""
     with open(path, "rb") as file:
         whole = file.read().partition(b"\0")[0].rpartition(b"\n")[0]
     return whole.decode("ascii", "backslashreplace").split("\n") if whole else []
 
 
 class _Name:
-    """The recording's name, which all files have."""
+    """The recording's name, which is the same in all files."""
 
     def __init__(self) -> None:
         self.name, self.path = "", ""
@@ -61,10 +62,10 @@ class _Name:
 
 
 class _Part:
-    """What a process wrote of a log from an opening on."""
+    """The part of a log that a process wrote after it opened the log."""
 
     def __init__(self, path: str, first: int) -> None:
-        self.path, self.first, self.count = path, first, first  # `count`: the number behind its last record
+        self.path, self.first, self.count = path, first, first  # `count`: the number after its last record
         self.word, self.where, self.error = "", "", 0  # how and where it was closed, and why a record was not written
 
     def close(self, log: str, where: str, word: str, number: int) -> None:
@@ -94,7 +95,7 @@ class _Log:
         self.said: List[str] = []
 
     def read(self, path: str, process: str, recording: _Name) -> None:
-        """Takes in a file."""
+        """Takes a file."""
         self.paths.append(path)
         lines = _lines(path)
         head = self._head(path, lines)
@@ -131,7 +132,7 @@ class _Log:
         return found
 
     def _take(self, part: _Part, path: str, numbers: List[int], place: int, line: str) -> None:
-        """Takes a file's records, and perhaps its last line, into its part."""
+        """Adds a file's records, and its last line if it is one that ends a log, to its part."""
         if numbers and min(numbers) < part.first:
             raise Unfit(f"{self.place(min(numbers))} is in a file of the records from {part.first} on")
         most = max(numbers, default=part.first - 1) + 1
@@ -143,13 +144,13 @@ class _Log:
             part.close(self.name, f"{path}:{place}", last[1], int(last[2]))
 
     def _twice(self, path: str, place: int, part: _Part, number: int) -> str:
-        """What is said of a second record of a number."""
+        """The message about a second record with a number."""
         others = {it.first for it in self.parts.values() if it is not part}
         why = _GONE_ON if others and part.first not in others else _TWICE
         return f"{path}:{place}: a second record {number} of the {self.name}'s log, beside {self.place(number)}: {why}"
 
     def place(self, number: int) -> str:
-        """Which record this is, and where it stands. (Looked for anew: it is asked for once or twice.)"""
+        """The name of a record in messages, with its place. (It is searched for each time, because few are needed.)"""
         start = f"{number} "
         for path in self.paths:
             for place, line in enumerate(_lines(path), 1):
@@ -158,7 +159,7 @@ class _Log:
         return f"record {number} of the {self.name}'s log"
 
     def lacks(self) -> Iterator[str]:
-        """What keeps the log's parts from being all of it, in words."""
+        """Says in words why the log's parts are not the whole log."""
         yield from self.said
         parts, at = sorted(self.parts.values(), key=lambda part: (part.first, part.count)), 0
         for part in parts:
@@ -173,7 +174,7 @@ class _Log:
             at = max(at, part.count)
 
     def missing(self) -> Tuple[int, str]:
-        """As far as which record no number is missing, and which are, in words."""
+        """Returns the first number that is missing, and says in words which numbers are."""
         count = max((part.count for part in self.parts.values()), default=0)
         first = next(number for number in range(len(self.texts) + 1) if number not in self.texts)
         end = min((number for number in self.texts if number > first), default=count)
@@ -181,7 +182,7 @@ class _Log:
 
 
 def _read(folders: Iterable[str]) -> Dict[str, _Log]:
-    """The logs that have a file in these folders."""
+    """Returns the logs that have a file in these folders."""
     logs: Dict[str, _Log] = {}
     named, recording = [], _Name()
     for folder in folders:
@@ -198,7 +199,7 @@ def _read(folders: Iterable[str]) -> Dict[str, _Log]:
 
 
 def _machine(log: Optional[_Log]) -> Tuple[Session, List[str]]:
-    """A session of the machine that is told of, with no records; and what is said of its log."""
+    """Returns a session of the machine that its log describes, with no records, and messages about that log."""
     if log is None:
         raise Unfit("there is no file of the machine's log, which tells how many pages there are: postcopy_record_machine, or Log.machine")
     pages, told = None, {}
@@ -227,7 +228,7 @@ def _machine(log: Optional[_Log]) -> Tuple[Session, List[str]]:
 
 
 def _wrong(session: Session, field: str, value: object) -> str:
-    """Why a field's value is none of the machine, in words; nothing where it is."""
+    """Says in words why a field's value does not fit the machine, or nothing if it does."""
     limit = {"page": session.pages, "cell": session.cells}.get(field)
     if limit is not None and int(str(value)) >= limit:
         return f"there is no {field} {value}: {f'the machine has {limit} pages' if field == 'page' else f'a page has {limit} cells'}, from 0 on"
@@ -237,7 +238,7 @@ def _wrong(session: Session, field: str, value: object) -> str:
 
 
 def _records(session: Session, log: _Log) -> List[str]:
-    """Puts a log's records into the session as far as no number is missing. Answers what is said of it."""
+    """Puts a log's records into the session, up to the first number that is missing. Returns messages about the log."""
     length, missing = log.missing()
     records = session.logs[log.name]
     for number in range(length):
@@ -256,7 +257,7 @@ def _records(session: Session, log: _Log) -> List[str]:
 
 
 def _unresumed(session: Session, log: Optional[_Log]) -> Iterator[str]:
-    """What is said of a guest that goes on behind its halt with no resume."""
+    """The message about a guest that runs after its halt without a resume."""
     words = [record[0] for record in session.logs["guest"]]
     if log is not None and "halt" in words and "resume" not in words and words[-1] != "halt":
         yield (f"guest: {log.place(words.index('halt') + 1)} comes after the halt, and there is no resume: "
@@ -264,9 +265,10 @@ def _unresumed(session: Session, log: Optional[_Log]) -> Iterator[str]:
 
 
 def recording_of(folders: Iterable[str]) -> Tuple[Session, List[str]]:
-    """The recording of the files in these folders, cut to a whole, and what was left out or is missing, in words: nothing where it is
-    whole. Its machine may have more pages than that of a session, and its logs more records: windows show some of the pages. Raises
-    Unfit where the files make no recording, and OSError where they cannot be read."""
+    """Returns the recording from the files in these folders, cut so that no record names one that is missing, and messages about
+    what was left out or is missing; there are none if it is whole. Its machine may have more pages than that of a session, and its
+    logs more records: windows show some of the pages. Raises Unfit if the files make no recording, and OSError if they cannot be
+    read."""
     logs = _read(folders)
     session, said = _machine(logs.get("machine"))
     session.has_lane = "lane" in logs
@@ -286,7 +288,7 @@ def recording_of(folders: Iterable[str]) -> Tuple[Session, List[str]]:
 
 
 def session_of(folders: Iterable[str]) -> Tuple[Session, List[str]]:
-    """The session of the files in these folders, cut to a whole and to the records that a session may have, and what was left out or
-    is missing, in words: nothing where it is whole. Raises as `recording_of` does."""
+    """Returns the session from the files in these folders, cut as `recording_of` does, and to the number of records that a session
+    may have; and messages about what was left out or is missing. Raises as `recording_of` does."""
     session, said = recording_of(folders)
     return session, said + session.cut()

@@ -1,4 +1,4 @@
-"""Records what the parties of one's own migration do: the calls of bindings/c/postcopy_record.h, in Python.
+"""Records what the parties of your own migration do: the calls of bindings/c/postcopy_record.h, in Python.
 
     >>> from postcopy.recorder import Log
     >>> pager = Log("recording", "pager")
@@ -8,15 +8,15 @@
     1
     >>> pager.close()
 
-Each party has a log, open in the process that acts for it. A call appends one record and answers its number, which goes into
-the message; who takes the message names it in a record of its own. `man 5 postcopy` has the records.
-A record is in the log's file when its call returns, and stays there however the process ends. Any number of threads may call.
+Each party has a log, which is open in the process that acts for the party. A call appends one record and returns its number. Send
+the number with the message; the receiver names it in a record of its own. `man 5 postcopy` describes the records. A record is in
+the log's file when its call returns, and stays there however the process ends. Any number of threads may call.
 
-A folder holds one recording: give each run a folder of its own. `postcopy-session FOLDER..` makes the session of the files, be
-they of this module or of the C recorder, and tells what is missing: so close each log where its party is through.
+A folder holds one recording: give each run a folder of its own. `postcopy-session FOLDER..` makes the session from the files,
+whether this module or the C recorder wrote them, and says what is missing. So close each log when its party has finished.
 
-Where a record cannot be written the call answers LOST, the log ends there, and `error` tells why. So too in a forked child,
-in the logs that its parent opened. Nothing here needs the library.
+If a record cannot be written, the call returns LOST, the log ends there, and `error` says why. In a forked child, calls on the logs
+that its parent opened also return LOST. Nothing here needs the library.
 """
 from __future__ import annotations
 
@@ -38,8 +38,8 @@ _NAME = re.compile("[A-Za-z0-9_.-]{1,64}", re.ASCII)
 
 
 def join(folder: Folder, recording: str) -> None:
-    """Makes a folder one of the recording of this name: at another machine, before the first log is opened there. Raises
-    FileExistsError where the folder has another name, and ValueError where this is none: 1 to 64 letters, digits, `-`, `_` and `.`."""
+    """Makes a folder part of the recording with this name. Call it on another machine, before the first log is opened there. Raises
+    FileExistsError if the folder has another name, and ValueError if this is not a name: 1 to 64 letters, digits, `-`, `_` and `.`."""
     if not _NAME.fullmatch(recording):
         raise ValueError(f"{recording!r} is no name of a recording")
     found = _name_recording(folder, recording)
@@ -48,7 +48,7 @@ def join(folder: Folder, recording: str) -> None:
 
 
 def _name_recording(folder: Folder, given: Optional[str] = None) -> str:
-    """The name of a folder's recording: the one that it has, or else the one that is given, or a new one."""
+    """Returns the name of a folder's recording: the one that it has, or else the given one, or else a new one."""
     os.makedirs(folder, exist_ok=True)
     path = os.path.join(folder, "recording-name")
     if not os.path.exists(path):
@@ -71,12 +71,12 @@ def _name_recording(folder: Folder, given: Optional[str] = None) -> str:
 class Log:
     """The log of a party: "guest", "source", "link", "lane" or "pager", or "machine" for the first two calls.
 
-    The folder is made where it is not there; where it is None nothing is recorded, and all calls answer LOST. `first` is the
-    number of the first record: 0, or where another process handed the log over (the guest's, behind the halt) what hand_over
-    answered; where that is LOST nothing is recorded. `recording` is the recording's name: who opens the first log in a folder
-    makes one at random.
+    The folder is made if it does not exist. If it is None, nothing is recorded, and all calls return LOST. `first` is the number of
+    the first record: 0, or if another process handed the log over (the guest's, after the halt) what hand_over returned there. If
+    that is LOST, nothing is recorded. `recording` is the recording's name. The first log that is opened in a folder makes one at
+    random.
 
-    At the end of a `with` the log is closed, but where an exception ends it: then it is left as by a process that died.
+    The end of a `with` closes the log. If an exception ends it, the log is left as if its process had died.
     """
 
     def __init__(self, folder: Optional[Folder], party: str, first: int = 0) -> None:
@@ -107,7 +107,7 @@ class Log:
             raise
 
     def _put(self, text: str) -> None:
-        """Writes lines whole, or not at all."""
+        """Writes all of the lines, or none."""
         data, written = text.encode("ascii"), 0
         try:
             while written < len(data):
@@ -117,17 +117,17 @@ class Log:
             raise
 
     def _is_open(self) -> bool:
-        """Whether this process writes the log. (To be asked before the lock is taken: in a forked child nobody may give it back.)"""
+        """Whether this process writes the log. (Check this before you take the lock: in a forked child nobody may release it.)"""
         return self._file >= 0 and self._process == os.getpid()
 
     def close(self) -> None:
-        """Closes the log: its file tells then how many records it has. What was recorded is not lost without it, but nobody can
-        know that it is all: the recording is told as one that is not whole. Later calls answer LOST."""
+        """Closes the log: its file then says how many records it has. Without this no record is lost, but nobody can know that they
+        are all, and the recording counts as one that is not whole. Later calls return LOST."""
         self._end("end")
 
     def hand_over(self) -> int:
-        """Closes the log where another process goes on with it: answers the number that this one opens it with, or LOST where a
-        record was lost, so that nobody can go on."""
+        """Closes the log so that another process can go on with it. Returns the number with which that process opens it, or LOST if a
+        record was lost, because then nobody can go on."""
         return self._end("next")
 
     def _end(self, word: Optional[str]) -> int:
@@ -174,14 +174,14 @@ class Log:
     # The machine.
 
     def machine(self, pages: int, cells: int) -> int:
-        """How many pages there are, and cells of 64 bits in each."""
+        """The number of pages, and of 64-bit cells in each."""
         return self._append("machine", "pages", pages, cells)
 
     def initial(self, page: int, contents: Iterable[int]) -> int:
-        """What a page holds at first, if it is not zeros alone."""
+        """The initial contents of a page that does not begin as zeros."""
         return self._append("machine", "page", page, _spelled(contents))
 
-    # The guest. `ready` and `placement` are numbers of the pager's log.
+    # The guest. `ready` and `placement` are numbers from the pager's log.
 
     def read(self, vcpu: int, page: int, cell: int, value: int) -> int:
         return self._append("guest", "r", vcpu, page, cell, value)
@@ -204,7 +204,7 @@ class Log:
     def see(self, placement: int) -> int:
         return self._append("guest", "see", placement)
 
-    # The source. `halt` is a number of the guest's log, `sent` of an earlier state or send of its own, `up` of the link's.
+    # The source. `halt` is a number from the guest's log, `up` from the link's, and `sent` that of its own earlier state or send.
 
     def halted(self, halt: int) -> int:
         return self._append("source", "halted", halt)
@@ -222,17 +222,17 @@ class Log:
         return self._append("source", "ask", up)
 
     def ask_sent(self, sent: int) -> int:
-        """In the place of `ask` where the link has no log: the number that came with the message, of the pager's log."""
+        """Replaces `ask` if the link has no log. `sent` is the number that came with the message, from the pager's log."""
         return self._append("source", "ask-sent", sent)
 
     def done(self) -> int:
         return self._append("source", "done")
 
     def back(self) -> int:
-        """The source starts its guest again, and the log ends."""
+        """The source starts its guest again. This must be the last record of the log."""
         return self._append("source", "back")
 
-    # The link and the lane. `sent` is a number of the source's log, or, of what goes up, of the pager's.
+    # The link and the lane. `sent` is a number from the source's log, or for `up` from the pager's.
 
     def down(self, sent: int) -> int:
         return self._append("lane" if self._party == "lane" else "link", "down", sent)
@@ -240,20 +240,20 @@ class Log:
     def up(self, sent: int) -> int:
         return self._append("link", "up", sent)
 
-    # The pager. `down` is a number of the link's or the lane's log, `miss` of the guest's, the others are of its own.
+    # The pager. `down` is a number from the link's or the lane's log, `miss` from the guest's; the others are from its own.
 
     def got(self, down: int) -> int:
         return self._append("pager", "got", down)
 
     def got_sent(self, sent: int) -> int:
-        """In the place of `got` where the link has no log: the number that came with the packet, of the source's log."""
+        """Replaces `got` if the link has no log. `sent` is the number that came with the packet, from the source's log."""
         return self._append("pager", "got-sent", sent)
 
     def pull(self, down: int) -> int:
         return self._append("pager", "pull", down)
 
     def pull_sent(self, sent: int) -> int:
-        """In the place of `pull` where the lane has no log: the number that came with the packet, of the source's log."""
+        """Replaces `pull` if the lane has no log. `sent` is the number that came with the packet, from the source's log."""
         return self._append("pager", "pull-sent", sent)
 
     def ready(self) -> int:
@@ -286,7 +286,7 @@ def _spelled(contents: Iterable[int]) -> str:
 
 
 def page_hash(page: bytes) -> int:
-    """A page's contents in one cell, as postcopy_page_hash in C: 0 for zeros alone, and a hash for any other."""
+    """Returns a page's contents as one cell, as postcopy_page_hash does in C: 0 if all bytes are 0, and otherwise a hash."""
     if page.count(0) == len(page):
         return 0
     value, mask = 0, 2**64 - 1

@@ -1,8 +1,8 @@
 """The records of a session's logs: the word of each, its fields, and which fields name another record.
 
-A record is a tuple of its word and its fields: numbers, and contents as a text of 16 hexadecimal digits for each cell. For
-converters of recordings, which write sessions from other programs' traces; postcopy.sessions puts records together. Nothing
-here needs the library.
+A record is a tuple of its word and its fields: numbers, and contents as a text of 16 hexadecimal digits for each cell. This is for
+converters, which make sessions from other programs' traces; postcopy.sessions puts records together. Nothing here needs the
+library.
 
     >>> read_record("pager", "place 2 15 e3960d5b18af7c42")
     ('place', 2, 15, 'e3960d5b18af7c42')
@@ -26,7 +26,7 @@ LOGS = ("guest", "source", "link", "lane", "pager")
 
 
 class Limits(NamedTuple):
-    """How many pages the machine of a session has at most, how many cells all of them together, and how many records each log."""
+    """The most pages of a session's machine, the most cells of all pages together, and the most records of each log."""
 
     pages: int
     in_all: int
@@ -37,10 +37,10 @@ class Limits(NamedTuple):
 SMALL = Limits(65536, 1048576, 1048576)
 LARGE = Limits(16777216, 16777216, 134217728)
 
-#: So many cells a page has at most.
+#: The most cells of a page.
 MOST_CELLS = 512
 
-#: What a recorder answers in the place of a number where a record was not written.
+#: What a recorder returns in place of a number if a record was not written.
 LOST = 2**32 - 1
 
 
@@ -60,7 +60,7 @@ class Kind(NamedTuple):
     fields: Tuple[Field, ...]
 
     def place(self, name: str) -> Optional[int]:
-        """Where in a record of this kind the field of this name stands."""
+        """The place of the field with this name in a record of this kind."""
         return next((at for at, field in enumerate(self.fields, 1) if field.name == name), None)
 
 
@@ -95,14 +95,14 @@ pager skip skip pager:got
 pager all all
 """
 
-# What a recorder writes where nobody writes a log of the link or the lane: the number came with the message.
+# What a recorder writes if nobody writes a log of the link or the lane: the number came with the message.
 _RECEIVED = """
 source ask-sent ask_sent pager:sent
 pager got-sent got_sent source:sent
 pager pull-sent pull_sent source:sent
 """
 
-#: The log that such a receipt has to name, by its word.
+#: The log that such a receipt must name, by its word.
 RECEIVED = {"ask-sent": "link", "got-sent": "link", "pull-sent": "lane"}
 
 
@@ -113,7 +113,7 @@ def _kinds(table: str) -> Iterator[Kind]:
         yield Kind(log, word, call, tuple(Field(name, of or None) for of, _, name in parts))
 
 
-#: The kinds by log and by word: those of a session, and those that only a recorder writes.
+#: The kinds of records, by log and by word: those of a session, and those that only a recorder writes.
 RECORDS: Dict[str, Dict[str, Kind]] = {log: {} for log in LOGS}
 for _kind in _kinds(_TABLE + _RECEIVED.lstrip()):
     RECORDS[_kind.log][_kind.word] = _kind
@@ -135,7 +135,7 @@ def _field(field: Field, text: str) -> Union[str, int]:
 
 
 def read_record(log: str, text: str) -> Record:
-    """The record of a log that a text spells. Raises ValueError where it spells none."""
+    """Returns the record of a log that a text spells. Raises ValueError if it spells none."""
     word, *fields = text.split(" ")
     kind = RECORDS[log].get(word)
     if kind is None:
@@ -146,25 +146,25 @@ def read_record(log: str, text: str) -> Record:
 
 
 def spelled(record: Record) -> str:
-    """The text of a record."""
+    """Returns the text of a record."""
     return " ".join(map(str, record))
 
 
 def page_of(log: str, record: Record) -> Optional[int]:
-    """The page that a record of a log names itself, if it names one."""
+    """Returns the page that a record of a log names in a field of its own, if it names one."""
     place = RECORDS[log][str(record[0])].place("page")
     return None if place is None else int(record[place])
 
 
 def page_in(line: str) -> Optional[int]:
-    """The page that a line of a session names, where it is a record that names one. (Only a `down` is a word of two logs.)"""
+    """Returns the page that a line of a session names, if it is a record that names one. (Only `down` is a word of two logs.)"""
     word = line.partition(" ")[0]
     log = next((log for log in LOGS if word in RECORDS[log]), None)
     return None if log is None else page_of(log, read_record(log, line))
 
 
 def named(log: str, record: Record) -> Iterator[Tuple[str, int]]:
-    """The records that a record of a log names, by their logs and numbers."""
+    """Yields the records that a record of a log names: the log and the number of each."""
     for field, value in zip(RECORDS[log][str(record[0])].fields, record[1:]):
         if field.log is not None:
             yield field.log, int(value)

@@ -1,6 +1,7 @@
-"""Sessions in the making: logs of records, cut to a whole, seen through a window, and written as a text.
+"""Sessions in the making: logs of records, which are cut to what is whole, seen through a window, and written as a text.
 
-For what makes sessions of recordings, as postcopy.recorded does of a recorder's files. Nothing here needs the library.
+This is for programs that make sessions from recordings, as postcopy.recorded does from a recorder's files. Nothing here needs the
+library.
 """
 from __future__ import annotations
 
@@ -15,7 +16,7 @@ __all__ = ["Session"]
 
 PLACEMENTS = ("place", "zero")
 
-#: Says of a log's record which one it is, and perhaps where it stands.
+#: Names a log's record in a message, perhaps with its place.
 Place = Callable[[str, int], str]
 
 
@@ -29,9 +30,9 @@ def _no_logs() -> Dict[str, List[Record]]:
 
 @dataclass
 class Session:
-    """A machine, what its pages hold at first (those that are not zeros alone), and the logs.
+    """A machine, the initial contents of its pages that do not begin as zeros, and the logs.
 
-    Where it is large it is of the third version also where it keeps the limits of the others, as a window of a large one does.
+    A large session has the third version even if it is within the limits of the others, as a window of a large session can be.
     """
 
     pages: int
@@ -42,13 +43,14 @@ class Session:
     is_large: bool = False
 
     def fits(self, limits: Limits) -> bool:
-        """Whether the machine and the logs keep these limits."""
+        """Returns whether the machine and the logs are within these limits."""
         is_fit = self.pages <= limits.pages and self.cells <= MOST_CELLS and self.pages * self.cells <= limits.in_all
         return is_fit and all(len(records) <= limits.records for records in self.logs.values())
 
     def version(self) -> int:
-        """The version of its text: the third where it is large, or past the limits of the others, or where the source started the
-        guest again; else the second where there is a lane, or a release after the resume; and else the first."""
+        """Returns the version of its text. It is the third if the session is large or beyond the limits of the others, or if the
+        source started the guest again. Otherwise it is the second if there is a lane, or a release after the resume, and else the
+        first."""
         if self.is_large or not self.fits(SMALL) or ("back",) in self.logs["source"]:
             return 3
         words = [record[0] for record in self.logs["guest"]]
@@ -57,7 +59,7 @@ class Session:
         return 2 if is_carried or is_late else 1
 
     def text(self) -> str:
-        """The text of the session. Raises ValueError where the machine or a log is larger than that of a session may be."""
+        """Returns the text of the session. Raises ValueError if the machine or a log is beyond the limits of a session."""
         if not self.fits(LARGE):
             longest = max(map(len, self.logs.values()))
             raise ValueError(
@@ -68,8 +70,8 @@ class Session:
         return "".join(self.lines())
 
     def lines(self) -> Iterator[str]:
-        """The lines of the text, each with its line feed, of a machine and of logs of any size: those of a recording, of which the
-        program's command `window` cuts sessions. Raises ValueError where a page has more cells than one may have."""
+        """Yields the lines of the text, each with its line feed. The machine and the logs may have any size: then they are those of a
+        recording, from which the program's command `window` cuts sessions. Raises ValueError if a page has too many cells."""
         if self.cells > MOST_CELLS:
             raise ValueError(f"{self.cells} cells are too many: a page has at most {MOST_CELLS}")
         version = self.version()
@@ -87,10 +89,10 @@ class Session:
         yield "end\n"
 
     def deliver(self, place: Place = _place) -> None:
-        """Makes the logs of the link and the lane where those who received wrote which message came.
+        """Makes the logs of the link and the lane, if the receiver of each message recorded which one it is.
 
-        Each packet is delivered right before the pager takes it. What the pager sent is delivered as soon as it is sent, so
-        behind the last packet that the pager took before. Raises ValueError where there is such a log all the same.
+        Each packet is delivered just before the pager takes it. What the pager sends is delivered as soon as it is sent, so after
+        the last packet that the pager took before. Raises ValueError if such a log exists anyway.
         """
         for log in ("source", "pager"):
             for number, record in enumerate(self.logs[log]):
@@ -113,9 +115,8 @@ class Session:
                 self.logs["source"][number] = ("ask", ups[int(record[1])].pop() if record[1] in ups else LOST)
 
     def cut(self, most: int = LARGE.records, place: Place = _place) -> List[str]:
-        """Cuts each log in front of its first record that names one which is not there, until there is none; and tells what
-        was left out. So too a `halted` that is alone, and what is past so many records: those of a session, or more where a window
-        is still to come."""
+        """Cuts each log before its first record that names a missing one, until there is none, and returns messages about what was
+        left out. Also cuts a `halted` that is alone, and the records beyond `most`: those of a session, or more if a window follows."""
         reach = {log: _Reach(log, self.logs[log]) for log in LOGS}
         lengths = {log: min(len(self.logs[log]), most) for log in LOGS}
         lacking = {log: "" for log in LOGS if lengths[log] < len(self.logs[log])}
@@ -136,7 +137,7 @@ class Session:
         return told
 
     def _lack(self, log: str, end: int, most: int, other: str, place: Place) -> str:
-        """Why a log is cut in front of this record: for want of one of the other log, if there is one."""
+        """Says why a log is cut before this record: because a record of the other log is missing, if there is another log."""
         if end == most:
             return f"a session's log has {most} records at most"
         if not other:
@@ -151,18 +152,19 @@ class Session:
         return f"{place(log, end)}, '{spelled(record):.60}', names record {number} of the {other}'s log, which is {why}"
 
     def window(self, first: int, last: int) -> "Session":
-        """The session seen through some of its pages, which are numbered from 0: what tells of another page is left out, and
-        what names such a record. A look tells of the newest placement that is kept, and goes where an earlier one told as much.
-        The version stays: the windows of a large session are large. No record of this session names one that is not there."""
+        """Returns the session seen through some of its pages, which are numbered from 0. Records about another page are left out, and
+        so are records that name those. A look names the newest placement that is kept, and is left out if an earlier look named
+        the same one. The version stays: the windows of a large session are large. No record of this session may name a missing
+        one."""
         return next(self._seen(first, last - first + 1, last + 1))
 
     def windows(self, size: int) -> Iterator["Session"]:
-        """The session seen through windows of so many pages, one after another, until each page was in one. The last may have
-        fewer pages. It takes little longer than one window."""
+        """Yields the session seen through consecutive windows of this many pages, until each page was in one. The last window may
+        have fewer pages. This takes little longer than one window."""
         return self._seen(0, size, self.pages)
 
     def _seen(self, first: int, size: int, end: int) -> Iterator["Session"]:
-        """The windows of so many pages from one on, up to that in front of the end."""
+        """Yields the windows of this many pages, from the first page on, up to `end`, which is not included."""
         def window_of(page: int) -> int:
             return (page - first) // size if first <= page < end else _NONE
 
@@ -181,7 +183,7 @@ class Session:
             yield Session(min(size, end - start), self.cells, pages, logs, version > 1, version > 2)
 
     def _renumbered(self, kept: Dict[str, List[int]], looks: Dict[int, int], first: int) -> Dict[str, List[Record]]:
-        """These records and looks, told by their numbers, with their pages numbered from this one on; a look tells of this placement."""
+        """Returns the records and looks with these numbers, with their pages numbered from this one on. A look gets its placement."""
         places = {log: {number: place for place, number in enumerate(kept[log])} for log in LOGS}
 
         def moved(log: str, number: int) -> Record:
@@ -198,7 +200,7 @@ class Session:
         return {log: [moved(log, number) for number in kept[log]] for log in LOGS}
 
     def _homes(self, window_of: Callable[[int], int]) -> Dict[str, List[int]]:
-        """The window that keeps each record: that of its page, and of each record that it names. Looks are kept by another rule."""
+        """Returns the window that keeps each record: that of its page, and of each record that it names. Looks have another rule."""
         homes = {log: [_home(log, record, window_of) for record in records] for log, records in self.logs.items()}
         naming = {log: list(self._naming(log)) for log in LOGS}
         while any([_narrow(log, naming[log], homes) for log in LOGS]):
@@ -206,15 +208,15 @@ class Session:
         return homes
 
     def _naming(self, log: str) -> Iterator[Tuple[int, str, int]]:
-        """The records of a log that name another, but for looks: a record's number, and the log and the number of the other."""
+        """Yields the records of a log that name another, except looks: a record's number, and the log and the number of the other."""
         for number, record in enumerate(self.logs[log]):
             if record[0] != "see":
                 for other, it in named(log, record):
                     yield number, other, it
 
     def _looks(self, homes: List[int]) -> Dict[int, Dict[int, int]]:
-        """The looks that each window keeps, with the newest placement of the window that each tells of: those that tell of a newer
-        one than each before."""
+        """Returns the looks that each window keeps, with the newest placement of the window that each of them shows. A window keeps
+        a look that shows a newer placement than all looks before it."""
         placed = [(number, homes[number]) for number, record in enumerate(self.logs["pager"]) if record[0] in PLACEMENTS]
         looks: Dict[int, Dict[int, int]] = {}
         told = 0
@@ -227,7 +229,7 @@ class Session:
         return looks
 
 
-# The windows that keep a record, where it is not one: each of them, or none.
+# The windows that keep a record, if it is not one window: all of them, or none.
 _ALL, _NONE = -1, -2
 
 
@@ -239,14 +241,14 @@ def _home(log: str, record: Record, window_of: Callable[[int], int]) -> int:
 
 
 def _both(one: int, other: int) -> int:
-    """The windows that keep what these keep, both of them."""
+    """Returns the windows that are in both."""
     if one == _ALL:
         return other
     return one if other in (_ALL, one) else _NONE
 
 
 def _narrow(log: str, naming: List[Tuple[int, str, int]], homes: Dict[str, List[int]]) -> bool:
-    """Keeps the records of a log only where what they name is kept. Answers whether one was kept in more windows before."""
+    """Keeps the records of a log only in windows that keep what they name. Returns whether this changed anything."""
     of_log, is_changed = homes[log], False
     for number, other, it in naming:
         home = _both(of_log[number], homes[other][it])
@@ -256,7 +258,7 @@ def _narrow(log: str, naming: List[Tuple[int, str, int]], homes: Dict[str, List[
 
 
 def _by_home(homes: List[int]) -> Dict[int, List[int]]:
-    """The numbers of the records that each window keeps, or that all do."""
+    """Returns the numbers of the records that each window keeps, or that all windows keep."""
     kept: Dict[int, List[int]] = {}
     for number, home in enumerate(homes):
         if home != _NONE:
@@ -265,11 +267,11 @@ def _by_home(homes: List[int]) -> Dict[int, List[int]]:
 
 
 class _Reach:
-    """How far a log goes where another one has so many records."""
+    """How far a log reaches, given how many records another log has."""
 
     def __init__(self, log: str, records: List[Record]) -> None:
-        self._greatest: Dict[str, List[int]] = {}  # of each log that is named, the greatest number that is named so far ..
-        self._first: Dict[str, List[int]] = {}  # .. and by which record
+        self._greatest: Dict[str, List[int]] = {}  # for each log that is named, the greatest number so far ..
+        self._first: Dict[str, List[int]] = {}  # .. and the record that names it
         self._length = len(records)
         for number, record in enumerate(records):
             for other, it in named(log, record):
@@ -285,6 +287,6 @@ class _Reach:
         return iter(self._greatest)
 
     def end(self, other: str, length: int) -> int:
-        """The first record that names one of the other log which is not among its first so many; or this log's length."""
+        """Returns the first record that names a record of the other log beyond this length, or else the length of this log."""
         at = bisect_left(self._greatest[other], length)
         return self._first[other][at] if at < len(self._first[other]) else self._length

@@ -1,4 +1,4 @@
-"""For tests of what records sessions, by pytest or any other runner.
+"""Assertions for tests of programs that record sessions, with pytest or any other runner.
 
     from postcopy.testing import assert_clean
 
@@ -13,7 +13,7 @@ from . import Answer, Kind, Report, Text, audit, missing, missing_pages
 
 __all__ = ["assert_clean"]
 
-#: What can be asked of a session besides that it is clean, and how less is asked for.
+#: What a test can require of a session besides that it is clean, and how to require less.
 _ASKED = {
     "pages": (missing_pages, "Where that is meant, as of a migration that failed, complete=None asks for a clean session alone."),
     "whole": (missing, 'complete="pages" asks for the halt, the resume and each owed page alone, and complete=None for a clean session.'),
@@ -32,13 +32,13 @@ _MISSING = {
 
 
 def assert_clean(session: Text, complete: Optional[str] = "pages") -> Report:
-    """Fails where a session is not clean, and tells what happened, in the words of `explain`, or why its text is refused. Answers
-    its report.
+    """Fails if a session is not clean, and says what happened, in the words of `explain`, or why its text is refused. Returns the
+    session's report.
 
-    Logs that say nothing are clean, so it fails too where a session does not tell of a migration. With "pages" the guest has to be
-    halted and resumed, and each page that the target was owed placed or released there. With "whole" the pager has to say besides
-    that every owed page had come, the source that it learned of it, and all that the pager took has to be placed or dropped. With
-    None nothing of that is asked. Raises ValueError for any other word."""
+    Empty logs are clean, so it also fails if a session does not tell of a migration. With "pages", the guest must have been halted
+    and resumed, and each page that the target was owed must have been placed or released there. With "whole", the pager must also
+    have said that every owed page had come, the source must have learned of it, and everything that the pager took must have been
+    placed or dropped. With None, none of that is required. Raises ValueError for any other word."""
     __tracebackhide__ = True  # (pytest shows the line of the test)
     if complete is not None and complete not in _ASKED:
         raise ValueError(f'complete is "pages", "whole" or None, and not {complete!r}')
@@ -54,7 +54,7 @@ def assert_clean(session: Text, complete: Optional[str] = "pages") -> Report:
 
 
 def _what_happened(report: Report) -> str:
-    """The words of `explain`, and of a text that is refused what was found in it and what may stand there."""
+    """The words of `explain`. If the text is refused, also what was found in it, and what is allowed there."""
     told = report.explain()
     return told if report.why is None else f"{told}Line {report.line}, column {report.column}: {report.why}\n"
 

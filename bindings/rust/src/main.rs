@@ -1,9 +1,9 @@
-//! Judges the certificate of a session, `postcopy-example SESSION CERT`, or tells what happened in one, `postcopy-example SESSION`.
+//! Checks the certificate of a session, `postcopy-example SESSION CERT`, or prints the story of one, `postcopy-example SESSION`.
 
 use std::io::Write;
 use std::process::ExitCode;
 
-/// As `postcopy_answer` in `postcopy.h`.
+/// `postcopy_answer` of `postcopy.h`.
 #[repr(C)]
 struct Answer {
     kind: u32,
@@ -21,17 +21,17 @@ extern "C" {
     fn postcopy_explain(session: *const u8, session_len: usize, room: *mut u8, room_len: usize) -> Answer;
 }
 
-/// The verdict on a session and its certificate.
+/// Returns the verdict on a session and its certificate.
 fn check(session: &[u8], cert: &[u8]) -> Answer {
-    // A slice is never null, and nobody writes it while it is lent.
+    // A slice is never null, and nobody writes to it while it is borrowed.
     unsafe { postcopy_check(session.as_ptr(), session.len(), cert.as_ptr(), cert.len()) }
 }
 
-/// What happened in a session, in words. A first call tells how much room these take.
+/// Returns the story of a session, in words. The first call says how much room they need.
 fn explain(session: &[u8]) -> (Answer, Vec<u8>) {
     let mut room = Vec::new();
     loop {
-        // A vector's place is never null, and nobody else has it.
+        // A vector's pointer is never null, and nobody else uses its memory.
         let answer = unsafe { postcopy_explain(session.as_ptr(), session.len(), room.as_mut_ptr(), room.len()) };
         if answer.text_len <= room.len() {
             room.truncate(answer.text_len);

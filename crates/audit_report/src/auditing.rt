@@ -31,7 +31,7 @@ use std::thread::Threads;
 
 /// What an audit takes from the findings about pages.
 #[derive(Drop)]
-pub struct Audited {
+pub struct AuditFacts {
     /// The first fault of the pages.
     pub fault: Option<PageFault>,
     /// How many of the pages have a fault.
@@ -45,17 +45,17 @@ pub struct Audited {
 pub struct FaultAndEntries;
 
 impl Question for FaultAndEntries {
-    type Answer = Audited;
+    type Answer = AuditFacts;
 
     ghost IsFor = { λ q s. ⊤ };
 
     ghost IsAnswer = { λ q s first count audited. IsFirstFaultFrom s first count audited.fault × AreManyFrom s first count audited.faulty × MatchOption audited.entries (HasBarePage s) (λ entries. AreMadeFrom s first count entries.items) };
 
-    fn blank(&self, alloc: Global, room: usize) -> Result<Audited, AllocError> {
+    fn blank(&self, alloc: Global, room: usize) -> Result<AuditFacts, AllocError> {
         let fault = FirstFault.blank(alloc, room)?;
         let faulty = HowMany.blank(alloc, room)?;
         let entries = MadeEntries.blank(alloc, room)?;
-        Ok(Audited {
+        Ok(AuditFacts {
             fault,
             faulty,
             entries,
@@ -64,7 +64,7 @@ impl Question for FaultAndEntries {
 
     fn take(
         &self,
-        audited: &mut Audited,
+        audited: &mut AuditFacts,
         session: &Session,
         page: PageNo,
         findings: &Findings,
@@ -75,7 +75,7 @@ impl Question for FaultAndEntries {
         Ok(())
     }
 
-    fn add(&self, audited: &mut Audited, next: Audited) -> Result<(), AllocError> {
+    fn add(&self, audited: &mut AuditFacts, next: AuditFacts) -> Result<(), AllocError> {
         FirstFault.add(&mut audited.fault, next.fault)?;
         HowMany.add(&mut audited.faulty, next.faulty)?;
         MadeEntries.add(&mut audited.entries, next.entries)?;
@@ -91,7 +91,7 @@ impl<R: Threads + Sync> Judges<FaultAndEntries> for InThreads<'_, R> {
         question: &FaultAndEntries,
         alloc: Global,
         session: &Session,
-    ) -> Result<Audited, AllocError> {
+    ) -> Result<AuditFacts, AllocError> {
         answer_apart(self.rt, question, alloc, session)
     }
 }
@@ -144,7 +144,7 @@ fn by_pages(
     alloc: Global,
     session: &Session,
     found: Seq<Run>,
-    audited: Audited,
+    audited: AuditFacts,
 ) -> Result<Report, AllocError>
     requires limits { IsSession session.now }
     requires shape { IsRightShape session.now }

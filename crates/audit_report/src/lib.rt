@@ -16,7 +16,7 @@ mod placements;
 mod printing;
 mod report;
 
-pub use auditing::{Audited, FaultAndEntries, audit, audit_by};
+pub use auditing::{AuditFacts, FaultAndEntries, audit, audit_by};
 pub use dependence::depends_on;
 pub use faulty::{print_all_faults, push_faulty_pages};
 pub use lacking::{line_of_taken, push_missing};

@@ -10,7 +10,7 @@ ghost use Rattle.merge_runs.specs.Taken.{cursors_of};
 ghost use Rattle.audit_report.specs.inner.Parts.{ends, AreBlocks, AreBelow, AreRearranged, IsWithin};
 
 use audit_model::mergings_are_walks;
-use merge_runs::Taken;
+use merge_runs::TakenCounts;
 use migration_types::{LogName, Run, Seq, Session};
 use std::alloc::{AllocError, Global};
 
@@ -34,7 +34,7 @@ fn add_part(runs: &mut Vec<Run>, log: LogName, count: u32) -> Result<(), AllocEr
 }
 
 /// Returns how many of a run's records lie below the cut.
-fn below_of(taken: &Taken, cut: &Taken, run: &Run) -> u32
+fn below_of(taken: &TakenCounts, cut: &TakenCounts, run: &Run) -> u32
     ensures { result ≡ min run.now.count (cursors_of cut.now run.now.log - cursors_of taken.now run.now.log) }
 {
     let below = cut.of(run.log).saturating_sub(taken.of(run.log));
@@ -46,7 +46,7 @@ fn below_parts(
     alloc: Global,
     session: &Session,
     runs: &[Run],
-    cut: &Taken,
+    cut: &TakenCounts,
 ) -> Result<Vec<Run>, AllocError>
     requires limits { IsSession session.now }
     requires merging { IsMerging session.now (spelled runs.now) }
@@ -55,7 +55,7 @@ fn below_parts(
 {
     mergings_are_walks();
     let mut parts = Vec::new(alloc);
-    let mut taken = Taken::nothing();
+    let mut taken = TakenCounts::nothing();
     for run in runs {
         let below = below_of(&taken, cut, run);
         add_part(&mut parts, run.log, below)?;
@@ -68,7 +68,7 @@ fn below_parts(
 fn add_above(
     session: &Session,
     runs: &[Run],
-    cut: &Taken,
+    cut: &TakenCounts,
     parts: &mut Vec<Run>,
 ) -> Result<(), AllocError>
     requires limits { IsSession session.now }
@@ -78,7 +78,7 @@ fn add_above(
     ensures { OnOk result (AreRearranged (cursors_of cut.now) runs.now parts.new.items) }
 {
     mergings_are_walks();
-    let mut taken = Taken::nothing();
+    let mut taken = TakenCounts::nothing();
     for run in runs {
         let below = below_of(&taken, cut, run);
         add_part(parts, run.log, run.count - below)?;
@@ -93,7 +93,7 @@ pub(crate) fn rearranged(
     alloc: Global,
     session: &Session,
     runs: &[Run],
-    cut: &Taken,
+    cut: &TakenCounts,
 ) -> Result<Seq<Run>, AllocError>
     requires limits { IsSession session.now }
     requires merging { IsMerging session.now (spelled runs.now) }

@@ -1,7 +1,7 @@
 //! Reports.
 
 use cert_check::ShapeFault;
-use cert_maker::{FoundRuns, Left};
+use cert_maker::{FirstLeft, FoundRuns};
 use migration_types::{Cert, Run, Seq};
 use page_facts::PageFault;
 
@@ -15,7 +15,7 @@ pub enum Report {
     /// The session's logs have no merging. Of the records that can never be taken and are the next of their logs, this
     /// is the first. The found order goes up to them.
     Knot {
-        left: Left,
+        left: FirstLeft,
         found: FoundRuns,
     },
     /// The session is not safe: the first fault of a page, the line of the faulty record, the runs of a merging in

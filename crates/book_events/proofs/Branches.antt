@@ -4,7 +4,7 @@ use Rattle.migration_types.specs.declared.records.PagerRec.TheVariants.{Fault}
 use Rattle.residency.specs.Placements.{is_resident}
 use Rattle.fault_queue.specs.Waiting.{is_asked, is_waiting}
 use Rattle.target_side.specs.TargetPart.{TargetPart, settled as with_settled, resumes, with_zeroed, with_misses}
-use Rattle.target_side.specs.declared.Missing.{Missing}
+use Rattle.target_side.specs.declared.UntakenMiss.{UntakenMiss}
 use Rattle.target_side.specs.declared.Incoming.{Incoming}
 use Rattle.target_side.specs.PagerPart.{PagerPart, Paged, settles, is_released, fault_join, fault_new, zeroes, faults, faults_by, next_fault, delivers_next, delivers_by, deliver}
 use Rattle.target_side.proofs.Settling.{settles_is, next_fault_plain, deliver_plain}
@@ -19,7 +19,7 @@ either f z false x y p q = q
 abbrev Stays : {A : Type 0} → (TargetPart → A) → Type 0
 Stays f = (p n : ℕ) (t : TargetPart) → f (with_zeroed p n t) ≡ f t
 
-taken : {A : Type 0} (f : TargetPart → A) → Stays f → (x : Missing) (rest : List Missing) (b : PagerPart) (t : TargetPart) → f (faults (x ∷ rest) b t).target ≡ f (with_misses rest t)
+taken : {A : Type 0} (f : TargetPart → A) → Stays f → (x : UntakenMiss) (rest : List UntakenMiss) (b : PagerPart) (t : TargetPart) → f (faults (x ∷ rest) b t).target ≡ f (with_misses rest t)
 taken f stays x rest b t =
     let of_target : Paged → _ = λ r. f r.target in
     let after = f (with_misses rest t) in
@@ -28,17 +28,17 @@ taken f stays x rest b t =
     let absent = either of_target after (is_waiting x.vcpu b.waiting) _ _ refl zeroed in
     either of_target after (is_resident (t.placed x.page) (t.freed x.page)) _ _ refl absent
 
-pub faults_log : (o : Option (List ℕ)) (xs : List Missing) (b : PagerPart) (t : TargetPart) → (faults_by o xs b t).target.log ≡ t.log
+pub faults_log : (o : Option (List ℕ)) (xs : List UntakenMiss) (b : PagerPart) (t : TargetPart) → (faults_by o xs b t).target.log ≡ t.log
 faults_log None xs b t = refl
 faults_log (Some released) [] b t = refl
 faults_log (Some released) (x ∷ rest) b t = taken (λ (u : TargetPart). u.log) (λ p n u. refl) x rest b t
 
-faults_unsettled : (o : Option (List ℕ)) (xs : List Missing) (b : PagerPart) (t : TargetPart) → (faults_by o xs b t).target.unsettled ≡ t.unsettled
+faults_unsettled : (o : Option (List ℕ)) (xs : List UntakenMiss) (b : PagerPart) (t : TargetPart) → (faults_by o xs b t).target.unsettled ≡ t.unsettled
 faults_unsettled None xs b t = refl
 faults_unsettled (Some released) [] b t = refl
 faults_unsettled (Some released) (x ∷ rest) b t = taken (λ (u : TargetPart). u.unsettled) (λ p n u. refl) x rest b t
 
-faults_misses : (released : List ℕ) (xs : List Missing) (b : PagerPart) (t : TargetPart) → 0 < length xs → length (faults_by (Some released) xs b t).target.misses < length xs
+faults_misses : (released : List ℕ) (xs : List UntakenMiss) (b : PagerPart) (t : TargetPart) → 0 < length xs → length (faults_by (Some released) xs b t).target.misses < length xs
 faults_misses released [] b t some = absurd (omega (arith, some))
 faults_misses released (x ∷ rest) b t some = let e = ap length (taken (λ (u : TargetPart). u.misses) (λ p n u. refl) x rest b t) in omega (arith, e)
 

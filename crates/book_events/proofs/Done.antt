@@ -12,8 +12,8 @@ use Rattle.migration_model.specs.Books.{BooksAfter}
 use Rattle.book_events.specs.Parts.{pushing, sending, receiving, placing, HasGained, Gains, IsOffered, IsDone, Tells}
 use Rattle.book_events.specs.inner.Offers.{is_page, Carries, HasMore, IsOffer}
 use Rattle.book_events.specs.inner.Work.{HasFault, HasDelivery}
-use Rattle.book_events.specs.declared.came.Came.{Came}
-use Rattle.book_events.specs.declared.came.Came.TheVariants.{Nothing, Made, Offered}
+use Rattle.book_events.specs.declared.effect.Effect.{Effect}
+use Rattle.book_events.specs.declared.effect.Effect.TheVariants.{Nothing, Made, Offered}
 use Rattle.book_events.proofs.Branches.{fault_settles, fault_takes, deliver_settles, deliver_brings}
 
 -- ---- lines that have gained no page
@@ -46,7 +46,7 @@ none_gained page l m down lane (inr g) = no_gain page l.lane m.lane lane g
 -- ---- a packet that is offered to the target
 
 -- what is told of it, by the lines alone
-abbrev OnLines : Came → LinkPart → LinkPart → Type 0
+abbrev OnLines : Effect → LinkPart → LinkPart → Type 0
 OnLines Nothing l m = ⊥
 OnLines Made l m = (m.down ≢ l.down ⊎ m.lane ≢ l.lane) × ((page : ℕ) → Gains page l m → ⊥)
 OnLines (Offered page) l m = Gains page l m
@@ -54,7 +54,7 @@ OnLines (Offered page) l m = Gains page l m
 longer : (old new : List Packet) → length new ≡ length old + 1 → new ≢ old
 longer old new more same = let e = ap length same in omega (arith, e, more)
 
-on_lines : (came : Came) (l m : LinkPart) → IsOffer came l m → OnLines came l m
+on_lines : (effect : Effect) (l m : LinkPart) → IsOffer effect l m → OnLines effect l m
 on_lines Nothing l m o = o.carries
 on_lines Made l m o = go o.line
   where
@@ -82,18 +82,18 @@ apart l m (inl d) same = d (ap (λ (x : LinkPart). x.down) same)
 apart l m (inr d) same = d (ap (λ (x : LinkPart). x.lane) same)
 
 -- and so of the books
-pub push_told : (came : Came) (w : ℕ) (h : Bool) (s t : SourcePart) (l k m : LinkPart) → k ≡ l → IsOffer came k m → Tells came (pushing w h s l) (pushing w h t m)
-push_told came w h s t l k m is offer = go came (subst (λ (n : LinkPart). OnLines came n m) is (on_lines came k m offer))
+pub push_told : (effect : Effect) (w : ℕ) (h : Bool) (s t : SourcePart) (l k m : LinkPart) → k ≡ l → IsOffer effect k m → Tells effect (pushing w h s l) (pushing w h t m)
+push_told effect w h s t l k m is offer = go effect (subst (λ (n : LinkPart). OnLines effect n m) is (on_lines effect k m offer))
   where
-    go : (came : Came) → OnLines came l m → Tells came (pushing w h s l) (pushing w h t m)
+    go : (effect : Effect) → OnLines effect l m → Tells effect (pushing w h s l) (pushing w h t m)
     go Nothing on = absurd (on)
     go Made on = record { changed = λ a same. apart l m on.0 (ap (λ (x : BooksAfter). x.link) same); no_page = λ a. on.1 }
     go (Offered page) on = record { offered = λ a. on }
 
-pub send_told : (came : Came) (s t : SourcePart) (l k m : LinkPart) → k ≡ l → IsOffer came k m → Tells came (sending s l) (sending t m)
-send_told came s t l k m is offer = go came (subst (λ (n : LinkPart). OnLines came n m) is (on_lines came k m offer))
+pub send_told : (effect : Effect) (s t : SourcePart) (l k m : LinkPart) → k ≡ l → IsOffer effect k m → Tells effect (sending s l) (sending t m)
+send_told effect s t l k m is offer = go effect (subst (λ (n : LinkPart). OnLines effect n m) is (on_lines effect k m offer))
   where
-    go : (came : Came) → OnLines came l m → Tells came (sending s l) (sending t m)
+    go : (effect : Effect) → OnLines effect l m → Tells effect (sending s l) (sending t m)
     go Nothing on = absurd (on)
     go Made on = record { changed = λ a same. apart l m on.0 (ap (λ (x : BooksAfter). x.link) same); no_page = λ a. on.1 }
     go (Offered page) on = record { offered = λ a. on }
@@ -102,8 +102,8 @@ send_told came s t l k m is offer = go came (subst (λ (n : LinkPart). OnLines c
 abbrev TookUp : LinkPart → LinkPart → Type 0
 TookUp l m = m ≡ record l { up_arrivals = drop 1 l.up_arrivals }
 
-pub serve_told : (came : Came) (s t : SourcePart) (l k j m : LinkPart) → k ≡ l → TookUp k j → IsOffer came j m → Tells came (sending s l) (sending t m)
-serve_told came s t l k j m is took offer = send_told came s t l k m is (record {
+pub serve_told : (effect : Effect) (s t : SourcePart) (l k j m : LinkPart) → k ≡ l → TookUp k j → IsOffer effect j m → Tells effect (sending s l) (sending t m)
+serve_told effect s t l k j m is took offer = send_told effect s t l k m is (record {
   packet = offer.packet;
   carries = offer.carries;
   line = subst (λ (n : LinkPart). (HasMore offer.packet n.down m.down × (m.lane ≡ n.lane)) ⊎ ((m.down ≡ n.down) × HasMore offer.packet n.lane m.lane)) took offer.line;

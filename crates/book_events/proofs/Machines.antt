@@ -6,7 +6,7 @@ use Rattle.migration_types.specs.PageSets.{with_page}
 use Rattle.residency.specs.Placements.{is_resident}
 use Rattle.fault_queue.specs.Waiting.{is_asked, is_waiting, without}
 use Rattle.target_side.specs.TargetPart.{TargetPart, settled as with_settled}
-use Rattle.target_side.specs.declared.Missing.{Missing}
+use Rattle.target_side.specs.declared.UntakenMiss.{UntakenMiss}
 use Rattle.target_side.specs.declared.Incoming.{Incoming}
 use Rattle.book_events.proofs.Branches.{either}
 use Rattle.target_side.specs.PagerPart.{PagerPart, Paged, settles, is_released, fault_join, faults, faults_by, next_fault, delivers_next, delivers_by, deliver}
@@ -25,14 +25,14 @@ join_on : (p v : ℕ) (want : Option ℕ) (b : PagerPart) → (fault_join p v wa
 join_on p v None b = refl
 join_on p v (Some want) b = refl
 
-faults_on : (xs : List Missing) (b : PagerPart) (t : TargetPart) → IsOn b.geometry (faults xs b t)
+faults_on : (xs : List UntakenMiss) (b : PagerPart) (t : TargetPart) → IsOn b.geometry (faults xs b t)
 faults_on [] b t = refl
 faults_on (x ∷ rest) b t =
     let asked = on_either (is_asked x.page b.waiting) _ _ b.geometry (join_on x.page x.vcpu (b.wants x.page) (record b { log = b.log ++ Fault x.number ∷ [] })) refl in
     let absent = on_either (is_waiting x.vcpu b.waiting) _ _ b.geometry refl (on_either (is_released b.released x.page) _ _ b.geometry refl asked) in
     on_either (is_resident (t.placed x.page) (t.freed x.page)) _ _ b.geometry refl absent
 
-faults_by_on : (released : Option (List ℕ)) (xs : List Missing) (b : PagerPart) (t : TargetPart) → IsOn b.geometry (faults_by released xs b t)
+faults_by_on : (released : Option (List ℕ)) (xs : List UntakenMiss) (b : PagerPart) (t : TargetPart) → IsOn b.geometry (faults_by released xs b t)
 faults_by_on None xs b t = refl
 faults_by_on (Some released) xs b t = faults_on xs b t
 

@@ -13,9 +13,9 @@ use Rattle.link_book.specs.LinkPart.{LinkPart, if_packet, with_back, with_front,
 use Rattle.link_book.specs.declared.Arrival.{Arrival}
 use Rattle.active_push.specs.SourcePart.{SourcePart, Offer, source_push, source_serve, source_tick}
 use Rattle.target_side.specs.TargetPart.{TargetPart, with_misses, settled as with_settled}
-use Rattle.target_side.specs.declared.Missing.{Missing}
+use Rattle.target_side.specs.declared.UntakenMiss.{UntakenMiss}
 use Rattle.target_side.specs.PagerPart.{PagerPart, Paged, Sent, settles, is_released, fault_new, fault_join, zeroes, faults, faults_by, next_fault, deliver, flushes, pager_pop, pager_pull, pager_flush, pager_tick}
-use Rattle.book_events.specs.declared.came.Came.TheVariants.{Nothing}
+use Rattle.book_events.specs.declared.effect.Effect.TheVariants.{Nothing}
 use Rattle.migration_events.specs.declared.events.Event.{Event}
 use Rattle.migration_events.specs.declared.events.Event.TheVariants.{Push, Serve, SourceTick, PagerPop, PagerPull, PagerFault, PagerFlush, PagerDeliver, PagerTick}
 use Rattle.migration_model.specs.Books.{BooksAfter, session_after}

@@ -12,8 +12,8 @@ use Rattle.migration_events.specs.declared.faults.EventFault.{EventFault}
 use Rattle.migration_events.specs.declared.faults.EventFault.TheVariants.{LogFull, Memory}
 use Rattle.migration_model.specs.Books.{BooksAfter, session_after}
 use Rattle.migration_model.specs.Events.{away_event, has_room}
-use Rattle.book_events.specs.declared.came.Came.{Came}
-use Rattle.book_events.specs.declared.came.Came.TheVariants.{Nothing, Made, Offered}
+use Rattle.book_events.specs.declared.effect.Effect.{Effect}
+use Rattle.book_events.specs.declared.effect.Effect.TheVariants.{Nothing, Made, Offered}
 
 -- a migration with these books
 abbrev pub pushing : ℕ → Bool → SourcePart → LinkPart → BooksAfter → BooksAfter
@@ -65,7 +65,7 @@ pub record IsDone (old new : BooksAfter → BooksAfter) : Type 0 where
 
 -- What the result of an event says: that there was nothing to do only if nothing has changed; a page only if it was
 -- offered; and that the event was carried out only if something has changed and no page was offered.
-abbrev pub Tells : Came → (BooksAfter → BooksAfter) → (BooksAfter → BooksAfter) → Type 0
+abbrev pub Tells : Effect → (BooksAfter → BooksAfter) → (BooksAfter → BooksAfter) → Type 0
 Tells Nothing old new = IsSame old new
 Tells Made old new = IsDone old new
 Tells (Offered page) old new = IsOffered page old new
@@ -73,9 +73,9 @@ Tells (Offered page) old new = IsOffered page old new
 -- The result of a call for an event, on two books that are part of a migration. Either the event is carried out, and
 -- the result says what happened. Or it is refused: because a log is full exactly when a log has no room, and because
 -- memory ran out only if there is room. On an error, nothing changes.
-pub record ComesTo {A B : Type 0} (e : Event) (result : Result Came EventFault) (standing : A → B → BooksAfter → BooksAfter) (one one' : A) (other other' : B) : Type 0 where
+pub record ComesTo {A B : Type 0} (e : Event) (result : Result Effect EventFault) (standing : A → B → BooksAfter → BooksAfter) (one one' : A) (other other' : B) : Type 0 where
   pub ok : OnOk result (IsMade e (standing one other) (standing one' other'))
-  pub told : IfOk result (λ came. Tells came (standing one other) (standing one' other'))
+  pub told : IfOk result (λ effect. Tells effect (standing one other) (standing one' other'))
   pub full : IsErrOf result LogFull → IsFull e (standing one other)
   pub memory : IsErrOf result Memory → Fits e (standing one other)
   pub err : OnErr result ((one' ≡ one) × (other' ≡ other))

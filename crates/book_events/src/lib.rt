@@ -2,11 +2,11 @@
 //! carries them out one after another, and threads do so under the books' locks. Also what the books have recorded.
 #![tactic(auto)]
 
-mod came;
+mod effect;
 pub mod halting;
 pub mod logs;
 pub mod paging;
 pub mod sending;
 
-pub use came::Came;
+pub use effect::Effect;
 pub use migration_events::EventFault;

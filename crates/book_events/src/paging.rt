@@ -9,7 +9,7 @@ ghost use Rattle.migration_events.specs.declared.events.Event.{Event};
 ghost use Rattle.book_events.specs.Parts.{receiving, placing, ComesTo, LooksFor};
 ghost use Rattle.book_events.specs.inner.Work.{HasFault, HasDelivery};
 
-use crate::came::Came;
+use crate::effect::Effect;
 use link_book::LinkBook;
 use migration_events::EventFault;
 use target_side::{PagerBook, TargetBook};
@@ -18,17 +18,17 @@ use target_side::{PagerBook, TargetBook};
 /// source of such a machine sends. The error is `EventFault::LogFull` exactly when the pager's log has no room for the
 /// records. On an error, nothing changes.
 #[tactic(auto, using(crate::proofs::Rooms::pop_fits))]
-pub fn pager_pop(link: &mut LinkBook, pager: &mut PagerBook) -> Result<Came, EventFault>
+pub fn pager_pop(link: &mut LinkBook, pager: &mut PagerBook) -> Result<Effect, EventFault>
     requires { (x : Arrival) → slice_get link.old.part.down_arrivals 0 ≡ Some x → IsPacketOf pager.old.geometry x.packet }
     ensures comes { ComesTo Event.PagerPop result receiving link.old.part link.new.part (part_of pager.old) (part_of pager.new) }
     ensures machine { pager.new.geometry ≡ pager.old.geometry }
 {
     let Some((number, packet)) = link.peek_down() else {
-        return Ok(Came::Nothing);
+        return Ok(Effect::Nothing);
     };
     pager.pop(number, packet)?;
     link.pop_down();
-    Ok(Came::Made)
+    Ok(Effect::Made)
 }
 
 /// Returns whether each log has room for what taking the oldest packet from the link appends. Allocates no memory.
@@ -46,17 +46,17 @@ pub fn look_to_pop(link: &LinkBook, pager: &PagerBook) -> Result<(), EventFault>
 /// one that the source of such a machine sends. The error is `EventFault::LogFull` exactly when the pager's log has no
 /// room for the records. On an error, nothing changes.
 #[tactic(auto, using(crate::proofs::Rooms::pull_fits))]
-pub fn pager_pull(link: &mut LinkBook, pager: &mut PagerBook) -> Result<Came, EventFault>
+pub fn pager_pull(link: &mut LinkBook, pager: &mut PagerBook) -> Result<Effect, EventFault>
     requires { (x : Arrival) → slice_get link.old.part.lane_arrivals 0 ≡ Some x → IsPacketOf pager.old.geometry x.packet }
     ensures comes { ComesTo Event.PagerPull result receiving link.old.part link.new.part (part_of pager.old) (part_of pager.new) }
     ensures machine { pager.new.geometry ≡ pager.old.geometry }
 {
     let Some((number, packet)) = link.peek_lane() else {
-        return Ok(Came::Nothing);
+        return Ok(Effect::Nothing);
     };
     pager.pull(number, packet)?;
     link.pop_lane();
-    Ok(Came::Made)
+    Ok(Effect::Made)
 }
 
 /// Returns whether each log has room for what taking the oldest packet from the lane appends. Allocates no memory.
@@ -73,33 +73,33 @@ pub fn look_to_pull(link: &LinkBook, pager: &PagerBook) -> Result<(), EventFault
 /// Carries out PagerFlush: the pager offers its oldest packet that is not offered yet, if there is one. Fails only if
 /// memory runs out, and then nothing changes.
 #[tactic(auto, using(crate::proofs::Rooms::flush_fits, crate::proofs::Done::up_done))]
-pub fn pager_flush(link: &mut LinkBook, pager: &mut PagerBook) -> Result<Came, EventFault>
+pub fn pager_flush(link: &mut LinkBook, pager: &mut PagerBook) -> Result<Effect, EventFault>
     ensures comes { ComesTo Event.PagerFlush result receiving link.old.part link.new.part (part_of pager.old) (part_of pager.new) }
     ensures machine { pager.new.geometry ≡ pager.old.geometry }
 {
     link.room()?;
     let Some(packet) = pager.flush() else {
-        return Ok(Came::Nothing);
+        return Ok(Effect::Nothing);
     };
     link.offer_up(packet);
-    Ok(Came::Made)
+    Ok(Effect::Made)
 }
 
 /// Carries out PagerTick: once the state has come, the pager asks again for a page that is neither placed nor
 /// cancelled, or says that there is none. The error is `EventFault::LogFull` exactly when the pager's log has no room
 /// for the record, which is checked before memory is allocated. On an error, nothing changes.
 #[tactic(auto, using(crate::proofs::Done::up_done))]
-pub fn pager_tick(link: &mut LinkBook, pager: &mut PagerBook) -> Result<Came, EventFault>
+pub fn pager_tick(link: &mut LinkBook, pager: &mut PagerBook) -> Result<Effect, EventFault>
     ensures comes { ComesTo Event.PagerTick result receiving link.old.part link.new.part (part_of pager.old) (part_of pager.new) }
     ensures machine { pager.new.geometry ≡ pager.old.geometry }
 {
     look_to_pager_tick(link, pager)?;
     link.room()?;
     let Some(packet) = pager.tick()? else {
-        return Ok(Came::Nothing);
+        return Ok(Effect::Nothing);
     };
     link.offer_up(packet);
-    Ok(Came::Made)
+    Ok(Effect::Made)
 }
 
 /// Returns whether each log has room for what the pager's tick appends. Allocates no memory.
@@ -116,16 +116,16 @@ pub fn look_to_pager_tick(link: &LinkBook, pager: &PagerBook) -> Result<(), Even
 /// is nothing to do. The books must be of one machine. The error is `EventFault::LogFull` exactly when the pager's log
 /// has no room for the records. On an error, nothing changes.
 #[tactic(auto, using(crate::proofs::Rooms::fault_fits, crate::proofs::Rooms::fault_full, crate::proofs::Rooms::fault_nothing))]
-pub fn pager_fault(pager: &mut PagerBook, target: &mut TargetBook) -> Result<Came, EventFault>
+pub fn pager_fault(pager: &mut PagerBook, target: &mut TargetBook) -> Result<Effect, EventFault>
     requires machine { geometry_of target.old ≡ pager.old.geometry }
     ensures comes { ComesTo Event.PagerFault result placing (part_of pager.old) (part_of pager.new) (target_of target.old) (target_of target.new) }
     ensures machine { (pager.new.geometry ≡ pager.old.geometry) × (geometry_of target.new ≡ geometry_of target.old) }
 {
     if !has_fault(pager, target) {
-        return Ok(Came::Nothing);
+        return Ok(Effect::Nothing);
     }
     pager.next_fault(target)?;
-    Ok(Came::Made)
+    Ok(Effect::Made)
 }
 
 /// Returns whether each log has room for what cancelling pages and learning of a miss append. The books must be of one
@@ -144,16 +144,16 @@ pub fn look_to_fault(pager: &PagerBook, target: &TargetBook) -> Result<(), Event
 /// must be of one machine. The error is `EventFault::LogFull` exactly when a log has no room for the record. On an
 /// error, nothing changes.
 #[tactic(auto, using(crate::proofs::Rooms::deliver_fits, crate::proofs::Rooms::deliver_nothing))]
-pub fn pager_deliver(pager: &mut PagerBook, target: &mut TargetBook) -> Result<Came, EventFault>
+pub fn pager_deliver(pager: &mut PagerBook, target: &mut TargetBook) -> Result<Effect, EventFault>
     requires machine { geometry_of target.old ≡ pager.old.geometry }
     ensures comes { ComesTo Event.PagerDeliver result placing (part_of pager.old) (part_of pager.new) (target_of target.old) (target_of target.new) }
     ensures machine { (pager.new.geometry ≡ pager.old.geometry) × (geometry_of target.new ≡ geometry_of target.old) }
 {
     if !has_delivery(pager, target) {
-        return Ok(Came::Nothing);
+        return Ok(Effect::Nothing);
     }
     pager.deliver(target)?;
-    Ok(Came::Made)
+    Ok(Effect::Made)
 }
 
 /// Returns whether each log has room for what a delivery appends. Allocates no memory.

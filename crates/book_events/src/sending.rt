@@ -7,7 +7,7 @@ ghost use Rattle.migration_events.specs.declared.events.Event.{Event};
 ghost use Rattle.book_events.specs.Parts.{pushing, sending, ComesTo, LooksFor};
 ghost use Rattle.book_events.specs.inner.Offers.{Carries, IsOffer};
 
-use crate::came::Came;
+use crate::effect::Effect;
 use active_push::SourceBook;
 use link_book::LinkBook;
 use migration_events::EventFault;
@@ -22,17 +22,17 @@ pub fn push(
     link: &mut LinkBook,
     window: u32,
     has_lane: bool,
-) -> Result<Came, EventFault>
+) -> Result<Effect, EventFault>
     ensures comes { ComesTo Event.Push result (pushing window has_lane) (part_of source.old) (part_of source.new) link.old.part link.new.part }
     ensures machine { source.new.frames.geometry ≡ source.old.frames.geometry }
 {
     if under_way(link, has_lane) >= window as usize {
-        return Ok(Came::Nothing);
+        return Ok(Effect::Nothing);
     }
     source.look_to_push()?;
     link.room()?;
     let Some(packet) = source.push()? else {
-        return Ok(Came::Nothing);
+        return Ok(Effect::Nothing);
     };
     Ok(offer_pushed(link, packet, has_lane))
 }
@@ -67,37 +67,37 @@ fn under_way(link: &LinkBook, has_lane: bool) -> usize
 
 /// Offers a packet after the others of the lane, or after those that are under way down.
 #[tactic(auto, using(crate::proofs::Offers::pushed_is_offer))]
-fn offer_pushed(link: &mut LinkBook, packet: Packet, over_lane: bool) -> Came
+fn offer_pushed(link: &mut LinkBook, packet: Packet, over_lane: bool) -> Effect
     requires { IsTrue link.old.has_room }
     ensures link { link.new.part ≡ with_pushed over_lane packet link.old.part }
     ensures told { IsOffer result link.old.part link.new.part }
 {
-    let came = carried(&packet);
+    let effect = carried(&packet);
     if over_lane {
         link.offer_lane(packet);
     } else {
         link.offer_down(packet, false);
     }
-    came
+    effect
 }
 
 /// Carries out Serve: the source takes the oldest packet that has arrived, if there is one, and sends the page that it
 /// wants ahead of the others. The error is `EventFault::LogFull` exactly when the source's log has no room for the
 /// records, which is checked before memory is allocated. On an error, nothing changes.
-pub fn serve(source: &mut SourceBook, link: &mut LinkBook) -> Result<Came, EventFault>
+pub fn serve(source: &mut SourceBook, link: &mut LinkBook) -> Result<Effect, EventFault>
     ensures comes { ComesTo Event.Serve result sending (part_of source.old) (part_of source.new) link.old.part link.new.part }
     ensures machine { source.new.frames.geometry ≡ source.old.frames.geometry }
 {
     look_to_serve(source, link)?;
     link.room()?;
     let Some((number, packet)) = link.peek_up() else {
-        return Ok(Came::Nothing);
+        return Ok(Effect::Nothing);
     };
     let offered = source.serve(number, packet)?;
     link.pop_up();
     match offered {
         Some(packet) => Ok(offer(link, packet, true)),
-        None => Ok(Came::Made),
+        None => Ok(Effect::Made),
     }
 }
 
@@ -115,14 +115,14 @@ pub fn look_to_serve(source: &SourceBook, link: &LinkBook) -> Result<(), EventFa
 /// Carries out SourceTick: the source sends the state again, as long as nobody has asked it for anything. The error is
 /// `EventFault::LogFull` exactly when the source's log has no room for the record, which is checked before memory is
 /// allocated. On an error, nothing changes.
-pub fn source_tick(source: &mut SourceBook, link: &mut LinkBook) -> Result<Came, EventFault>
+pub fn source_tick(source: &mut SourceBook, link: &mut LinkBook) -> Result<Effect, EventFault>
     ensures comes { ComesTo Event.SourceTick result sending (part_of source.old) (part_of source.new) link.old.part link.new.part }
     ensures machine { source.new.frames.geometry ≡ source.old.frames.geometry }
 {
     look_to_source_tick(source, link)?;
     link.room()?;
     let Some(packet) = source.tick()? else {
-        return Ok(Came::Nothing);
+        return Ok(Effect::Nothing);
     };
     Ok(offer(link, packet, false))
 }
@@ -138,22 +138,22 @@ pub fn look_to_source_tick(source: &SourceBook, link: &LinkBook) -> Result<(), E
 
 /// Offers a packet before the others that are under way down, or after them.
 #[tactic(auto, using(crate::proofs::Offers::down_is_offer))]
-fn offer(link: &mut LinkBook, packet: Packet, front: bool) -> Came
+fn offer(link: &mut LinkBook, packet: Packet, front: bool) -> Effect
     requires { IsTrue link.old.has_room }
     ensures link { link.new.part ≡ if front then with_front packet link.old.part else with_back packet link.old.part }
     ensures told { IsOffer result link.old.part link.new.part }
 {
-    let came = carried(&packet);
+    let effect = carried(&packet);
     link.offer_down(packet, front);
-    came
+    effect
 }
 
 /// Returns the result of an event that offers a packet.
-fn carried(packet: &Packet) -> Came
+fn carried(packet: &Packet) -> Effect
     ensures { Carries result packet.now }
 {
     match packet {
-        Packet::Page { page, .. } => Came::Offered(*page),
-        Packet::State { .. } | Packet::Want { .. } | Packet::All { .. } => Came::Made,
+        Packet::Page { page, .. } => Effect::Offered(*page),
+        Packet::State { .. } | Packet::Want { .. } | Packet::All { .. } => Effect::Made,
     }
 }

@@ -7,7 +7,7 @@ ghost use Rattle.balloon_ledger.specs.Released.{released};
 ghost use Rattle.bubbling.specs.Bubbling.{marked, rest_of};
 
 use crate::jumps;
-use crate::jumps::Way;
+use crate::jumps::Sweep;
 use balloon_ledger::Ledger;
 use migration_types::{Geometry, PageNo};
 use std::alloc::{AllocError, Global};
@@ -18,9 +18,9 @@ use std::marker::Model;
 pub struct Unsent {
     marks: Vec<bool>,
     left: u32,
-    /// What is known about the way up through the machine.
+    /// What is known about the sweep up through the machine.
     up: Vec<u32>,
-    /// What is known about the way down, which begins with the last page.
+    /// What is known about the sweep down, which begins with the last page.
     down: Vec<u32>,
 }
 
@@ -29,7 +29,7 @@ impl Model for Unsent {
     ghost use Rattle.migration_types.specs.Limits.{most_pages};
     ghost use Rattle.migration_types.specs.PageSets.{size_below};
     ghost use Rattle.bubbling.specs.Bubbling.{marked};
-    ghost use Rattle.bubbling.specs.declared.jumps.Way.TheVariants.{Up, Down};
+    ghost use Rattle.bubbling.specs.declared.jumps.Sweep.TheVariants.{Up, Down};
     ghost use Rattle.bubbling.specs.inner.Jumps.{AreJumps};
 
     ghost Value = { List Bool };
@@ -89,7 +89,7 @@ impl Unsent {
         ensures none { (q : ℕ) → past ≤ q → q < result → marked self.old q ≡ false }
         ensures rest { result < length self.old → marked self.old result ≡ true }
     {
-        jumps::first_marked(&mut self.up, Way::Up, &self.marks, past)
+        jumps::first_marked(&mut self.up, Sweep::Up, &self.marks, past)
     }
 
     /// Returns the page after the last one below this that is still to be pushed, or 0.
@@ -101,7 +101,7 @@ impl Unsent {
         ensures rest { 1 ≤ result → marked self.old (result - 1) ≡ true }
     {
         let pages = self.pages();
-        pages - jumps::first_marked(&mut self.down, Way::Down, &self.marks, pages - first)
+        pages - jumps::first_marked(&mut self.down, Sweep::Down, &self.marks, pages - first)
     }
 
     /// States that the machine has no more pages than the largest machine. Runs nothing.

@@ -12,7 +12,7 @@ use crate::shape_fault::shape;
 use crate::verdict::Verdict;
 use merge_runs::first_bad_run;
 use migration_types::{Cert, Session};
-use page_facts::{Alone, InThreads, JudgesEntries, is_small};
+use page_facts::{InThreads, JudgesEntries, OneThread, is_small};
 use std::alloc::{AllocError, Global};
 use std::marker::Sync;
 use std::thread::{Threads, join};
@@ -96,7 +96,7 @@ fn settled(session: &Session, cert: &Cert, first: Option<Verdict>, bad: Option<u
 
 /// Judges the pages as one range, if the shape and the runs are right. Makes one pass over each log and one more for
 /// the looks, and allocates memory for the cells of all pages and some numbers for each.
-impl EntryJudges for Alone {
+impl EntryJudges for OneThread {
     fn judge(&self, alloc: Global, session: &Session, cert: &Cert) -> Result<Verdict, AllocError> {
         let first = by_shape_and_runs(alloc, session, cert)?;
         if let Some(verdict) = first {
@@ -113,7 +113,7 @@ impl<R: Threads + Sync> EntryJudges for InThreads<'_, R> {
 
     fn judge(&self, alloc: Global, session: &Session, cert: &Cert) -> Result<Verdict, AllocError> {
         if is_small(session) {
-            return Alone.judge(alloc, session, cert);
+            return OneThread.judge(alloc, session, cert);
         }
         let rt = self.rt;
         let (first, bad) = join(

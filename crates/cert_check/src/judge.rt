@@ -12,7 +12,7 @@ use crate::shape_fault::shape;
 use crate::verdict::Verdict;
 use audit_model::certified_is_safe;
 use migration_types::{Cert, Session};
-use page_facts::{Alone, InThreads};
+use page_facts::{InThreads, OneThread};
 use std::alloc::{AllocError, Global};
 use std::marker::Sync;
 use std::thread::Threads;
@@ -84,7 +84,7 @@ pub fn check(alloc: Global, session: &Session, cert: &Cert) -> Result<Verdict, A
     ensures placed_untouched { result ≡ Ok Verdict.Yes → PlacedUntouched session.now }
     ensures released_as_zeros { result ≡ Ok Verdict.Yes → ReleasedAsZeros session.now }
 {
-    check_by(&Alone, alloc, session, cert)
+    check_by(&OneThread, alloc, session, cert)
 }
 
 /// Returns the verdict that [`check`] returns, with the pages judged by threads side by side, however these share the

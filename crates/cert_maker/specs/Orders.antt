@@ -9,7 +9,7 @@ use Rattle.audit_model.specs.Walks.{cursors_from}
 use Rattle.audit_model.specs.FoundOrder.{IsFound, IsFoundOrder, IsKnot}
 use Rattle.merge_runs.specs.Taken.{cursors_of, first_left}
 use Rattle.cert_maker.specs.declared.order.FoundRuns.{FoundRuns}
-use Rattle.cert_maker.specs.declared.order.Left.{Left}
+use Rattle.cert_maker.specs.declared.order.FirstLeft.{FirstLeft}
 use Rattle.cert_maker.specs.declared.order.Order.{Order}
 use Rattle.cert_maker.specs.declared.order.Order.TheVariants.{Found, Knot}
 
@@ -28,7 +28,7 @@ pub record IsFoundFront (s : Recorded) (runs : List Run) (c : Cursors) : Type 0 
 
 -- The first record that a knot leaves, with its line; there is no merging. The found order goes as far as it can, and
 -- this record is the next of its log after it.
-pub record IsTied (s : Recorded) (left : Left) (found : FoundRuns) : Type 0 where
+pub record IsTied (s : Recorded) (left : FirstLeft) (found : FoundRuns) : Type 0 where
   pub is_knot : IsKnot s left.line
   pub is_line : left.line ≡ line_of s (left.log, left.place)
   pub is_there : left.place < log_length s left.log

@@ -8,4 +8,4 @@ mod ready;
 
 pub use made_entries::{MadeEntries, made_entry};
 pub use maker::{MakeFault, make, make_over};
-pub use order::{FoundRuns, Left, Order, find_order, found_runs};
+pub use order::{FirstLeft, FoundRuns, Order, find_order, found_runs};

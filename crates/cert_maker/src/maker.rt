@@ -11,7 +11,7 @@ use crate::made_entries::{MadeEntries, version_for};
 use audit_model::first_version_is_plain;
 use merge_runs::is_merging;
 use migration_types::{Cert, Entry, Run, Seq, Session};
-use page_facts::{Alone, Judges};
+use page_facts::{Judges, OneThread};
 use std::alloc::Global;
 use thiserror::Error;
 
@@ -38,7 +38,7 @@ pub fn make(alloc: Global, session: &Session, runs: Seq<Run>) -> Result<Cert, Ma
     if !is_merging(session, runs.as_slice()) {
         return Err(MakeFault::NoCertificate);
     }
-    let Ok(made) = Alone.ask(&MadeEntries, alloc, session) else {
+    let Ok(made) = OneThread.ask(&MadeEntries, alloc, session) else {
         return Err(MakeFault::Memory);
     };
     let Some(entries) = made else {

@@ -15,8 +15,8 @@ use Rattle.cert_text.specs.Runs.{runs_key, closing, run_line}
 use Rattle.cert_text.specs.Grammar.{entry_line, entry_lines}
 use Rattle.cert_text.specs.inner.Held.{CertDraft, runs_onto, runs_held, RunsFit, entries_onto, held_by, EntriesFit, Live}
 use Rattle.cert_text.proofs.RunGoes.{run_held}
-use Rattle.cert_text.specs.declared.cert_lines.Stage.{Stage}
-use Rattle.cert_text.specs.declared.cert_lines.Stage.TheVariants.{Header, Pages, Entries}
+use Rattle.cert_text.specs.declared.cert_lines.CertStage.{CertStage}
+use Rattle.cert_text.specs.declared.cert_lines.CertStage.TheVariants.{Header, Pages, Entries}
 use Rattle.cert_text.proofs.EntryLaws.{entries_length}
 use Rattle.cert_text.proofs.Laws.{entry_held}
 
@@ -75,12 +75,12 @@ entry_fits_back version size pages old new entry runs e none f =
       runs = λ _. none;
     }
 
-pub live_undone : (stage : Stage) (version : Version) (size : Size) (pages : ℕ) (old new : List Entry) (runs : List (List ℕ)) → Live stage (record { version = version; size = size; pages = pages; entries = old; runs = runs }) → stage ≡ Entries → runs ≡ [] → (entry : Entry) × (old ≡ new ++ entry ∷ []) → Live Entries (record { version = version; size = size; pages = pages; entries = new; runs = runs })
+pub live_undone : (stage : CertStage) (version : Version) (size : Size) (pages : ℕ) (old new : List Entry) (runs : List (List ℕ)) → Live stage (record { version = version; size = size; pages = pages; entries = old; runs = runs }) → stage ≡ Entries → runs ≡ [] → (entry : Entry) × (old ≡ new ++ entry ∷ []) → Live Entries (record { version = version; size = size; pages = pages; entries = new; runs = runs })
 live_undone Header version size pages old new runs live is none lost = absurd cc
 live_undone Pages version size pages old new runs live is none lost = absurd cc
 live_undone Entries version size pages old new runs live is none lost = entry_fits_back version size pages old new lost.0 runs lost.1 none live
 
-pub entry_undone : (stage : Stage) (version : Version) (size : Size) (pages : ℕ) (old new : List Entry) (runs held : List (List ℕ)) → held_by stage (record { version = version; size = size; pages = pages; entries = old; runs = runs }) ≡ held → stage ≡ Entries → runs ≡ [] → (entry : Entry) × (old ≡ new ++ entry ∷ []) → (line : List ℕ) × (held ≡ held_by Entries (record { version = version; size = size; pages = pages; entries = new; runs = runs }) ++ line ∷ [])
+pub entry_undone : (stage : CertStage) (version : Version) (size : Size) (pages : ℕ) (old new : List Entry) (runs held : List (List ℕ)) → held_by stage (record { version = version; size = size; pages = pages; entries = old; runs = runs }) ≡ held → stage ≡ Entries → runs ≡ [] → (entry : Entry) × (old ≡ new ++ entry ∷ []) → (line : List ℕ) × (held ≡ held_by Entries (record { version = version; size = size; pages = pages; entries = new; runs = runs }) ++ line ∷ [])
 entry_undone Header version size pages old new runs held e is none lost = absurd cc
 entry_undone Pages version size pages old new runs held e is none lost = absurd cc
 entry_undone Entries version size pages old new runs held e is none lost = (
@@ -93,7 +93,7 @@ entry_undone Entries version size pages old new runs held e is none lost = (
 
 -- ---- how many lines came
 
-pub lines_came : (stage : Stage) (d : CertDraft) (held : List (List ℕ)) → held_by stage d ≡ held → stage ≡ Entries → length held ≡ length d.entries + length d.runs + 2
+pub lines_came : (stage : CertStage) (d : CertDraft) (held : List (List ℕ)) → held_by stage d ≡ held → stage ≡ Entries → length held ≡ length d.entries + length d.runs + 2
 lines_came Header d held e is = absurd cc
 lines_came Pages d held e is = absurd cc
 lines_came Entries d held e is = sym (ap length e) ∙ omega (arith, length-append (entry_lines 0 d.entries) d.runs, entries_length 0 d.entries)

@@ -11,8 +11,8 @@ use Rattle.migration_types.specs.declared.version.Version.{Version}
 use Rattle.migration_types.specs.declared.size.Size.{Size}
 use Rattle.migration_types.specs.Limits.{HasSize, limits}
 use Rattle.migration_types.specs.Certs.{Certified, IsCert}
-use Rattle.cert_text.specs.declared.cert_lines.Stage.{Stage}
-use Rattle.cert_text.specs.declared.cert_lines.Stage.TheVariants.{Header, Pages, Entries}
+use Rattle.cert_text.specs.declared.cert_lines.CertStage.{CertStage}
+use Rattle.cert_text.specs.declared.cert_lines.CertStage.TheVariants.{Header, Pages, Entries}
 use Rattle.cert_text.specs.Runs.{runs_lines, SpellsRunLines}
 use Rattle.cert_text.specs.Grammar.{header, pages_key, entry_line, entry_lines, cert_lines, SpellsCert}
 use Rattle.cert_text.specs.inner.Held.{CertDraft, entries_onto, held_by, EntriesFit, Live}
@@ -57,7 +57,7 @@ header_begins version size has b =
     let fits : EntriesFit first = record { size = has; some_pages = omega arith; few_pages = omega arith; own = (limits_some size).pages; count = omega arith; each = tt; runs = λ _. refl } in
     Begins-front SpellsCert (header version size ∷ []) ((pages_key ++ decimal 1) ∷ []) (entries_begin 1 first fits (omega arith) b)
 
-pub live_begins : (stage : Stage) (d : CertDraft) → Live stage d → Begins (SpellsRunLines d.version d.size) d.runs → Begins SpellsCert (held_by stage d)
+pub live_begins : (stage : CertStage) (d : CertDraft) → Live stage d → Begins (SpellsRunLines d.version d.size) d.runs → Begins SpellsCert (held_by stage d)
 live_begins Header d live b = Begins-front SpellsCert [] (header d.version d.size ∷ []) (header_begins d.version d.size live.size (subst (Begins (SpellsRunLines d.version d.size)) live.runs b))
 live_begins Pages d live b = header_begins d.version d.size live.size (subst (Begins (SpellsRunLines d.version d.size)) live.runs b)
 live_begins Entries d live b = let count = live.count in entries_begin (d.pages - length d.entries) d live (omega arith) b
@@ -83,17 +83,17 @@ no_runs d c f stops fits e =
           stops c.runs (runs_of_version d.version d.size c a.told a.sized fits, r.1)
     ]
 
-not_whole_at : (stage : Stage) (d : CertDraft) (c : Certified) → Live stage d → ((runs : List Run) → SpellsRunLines d.version d.size runs d.runs → ⊥) → IsCert c → held_by stage d ≡ cert_lines c → ⊥
+not_whole_at : (stage : CertStage) (d : CertDraft) (c : Certified) → Live stage d → ((runs : List Run) → SpellsRunLines d.version d.size runs d.runs → ⊥) → IsCert c → held_by stage d ≡ cert_lines c → ⊥
 not_whole_at Header d c live stops fits e = absurd cc
 not_whole_at Pages d c live stops fits e = absurd cc
 not_whole_at Entries d c live stops fits e = no_runs d c live stops fits e
 
-pub not_whole : (stage : Stage) (d : CertDraft) (held : List (List ℕ)) → held_by stage d ≡ held → Live stage d → ((runs : List Run) → SpellsRunLines d.version d.size runs d.runs → ⊥) → (c : Certified) → SpellsCert c held → ⊥
+pub not_whole : (stage : CertStage) (d : CertDraft) (held : List (List ℕ)) → held_by stage d ≡ held → Live stage d → ((runs : List Run) → SpellsRunLines d.version d.size runs d.runs → ⊥) → (c : Certified) → SpellsCert c held → ⊥
 not_whole stage d held e live stops c s = not_whole_at stage d c live stops s.0 (e ∙ s.1)
 
 -- ---- the lines are few
 
-pub live_few : (stage : Stage) (d : CertDraft) → Live stage d → length d.runs < 2 ^ 31 → length (held_by stage d) + 1 < 2 ^ 32
+pub live_few : (stage : CertStage) (d : CertDraft) → Live stage d → length d.runs < 2 ^ 31 → length (held_by stage d) + 1 < 2 ^ 32
 live_few Header d live lt = omega arith
 live_few Pages d live lt = omega arith
 live_few Entries d live lt =

@@ -13,8 +13,8 @@ use Rattle.migration_types.specs.declared.size.Size.{Size}
 use Rattle.migration_types.specs.declared.size.Size.TheVariants.{Small, Large}
 use Rattle.migration_types.specs.Limits.{HasSize, most_pages}
 use Rattle.migration_types.specs.Certs.{Certified, EntryFits, AreRuns, IsCert}
-use Rattle.cert_text.specs.declared.cert_lines.Stage.{Stage}
-use Rattle.cert_text.specs.declared.cert_lines.Stage.TheVariants.{Header, Pages, Entries}
+use Rattle.cert_text.specs.declared.cert_lines.CertStage.{CertStage}
+use Rattle.cert_text.specs.declared.cert_lines.CertStage.TheVariants.{Header, Pages, Entries}
 use Rattle.cert_text.specs.Runs.{runs_lines, SpellsRunLines}
 use Rattle.cert_text.specs.Grammar.{header, pages_key, entry_line, entry_lines, cert_lines, SpellsCert}
 use Rattle.cert_text.specs.inner.Held.{CertDraft, entries_onto, held_by, EntriesFit, Live}
@@ -26,18 +26,18 @@ pub entries_onto_append : (version : Version) (size : Size) (pages : ℕ) (entri
 entries_onto_append version size pages entries a b = ap (λ (t : List (List ℕ)). header version size ∷ (pages_key ++ decimal pages) ∷ t) (append_assoc (entry_lines 0 entries) a b)
 
 -- a fact about a stage that is known
-pub live_at : (stage at : Stage) (d : CertDraft) → stage ≡ at → Live stage d → Live at d
-live_at stage at d is live = subst (λ (s : Stage). Live s d) is live
+pub live_at : (stage at : CertStage) (d : CertDraft) → stage ≡ at → Live stage d → Live at d
+live_at stage at d is live = subst (λ (s : CertStage). Live s d) is live
 
 -- a text that begins with a line more than is held
-pub record Goes (stage : Stage) (d : CertDraft) (line : List ℕ) : Type 0 where
+pub record Goes (stage : CertStage) (d : CertDraft) (line : List ℕ) : Type 0 where
   pub c : Certified
   pub more : List (List ℕ)
   pub fits : IsCert c
   pub whole : held_by stage d ++ (line ∷ more) ≡ cert_lines c
 
-pub goes_from : (stage at : Stage) (d : CertDraft) (held : List (List ℕ)) (line : List ℕ) → held_by stage d ≡ held → stage ≡ at → Begins SpellsCert (held ++ line ∷ []) → Goes at d line
-goes_from stage at d held line e is b = subst (λ (s : Stage). Goes s d line) is (record {
+pub goes_from : (stage at : CertStage) (d : CertDraft) (held : List (List ℕ)) (line : List ℕ) → held_by stage d ≡ held → stage ≡ at → Begins SpellsCert (held ++ line ∷ []) → Goes at d line
+goes_from stage at d held line e is b = subst (λ (s : CertStage). Goes s d line) is (record {
   c = b.0;
   more = b.1;
   fits = b.2.0;
@@ -122,14 +122,14 @@ behind_entries d lines f full b =
     (b.0.runs, b.1, (runs_of_version d.version d.size b.0 a.told a.sized b.2.0, r.1))
 
 -- so a line that no runs' lines go on with is refused
-pub no_run_line : (stage : Stage) (d : CertDraft) (held : List (List ℕ)) (line : List ℕ) → held_by stage d ≡ held → stage ≡ Entries → Live stage d → length d.entries ≡ d.pages → (Begins (SpellsRunLines d.version d.size) (d.runs ++ line ∷ []) → ⊥) → Begins SpellsCert (held ++ line ∷ []) → ⊥
+pub no_run_line : (stage : CertStage) (d : CertDraft) (held : List (List ℕ)) (line : List ℕ) → held_by stage d ≡ held → stage ≡ Entries → Live stage d → length d.entries ≡ d.pages → (Begins (SpellsRunLines d.version d.size) (d.runs ++ line ∷ []) → ⊥) → Begins SpellsCert (held ++ line ∷ []) → ⊥
 no_run_line stage d held line e is live full stops b =
-    let here : held_by Entries d ≡ held = subst (λ (s : Stage). held_by s d ≡ held) is e in
+    let here : held_by Entries d ≡ held = subst (λ (s : CertStage). held_by s d ≡ held) is e in
     let joined : held ++ line ∷ [] ≡ entries_onto d.version d.size d.pages d.entries (d.runs ++ line ∷ []) = ap (λ (t : List (List ℕ)). t ++ line ∷ []) (sym here) ∙ entries_onto_append d.version d.size d.pages d.entries d.runs (line ∷ []) in
     stops (behind_entries d (d.runs ++ line ∷ []) (live_at stage Entries d is live) full (subst (Begins SpellsCert) joined b))
 
 -- a line of the runs came
-pub run_taken : (stage : Stage) (d : CertDraft) (version : Version) (size : Size) (runs : List (List ℕ)) (line : List ℕ) → stage ≡ Entries → Live stage d → length d.entries ≡ d.pages → version ≡ d.version → size ≡ d.size → runs ≡ d.runs ++ line ∷ [] → Live Entries (record d { version = version; size = size; runs = runs }) × (held_by Entries (record d { version = version; size = size; runs = runs }) ≡ held_by stage d ++ line ∷ [])
+pub run_taken : (stage : CertStage) (d : CertDraft) (version : Version) (size : Size) (runs : List (List ℕ)) (line : List ℕ) → stage ≡ Entries → Live stage d → length d.entries ≡ d.pages → version ≡ d.version → size ≡ d.size → runs ≡ d.runs ++ line ∷ [] → Live Entries (record d { version = version; size = size; runs = runs }) × (held_by Entries (record d { version = version; size = size; runs = runs }) ≡ held_by stage d ++ line ∷ [])
 run_taken Header d version size runs line is live full same sized grown = absurd cc
 run_taken Pages d version size runs line is live full same sized grown = absurd cc
 run_taken Entries d version size runs line is live full same sized grown = rw (same, sized, grown) (
@@ -157,7 +157,7 @@ entry_push d entry f less fits = record {
 }
 
 -- the lines after an entry's
-pub entry_taken : (stage : Stage) (d : CertDraft) (held : List (List ℕ)) (line : List ℕ) (entry : Entry) → stage ≡ Entries → held_by stage d ≡ held → Live stage d → length d.entries < d.pages → line ≡ entry_line (length d.entries) entry → held_by stage (record d { entries = d.entries ++ entry ∷ [] }) ≡ held ++ line ∷ []
+pub entry_taken : (stage : CertStage) (d : CertDraft) (held : List (List ℕ)) (line : List ℕ) (entry : Entry) → stage ≡ Entries → held_by stage d ≡ held → Live stage d → length d.entries < d.pages → line ≡ entry_line (length d.entries) entry → held_by stage (record d { entries = d.entries ++ entry ∷ [] }) ≡ held ++ line ∷ []
 entry_taken Header d held line entry is e live less spelled = absurd cc
 entry_taken Pages d held line entry is e live less spelled = absurd cc
 entry_taken Entries d held line entry is e live less spelled =
@@ -169,7 +169,7 @@ entry_taken Entries d held line entry is e live less spelled =
     ∙ ap (λ (t : List (List ℕ)). t ++ line ∷ []) e)))
 
 -- an entry came
-pub entry_came : (stage : Stage) (d : CertDraft) (version : Version) (size : Size) (line : List ℕ) (new : List Entry) → version ≡ d.version → size ≡ d.size → stage ≡ Entries → Live stage d → length d.entries < d.pages → TakesEntry version size d.entries new line → Live Entries (record d { entries = new }) × (held_by Entries (record d { entries = new }) ≡ held_by stage d ++ line ∷ [])
+pub entry_came : (stage : CertStage) (d : CertDraft) (version : Version) (size : Size) (line : List ℕ) (new : List Entry) → version ≡ d.version → size ≡ d.size → stage ≡ Entries → Live stage d → length d.entries < d.pages → TakesEntry version size d.entries new line → Live Entries (record d { entries = new }) × (held_by Entries (record d { entries = new }) ≡ held_by stage d ++ line ∷ [])
 entry_came Header d version size line new same sized is live less t = absurd cc
 entry_came Pages d version size line new same sized is live less t = absurd cc
 entry_came Entries d version size line new same sized is live less t = (
@@ -178,7 +178,7 @@ entry_came Entries d version size line new same sized is live less t = (
 )
 
 -- a line that is not the next page's entry is refused
-pub no_entry_line : (stage : Stage) (d : CertDraft) (version : Version) (size : Size) (line : List ℕ) → version ≡ d.version → size ≡ d.size → stage ≡ Entries → Live stage d → length d.entries < d.pages → ((entry : Entry) → EntryFits version size entry → line ≢ entry_line (length d.entries) entry) → Begins SpellsCert (held_by stage d ++ line ∷ []) → ⊥
+pub no_entry_line : (stage : CertStage) (d : CertDraft) (version : Version) (size : Size) (line : List ℕ) → version ≡ d.version → size ≡ d.size → stage ≡ Entries → Live stage d → length d.entries < d.pages → ((entry : Entry) → EntryFits version size entry → line ≢ entry_line (length d.entries) entry) → Begins SpellsCert (held_by stage d ++ line ∷ []) → ⊥
 no_entry_line stage d version size line same sized is live less none b =
     let n = entry_at d line (live_at stage Entries d is live) less (goes_from stage Entries d (held_by stage d) line refl is b) in
     none n.0 (subst (λ (v : Version). EntryFits v size n.0) (sym same) (subst (λ (k : Size). EntryFits d.version k n.0) (sym sized) n.1)) n.2
@@ -191,7 +191,7 @@ entries_held d taken =
     ap (λ (t : List (List ℕ)). header d.version d.size ∷ (pages_key ++ decimal d.pages) ∷ t) (append-nil (entry_lines 0 (d.entries ++ taken)) ∙ lines)
     ∙ sym (entries_onto_append d.version d.size d.pages d.entries [] (entry_lines (length d.entries) taken))
 
-entries_grown : (stage : Stage) (d : CertDraft) (held : List (List ℕ)) (taken : List Entry) → stage ≡ Entries → held_by stage d ≡ held → Live stage d → length d.entries < d.pages → held_by stage (record d { entries = d.entries ++ taken }) ≡ held ++ entry_lines (length d.entries) taken
+entries_grown : (stage : CertStage) (d : CertDraft) (held : List (List ℕ)) (taken : List Entry) → stage ≡ Entries → held_by stage d ≡ held → Live stage d → length d.entries < d.pages → held_by stage (record d { entries = d.entries ++ taken }) ≡ held ++ entry_lines (length d.entries) taken
 entries_grown Header d held taken is e live less = absurd cc
 entries_grown Pages d held taken is e live less = absurd cc
 entries_grown Entries d held taken is e live less =
@@ -201,7 +201,7 @@ entries_grown Entries d held taken is e live less =
     ∙ (ap (λ (t : List (List ℕ)). entries_onto d.version d.size d.pages d.entries t ++ entry_lines (length d.entries) taken) (sym none)
     ∙ ap (λ (t : List (List ℕ)). t ++ entry_lines (length d.entries) taken) e))
 
-pub entries_taken : (stage : Stage) (d : CertDraft) (held : List (List ℕ)) (new : List Entry) (bytes rest : List ℕ) (n : ℕ) → stage ≡ Entries → held_by stage d ≡ held → Live stage d → length d.entries < d.pages → TakesEntries d.version d.size d.entries new bytes rest n → TakesLines held (held_by stage (record d { entries = new })) bytes rest n
+pub entries_taken : (stage : CertStage) (d : CertDraft) (held : List (List ℕ)) (new : List Entry) (bytes rest : List ℕ) (n : ℕ) → stage ≡ Entries → held_by stage d ≡ held → Live stage d → length d.entries < d.pages → TakesEntries d.version d.size d.entries new bytes rest n → TakesLines held (held_by stage (record d { entries = new })) bytes rest n
 entries_taken stage d held new bytes rest n is e live less t = record {
   taken = entry_lines (length d.entries) t.taken;
   parts = t.parts;

@@ -6,8 +6,8 @@ use Rattle.audit_model.specs.declared.reasons.PageReason.{PageReason}
 use Rattle.audit_model.specs.Reasons.{page_word}
 use Rattle.cert_text.specs.Runs.{SpellsRuns}
 use Rattle.cert_text.specs.Grammar.{SpellsCertRuns}
-use Rattle.cert_text.specs.declared.forms.Form.{Form}
-use Rattle.cert_text.specs.declared.forms.Form.TheVariants.{Runs, Faulty, Cert, Clean}
+use Rattle.cert_text.specs.declared.forms.OrderForm.{OrderForm}
+use Rattle.cert_text.specs.declared.forms.OrderForm.TheVariants.{Runs, Faulty, Cert, Clean}
 
 -- the first line of the report on a clean session
 abbrev pub clean_line : List ℕ
@@ -29,7 +29,7 @@ abbrev pub SpellsBelow : {V : Type 0} → List ℕ → (V → List (List ℕ) �
 SpellsBelow line Spells v lines = (text : List (List ℕ)) × Spells v text × (lines ≡ line ∷ text)
 
 -- these lines give the order of these runs in a form
-abbrev pub SpellsAs : Form → List Run → List (List ℕ) → Type 0
+abbrev pub SpellsAs : OrderForm → List Run → List (List ℕ) → Type 0
 SpellsAs Runs order lines = SpellsRuns order lines
 SpellsAs (Faulty line reason) order lines = IsLineNumber line × SpellsBelow (faulty_line line reason) SpellsRuns order lines
 SpellsAs Cert order lines = SpellsCertRuns order lines
@@ -44,4 +44,4 @@ SpellsAs Clean order lines = SpellsBelow clean_line SpellsCertRuns order lines
 --   run link 1
 --   end
 abbrev pub SpellsOrder : List Run → List (List ℕ) → Type 0
-SpellsOrder order lines = (form : Form) × SpellsAs form order lines
+SpellsOrder order lines = (form : OrderForm) × SpellsAs form order lines

@@ -24,7 +24,7 @@ pub const PAGES_KEY: &[u8] = b"pages ";
 
 /// The kind of line that comes next.
 #[derive(Clone, Copy)]
-pub enum Stage {
+pub enum CertStage {
     /// The header.
     Header,
     /// The number of pages.
@@ -46,7 +46,7 @@ impl CertParts {
     fn lines_by<'a, C: ItemCrew<RunForm>>(
         &mut self,
         crew: &C,
-        stage: Stage,
+        stage: CertStage,
         bytes: &'a [u8],
     ) -> (&'a [u8], u32)
         requires ready { C.IsReady crew.now }
@@ -55,7 +55,7 @@ impl CertParts {
         ensures taken { TakesLines (held_at stage self.old) (held_at stage self.new) bytes.now result.0.now result.1 }
     {
         match stage {
-            Stage::Entries => {
+            CertStage::Entries => {
                 if self.entries.len() == self.pages as usize {
                     return self.runs.lines(crew, bytes);
                 }
@@ -68,13 +68,13 @@ impl CertParts {
     }
 
     /// Returns the version, the size, the entries and the runs, if the lines so far are a complete certificate.
-    pub fn whole(self, stage: Stage) -> Option<(Version, Size, Vec<Entry>, Seq<Run>)>
+    pub fn whole(self, stage: CertStage) -> Option<(Version, Size, Vec<Entry>, Seq<Run>)>
         requires { LiveAt stage self }
         ensures found { IfSome result (λ parts. SpellsCert (record { version = parts.0; size = parts.1; entries = parts.2.items; runs = parts.3 }) (held_at stage self)) }
         ensures none { IfNone result ((c : Certified) → SpellsCert c (held_at stage self) → ⊥) }
     {
         match stage {
-            Stage::Entries => {
+            CertStage::Entries => {
                 let version = self.runs.version();
                 let size = self.runs.size();
                 match self.runs.text() {
@@ -88,7 +88,7 @@ impl CertParts {
 
     /// Expects the next page's entry, or after the last a line of the runs, which are counted from line 2.
     fn wanted_in_entries(&self) -> Wanted
-        requires { LiveAt Stage.Entries self.now }
+        requires { LiveAt CertStage.Entries self.now }
     {
         let came = self.entries.len() as u32;
         if came < self.pages {
@@ -118,7 +118,7 @@ const HEADER_FORMS: &[&str] = &[
 ];
 
 impl Stages for CertParts {
-    type Stage = Stage;
+    type Stage = CertStage;
 
     ghost use Rattle.cert_text.specs.inner.CertDraft.{held_at, LiveAt};
 
@@ -126,62 +126,62 @@ impl Stages for CertParts {
 
     ghost Live = { LiveAt };
 
-    fn begin(alloc: Global) -> (Stage, Self) {
+    fn begin(alloc: Global) -> (CertStage, Self) {
         let parts = CertParts {
             pages: 0,
             entries: Vec::new(alloc),
             runs: RunLines::new(alloc, Version::One, Size::Small),
         };
-        (Stage::Header, parts)
+        (CertStage::Header, parts)
     }
 
-    fn take(&mut self, stage: Stage, line: &[u8]) -> Result<Stage, FaultKind> {
+    fn take(&mut self, stage: CertStage, line: &[u8]) -> Result<CertStage, FaultKind> {
         match stage {
-            Stage::Header => {
+            CertStage::Header => {
                 let Some((version, size)) = version_of(line) else {
                     return Err(FaultKind::Form);
                 };
                 self.runs.set_version(version, size);
-                Ok(Stage::Pages)
+                Ok(CertStage::Pages)
             }
-            Stage::Pages => {
+            CertStage::Pages => {
                 self.pages = read_some(line, PAGES_KEY, self.runs.size().limits().pages)?;
-                Ok(Stage::Entries)
+                Ok(CertStage::Entries)
             }
-            Stage::Entries => {
+            CertStage::Entries => {
                 if self.entries.len() == self.pages as usize {
                     self.runs.line(line)?;
                 } else {
                     let version = self.runs.version();
                     take_entry(&mut self.entries, version, self.runs.size(), line)?;
                 }
-                Ok(Stage::Entries)
+                Ok(CertStage::Entries)
             }
         }
     }
 
-    fn lines<'a>(&mut self, stage: Stage, bytes: &'a [u8]) -> (&'a [u8], u32) {
+    fn lines<'a>(&mut self, stage: CertStage, bytes: &'a [u8]) -> (&'a [u8], u32) {
         self.lines_by(&Alone, stage, bytes)
     }
 
-    fn goes_on(&self, _stage: Stage) {
+    fn goes_on(&self, _stage: CertStage) {
         self.runs.goes_on();
         self.runs.few();
     }
 
-    fn wanted(&self, stage: Stage) -> Wanted {
+    fn wanted(&self, stage: CertStage) -> Wanted {
         let limits = self.runs.size().limits();
         let wanted = match stage {
-            Stage::Header => Wanted::one("the header of a certificate", HEADER_FORMS),
-            Stage::Pages => Wanted::one("the number of pages", &["pages N"])
+            CertStage::Header => Wanted::one("the header of a certificate", HEADER_FORMS),
+            CertStage::Pages => Wanted::one("the number of pages", &["pages N"])
                 .within(1, limits.pages)
                 .under(more_pages(self.runs.size())),
-            Stage::Entries => self.wanted_in_entries(),
+            CertStage::Entries => self.wanted_in_entries(),
         };
         wanted.of_machine(self.pages, 0).of_logs(limits.records)
     }
 
-    fn text(self, stage: Stage) -> Option<Cert> {
+    fn text(self, stage: CertStage) -> Option<Cert> {
         match self.whole(stage) {
             Some((version, size, entries, runs)) => {
                 Some(Cert::new(version, size, Seq::from_vec(entries), runs))
@@ -200,26 +200,26 @@ impl Stages for CertParts {
 }
 
 impl StagesBack for CertParts {
-    fn count(&self, stage: Stage) -> u32 {
+    fn count(&self, stage: CertStage) -> u32 {
         self.runs.few();
         match stage {
-            Stage::Header => 0,
-            Stage::Pages => 1,
-            Stage::Entries => self.entries.len() as u32 + self.runs.count() + 2,
+            CertStage::Header => 0,
+            CertStage::Pages => 1,
+            CertStage::Entries => self.entries.len() as u32 + self.runs.count() + 2,
         }
     }
 
-    fn undo(&mut self, stage: Stage) -> Stage {
+    fn undo(&mut self, stage: CertStage) -> CertStage {
         match stage {
-            Stage::Entries => {
+            CertStage::Entries => {
                 if self.runs.count() > 0 {
                     self.runs.undo();
                 } else if !drop_entry(&mut self.entries) {
-                    return Stage::Pages;
+                    return CertStage::Pages;
                 }
-                Stage::Entries
+                CertStage::Entries
             }
-            _ => Stage::Header,
+            _ => CertStage::Header,
         }
     }
 }
@@ -229,7 +229,7 @@ impl StagesApart for CertParts {
         &mut self,
         rt: &H,
         parts: usize,
-        stage: Stage,
+        stage: CertStage,
         bytes: &'a [u8],
     ) -> (&'a [u8], u32) {
         self.lines_by(&Team { rt, parts }, stage, bytes)

@@ -2,7 +2,7 @@
 
 ghost use Rattle.cert_text.specs.Grammar.{SpellsCertRuns};
 
-use crate::cert_lines::{CertParts, Stage};
+use crate::cert_lines::{CertParts, CertStage};
 use migration_types::{Run, Seq};
 use std::alloc::Global;
 use std::thread::Threads;
@@ -15,7 +15,7 @@ pub struct CertRunsParts {
 }
 
 impl Stages for CertRunsParts {
-    type Stage = Stage;
+    type Stage = CertStage;
 
     type Text = Seq<Run>;
 
@@ -27,30 +27,30 @@ impl Stages for CertRunsParts {
 
     ghost Live = { λ stage parts. LiveAt stage parts.cert };
 
-    fn begin(alloc: Global) -> (Stage, Self) {
+    fn begin(alloc: Global) -> (CertStage, Self) {
         let (stage, cert) = CertParts::begin(alloc);
         (stage, CertRunsParts { cert })
     }
 
     #[tactic(auto, using(crate::proofs::CertRuns::no_cert_runs))]
-    fn take(&mut self, stage: Stage, line: &[u8]) -> Result<Stage, FaultKind> {
+    fn take(&mut self, stage: CertStage, line: &[u8]) -> Result<CertStage, FaultKind> {
         self.cert.take(stage, line)
     }
 
-    fn lines<'a>(&mut self, stage: Stage, bytes: &'a [u8]) -> (&'a [u8], u32) {
+    fn lines<'a>(&mut self, stage: CertStage, bytes: &'a [u8]) -> (&'a [u8], u32) {
         self.cert.lines(stage, bytes)
     }
 
     #[tactic(auto, using(crate::proofs::CertRuns::cert_runs_begin))]
-    fn goes_on(&self, stage: Stage) {
+    fn goes_on(&self, stage: CertStage) {
         self.cert.goes_on(stage);
     }
 
-    fn wanted(&self, stage: Stage) -> Wanted {
+    fn wanted(&self, stage: CertStage) -> Wanted {
         self.cert.wanted(stage)
     }
 
-    fn text(self, stage: Stage) -> Option<Seq<Run>> {
+    fn text(self, stage: CertStage) -> Option<Seq<Run>> {
         match self.cert.whole(stage) {
             Some((_, _, _, runs)) => Some(runs),
             None => None,
@@ -63,11 +63,11 @@ impl Stages for CertRunsParts {
 }
 
 impl StagesBack for CertRunsParts {
-    fn count(&self, stage: Stage) -> u32 {
+    fn count(&self, stage: CertStage) -> u32 {
         self.cert.count(stage)
     }
 
-    fn undo(&mut self, stage: Stage) -> Stage {
+    fn undo(&mut self, stage: CertStage) -> CertStage {
         self.cert.undo(stage)
     }
 }
@@ -77,7 +77,7 @@ impl StagesApart for CertRunsParts {
         &mut self,
         rt: &H,
         parts: usize,
-        stage: Stage,
+        stage: CertStage,
         bytes: &'a [u8],
     ) -> (&'a [u8], u32) {
         self.cert.lines_apart(rt, parts, stage, bytes)

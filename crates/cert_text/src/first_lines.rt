@@ -6,10 +6,10 @@ ghost use Rattle.audit_model.specs.Reasons.{page_word};
 ghost use Rattle.migration_types.specs.declared.version.Version.{Version as Told};
 ghost use Rattle.cert_text.specs.Grammar.{header};
 ghost use Rattle.cert_text.specs.Order.{IsLineNumber, faulty_line};
-ghost use Rattle.cert_text.specs.declared.forms.Form.{Form as Shape};
+ghost use Rattle.cert_text.specs.declared.forms.OrderForm.{OrderForm as Shape};
 ghost use Rattle.cert_text.specs.inner.OrderHeld.{IsFirst, IsCertHeader};
 
-use crate::forms::Form;
+use crate::forms::OrderForm;
 use crate::{RUNS_HEADER, cert_header};
 use audit_model::PageReason;
 use migration_types::{Size, Version};
@@ -84,21 +84,21 @@ fn is_cert_header(line: &[u8]) -> bool
 }
 
 /// Returns the form of the texts that begin with this line.
-pub(crate) fn form_of(line: &[u8]) -> Option<Form>
+pub(crate) fn form_of(line: &[u8]) -> Option<OrderForm>
     ensures found { IfSome result (λ form. IsFirst form line.now) }
     ensures none { IfNone result ((form : Shape) → IsFirst form line.now → ⊥) }
 {
     if is_line(line, RUNS_HEADER) {
-        return Some(Form::Runs);
+        return Some(OrderForm::Runs);
     }
     if is_cert_header(line) {
-        return Some(Form::Cert);
+        return Some(OrderForm::Cert);
     }
     if is_line(line, CLEAN) {
-        return Some(Form::Clean);
+        return Some(OrderForm::Clean);
     }
     match fault_of(line) {
-        Some((line, reason)) => Some(Form::Faulty { line, reason }),
+        Some((line, reason)) => Some(OrderForm::Faulty { line, reason }),
         None => None,
     }
 }

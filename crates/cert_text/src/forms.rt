@@ -7,7 +7,7 @@ use audit_model::PageReason;
 
 /// The form of a text that gives an order.
 #[derive(Clone, Copy)]
-pub enum Form {
+pub enum OrderForm {
     /// A text of runs.
     Runs,
     /// The report on a session with a fault: a text of runs below a line that gives the fault's line and its reason.
@@ -18,16 +18,16 @@ pub enum Form {
     Clean,
 }
 
-impl Form {
+impl OrderForm {
     /// Returns whether the order is given by a text of runs, and not by a certificate.
     pub(crate) fn has_runs(&self) -> bool
         ensures { result ≡ has_runs self.now }
     {
         match self {
-            Form::Runs => true,
-            Form::Faulty { .. } => true,
-            Form::Cert => false,
-            Form::Clean => false,
+            OrderForm::Runs => true,
+            OrderForm::Faulty { .. } => true,
+            OrderForm::Cert => false,
+            OrderForm::Clean => false,
         }
     }
 
@@ -36,10 +36,10 @@ impl Form {
         ensures { result ≡ has_front self.now }
     {
         match self {
-            Form::Runs => false,
-            Form::Faulty { .. } => true,
-            Form::Cert => false,
-            Form::Clean => true,
+            OrderForm::Runs => false,
+            OrderForm::Faulty { .. } => true,
+            OrderForm::Cert => false,
+            OrderForm::Clean => true,
         }
     }
 }

@@ -34,7 +34,7 @@ use cert_runs::CertRunsParts;
 use entry_lines::push_entries;
 pub use entry_lines::push_entry_line;
 pub use first_lines::{CLEAN, FAULTY};
-pub use forms::Form;
+pub use forms::OrderForm;
 use order_lines::OrderParts;
 use runs::push_runs;
 pub use runs_text::RUNS_HEADER;

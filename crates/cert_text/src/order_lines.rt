@@ -7,7 +7,7 @@ ghost use Rattle.cert_text.specs.inner.OrderHeld.{IsFirst};
 ghost use Rattle.cert_text.specs.inner.Parts.{held_at, inner_at, LiveAt, StaysAt};
 
 use crate::first_lines::{form_of, wanted_first};
-use crate::forms::Form;
+use crate::forms::OrderForm;
 use crate::{CertRuns, RunsText};
 use migration_types::{Run, Seq};
 use std::alloc::Global;
@@ -19,14 +19,14 @@ use text_lines::{
 /// What was read of a text that gives an order. The stage says whether its first line was read, and with it the form.
 #[derive(Drop)]
 pub struct OrderParts {
-    form: Form,
+    form: OrderForm,
     runs: RunsText,
     cert: CertRuns,
 }
 
 impl OrderParts {
     /// Takes the first line, which says that the text has this form.
-    fn first_of(&mut self, form: Form, line: &[u8]) -> Result<(), FaultKind>
+    fn first_of(&mut self, form: OrderForm, line: &[u8]) -> Result<(), FaultKind>
         requires live { LiveAt false self.old }
         requires first { IsFirst form line.now }
         ensures live { OnOk result (LiveAt true self.new) }
@@ -161,7 +161,7 @@ impl Stages for OrderParts {
 
     fn begin(alloc: Global) -> (bool, Self) {
         let parts = OrderParts {
-            form: Form::Runs,
+            form: OrderForm::Runs,
             runs: RunsText::new(alloc),
             cert: CertRuns::new(alloc),
         };

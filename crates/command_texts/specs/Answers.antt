@@ -1,4 +1,4 @@
--- What a command answers to its texts: a text that it writes, and its status.
+-- The answer of a command to its texts: the text that it writes, and its status.
 use Rattle.std.specs.Prelude.{◌≡◌, ℕ, List, [], ◌∷◌, ◌++◌, codes, ⊤}
 use Rattle.std.specs.Fmt.{decimal}
 use Rattle.command_texts.specs.declared.answer.Answer.{Answer}
@@ -6,7 +6,7 @@ use Rattle.command_texts.specs.Shown.{line_on, shown}
 use Rattle.command_texts.specs.declared.answer.Fault.{Fault}
 use Rattle.command_texts.specs.declared.answer.Fault.TheVariants.{File, Link, Threads, Output, Memory}
 
--- 4 where there is no memory for it, and 3 for a text, a link, a thread or an output that failed
+-- 4 if memory ran out, and 3 if a text, a link, a thread or an output failed
 abbrev pub fault_status : Fault → ℕ
 fault_status (File name why) = 3
 fault_status Link = 3
@@ -14,19 +14,19 @@ fault_status Threads = 3
 fault_status (Output name why) = 3
 fault_status Memory = 4
 
--- the line of a text that was not read whole
+-- the line about a text that could not be read to its end
 abbrev pub file_line : List ℕ → List ℕ
 file_line name = codes "file " ++ shown name ++ codes "\n"
 
--- and behind it the words on why
+-- the same, followed by the words on the cause
 abbrev pub file_lines : List ℕ → List ℕ → List ℕ
 file_lines name why = file_line name ++ line_on name why
 
--- the line of an output that was not written, and behind it the words on why
+-- the line about an output that could not be written, followed by the words on the cause
 abbrev pub output_lines : List ℕ → List ℕ → List ℕ
 output_lines name why = codes "output\n" ++ line_on name why
 
--- the lines that tell a fault
+-- the lines that report a fault
 abbrev pub fault_line : Fault → List ℕ
 fault_line (File name why) = file_lines name.now why.now
 fault_line Link = codes "link\n"
@@ -34,7 +34,7 @@ fault_line Threads = codes "threads\n"
 fault_line (Output name why) = output_lines name.now why.now
 fault_line Memory = codes "out of memory\n"
 
--- a text was not read whole that stands under such a name, or there was no memory
+-- a text under such a name could not be read to its end, or memory ran out
 abbrev pub IsReadFault : (List ℕ → Type 0) → Fault → Type 0
 IsReadFault IsName (File name why) = IsName name.now
 IsReadFault IsName Link = ⊥
@@ -42,12 +42,12 @@ IsReadFault IsName Threads = ⊥
 IsReadFault IsName (Output name why) = ⊥
 IsReadFault IsName Memory = ⊤
 
--- an output was not written
+-- an output could not be written
 abbrev pub IsOutputFault : Fault → Type 0
 IsOutputFault (Output name why) = ⊤
 IsOutputFault other = ⊥
 
--- a list of answers ends before its end: an output was not written, or there was no memory
+-- a list of answers stops early: an output could not be written, or memory ran out
 abbrev pub IsListStop : Fault → Type 0
 IsListStop Memory = ⊤
 IsListStop other = IsOutputFault other
@@ -57,7 +57,7 @@ abbrev pub IsTextFault : (List ℕ → Type 0) → Fault → Type 0
 IsTextFault IsName (Output name why) = ⊤
 IsTextFault IsName other = IsReadFault IsName other
 
--- a migration was not run to its end: its link failed, or there was no thread or no memory for it
+-- a migration did not run to its end: its link failed, a thread could not be started, or memory ran out
 abbrev pub IsRunStop : Fault → Type 0
 IsRunStop (File name why) = ⊥
 IsRunStop Link = ⊤
@@ -65,23 +65,23 @@ IsRunStop Threads = ⊤
 IsRunStop (Output name why) = ⊥
 IsRunStop Memory = ⊤
 
--- and of one that runs a migration
+-- a fault of a command that runs a migration
 abbrev pub IsHostFault : (List ℕ → Type 0) → Fault → Type 0
 IsHostFault IsName Link = ⊤
 IsHostFault IsName Threads = ⊤
 IsHostFault IsName other = IsTextFault IsName other
 
--- an answer of this text and this status
+-- the answer has this text and this status
 abbrev pub Says : Answer → List ℕ → ℕ → Type 0
 Says answer text status = (answer.text.items ≡ text) × (answer.status ≡ status)
 
--- the text and the status of a value that is right
+-- a right value exists that has this text and this status
 pub record IsAnswer {V : Type 0} (IsRight : V → Type 0) (text_of : V → List ℕ) (status_of : V → ℕ) (text : List ℕ) (status : ℕ) : Type 0 where
   pub value : V
   pub is_right : IsRight value
   pub is_text : text ≡ text_of value
   pub is_status : status ≡ status_of value
 
--- the line of a kind of answer and the number of its place
+-- the line of an answer of this kind, with a line number
 abbrev pub numbered : List ℕ → ℕ → List ℕ
 numbered kind n = kind ++ decimal n ++ 10 ∷ []

@@ -1,21 +1,21 @@
--- An input that holds two texts, of which the first ends with its first line `end`.
+-- An input that holds two texts. The first ends with the input's first line `end`.
 use Rattle.std.specs.Prelude.{◌≡◌, ◌≢◌, ℕ, List, [], ◌∷◌, ◌++◌, ◌⊎◌, codes}
 use Rattle.std.specs.List.{AllByRecursion}
 use Rattle.text_lines.specs.Text.{ended, IsLine}
 
--- lines of which none is `end`
+-- none of these lines is `end`
 pub record HasNoEnd (lines : List (List ℕ)) : Type 0 where
   pub plain : AllByRecursion IsLine lines
   pub none : AllByRecursion (λ line. line ≢ codes "end") lines
 
--- the first text is the lines before the first line `end` and that line, and the second is the rest
+-- the first text goes up to the first line `end`, which it includes, and the second text is the rest
 pub record IsCutAtLine (input first second : List ℕ) : Type 0 where
   pub lines : List (List ℕ)
   pub before : HasNoEnd lines
   pub first_text : first ≡ ended (lines ++ codes "end" ∷ [])
   pub parts : input ≡ first ++ second
 
--- no line that the input ends is `end`: the first text is all of it, and the second is empty
+-- no ended line of the input is `end`: the first text is the whole input, and the second is empty
 pub record IsUncut (input first second : List ℕ) : Type 0 where
   pub lines : List (List ℕ)
   pub unended : List ℕ

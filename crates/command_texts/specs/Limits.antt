@@ -1,4 +1,4 @@
--- How long the texts are that are read.
+-- The greatest lengths of texts.
 use Rattle.std.specs.Prelude.{◌≡◌, ℕ, ◌≤◌, ◌⊎◌, Bool, true, false, ◌&&◌, nat_le, List, [], ◌∷◌, ◌++◌, length, codes}
 
 abbrev pub BeginsWith : List ℕ → List ℕ → Type 0
@@ -12,11 +12,11 @@ abbrev pub begins_with_digit : List ℕ → Bool
 begins_with_digit [] = false
 begins_with_digit (code ∷ text) = is_digit code
 
--- it begins as a session or a certificate of the third version, as runs, as a report with either of these behind its first line,
--- or as a table of lines
+-- the text begins like a session or a certificate of the third version, like runs, like a report that has one of these
+-- two after its first line, or like a table of lines
 abbrev pub MayBeLong : List ℕ → Type 0
 MayBeLong text = BeginsWith (codes "postcopy-session 3\n") text ⊎ BeginsWith (codes "postcopy-certificate 3\n") text ⊎ BeginsWith (codes "postcopy-runs 1\n") text ⊎ BeginsWith (codes "clean\npostcopy-certificate 3\n") text ⊎ BeginsWith (codes "faulty line ") text ⊎ (begins_with_digit text ≡ true)
 
--- a text has at most so many bytes
+-- the text is within its limit in bytes
 abbrev pub IsWithin : List ℕ → Type 0
 IsWithin text = (length text ≤ 268435456) ⊎ ((length text ≤ 17179869184) × MayBeLong text)

@@ -1,4 +1,4 @@
--- Why a text is refused, told beside the answer.
+-- Why a text is refused: the words beside the answer.
 use Rattle.std.specs.Prelude.{◌≡◌, ℕ, List, [], ◌∷◌, ◌++◌, Option, Some, None, codes, option_map}
 use Rattle.std.specs.Option.{option_or}
 use Rattle.std.specs.Io.KnownBytes.{Keeps}
@@ -11,12 +11,12 @@ use Rattle.command_texts.specs.declared.why.Why.{Why}
 use Rattle.command_texts.specs.Shown.{line_on, shown}
 use Rattle.command_texts.specs.Written.{MayTell}
 
--- the line at which a text is refused, or none where it is a spelling
+-- the line at which a text is refused, or `None` if it is a spelling
 abbrev pub IsRefusedAt : {V : Type 0} → (V → List (List ℕ) → Type 0) → List ℕ → Option ℕ → Type 0
 IsRefusedAt {V} Spells text None = (v : V) × IsSpelling Spells v text
 IsRefusedAt Spells text (Some line) = IsRefusalLine Spells text line
 
--- of two texts the first is told of that is refused
+-- the refusal of the first of two texts, or else that of the second
 pub record IsFirstRefused (IsOneRefused IsOtherRefused : List ℕ → Option ℕ → Type 0) (texts : List ℕ × List ℕ) (line : Option ℕ) : Type 0 where
   pub one : Option ℕ
   pub other : Option ℕ
@@ -35,31 +35,32 @@ Place = List ℕ × ℕ
 abbrev pub place_of : List ℕ → Option ℕ → Option Place
 place_of name line = option_map (λ n. (name, n)) line
 
--- the place in the first of two texts, or else in the second
+-- the place in the first of two texts, or else the place in the second
 abbrev pub first_place : List ℕ → List ℕ → Option ℕ → Option ℕ → Option Place
 first_place first second one other = option_or (place_of first one) (place_of second other)
 
 abbrev pub told_place : Why → Place
 told_place why = (why.name.now, why.refusal.fault.line)
 
--- words that tell why a text is refused: a line that begins with its name, as it is shown, and that line, or in full more below it
+-- Words on why a text is refused. Their first line begins with the text's name as shown and the line number. In full,
+-- more lines follow it.
 abbrev pub AreReasons : Telling → Place → List ℕ → Type 0
 AreReasons Short place words = AddsPlaced (shown place.0) place.1 [] words
 AreReasons Full place words = AddsPlacedFirst (shown place.0) place.1 [] words
 
--- why a text is refused is told, if one is
+-- Words on why a text is refused, if one is. The output may fail before all of them are written, or before any is.
 abbrev pub TellsWhy : Telling → Option Place → Option (List ℕ) → Option (List ℕ) → Type 0
 TellsWhy telling None old new = Keeps old new
 TellsWhy telling (Some place) old new = MayTell (AreReasons telling place) old new
 
--- a note on a text, where there is one and all is well by the status
+-- a note on a text, which needs that there is one and that the status is 0
 pub record IsNote (Has : Type 0) (name : List ℕ) (status : ℕ) (line : List ℕ) : Type 0 where
   pub has : Has
   pub is_well : status ≡ 0
   pub words : List ℕ
   pub is_line : line ≡ line_on name words
 
--- what is told beside the answer to a text under a name: why it is refused, and then a note
+-- beside the answer to the text under a name: why the text is refused, then a note
 pub record TellsWhyOf (IsRefused : List ℕ → Option ℕ → Type 0) (HasNote : List ℕ → Type 0) (telling : Telling) (name text : List ℕ) (status : ℕ) (old new : Option (List ℕ)) : Type 0 where
   pub line : Option ℕ
   pub is_line : IsRefused text line
@@ -67,8 +68,8 @@ pub record TellsWhyOf (IsRefused : List ℕ → Option ℕ → Type 0) (HasNote 
   pub told : TellsWhy telling (place_of name line) old between
   pub noted : MayTell (IsNote (HasNote text) name status) between new
 
--- what is told beside the answer to two texts under their names: why the first is refused, or else the second, then what
--- more is told of them, with the name of the second, as it is shown, and then a note on the first
+-- beside the answer to two texts under their names: why the first is refused, or else the second; then more words on
+-- the answer, which show the second name; and then a note on the first
 pub record TellsBeside (IsFirstRefused IsSecondRefused : List ℕ → Option ℕ → Type 0) (AddsMore : List ℕ × List ℕ → List ℕ → List ℕ → List ℕ → Type 0) (HasNote : List ℕ × List ℕ → Type 0) (first second : List ℕ) (texts : List ℕ × List ℕ) (status : ℕ) (old new : Option (List ℕ)) : Type 0 where
   pub one : Option ℕ
   pub other : Option ℕ

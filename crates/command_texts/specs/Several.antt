@@ -1,4 +1,4 @@
--- The answers to several texts, one after the other.
+-- The answers to several texts, in order.
 use Rattle.std.specs.Prelude.{◌≡◌, ◌⊎◌, ◌<◌, ℕ, ◌+◌, List, [], ◌∷◌, ◌++◌, Option, Some, None, IfSome, MatchOption, codes, length, map, take, ◌==◌, if◌then◌else◌, nat_lt}
 use Rattle.std.specs.Fmt.{decimal}
 use Rattle.std.specs.List.{AllByRecursion, concat}
@@ -14,20 +14,20 @@ use Rattle.command_texts.specs.Shown.{quoted, shown}
 use Rattle.command_texts.specs.Told.{IsNamed}
 use Rattle.command_texts.specs.Written.{AppendsFront, BothGain, Gains, MayTell, Streams}
 
--- what was said of a text: the answer to it with its status, and the line at which it is refused, if it is
+-- what the command says about a text: the answer with its status, and the line at which the text is refused, if it is
 pub record Said : Type 0 where
   pub text : List ℕ
   pub answer : List ℕ
   pub status : ℕ
   pub line : Option ℕ
 
--- a name, and what was said of the text under it, or that it was not read whole
+-- a name, and what the command says about its text, or `None` if the text could not be read to its end
 pub record Entry : Type 0 where
   pub name : List ℕ
   pub said : Option Said
 
--- the text was read under its name, and this is the answer to it, and where it is refused; of what was read of the input no
--- more is said
+-- The text under the name was read. This is the answer to it, and the line at which it is refused. If the name is that
+-- of the input, nothing is said about the bytes that the input held.
 pub record IsSaid (files : List ℕ → Option (List ℕ)) (IsAnswer : List ℕ → List ℕ → ℕ → Type 0) (IsRefused : List ℕ → Option ℕ → Type 0) (name : List ℕ) (s : Said) : Type 0 where
   pub is_named : IsNamed name files None s.text
   pub is_answer : IsAnswer s.text s.answer s.status
@@ -36,7 +36,8 @@ pub record IsSaid (files : List ℕ → Option (List ℕ)) (IsAnswer : List ℕ 
 abbrev pub IsRight : (List ℕ → Option (List ℕ)) → (List ℕ → List ℕ → ℕ → Type 0) → (List ℕ → Option ℕ → Type 0) → Entry → Type 0
 IsRight files IsAnswer IsRefused e = IfSome e.said (IsSaid files IsAnswer IsRefused e.name)
 
--- how answers are listed: after their names, with these words after the counts at the end, or as objects with their names
+-- how answers are listed: after their names, with these words after the counts at the end, or as objects with the names
+-- in them
 abbrev pub Style : Type 0
 Style = Option (List ℕ)
 
@@ -54,7 +55,7 @@ abbrev pub listed_as : Style → List ℕ → List ℕ → List ℕ
 listed_as (Some sum) name said = shown name ++ codes ": " ++ said
 listed_as None name said = in_object name said
 
--- what the list has of an entry: nothing, where the text was not read
+-- what the list has for an entry: nothing if the text was not read
 abbrev pub listed_said : Style → List ℕ → Option Said → List ℕ
 listed_said style name None = []
 listed_said style name (Some s) = listed_as style name s.answer
@@ -70,12 +71,12 @@ said_status (Some s) = s.status
 abbrev pub entry_status : Entry → ℕ
 entry_status e = said_status e.said
 
--- how many answers say that all is well
+-- how many answers have status 0
 abbrev pub well : List Entry → ℕ
 well [] = 0
 well (e ∷ es) = (if entry_status e == 0 then 1 else 0) + well es
 
--- the greatest status, or 0 where there is none
+-- the greatest status, or 0 for no entries
 abbrev pub greater : ℕ → ℕ → ℕ
 greater a b = if nat_lt a b then b else a
 
@@ -83,7 +84,7 @@ abbrev pub worst : List Entry → ℕ
 worst [] = 0
 worst (e ∷ es) = greater (entry_status e) (worst es)
 
--- what ends the list: how many of how many are well, as in "2 of 3 sessions are clean", or nothing
+-- the end of the list: how many of how many answers have status 0, as in "2 of 3 sessions are clean", or nothing
 abbrev pub list_end : Style → ℕ → ℕ → List ℕ
 list_end (Some sum) well all = decimal well ++ codes " of " ++ decimal all ++ sum
 list_end None well all = []
@@ -92,29 +93,29 @@ list_end None well all = []
 abbrev pub list_text : Style → List Entry → List ℕ
 list_text style es = concat (map (listed style) es) ++ list_end style (well es) (length es)
 
--- names behind references
+-- the names that references point to
 abbrev pub names_of : List (Bor (List ℕ)) → List (List ℕ)
 names_of names = map (λ name. name.now) names
 
--- why a text is refused is told, if it is, and then a note
+-- why the text is refused, if it is, and then a note
 pub record TellsSaid (HasNote : List ℕ → Type 0) (name : List ℕ) (s : Said) (old new : Option (List ℕ)) : Type 0 where
   pub between : Option (List ℕ)
   pub why : TellsWhy Short (place_of name s.line) old between
   pub noted : MayTell (IsNote (HasNote s.text) name s.status) between new
 
--- that a text was not read is told, and why
+-- words that say that a text was not read, and why
 abbrev pub TellsUnread : List ℕ → Option (List ℕ) → Option (List ℕ) → Type 0
 TellsUnread name old new = (why : List ℕ) × AppendsFront old new (file_lines name why)
 
 abbrev pub TellsEntry : (List ℕ → Type 0) → Entry → Option (List ℕ) → Option (List ℕ) → Type 0
 TellsEntry HasNote e old new = MatchOption e.said (TellsUnread e.name old new) (λ s. TellsSaid HasNote e.name s old new)
 
--- and so of each, one after the other
+-- the same for each entry, in order
 abbrev pub TellsEach : (List ℕ → Type 0) → List Entry → Option (List ℕ) → Option (List ℕ) → Type 0
 TellsEach HasNote [] old new = Keeps old new
 TellsEach HasNote (e ∷ es) old new = (between : Option (List ℕ)) × TellsEntry HasNote e old between × TellsEach HasNote es between new
 
--- the text under a name was dealt with, as one of a list, and this is its status
+-- the text under a name is one of a list: its answer was written, with what goes beside it, and this is its status
 pub record IsListed (files : List ℕ → Option (List ℕ)) (IsAnswer : List ℕ → List ℕ → ℕ → Type 0) (IsRefused : List ℕ → Option ℕ → Type 0) (HasNote : List ℕ → Type 0) (style : Style) (name : List ℕ) (old new : Streams) (status : ℕ) : Type 0 where
   pub entry : Entry
   pub is_name : entry.name ≡ name
@@ -123,8 +124,8 @@ pub record IsListed (files : List ℕ → Option (List ℕ)) (IsAnswer : List �
   pub beside : TellsEntry HasNote entry old.1 new.1
   pub is_status : status ≡ entry_status entry
 
--- the texts under these names were dealt with: each gave its answer or was not read; so many answers say that all is well, and
--- this is the greatest status
+-- The texts under these names are of a list. For each one, its answer was written, or the errors say that it was not
+-- read. This many answers have status 0, and this is the greatest status.
 pub record AreListed (files : List ℕ → Option (List ℕ)) (IsAnswer : List ℕ → List ℕ → ℕ → Type 0) (IsRefused : List ℕ → Option ℕ → Type 0) (HasNote : List ℕ → Type 0) (style : Style) (names : List (List ℕ)) (old new : Streams) (count status : ℕ) : Type 0 where
   pub entries : List Entry
   pub are_names : map (λ e. e.name) entries ≡ names
@@ -134,8 +135,8 @@ pub record AreListed (files : List ℕ → Option (List ℕ)) (IsAnswer : List �
   pub is_count : count ≡ well entries
   pub is_status : status ≡ worst entries
 
--- the answers to the texts under these names were told, and how many say that all is well; beside them it was told why texts are
--- refused, with notes, and which were not read; the status is the greatest
+-- The answers to the texts under these names were written, with how many have status 0. Beside them, the errors say why
+-- texts are refused, which texts were not read, and the notes. The status is the greatest of all.
 pub record TellsSeveral (files : List ℕ → Option (List ℕ)) (IsAnswer : List ℕ → List ℕ → ℕ → Type 0) (IsRefused : List ℕ → Option ℕ → Type 0) (HasNote : List ℕ → Type 0) (style : Style) (names : List (List ℕ)) (old new : Streams) (status : ℕ) : Type 0 where
   pub entries : List Entry
   pub are_names : map (λ e. e.name) entries ≡ names
@@ -144,7 +145,7 @@ pub record TellsSeveral (files : List ℕ → Option (List ℕ)) (IsAnswer : Lis
   pub beside : TellsEach HasNote entries old.1 new.1
   pub is_status : status ≡ worst entries
 
--- the first of the names were dealt with, and then the output was not written, or there was no memory
+-- the first of the names were handled, and then the output could not be written, or memory ran out
 pub record StopsSeveral (files : List ℕ → Option (List ℕ)) (IsAnswer : List ℕ → List ℕ → ℕ → Type 0) (IsRefused : List ℕ → Option ℕ → Type 0) (HasNote : List ℕ → Type 0) (style : Style) (names : List (List ℕ)) (old new : Streams) (fault : Fault) : Type 0 where
   pub is_stop : IsListStop fault
   pub dealt : ℕ
@@ -154,11 +155,11 @@ pub record StopsSeveral (files : List ℕ → Option (List ℕ)) (IsAnswer : Lis
   pub listed : AreListed files IsAnswer IsRefused HasNote style (take dealt names) old between count status
   pub gains : BothGain between new
 
--- a status of a list: each text was read, or one was not
+-- the status of a list: below 2 if each text was read, and 3 if one was not
 abbrev pub IsListStatus : ℕ → Type 0
 IsListStatus status = (status < 2) ⊎ (status ≡ 3)
 
--- of one text it was told that it was not read, and why
+-- the errors say that one text was not read, and why
 pub record TellsOneUnread (old new : Option (List ℕ)) : Type 0 where
   pub name : List ℕ
   pub before : Option (List ℕ)

@@ -1,4 +1,4 @@
--- What is told of the texts under names.
+-- The answers to the texts under names.
 use Rattle.std.specs.Prelude.{◌≡◌, ℕ, Bool, true, false, List, Option, Result, IfSome, MatchResult, codes, if◌then◌else◌, ◌&&◌}
 use Rattle.std.specs.Str.{bytes_eq}
 use Rattle.std.specs.Io.KnownBytes.{Appends, Keeps}
@@ -8,15 +8,15 @@ use Rattle.command_texts.specs.Cutting.{IsCutAtEnd}
 use Rattle.command_texts.specs.Limits.{IsWithin}
 use Rattle.command_texts.specs.Written.{AppendsFront, Streams}
 
--- the name of the input
+-- whether the name is that of the input
 abbrev pub is_dash : List ℕ → Bool
 is_dash name = bytes_eq name (codes "-")
 
--- the bytes that a name stands for, where they are known
+-- the bytes that a name stands for, if they are known
 abbrev pub bytes_under : List ℕ → (List ℕ → Option (List ℕ)) → Option (List ℕ) → Option (List ℕ)
 bytes_under name files input = if is_dash name then input else files name
 
--- these bytes were read: there are not too many, and where it is known what was there, they are that
+-- these bytes were read: they are within the limit, and they are the known ones, if those are known
 pub record AreRead (known : Option (List ℕ)) (bytes : List ℕ) : Type 0 where
   pub few : IsWithin bytes
   pub whole : IfSome known (λ xs. bytes ≡ xs)
@@ -35,25 +35,25 @@ abbrev pub AreTextsBy : Bool → Option (List ℕ) → Option (List ℕ) → Opt
 AreTextsBy true first second input texts = AreOfInput input texts
 AreTextsBy false first second input texts = AreRead first texts.0 × AreRead second texts.1
 
--- the two texts that two names stand for: those of one input, where both name it
+-- the two texts that two names stand for; if both names are the input's, the input holds both texts
 abbrev pub AreNamed : List ℕ → List ℕ → (List ℕ → Option (List ℕ)) → Option (List ℕ) → List ℕ × List ℕ → Type 0
 AreNamed first second files input texts =
     AreTextsBy (is_dash first && is_dash second) (bytes_under first files input) (bytes_under second files input) input texts
 
--- the output gained the text of an answer, and the status is the answer's
+-- the answer's text was appended to the output, and the status is the answer's
 pub record TellsOf (IsAnswer : List ℕ → ℕ → Type 0) (old new : Option (List ℕ)) (status : ℕ) : Type 0 where
   pub text : List ℕ
   pub is_answer : IsAnswer text status
   pub written : Appends old new text
 
--- the answer to such texts was told, and beside it what such a relation says by its status
+-- the answer to such texts was written, and what this relation gives for its status was written beside it
 pub record Tells {T : Type 0} (AreTexts : T → Type 0) (IsAnswerTo : T → List ℕ → ℕ → Type 0) (IsBeside : T → ℕ → Option (List ℕ) → Option (List ℕ) → Type 0) (old new : Streams) (status : ℕ) : Type 0 where
   pub texts : T
   pub are_texts : AreTexts texts
   pub told : TellsOf (IsAnswerTo texts) old.0 new.0 status
   pub beside : IsBeside texts status old.1 new.1
 
--- the output gained a front of the answer to such texts
+-- part of the answer to such texts was appended to the output: all of it up to some byte
 pub record CutsShort {T : Type 0} (AreTexts : T → Type 0) (IsAnswerTo : T → List ℕ → ℕ → Type 0) (old new : Option (List ℕ)) : Type 0 where
   pub texts : T
   pub are_texts : AreTexts texts
@@ -62,18 +62,19 @@ pub record CutsShort {T : Type 0} (AreTexts : T → Type 0) (IsAnswerTo : T → 
   pub is_answer : IsAnswerTo texts text status
   pub written : AppendsFront old new text
 
--- what a fault leaves of the output: where it is the output's own it was cut short, and at any other it stays
+-- what a fault leaves of the output: a failure of the output itself cuts the answer short, and any other fault leaves
+-- it as it was
 abbrev pub IsLeft : Fault → Type 0 → Type 0 → Type 0
 IsLeft (Output name why) IsCut Stays = IsCut
 IsLeft other IsCut Stays = Stays
 
--- it came to such a fault, and nothing is told beside it
+-- it failed with such a fault, and nothing was written beside the answer
 pub record Fails {T : Type 0} (IsFault : Fault → Type 0) (AreTexts : T → Type 0) (IsAnswerTo : T → List ℕ → ℕ → Type 0) (old new : Streams) (fault : Fault) : Type 0 where
   pub is_fault : IsFault fault
   pub output : IsLeft fault (CutsShort AreTexts IsAnswerTo old.0 new.0) (Keeps old.0 new.0)
   pub errors : Keeps old.1 new.1
 
--- the answer to such texts was told, or it came to such a fault
+-- the answer to such texts was written, or it failed with such a fault
 abbrev pub Ends : {T : Type 0} → (Fault → Type 0) → (T → Type 0) → (T → List ℕ → ℕ → Type 0) → (T → ℕ → Option (List ℕ) → Option (List ℕ) → Type 0) → Streams → Streams → Result ℕ Fault → Type 0
 Ends IsFault AreTexts IsAnswerTo IsBeside old new done =
     MatchResult done (Tells AreTexts IsAnswerTo IsBeside old new) (Fails IsFault AreTexts IsAnswerTo old new)

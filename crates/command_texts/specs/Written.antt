@@ -1,4 +1,4 @@
--- What is written to an output, which may fail before all of it is.
+-- What is written to an output that may fail before the end.
 use Rattle.std.specs.Prelude.{◌≡◌, List, ℕ, ◌++◌, ◌⊎◌, Option}
 use Rattle.std.specs.Io.KnownBytes.{Appends, Keeps}
 
@@ -9,18 +9,18 @@ pub record AppendsFront (old new : Option (List ℕ)) (bytes : List ℕ) : Type 
   pub parts : bytes ≡ front ++ back
   pub written : Appends old new front
 
--- nothing was appended, or a front of such words
+-- nothing, or a front of such words, was appended
 abbrev pub MayTell : (List ℕ → Type 0) → Option (List ℕ) → Option (List ℕ) → Type 0
 MayTell AreWords old new = Keeps old new ⊎ ((words : List ℕ) × AreWords words × AppendsFront old new words)
 
--- what was there stays in front
+-- bytes were appended, or none were
 abbrev pub Gains : Option (List ℕ) → Option (List ℕ) → Type 0
 Gains old new = (more : List ℕ) × Appends old new more
 
--- the output and the standard error, as far as it is known what they have
+-- the output and the standard error, with what they hold, as far as it is known
 abbrev pub Streams : Type 0
 Streams = Option (List ℕ) × Option (List ℕ)
 
--- of both what was there stays in front
+-- bytes were appended to each of the two, or none were
 abbrev pub BothGain : Streams → Streams → Type 0
 BothGain old new = Gains old.0 new.0 × Gains old.1 new.1

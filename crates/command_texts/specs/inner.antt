@@ -1,3 +1,3 @@
--- What serves proofs alone.
+-- Definitions that only proofs use.
 pub mod Ends
 pub mod Takings

@@ -1,4 +1,4 @@
-//! Reading ahead: the next piece of a long text is read by a thread of its own while the parts of this one are taken.
+//! Reading ahead: a thread reads the next piece of a long text while other threads take the parts of this one.
 
 ghost use Rattle.std.specs.Prelude.{ℕ, List, ◌++◌, IfOk, OnOk};
 ghost use Rattle.std.specs.Thread.{IsSync};
@@ -16,14 +16,17 @@ use std::thread::{Threads, available_parallelism, join_mut};
 /// How many bytes are read and taken at a time.
 const PIECE_BYTES: usize = 2_097_152;
 
-/// More pieces than an input may have: all but the last are whole.
+/// More pieces than an input can have, because all but the last are full.
 const MOST_PIECES: u32 = 16_384;
 
-/// The most threads that take parts of a piece.
+/// The most threads that take the parts of a piece.
 const MOST_PARTS: usize = 8;
 
-/// Gives what a reader has left to a taker, within these limits: while a piece is taken the next one is read. It stops
-/// with a fault once a limit is passed.
+/// Gives the rest of a reader's text to a taker, within these limits. The next piece is read while this one is taken.
+///
+/// # Errors
+///
+/// Fails if the text exceeds a limit.
 pub(crate) fn read_ahead<H: Threads + Sync, R: Read + Send, T: Taker>(
     rt: &H,
     alloc: Global,
@@ -62,7 +65,8 @@ pub(crate) fn read_ahead<H: Threads + Sync, R: Read + Send, T: Taker>(
     Err(ReadFault::File(Cause::TooLong))
 }
 
-/// Gives a piece to a taker and fills the buffer for the next one, at once where more than one thread is asked for.
+/// Gives a piece to a taker and fills the buffer for the next one. Does both at once if more than one thread is asked
+/// for.
 fn take_and_fill<H: Threads + Sync, R: Read + Send, T: Taker>(
     rt: &H,
     taker: &mut T,
@@ -91,7 +95,7 @@ fn take_and_fill<H: Threads + Sync, R: Read + Send, T: Taker>(
     filled
 }
 
-/// How many threads take parts of a piece: as many as there are processors, where it is known.
+/// Returns how many threads take the parts of a piece: as many as there are processors, if that number is known.
 fn processors<H: Threads>(rt: &H) -> usize {
     match available_parallelism(rt) {
         Ok(count) => count.get().min(MOST_PARTS),

@@ -12,51 +12,51 @@ use std::alloc::{AllocError, Global};
 use std::io::Write;
 use text_lines::{push_keyed, push_line};
 
-/// The status where all is well.
+/// The exit status if all is well.
 pub const ACCEPTED: u8 = 0;
 
-/// The status of another answer.
+/// The exit status of any other answer.
 pub const REFUSED: u8 = 1;
 
-/// The status of words that are no command.
+/// The exit status for words that are no command.
 pub const USAGE: u8 = 2;
 
-/// The status of a text that was not read, of a link that failed, of a thread that could not be made, or of an output that was
-/// not written.
+/// The exit status if a text could not be read, a link failed, a thread could not be started, or an output could not be
+/// written.
 pub const FAILED: u8 = 3;
 
-/// The status where memory ran out.
+/// The exit status if memory ran out.
 pub const MEMORY: u8 = 4;
 
-/// What a command writes, and its status.
+/// What a command writes, and its exit status.
 #[derive(Drop)]
 pub struct Answer {
     pub text: Vec<u8>,
     pub status: u8,
 }
 
-/// How the output is called in words.
+/// The name of the output in messages.
 pub const STANDARD_OUTPUT: &str = "standard output";
 
 /// Why there is no answer.
 #[derive(Clone, Copy)]
 pub enum Fault<'a> {
-    /// The text under this name was not read whole, for a reason that the words tell.
+    /// The text under this name could not be read to its end. The words give the cause.
     File(&'a str, &'static str),
     /// The link of a migration failed.
     Link,
-    /// A thread of a migration could not be made.
+    /// A thread of a migration could not be started.
     Threads,
-    /// The output under this name was not written, for a reason that the words tell.
+    /// The output under this name could not be written. The words give the cause.
     Output(&'a str, &'static str),
-    /// Memory was refused.
+    /// Memory ran out.
     Memory,
 }
 
-/// An answer, or the fault that there is none.
+/// An answer, or why there is none.
 pub type Given = Result<Answer, Fault<'static>>;
 
-// Writes the line of a text that failed, and tells whether all of it is written.
+// Writes the line about a text that failed. Returns whether the whole line was written.
 fn write_file_line<E: Write>(name: &str, errors: &mut E) -> bool
     ensures front { AppendsFront (E.contents errors.old) (E.contents errors.new) (file_line name.now) }
     ensures whole { result ≡ true → Appends (E.contents errors.old) (E.contents errors.new) (file_line name.now) }
@@ -70,7 +70,7 @@ fn write_file_line<E: Write>(name: &str, errors: &mut E) -> bool
     write_whole(errors, b"\n")
 }
 
-// Tells of the text under this name that it failed, and why.
+// Reports that the text under this name failed, and why.
 fn tell_file<E: Write>(name: &str, why: &str, errors: &mut E)
     ensures { AppendsFront (E.contents errors.old) (E.contents errors.new) (file_lines name.now why.now) }
 {
@@ -79,7 +79,7 @@ fn tell_file<E: Write>(name: &str, why: &str, errors: &mut E)
     }
 }
 
-// Tells of the output under this name that it failed, and why.
+// Reports that the output under this name failed, and why.
 fn tell_output<E: Write>(name: &str, why: &str, errors: &mut E)
     ensures { AppendsFront (E.contents errors.old) (E.contents errors.new) (output_lines name.now why.now) }
 {
@@ -88,8 +88,8 @@ fn tell_output<E: Write>(name: &str, why: &str, errors: &mut E)
     }
 }
 
-/// Tells a fault on a line of its own, below which a second one tells why a text or an output failed, and answers its status. Where
-/// that is not written the status is the same. It takes no memory.
+/// Reports a fault on a line, and returns its status. If a text or an output failed, a second line gives the cause. The
+/// status is the same if these lines cannot be written. Allocates no memory.
 pub fn tell<E: Write>(fault: Fault<'_>, errors: &mut E) -> u8
     ensures status { result ≡ fault_status fault.entry }
     ensures told { AppendsFront (E.contents errors.old) (E.contents errors.new) (fault_line fault.entry) }
@@ -118,7 +118,7 @@ pub fn tell<E: Write>(fault: Fault<'_>, errors: &mut E) -> u8
     }
 }
 
-/// An answer, or the fault that there is none.
+/// Returns an answer, or the fault that memory ran out.
 pub fn given<V>(answer: Result<V, AllocError>) -> Result<V, Fault<'static>>
     ensures given { IfOk result (λ given. answer ≡ Ok given) }
     ensures fault { IfErr result (λ fault. fault ≡ Fault.Memory) }
@@ -129,7 +129,7 @@ pub fn given<V>(answer: Result<V, AllocError>) -> Result<V, Fault<'static>>
     }
 }
 
-/// An answer of which no more is told, or the fault that there is none.
+/// Returns an answer with nothing more to say, or the fault that memory ran out.
 pub fn given_alone(answer: Result<Answer, AllocError>) -> Result<(Answer, ()), Fault<'static>>
     ensures given { IfOk result (λ given. answer ≡ Ok given.0) }
     ensures fault { IfErr result (λ fault. fault ≡ Fault.Memory) }
@@ -140,7 +140,7 @@ pub fn given_alone(answer: Result<Answer, AllocError>) -> Result<(Answer, ()), F
     }
 }
 
-/// The answer that says this alone, where all is not well.
+/// Returns the answer that is this line alone, with the status that not all is well.
 pub fn remark(alloc: Global, line: &[u8]) -> Result<Answer, AllocError>
     ensures { IfOk result (λ answer. Says answer (ended (line.now ∷ [])) 1) }
 {
@@ -152,7 +152,7 @@ pub fn remark(alloc: Global, line: &[u8]) -> Result<Answer, AllocError>
     })
 }
 
-/// The answer to a text that is refused at this line, which the key tells.
+/// Returns the answer for a text that is refused at this line. The key says which text.
 pub fn refused(alloc: Global, key: &[u8], line: u32) -> Result<Answer, AllocError>
     ensures { IfOk result (λ answer. Says answer (numbered key.now line) 1) }
 {
@@ -164,14 +164,14 @@ pub fn refused(alloc: Global, key: &[u8], line: u32) -> Result<Answer, AllocErro
     })
 }
 
-/// The status of an answer, by whether all is well.
+/// Returns the status of an answer, given whether all is well.
 pub fn status_where(well: bool) -> u8
     ensures { result ≡ (if well then 0 else 1) }
 {
     if well { ACCEPTED } else { REFUSED }
 }
 
-/// Writes an answer's text, and answers its status.
+/// Writes an answer's text, and returns its status.
 pub fn written<O: Write>(answer: &Answer, output: &mut O) -> Result<u8, Fault<'static>>
     ensures status { IfOk result (λ status. status ≡ answer.now.status) }
     ensures text { IfOk result (λ status. Appends (O.contents output.old) (O.contents output.new) answer.now.text.items) }

@@ -1,16 +1,17 @@
-//! Why a text is not read, or an output not written. The words are for people: they may change, and no program should read them.
+//! Why a text could not be read, or an output could not be written. The words are for people: they may change, and no
+//! program should parse them.
 
 use std::io;
 use std::io::ErrorKind;
 
-/// Why a text that is read more than once is not: it is not the same each time.
+/// The cause if a text that is read more than once is not the same each time.
 pub const NOT_THE_SAME: &str =
     "it is read four times and has to be the same each time, as a pipe is not: name a file that stays";
 
-/// Why a recording is not read, where no more is known.
+/// The cause if a recording could not be read, and nothing more is known.
 pub const NOT_WHOLE: &str = "the text was not read to its end";
 
-/// Why a text is not read, or an output not written.
+/// Why a text could not be read, or an output could not be written.
 #[derive(Clone, Copy)]
 pub enum Cause {
     NoFile,
@@ -39,7 +40,7 @@ pub enum Cause {
 }
 
 impl Cause {
-    /// The cause in words.
+    /// Returns the cause in words.
     pub fn words(self) -> &'static str {
         match self {
             Cause::NoFile => "no such file or directory",
@@ -70,18 +71,18 @@ impl Cause {
     }
 }
 
-/// The system's number of the error of a file that is not open.
+/// The system's error number for a file that is not open.
 const NOT_OPEN: i32 = 9;
 
-/// That of an error of a device.
+/// The error number for a device error.
 const INPUT_OUTPUT: i32 = 5;
 
-/// Those where no more files can be opened: by the system, and by the process.
+/// The error numbers for too many open files: in the system, and in the process.
 const FULL_SYSTEM: i32 = 23;
 
 const FULL_PROCESS: i32 = 24;
 
-/// Why the system refuses to read or to write.
+/// Returns why the system failed to read or write.
 pub fn cause_of(error: &io::Error) -> Cause {
     match error.kind() {
         ErrorKind::NotFound => Cause::NoFile,
@@ -105,7 +106,7 @@ pub fn cause_of(error: &io::Error) -> Cause {
     }
 }
 
-/// Why the system refuses to read or to write, by the number of an error that has no kind of its own.
+/// Returns why the system failed to read or write, given the number of an error that has no kind of its own.
 fn cause_by_number(error: &io::Error) -> Cause {
     let number = error.raw_os_error().unwrap_or(0);
     if number == NOT_OPEN {

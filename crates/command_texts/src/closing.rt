@@ -1,4 +1,4 @@
-//! An output whose reader may go away.
+//! An output whose reader may close it.
 
 ghost use Rattle.std.specs.Prelude.{◌≡◌, true, false, IfOk, length};
 ghost use Rattle.std.specs.Io.KnownBytes.{Keeps, WriteAppends};
@@ -7,21 +7,21 @@ ghost use Rattle.std.specs.Io.{WritesAtMost};
 use std::io;
 use std::io::{ErrorKind, Write};
 
-/// An output whose reader may go away, as that of a pipe does which has read what it wanted. From then on what is written
-/// is dropped, and that is no fault. Each other failure of the output is one.
+/// An output whose reader may close it, as the reader of a pipe does when it has read enough. From then on, what is
+/// written is dropped, and that is no fault. Any other failure of the output is one.
 #[derive(Drop)]
 pub struct Closable<O> {
     output: O,
     is_closed: bool,
 }
 
-// Whether a failure says that nobody reads the output any more.
+// Returns whether an error says that nobody reads the output any more.
 fn is_gone(error: &io::Error) -> bool {
     error.kind() == ErrorKind::BrokenPipe
 }
 
 impl<O: Write> Closable<O> {
-    /// The output, as long as it has a reader.
+    /// Returns the output, as long as it has a reader.
     pub fn new(output: O) -> Self
         ensures output { result.output ≡ output }
         ensures open { result.is_closed ≡ false }

@@ -1,4 +1,4 @@
-//! Cutting an input into two texts, as it is read.
+//! Cutting an input into two texts while it is read.
 
 ghost use Rattle.std.specs.Prelude.{◌≡◌, ◌≤◌, ◌↔◌, ℕ, List, ◌++◌, take, length, codes, IsTrue, IfSome, IfNone};
 ghost use Rattle.command_texts.specs.Cutting.{IsCutAtEnd};
@@ -13,7 +13,8 @@ use text_lines::{Refusal, after_key, is_line, next_line};
 /// The line that ends the first text.
 const END: &[u8] = b"end";
 
-/// Whether a line that goes on so becomes the line `end`, by what it lacks of it, where it may become it.
+/// Returns whether a line with this rest is the line `end`. `lacking` is what the line lacked of it, or `None` if it
+/// could no longer become that line.
 fn completes(lacking: Option<&[u8]>, rest: &[u8]) -> bool
     ensures { (start : List ℕ) → IsLacking start lacking.entry → IsTrue result ↔ start ++ rest.now ≡ codes "end" }
 {
@@ -23,7 +24,8 @@ fn completes(lacking: Option<&[u8]>, rest: &[u8]) -> bool
     }
 }
 
-/// What a line that goes on so lacks of the line `end`, where it may still become it.
+/// Returns what a line that goes on with this rest lacks of the line `end`, or `None` if it can no longer become that
+/// line.
 fn lacking_after(lacking: Option<&'static [u8]>, rest: &[u8]) -> Option<&'static [u8]>
     ensures { (start : List ℕ) → IsLacking start lacking.entry → IsLacking (start ++ rest.now) result }
 {
@@ -33,8 +35,8 @@ fn lacking_after(lacking: Option<&'static [u8]>, rest: &[u8]) -> Option<&'static
     }
 }
 
-/// The place in a piece behind the first line `end`, where there is one. What the line before the piece lacks of that
-/// line, where it may become it, is given, and afterwards that of the last line.
+/// Returns the offset in a piece just after the first line `end`, if the piece completes one. `lacking` is what the
+/// line before the piece lacked of `end`, or `None` if it could no longer become it. It is updated for the last line.
 fn find_end(lacking: &mut Option<&'static [u8]>, piece: &[u8]) -> Option<usize>
     ensures found { IfSome result (λ at. (at ≤ length piece.now) × ((input : List ℕ) → NoEndYet input lacking.old → EndsThere (input ++ take at piece.now))) }
     ensures none { IfNone result ((input : List ℕ) → NoEndYet input lacking.old → NoEndYet (input ++ piece.now) lacking.new) }
@@ -51,15 +53,15 @@ fn find_end(lacking: &mut Option<&'static [u8]>, piece: &[u8]) -> Option<usize>
     None
 }
 
-/// Takes an input that holds two texts: the first ends with the first line `end`, and the second is what follows.
-/// Without such a line the first is all of the input and the second is empty.
+/// Takes an input that holds two texts. The first ends with the first line `end`, and the second is what follows.
+/// Without such a line, the first text is the whole input, and the second is empty.
 #[derive(Drop)]
 pub struct Both<A: Taker, B: Taker> {
     first: A,
     second: B,
-    /// Whether the first text ended.
+    /// Whether the first text has ended.
     ended: bool,
-    /// What the last line of the first text lacks of the line `end`, where it may become it.
+    /// What the last line of the first text lacks of the line `end`, or `None` if it can no longer become that line.
     lacking: Option<&'static [u8]>,
 }
 

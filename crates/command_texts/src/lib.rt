@@ -1,5 +1,5 @@
-//! What the program's commands have in common: the texts under names are read, each command answers to what was found of
-//! them by a text and a status, and the answer is written.
+//! What the program's commands share: the texts under names are read, the command answers with a text and a status, and
+//! the answer is written.
 #![tactic(auto)]
 
 mod ahead;

@@ -1,5 +1,5 @@
-//! How much of an input may come: a session of a large machine, its certificate, runs, a report with one of these two, and a
-//! table of lines may be longer than others, which their first bytes tell.
+//! How much of an input is read. Some inputs may be longer than others: a session of a large machine, its certificate,
+//! runs, a report with one of these two, and a table of lines. The first bytes of an input decide which limit applies.
 
 ghost use Rattle.std.specs.Prelude.{◌≡◌, ◌+◌, ◌≤◌, ◌⊎◌, ◌↔◌, IfSome, IsTrue, length};
 ghost use Rattle.command_texts.specs.Limits.{BeginsWith, MayBeLong, begins_with_digit};
@@ -7,34 +7,35 @@ ghost use Rattle.command_texts.specs.Limits.{BeginsWith, MayBeLong, begins_with_
 use memchr::{memchr, memrchr};
 use text_lines::after_key;
 
-/// The most bytes that an input may have.
+/// The most bytes of an input.
 const MOST_BYTES: usize = 268_435_456;
 
-/// The most bytes of one that may be long.
+/// The most bytes of an input that may be long.
 const MOST_LONG_BYTES: usize = 17_179_869_184;
 
-/// The most reads that an input may take, with the one that finds its end.
+/// The most reads of an input, with the read that finds its end.
 pub(crate) const MOST_READS: u32 = 1_048_576;
 
-/// The most reads of one that may be long.
+/// The most reads of an input that may be long.
 const MOST_LONG_READS: u32 = 67_108_864;
 
-/// The most bytes of a line, which is held in memory until it ends.
+/// The most bytes of a line, because a line is held in memory until it ends.
 const LONGEST_LINE: usize = 268_435_456;
 
-/// How much of an input may yet come.
+/// How much more of an input may be read.
 #[derive(Clone, Copy)]
 pub(crate) struct Left {
-    /// How many bytes.
+    /// In bytes.
     pub(crate) bytes: usize,
-    /// In how many reads.
+    /// In reads.
     pub(crate) reads: u32,
-    /// How many bytes of the last line came, which has not ended.
+    /// How many bytes of the last line, which has not ended, have been read.
     pub(crate) line: usize,
 }
 
 impl Left {
-    /// What may come behind the first piece of an input, where so many of the reads of a text that is not long are left.
+    /// Returns what may follow the first piece of an input. `reads` is how many reads are left for a text that is not
+    /// long.
     pub(crate) fn behind_first(piece: &[u8], reads: u32) -> Self
         requires { length piece.now ≤ 268435456 }
         ensures { (result.bytes + length piece.now ≡ 268435456) ⊎ ((result.bytes + length piece.now ≡ 17179869184) × MayBeLong piece.now) }
@@ -55,7 +56,8 @@ impl Left {
         }
     }
 
-    /// What may come behind the next piece, where so many reads are left. None: it is too long, or its line is.
+    /// Returns what may follow the next piece, with this many reads left. Returns `None` if the piece or its line is
+    /// too long.
     pub(crate) fn behind(self, piece: &[u8], reads: u32) -> Option<Self>
         ensures { IfSome result (λ left. left.bytes + length piece.now ≡ self.bytes) }
     {
@@ -70,13 +72,14 @@ impl Left {
     }
 }
 
-/// How many bytes there are of the line that a piece goes on with, where there were so many before it.
+/// Returns how many bytes the line that a piece continues has up to its end in the piece, with this many before the
+/// piece.
 fn line_so_far(before: usize, piece: &[u8]) -> usize {
     let here = memchr(b'\n', piece).unwrap_or(piece.len());
     before.saturating_add(here)
 }
 
-/// How many bytes of the last line there are behind a piece, where there were so many before it.
+/// Returns how many bytes of the last line have been read after a piece, with this many before it.
 fn line_after(before: usize, piece: &[u8]) -> usize {
     match memrchr(b'\n', piece) {
         Some(at) => piece.len() - at - 1,
@@ -84,7 +87,7 @@ fn line_after(before: usize, piece: &[u8]) -> usize {
     }
 }
 
-/// Whether a text begins with these bytes.
+/// Returns whether a text begins with these bytes.
 fn begins_with(text: &[u8], front: &[u8]) -> bool
     ensures { IsTrue result ↔ BeginsWith front.now text.now }
 {
@@ -94,7 +97,7 @@ fn begins_with(text: &[u8], front: &[u8]) -> bool
     }
 }
 
-/// Whether a text begins with a digit, as a table of lines does.
+/// Returns whether a text begins with a digit, as a table of lines does.
 fn begins_with_digit(text: &[u8]) -> bool
     ensures { result ≡ begins_with_digit text.now }
 {
@@ -104,7 +107,7 @@ fn begins_with_digit(text: &[u8]) -> bool
     }
 }
 
-/// Whether an input that begins so may be long.
+/// Returns whether an input with these first bytes may be long.
 fn may_be_long(front: &[u8]) -> bool
     ensures { IsTrue result ↔ MayBeLong front.now }
 {

@@ -15,7 +15,7 @@ use std::io::Read;
 use std::thread::Threads;
 use text_lines::Refusal;
 
-// The fault at the text under a name.
+// Returns the fault for the text under a name.
 fn fault_at(name: &str, fault: ReadFault) -> Fault<'_>
     ensures { IsReadFault (λ n. n ≡ name.entry.now) result }
 {
@@ -25,7 +25,7 @@ fn fault_at(name: &str, fault: ReadFault) -> Fault<'_>
     }
 }
 
-// What is found of the text that a reader has, which stands under a name, and why it is refused, if it is.
+// Returns what is found in a reader's text, which a name stands for, and why the text is refused, if it is.
 fn read_from<'a, T: Taker, R: Threads + Sync, I: Read + Send>(
     rt: &R,
     alloc: Global,
@@ -41,7 +41,7 @@ fn read_from<'a, T: Taker, R: Threads + Sync, I: Read + Send>(
     }
 }
 
-/// Opens the text under a name that is not the input's.
+/// Opens the text under a name. The name must not be that of the input.
 pub fn opened<'a, S: TextSource>(texts: &S, name: &'a str) -> Result<S::Text, Fault<'a>>
     ensures text { IfOk result (λ t. IfSome (S.bytes_of texts.now name.entry.now) (λ xs. S.Text.remaining t ≡ Some xs)) }
     ensures fault { IfErr result (IsReadFault (λ n. n ≡ name.entry.now)) }
@@ -52,7 +52,7 @@ pub fn opened<'a, S: TextSource>(texts: &S, name: &'a str) -> Result<S::Text, Fa
     }
 }
 
-// What is found of the text under a name, and why it is refused, if it is.
+// Returns what is found in the text under a name, and why the text is refused, if it is.
 fn read_under<'a, T: Taker, R: Threads + Sync, S: TextSource, I: Read + Send>(
     rt: &R,
     alloc: Global,
@@ -73,7 +73,8 @@ fn read_under<'a, T: Taker, R: Threads + Sync, S: TextSource, I: Read + Send>(
     }
 }
 
-/// What is found of the text under a name, and why it is refused, if it is; `-` is the input.
+/// Returns what is found in the text under a name, and why the text is refused, if it is. The name `-` is that of the
+/// input.
 pub fn read_named<'a, T: Taker, R: Threads + Sync, S: TextSource, I: Read + Send>(
     rt: &R,
     alloc: Global,
@@ -89,8 +90,8 @@ pub fn read_named<'a, T: Taker, R: Threads + Sync, S: TextSource, I: Read + Send
     Ok((found, under(name, refusal)))
 }
 
-// What is found of the two texts that the input holds: the first ends with its first line `end`; and why one is refused, if one
-// is, the first where both are.
+// Returns what is found in the two texts of the input, and why one is refused, if one is. The first text ends with the
+// input's first line `end`. If both are refused, the reason is that of the first.
 fn read_both<A: Taker, B: Taker, R: Threads + Sync, I: Read + Send>(
     rt: &R,
     alloc: Global,
@@ -103,7 +104,7 @@ fn read_both<A: Taker, B: Taker, R: Threads + Sync, I: Read + Send>(
     Ok(both.end()?)
 }
 
-/// The same, under the name of the input.
+/// The same, with faults under the name of the input.
 pub fn read_input<'a, A: Taker, B: Taker, R: Threads + Sync, I: Read + Send>(
     rt: &R,
     alloc: Global,
@@ -119,15 +120,16 @@ pub fn read_input<'a, A: Taker, B: Taker, R: Threads + Sync, I: Read + Send>(
     }
 }
 
-// Whether both names are the input's.
+// Returns whether both names are that of the input.
 fn are_input(first: &str, second: &str) -> bool
     ensures { result ≡ (is_dash first.entry.now && is_dash second.entry.now) }
 {
     first == "-" && second == "-"
 }
 
-/// What is found of the texts under two names, which are read in this order, and why one is refused, if one is, the first where
-/// both are. Where both names are `-` the input holds both: the first ends with its first line `end`.
+/// Returns what is found in the texts under two names, and why one is refused, if one is. If both are refused, the
+/// reason is that of the first. The texts are read in this order. If both names are `-`, the input holds both texts,
+/// and the first ends with the first line `end`.
 pub fn read_pair<'a, A: Taker, B: Taker, R: Threads + Sync, S: TextSource, I: Read + Send>(
     rt: &R,
     alloc: Global,

@@ -1,4 +1,4 @@
-//! Notes on texts, beside answers by which all is well.
+//! Notes on texts, beside answers that say that all is well.
 
 ghost use Rattle.std.specs.Prelude.{◌≡◌, is_some, true};
 ghost use Rattle.command_texts.specs.Reasons.{IsNote};
@@ -8,7 +8,8 @@ use crate::answer::ACCEPTED;
 use crate::shown::write_line_on;
 use std::io::Write;
 
-/// Tells a note on the text under a name, where there is one and all is well by the status. What is not written is left out.
+/// Writes the note on the text under a name, if there is one and the status says that all is well. A note that cannot
+/// be written is left out.
 pub(crate) fn tell_note<E: Write>(
     name: &str,
     note: Option<&'static str>,

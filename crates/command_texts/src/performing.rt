@@ -1,5 +1,6 @@
-//! Commands, whatever they answer: the texts under their names are read, and the answer is written. The program ends
-//! then, and all its memory goes at once: what was found of the texts is forgotten, and not freed piece by piece.
+//! Commands of any kind: the texts under their names are read, and the answer is written. The program ends after a
+//! command, and the system takes back all its memory at once. So what was found in the texts is forgotten, and not
+//! freed piece by piece.
 
 ghost use Rattle.std.specs.Prelude.{◌≡◌, ⊤, ◌<◌, ◌⊎◌, ℕ, List, [], IfOk, IfErr, MatchOption, OnOk};
 ghost use Rattle.command_texts.specs.Answers.{IsTextFault};
@@ -25,65 +26,66 @@ use std::thread::Threads;
 
 /// A command on one text.
 pub trait OnOne {
-    /// Takes its text.
+    /// Takes the text.
     type Text: Taker;
 
-    // What lets it answer.
+    // What the command needs to be able to answer.
     ghost ready: { Type 0 } = { ⊤ };
 
-    /// This is its answer to a text, and its status.
+    /// This is the command's answer to a text, with its status.
     ghost is_answer: { Self → List ℕ → List ℕ → ℕ → Type 0 };
 
-    /// How much it tells of a text that is refused.
+    /// How much the command says about a text that is refused.
     ghost how_much: { Self → HowMuch };
 
-    /// There is a note on this text, for an answer by which all is well.
+    /// There is a note on this text, for an answer that says that all is well.
     ghost has_note: { Self → List ℕ → Type 0 };
 
-    /// How much it tells of a text that is refused.
+    /// Returns how much the command says about a text that is refused.
     fn telling(&self) -> Telling
         ensures { result ≡ how_much self.now };
 
-    /// Its answer to what was found of a text, with a status of 0 or 1. There is none where memory ran out.
+    /// Returns the answer to what was found in a text. Its status is 0 or 1. Fails only if memory runs out.
     fn answer(&self, alloc: Global, found: &<Self::Text as Taker>::Found) -> Given
         requires ready { ready }
         ensures few { (text : List ℕ) → Self.Text.is_found text found.now → IfOk result (λ answer. answer.status < 2) }
         ensures told { (text : List ℕ) → Self.Text.is_found text found.now → IfOk result (λ answer. is_answer self.now text answer.text.items answer.status) }
         ensures fault { IfErr result (λ fault. fault ≡ Fault.Memory) };
 
-    /// The note on what was found of a text, if there is one, in one line of words for people.
+    /// Returns the note on what was found in a text, if there is one: one line of words for people.
     fn note(&self, found: &<Self::Text as Taker>::Found) -> Option<&'static str>
         ensures { (text : List ℕ) → Self.Text.is_found text found.now → MatchOption result (has_note self.now text → ⊥) (λ _. has_note self.now text) };
 }
 
 /// A command on two texts.
 pub trait OnTwo {
-    /// Takes the first.
+    /// Takes the first text.
     type First: Taker;
 
-    /// Takes the second.
+    /// Takes the second text.
     type Second: Taker;
 
-    /// What its answer says, where more can be told of it.
+    /// What the answer says, from which more words can be made.
     type Said: Copy;
 
-    // What lets it answer.
+    // What the command needs to be able to answer.
     ghost ready: { Type 0 } = { ⊤ };
 
-    /// This is its answer to two texts, and its status.
+    /// This is the command's answer to two texts, with its status.
     ghost is_answer: { Self → List ℕ × List ℕ → List ℕ → ℕ → Type 0 };
 
-    /// This is what its answer to two texts says.
+    /// This is what the command's answer to two texts says.
     ghost is_said: { Self → List ℕ × List ℕ → Self.Said → Type 0 };
 
-    /// This is what more is told of two texts: with the name of the second, what stands before it, and with it.
+    /// These words were added about two texts: given the name of the second, what was there before, and what is there
+    /// now.
     ghost adds_more: { Self → List ℕ × List ℕ → List ℕ → List ℕ → List ℕ → Type 0 };
 
-    /// There is a note on these texts, for an answer by which all is well.
+    /// There is a note on these texts, for an answer that says that all is well.
     ghost has_note: { Self → List ℕ × List ℕ → Type 0 };
 
-    /// Its answer to what was found of two texts, with a status of 0 or 1, and what this says. There is none where memory ran
-    /// out.
+    /// Returns the answer to what was found in two texts, with what it says. Its status is 0 or 1. Fails only if memory
+    /// runs out.
     fn answer(
         &self,
         alloc: Global,
@@ -96,8 +98,8 @@ pub trait OnTwo {
         ensures said { (texts : List ℕ × List ℕ) → Self.First.is_found texts.0 first.now → Self.Second.is_found texts.1 second.now → IfOk result (λ given. is_said self.now texts given.1) }
         ensures fault { IfErr result (λ fault. fault ≡ Fault.Memory) };
 
-    /// Adds what more can be told of what its answer says, in words for people, with the name that the second text stands
-    /// under, as it is shown. Many commands have no more to tell. An error: there is no memory for the words.
+    /// Appends more words for people about what the answer says. `name` is the name of the second text, as shown. Many
+    /// commands append nothing. Fails only if memory runs out.
     fn push_more(
         &self,
         out: &mut Vec<u8>,
@@ -108,7 +110,7 @@ pub trait OnTwo {
     ) -> Result<(), AllocError>
         ensures { (texts : List ℕ × List ℕ) → Self.First.is_found texts.0 first.now → Self.Second.is_found texts.1 second.now → is_said self.now texts said → OnOk result (adds_more self.now texts name.now out.old.items out.new.items) };
 
-    /// The note on what was found of two texts, if there is one, in one line of words for people.
+    /// Returns the note on what was found in two texts, if there is one: one line of words for people.
     fn note(
         &self,
         first: &<Self::First as Taker>::Found,
@@ -117,7 +119,8 @@ pub trait OnTwo {
         ensures { (texts : List ℕ × List ℕ) → Self.First.is_found texts.0 first.now → Self.Second.is_found texts.1 second.now → MatchOption result (has_note self.now texts → ⊥) (λ _. has_note self.now texts) };
 }
 
-/// Does a command on the text under a name. Where it is refused, the errors tell why, and where all is well they have its note.
+/// Runs a command on the text under a name. If the text is refused, the errors say why. If all is well, the errors have
+/// the note on it.
 pub fn perform_one<
     'a,
     C: OnOne,
@@ -149,7 +152,7 @@ pub fn perform_one<
     Ok(status)
 }
 
-// What more there is to tell of an answer.
+// Returns more words about an answer.
 fn more_words<C: OnTwo>(
     alloc: Global,
     command: &C,
@@ -171,8 +174,8 @@ fn more_words<C: OnTwo>(
     Ok(words)
 }
 
-// Tells what more there is to tell of an answer. What is not told, since it is not written or there is no memory for it, is left
-// out: the answer says it in short.
+// Writes more words about an answer. They are left out if they cannot be written or memory runs out, because the answer
+// has the short form.
 fn tell_more<C: OnTwo, E: Write>(
     alloc: Global,
     command: &C,
@@ -189,8 +192,9 @@ fn tell_more<C: OnTwo, E: Write>(
     }
 }
 
-/// Does a command on the texts under two names, which are read in this order. Where one is refused, the errors tell why, of the
-/// first where both are; and they tell what more there is to tell of the answer, and where all is well its note on the first.
+/// Runs a command on the texts under two names, which are read in this order. If a text is refused, the errors say why.
+/// If both are refused, they say it of the first. Then they have more words about the answer, and the note on the first
+/// text if all is well.
 pub fn perform_two<
     'a,
     C: OnTwo,

@@ -15,30 +15,30 @@ use std::io::{ErrorKind, Read};
 use std::thread::Threads;
 use text_lines::Refusal;
 
-/// Texts by their names, such as files.
+/// Texts under names, such as files.
 pub trait TextSource {
     /// A text that is being read.
     type Text: Read + Drop + Send;
 
-    /// The bytes that stand under a name, where they are known.
+    /// The bytes that a name stands for, if they are known.
     ghost bytes_of: { Self → List ℕ → Option (List ℕ) } = { λ _ _. None };
 
     /// Opens the text under a name.
     fn text(&self, name: &str) -> io::Result<Self::Text>
         ensures { IfOk result (λ t. IfSome (bytes_of self.now name.now) (λ xs. Self.Text.remaining t ≡ Some xs)) };
 
-    /// Whether the text under a name may be read again, as that of a pipe may not. Nothing rests on it.
+    /// Returns whether the text under a name can be read again. The text of a pipe cannot. No proof depends on it.
     fn stays(&self, _name: &str) -> bool {
         true
     }
 }
 
-/// Why a text was not read whole.
+/// Why a text could not be read to its end.
 #[derive(Clone, Copy)]
 pub enum ReadFault {
-    /// It was not opened or not read, or it is too long or takes too many reads.
+    /// It could not be opened or read, it is too long, or it takes too many reads.
     File(Cause),
-    /// Memory was refused.
+    /// Memory ran out.
     Memory,
 }
 
@@ -48,15 +48,16 @@ impl From<AllocError> for ReadFault {
     }
 }
 
-/// How many bytes are taken at a time at first, by one thread.
+/// How many bytes one thread takes at a time, at first.
 const FIRST_BYTES: usize = 131_072;
 
-/// How many pieces are taken so behind the first, before several threads take larger ones.
+/// How many pieces of that size follow the first one, before several threads take larger pieces.
 const FIRST_PIECES: u32 = 7;
 
-/// Gives the text that a reader has left to a taker, piece by piece as it is read: at most 268,435,456 bytes, in at most
-/// 1,048,576 reads, or by its first bytes 17,179,869,184 bytes in 67,108,864 reads, and at most 268,435,456 bytes of a line that
-/// has not ended. Of a long text the pieces are taken by several threads, and the next one is read meanwhile.
+/// Gives the rest of a reader's text to a taker, piece by piece while it is read. A text has at most 268,435,456 bytes
+/// in 1,048,576 reads, or 17,179,869,184 bytes in 67,108,864 reads if its first bytes say that it may be long. A line
+/// that has not ended has at most 268,435,456 bytes. Several threads take the pieces of a long text, while the next
+/// piece is read.
 pub(crate) fn take_text<H: Threads + Sync, R: Read + Send, T: Taker>(
     rt: &H,
     alloc: Global,
@@ -76,7 +77,7 @@ pub(crate) fn take_text<H: Threads + Sync, R: Read + Send, T: Taker>(
     read_within(rt, alloc, reader, taker, left, buffer.as_mut_slice())
 }
 
-/// What is found of the text that a reader has left, and why it is refused, if it is.
+/// Returns what is found in the rest of a reader's text, and why the text is refused, if it is.
 pub fn read_text<H: Threads + Sync, R: Read + Send, T: Taker>(
     rt: &H,
     alloc: Global,
@@ -96,12 +97,12 @@ pub(crate) struct Filled {
     pub(crate) count: usize,
     /// Whether nothing is left.
     pub(crate) ended: bool,
-    /// How many reads may yet be made.
+    /// How many more reads may be made.
     pub(crate) reads: u32,
 }
 
-/// Reads until the buffer is full or nothing is left, in at most so many reads. A read that was interrupted counts, and is
-/// made again.
+/// Reads until the buffer is full or nothing is left, in at most this many reads. An interrupted read counts, and is
+/// repeated.
 pub(crate) fn fill<R: Read>(
     reader: &mut R,
     buffer: &mut [u8],
@@ -137,8 +138,8 @@ pub(crate) fn fill<R: Read>(
     Err(ReadFault::File(Cause::TooManyReads))
 }
 
-/// Gives what a reader has left to a taker, within these limits, at first by this buffer. It stops with a fault once a limit
-/// is passed.
+/// Gives the rest of a reader's text to a taker, within these limits. Uses this buffer at first. Fails if the text
+/// exceeds a limit.
 fn read_within<H: Threads + Sync, R: Read + Send, T: Taker>(
     rt: &H,
     alloc: Global,
@@ -155,8 +156,8 @@ fn read_within<H: Threads + Sync, R: Read + Send, T: Taker>(
     }
 }
 
-/// Gives the next pieces of what a reader has left to a taker, by one thread and by this buffer. Answers what may come yet,
-/// where that was not all.
+/// Gives the next pieces of a reader's text to a taker, with one thread and this buffer. Returns what may still be
+/// read, or `None` if the text has ended.
 fn read_first<H: Threads + Sync, R: Read, T: Taker>(
     rt: &H,
     reader: &mut R,
@@ -188,7 +189,7 @@ pub(crate) fn zeroes(alloc: Global, count: usize) -> Result<Vec<u8>, AllocError>
     vec![in alloc; 0u8; count]
 }
 
-/// The fault of an error in opening or reading.
+/// Returns the fault for an error in opening or reading.
 pub fn fault_of(error: &io::Error) -> ReadFault {
     if error.kind() == ErrorKind::OutOfMemory {
         ReadFault::Memory

@@ -1,4 +1,4 @@
-//! A command on several texts, one after the other: an answer for each, and how many say that all is well.
+//! A command on several texts, in order: an answer for each, and how many say that all is well.
 
 ghost use Rattle.std.specs.Prelude.{◌≡◌, ◌<◌, ◌≤◌, ◌++◌, ◌==◌, ℕ, List, Option, None, IfOk, IfErr, MatchResult, OnOk, option_map, if◌then◌else◌};
 ghost use Rattle.std.specs.Io.KnownBytes.{Appends};
@@ -25,14 +25,14 @@ use text_lines::push_number;
 /// How answers are listed.
 #[derive(Clone, Copy)]
 pub enum Listing<'a> {
-    /// Each after the name of its text, as in `a: clean`. At the end stands how many of how many are well, and this after it,
-    /// as in ` sessions are clean`.
+    /// Each after the name of its text, as in `a: clean`. The last line says how many of how many are well, followed by
+    /// these words, as in ` sessions are clean`.
     Named(&'a [u8]),
-    /// Each an object, with the name of its text in its first field, as in `{"file":"a","verdict":"clean"}`.
+    /// Each as an object that has the name of its text in its first field, as in `{"file":"a","verdict":"clean"}`.
     Objects,
 }
 
-// Adds an object with the name of its text before its other fields.
+// Appends an object, with the name of its text before its other fields.
 fn push_object(out: &mut Vec<u8>, name: &str, object: &[u8]) -> Result<(), AllocError>
     ensures { OnOk result (out.new.items ≡ out.old.items ++ in_object name.now object.now) }
 {
@@ -47,7 +47,7 @@ fn push_object(out: &mut Vec<u8>, name: &str, object: &[u8]) -> Result<(), Alloc
 }
 
 impl Listing<'_> {
-    // Adds an answer.
+    // Appends an answer.
     fn push_answer(self, out: &mut Vec<u8>, name: &str, answer: &Answer) -> Result<(), AllocError>
         ensures { OnOk result (out.new.items ≡ out.old.items ++ listed_as (style_of self.entry) name.now answer.now.text.items) }
     {
@@ -61,7 +61,7 @@ impl Listing<'_> {
         }
     }
 
-    // Adds what ends the list, where so many answers of so many say that all is well.
+    // Appends the end of the list, given how many of how many answers say that all is well.
     fn push_end(self, out: &mut Vec<u8>, well: usize, all: usize) -> Result<(), AllocError>
         ensures { OnOk result (out.new.items ≡ out.old.items ++ list_end (style_of self.entry) well all) }
     {
@@ -75,7 +75,7 @@ impl Listing<'_> {
     }
 }
 
-// An answer as it stands in a list.
+// Returns an answer in the form that it has in a list.
 fn as_listed(
     alloc: Global,
     listing: Listing<'_>,
@@ -92,7 +92,8 @@ fn as_listed(
     })
 }
 
-// Writes the answer to what was found of the text under a name, and tells why it is refused, or its note. Answers its status.
+// Writes the answer to what was found in the text under a name, and why the text is refused, or its note. Returns the
+// status.
 fn list_found<'a, C: OnOne, R: Threads + Sync, S: TextSource, I: Read + Send, O: Write, E: Write>(
     console: &mut Console<'_, R, S, I, O, E>,
     command: &C,
@@ -117,7 +118,8 @@ fn list_found<'a, C: OnOne, R: Threads + Sync, S: TextSource, I: Read + Send, O:
     Ok(status)
 }
 
-// Tells that the text under a name was not read, and answers the status of that. Where there was no memory the list ends.
+// Reports that the text under a name could not be read, and returns the status for that. Fails if memory ran out, which
+// ends the list.
 fn list_unread<'a, E: Write>(
     name: &'a str,
     fault: Fault<'a>,
@@ -134,7 +136,7 @@ fn list_unread<'a, E: Write>(
     }
 }
 
-// Deals with the text under a name, as one of a list, and answers its status.
+// Handles the text under a name as one of a list, and returns its status.
 fn list_one<'a, C: OnOne, R: Threads + Sync, S: TextSource, I: Read + Send, O: Write, E: Write>(
     console: &mut Console<'_, R, S, I, O, E>,
     command: &C,
@@ -161,7 +163,7 @@ fn list_one<'a, C: OnOne, R: Threads + Sync, S: TextSource, I: Read + Send, O: W
     }
 }
 
-// How many say that all is well of one answer of this status.
+// Returns how many of one answer with this status say that all is well: 0 or 1.
 fn count_of(status: u8) -> usize
     ensures count { result ≡ (if status == 0 then 1 else 0) }
     ensures few { result ≤ 1 }
@@ -169,14 +171,14 @@ fn count_of(status: u8) -> usize
     if status == ACCEPTED { 1 } else { 0 }
 }
 
-// The greater of two statuses.
+// Returns the greater of two statuses.
 fn greater(one: u8, other: u8) -> u8
     ensures { result ≡ greater one other }
 {
     if one < other { other } else { one }
 }
 
-// Deals with the texts under these names, and tells how many answers say that all is well, and the greatest status.
+// Handles the texts under these names. Returns how many answers say that all is well, and the greatest status.
 fn list_each<'a, C: OnOne, R: Threads + Sync, S: TextSource, I: Read + Send, O: Write, E: Write>(
     console: &mut Console<'_, R, S, I, O, E>,
     command: &C,
@@ -200,7 +202,7 @@ fn list_each<'a, C: OnOne, R: Threads + Sync, S: TextSource, I: Read + Send, O: 
     Ok((well, worst))
 }
 
-// Writes what ends a list, where so many answers of so many say that all is well, and answers this status.
+// Writes the end of a list, given how many of how many answers say that all is well, and returns this status.
 fn write_end<O: Write>(
     alloc: Global,
     listing: Listing<'_>,
@@ -219,13 +221,16 @@ fn write_end<O: Write>(
     written(&Answer { text, status }, output)
 }
 
-/// Does a command on each of the texts under these names, one after the other, and writes each answer before the next text is read.
-/// Where a text is refused, the errors tell why, and where all is well they have the note on it. Of a text that is not read they
-/// tell that and why, and the next is read. The status is the greatest: 0 where each answer says that all is well, 1 for
-/// another answer, 3 where a text was not read. The faults, at which the list ends: an answer is not written, or memory runs
-/// out.
+/// Runs a command on each of the texts under these names, in order. Writes each answer before it reads the next text.
+/// If a text is refused, the errors say why. If all is well, they have the note on it. If a text could not be read,
+/// they say so, and why, and the next text is read.
 ///
-/// Memory is taken for one text at a time.
+/// The status is the greatest of all: 0 if each answer says that all is well, 1 for any other answer, and 3 if a text
+/// could not be read. Memory is taken for one text at a time.
+///
+/// # Errors
+///
+/// An answer could not be written, or memory ran out. The list ends there.
 pub fn perform_several<
     'a,
     C: OnOne,

@@ -10,7 +10,7 @@ use crate::writing::write_whole;
 use std::alloc::AllocError;
 use std::io::Write;
 
-/// Whether a character is not printed, and may change how others are.
+/// Returns whether a character is not printed, and may change how others are.
 fn is_control(character: char) -> bool
     ensures { result ≡ is_control character }
 {
@@ -18,7 +18,7 @@ fn is_control(character: char) -> bool
     code < 32 || (code > 126 && code < 160)
 }
 
-/// The digit of a number below 16.
+/// Returns the hexadecimal digit for a number below 16.
 fn hex_digit(number: u8) -> u8
     requires { number < 16 }
     ensures { result ≡ hex_digit number }
@@ -30,7 +30,7 @@ fn hex_digit(number: u8) -> u8
     }
 }
 
-/// Writes a character as it stands between quotation marks.
+/// Writes a character in the form that it has between quotation marks.
 fn write_escaped<W: Write>(output: &mut W, character: char) -> bool
     ensures front { AppendsFront (W.contents output.old) (W.contents output.new) (escaped character) }
     ensures whole { result ≡ true → Appends (W.contents output.old) (W.contents output.new) (escaped character) }
@@ -54,7 +54,7 @@ fn write_escaped<W: Write>(output: &mut W, character: char) -> bool
     write_whole(output, character.encode_utf8(&mut buffer).as_bytes())
 }
 
-/// Writes a name between quotation marks, as a string of JSON.
+/// Writes a name between quotation marks, as a JSON string.
 fn write_quoted<W: Write>(output: &mut W, name: &str) -> bool
     ensures front { AppendsFront (W.contents output.old) (W.contents output.new) (quoted name.now) }
     ensures whole { result ≡ true → Appends (W.contents output.old) (W.contents output.new) (quoted name.now) }
@@ -70,7 +70,7 @@ fn write_quoted<W: Write>(output: &mut W, name: &str) -> bool
     write_whole(output, b"\"")
 }
 
-/// Whether a text has no control characters.
+/// Returns whether a text has no control characters.
 fn are_printed(name: &str) -> bool
     ensures { result ≡ are_printed (chars name.now) }
 {
@@ -82,7 +82,7 @@ fn are_printed(name: &str) -> bool
     true
 }
 
-/// Whether a name begins with a quotation mark.
+/// Returns whether a name begins with a quotation mark.
 fn begins_quoted(name: &str) -> bool
     ensures { result ≡ begins_quoted name.now }
 {
@@ -92,14 +92,14 @@ fn begins_quoted(name: &str) -> bool
     }
 }
 
-/// Whether a name is shown as it is: it has no control character, and does not begin with a quotation mark.
+/// Returns whether a name is shown as it is: it has no control character, and does not begin with a quotation mark.
 pub(crate) fn is_plain(name: &str) -> bool
     ensures { result ≡ is_plain name.now }
 {
     are_printed(name) && !begins_quoted(name)
 }
 
-/// Writes a name as it is shown, and tells whether all of it is written. It takes no memory.
+/// Writes a name as shown. Returns whether all of it was written. Allocates no memory.
 pub fn write_shown<W: Write>(output: &mut W, name: &str) -> bool
     ensures front { AppendsFront (W.contents output.old) (W.contents output.new) (shown name.now) }
     ensures whole { result ≡ true → Appends (W.contents output.old) (W.contents output.new) (shown name.now) }
@@ -111,8 +111,8 @@ pub fn write_shown<W: Write>(output: &mut W, name: &str) -> bool
     }
 }
 
-/// Writes a line of words on what stands under a name, which begins with the name as it is shown, and tells whether all of it is
-/// written. It takes no memory.
+/// Writes a line that begins with a name as shown, followed by words about what the name stands for. Returns whether
+/// all of it was written. Allocates no memory.
 pub(crate) fn write_line_on<W: Write>(output: &mut W, name: &str, words: &str) -> bool
     ensures front { AppendsFront (W.contents output.old) (W.contents output.new) (line_on name.now words.now) }
     ensures whole { result ≡ true → Appends (W.contents output.old) (W.contents output.new) (line_on name.now words.now) }
@@ -129,7 +129,7 @@ pub(crate) fn write_line_on<W: Write>(output: &mut W, name: &str, words: &str) -
     write_whole(output, b"\n")
 }
 
-/// Adds a name as it is shown.
+/// Appends a name as shown.
 pub fn push_shown(out: &mut Vec<u8>, name: &str) -> Result<(), AllocError>
     ensures { OnOk result (out.new.items ≡ out.old.items ++ shown name.now) }
 {
@@ -140,7 +140,7 @@ pub fn push_shown(out: &mut Vec<u8>, name: &str) -> Result<(), AllocError>
     }
 }
 
-/// Adds a name between quotation marks, as a string of JSON.
+/// Appends a name between quotation marks, as a JSON string.
 pub(crate) fn push_quoted(out: &mut Vec<u8>, name: &str) -> Result<(), AllocError>
     ensures { OnOk result (out.new.items ≡ out.old.items ++ quoted name.now) }
 {

@@ -1,4 +1,4 @@
-//! Texts that are taken piece by piece, as they are read.
+//! Texts that are taken piece by piece while they are read.
 
 ghost use Rattle.std.specs.Prelude.{◌≡◌, ◌≢◌, ℕ, List, [], ◌++◌, Option, Some, None, Ok, Err, IfOk, OnOk, MatchResult};
 ghost use Rattle.std.specs.Thread.{IsSync};
@@ -11,25 +11,25 @@ use std::marker::Model;
 use std::thread::Threads;
 use text_lines::{FaultKind, LinesApart, Refusal, Staged, Stages, TextReader, read_or_why};
 
-/// Takes a text piece by piece, and tells at its end what was found of it.
+/// Takes a text piece by piece, and returns at the end what it found.
 pub trait Taker: Drop {
-    /// What is found of a text.
+    /// What is found in a text.
     type Found: Drop;
 
-    /// This was found of a text.
+    /// This was found in a text.
     ghost is_found: { List ℕ → Self.Found → Type 0 };
 
-    /// A text is refused at this line, or nowhere.
+    /// A text is refused at this line, or not at all.
     ghost is_refused: { List ℕ → Option ℕ → Type 0 };
 
-    /// These bytes came so far.
+    /// These bytes have been taken so far.
     ghost came: { Self → List ℕ → Type 0 };
 
-    /// Nothing came. Takes no memory.
+    /// Returns a taker that has taken nothing. Allocates no memory.
     fn new(alloc: Global) -> Self
         ensures { came result [] };
 
-    /// Takes the next piece, of which so many threads may take parts. What a text does wrong is told at its end.
+    /// Takes the next piece. Up to this many threads take parts of it. Errors in the text are reported at its end.
     fn take<H: Threads + Sync>(
         &mut self,
         rt: &H,
@@ -39,7 +39,7 @@ pub trait Taker: Drop {
         requires { IsSync H.row }
         ensures { OnOk result ((text : List ℕ) → came self.old text → came self.new (text ++ piece.now)) };
 
-    /// What was found of all that came, and why it is refused, if it is. An error: there is no memory for it.
+    /// Returns what was found in the whole text, and why the text is refused, if it is. Fails only if memory runs out.
     fn end(self) -> Result<(Self::Found, Option<Refusal>), AllocError>
         ensures { (text : List ℕ) → came self text → IfOk result (λ read. is_found text read.0 × is_refused text (line_of read.1)) };
 }
@@ -77,7 +77,7 @@ impl<R: LinesApart> Taker for TextReader<R> {
     }
 }
 
-/// A text that is gathered, and read once all of it came. Contracts see what came.
+/// A text that is gathered first and read at its end. Contracts see the bytes so far.
 #[derive(Drop)]
 pub struct Gathered<P: Stages> {
     alloc: Global,
@@ -128,8 +128,8 @@ impl<P: Stages> Taker for Gathered<P> {
     }
 }
 
-/// What was read of a text: its value, or the line at which it is refused, with the reason. An error: memory ran out as it was
-/// read.
+/// Returns what was read from a text: its value, or the line at which it is refused, with the reason. Fails only if
+/// memory ran out during reading.
 fn told<V: Drop>(read: Result<V, Refusal>) -> Result<(Result<V, u32>, Option<Refusal>), AllocError>
     ensures { MatchResult read (λ value. result ≡ Ok (Ok value, None)) (λ refusal. MatchResult result (λ told. (told ≡ (Err refusal.fault.line, Some refusal)) × (refusal.fault.kind ≢ FaultKind.Memory)) (λ _. refusal.fault.kind ≡ FaultKind.Memory)) }
 {

@@ -1,4 +1,4 @@
-//! Why a text is refused, told with the name that it stands under.
+//! Why a text is refused, written with its name.
 
 ghost use Rattle.std.specs.Prelude.{◌≡◌, [], IfOk, option_map};
 ghost use Rattle.command_texts.specs.Reasons.{AreReasons, TellsWhy, line_of, place_of, told_place};
@@ -17,7 +17,7 @@ pub struct Why<'a> {
     pub refusal: Refusal,
 }
 
-/// Why the text under a name is refused, if it is.
+/// Returns why the text under a name is refused, if it is.
 pub(crate) fn under<'a>(name: &'a str, refusal: Option<Refusal>) -> Option<Why<'a>>
     ensures { option_map told_place result ≡ place_of name.entry.now (line_of refusal) }
 {
@@ -27,16 +27,16 @@ pub(crate) fn under<'a>(name: &'a str, refusal: Option<Refusal>) -> Option<Why<'
     }
 }
 
-/// How much is told of a text that is refused.
+/// How much is said about a text that is refused.
 #[derive(Clone, Copy, PartialEq, Eq)]
 pub enum Telling {
-    /// A line.
+    /// One line.
     Short,
-    /// The line, and below it the text's own line and each form that it may have.
+    /// That line, followed by the text's own line and each form that is allowed there.
     Full,
 }
 
-// The words that tell why a text is refused.
+// Returns the words on why a text is refused.
 fn words(alloc: Global, why: &Why<'_>, telling: Telling) -> Result<Vec<u8>, AllocError>
     ensures { IfOk result (λ words. AreReasons telling (told_place why.now) words.items) }
 {
@@ -50,8 +50,8 @@ fn words(alloc: Global, why: &Why<'_>, telling: Telling) -> Result<Vec<u8>, Allo
     Ok(out)
 }
 
-/// Tells why a text is refused, where one is. What is not told, since it is not written or there is no memory for it, is left
-/// out: the answer has the line.
+/// Writes why a text is refused, if one is. The words are left out if they cannot be written or memory runs out,
+/// because the answer has the line number.
 pub fn tell_why<E: Write>(alloc: Global, why: &Option<Why<'_>>, telling: Telling, errors: &mut E)
     ensures { TellsWhy telling (option_map told_place why.now) (E.contents errors.old) (E.contents errors.new) }
 {

@@ -1,4 +1,4 @@
-//! Writing bytes, of which a failure leaves the front.
+//! Writing bytes to an output. A failure leaves a front of them.
 
 ghost use Rattle.std.specs.Prelude.{◌≡◌, true, OnOk};
 ghost use Rattle.std.specs.Io.KnownBytes.{Appends};
@@ -7,10 +7,10 @@ ghost use Rattle.command_texts.specs.Written.{AppendsFront};
 use crate::causes::{Cause, cause_of};
 use std::io::{ErrorKind, Write};
 
-/// The most writes that bytes may take.
+/// The most writes for a list of bytes.
 const MOST_WRITES: u64 = u64::MAX;
 
-/// Writes bytes. An error tells why not all of them are written. A write that was interrupted is made again.
+/// Writes bytes. An error says why not all of them were written. An interrupted write is repeated.
 pub fn write_or_why<W: Write>(output: &mut W, bytes: &[u8]) -> Result<(), Cause>
     ensures front { AppendsFront (W.contents output.old) (W.contents output.new) bytes.now }
     ensures whole { OnOk result (Appends (W.contents output.old) (W.contents output.new) bytes.now) }
@@ -33,7 +33,7 @@ pub fn write_or_why<W: Write>(output: &mut W, bytes: &[u8]) -> Result<(), Cause>
     Err(Cause::NotTaken)
 }
 
-/// Writes bytes, and tells whether all of them are written. A write that was interrupted is made again.
+/// Writes bytes, and returns whether all of them were written. An interrupted write is repeated.
 pub fn write_whole<W: Write>(output: &mut W, bytes: &[u8]) -> bool
     ensures front { AppendsFront (W.contents output.old) (W.contents output.new) bytes.now }
     ensures whole { result ≡ true → Appends (W.contents output.old) (W.contents output.new) bytes.now }

@@ -2,8 +2,8 @@
 use Rattle.std.proofs.Common.{◌≡◌, ◌≤◌, List, [], ◌∷◌, None, refl, sym, subst, arith, length}
 use Rattle.clap.specs.Words.{Text, subcommand_of}
 use Rattle.clap.proofs.OnLiterals.{clap_on_literals}
-use Rattle.command_words.specs.declared.asked.AnswerKind.TheVariants.{Report}
-use Rattle.command_words.specs.declared.asked.Found.{Found}
+use Rattle.command_words.specs.declared.requests.AnswerKind.TheVariants.{Report}
+use Rattle.command_words.specs.declared.requests.Invocation.{Invocation}
 use Rattle.command_words.specs.Readings.{IsFound, IsFoundIn}
 use Rattle.command_words.specs.Words.{postcopy_words}
 
@@ -14,8 +14,8 @@ enters_none [] le = refl
 enters_none (word ∷ []) le = refl
 enters_none (word ∷ other ∷ rest) le = absurd (omega arith)
 
-abbrev pub nothing : Found
-nothing = record { wish = None; targets = record { lines = None; output = None; answer = Report } }
+abbrev pub nothing : Invocation
+nothing = record { intent = None; targets = record { lines = None; output = None; answer = Report } }
 
 none_in_none : IsFoundIn None nothing
 none_in_none = record { job = refl; several = refl; alike = refl; targets = record { names = refl; answer = refl } }

@@ -4,8 +4,8 @@ use Rattle.std.specs.Option.{option_map_or}
 use Rattle.clap.specs.Words.{Row, Text, subcommand_of}
 use Rattle.clap.specs.declared.error.kind.ErrorKind.{ErrorKind}
 use Rattle.clap.specs.declared.error.kind.ErrorKind.TheVariants.{ArgumentConflict, OutOfMemory}
-use Rattle.command_words.specs.declared.asked.Asked.{Asked}
-use Rattle.command_words.specs.declared.asked.Lists.{Lists}
+use Rattle.command_words.specs.declared.requests.Request.{Request}
+use Rattle.command_words.specs.declared.requests.Lists.{Lists}
 use Rattle.command_words.specs.Words.{IsRefusedFor, asked, asked_in, asked_of, clashes, clashing, postcopy_words, several_asked, several_given, several_in}
 
 -- what is asked for unless something holds, does not hold where it is asked for
@@ -13,7 +13,7 @@ unless : {X : Type 0} (b : Bool) (found : Option X) (x : X) → cond b None foun
 unless true found x e = absurd cc
 unless false found x e = refl
 
-found_alike : (found : Option (Text × List Row)) (job : Asked Text) → option_and_then asked_in found ≡ Some job → option_map_or (λ (given : Text × List Row). clashes given.1) found false ≡ false
+found_alike : (found : Option (Text × List Row)) (job : Request Text) → option_and_then asked_in found ≡ Some job → option_map_or (λ (given : Text × List Row). clashes given.1) found false ≡ false
 found_alike None job e = refl
 found_alike (Some given) job e = unless (clashes given.1) (asked_of given) job e
 
@@ -22,7 +22,7 @@ several_alike None several e = refl
 several_alike (Some given) several e = unless (clashes given.1) (several_given given) several e
 
 -- words that ask for a command
-pub asked_alike : (words : List Text) (job : Asked Text) → asked words ≡ Some job → clashing words ≡ false
+pub asked_alike : (words : List Text) (job : Request Text) → asked words ≡ Some job → clashing words ≡ false
 asked_alike words job e = found_alike (subcommand_of postcopy_words words) job e
 
 -- and for the audit of several sessions

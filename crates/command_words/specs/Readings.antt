@@ -1,22 +1,22 @@
--- What is read of the words of a command line.
+-- What is found in the words of a command line.
 use Rattle.std.specs.Prelude.{◌≡◌, ◌<◌, ◌≤◌, List, Option, None, Result, MatchResult, false, length, option_and_then, true}
 use Rattle.clap.specs.Words.{Row, Text, kind_of, subcommand_of, takes}
 use Rattle.clap.specs.declared.error.Error.{Error}
 use Rattle.clap.specs.declared.error.kind.ErrorKind.TheVariants.{ArgumentConflict}
-use Rattle.command_words.specs.declared.asked.Found.{Found}
-use Rattle.command_words.specs.declared.asked.Targets.{Targets}
+use Rattle.command_words.specs.declared.requests.Invocation.{Invocation}
+use Rattle.command_words.specs.declared.requests.Targets.{Targets}
 use Rattle.command_words.specs.Table.{job_of, several_of}
 use Rattle.command_words.specs.Words.{answer_kind, asked_in, clash_in, clashing, postcopy_words, several_in, target_names, targets_in}
 
--- the files are those that a command and what it was given name, for what it answers
+-- the files are those that a command and its arguments name for what is written, and the kind is that of its answer
 pub record AreTargetsIn (given : Option (Text × List Row)) (targets : Targets) : Type 0 where
   pub names : target_names targets ≡ targets_in given
   pub answer : targets.answer ≡ answer_kind (option_and_then asked_in given)
 
--- this is what a command and what it was given ask for, and their options do not clash
-pub record IsFoundIn (given : Option (Text × List Row)) (found : Found) : Type 0 where
-  pub job : option_and_then job_of found.wish ≡ option_and_then asked_in given
-  pub several : option_and_then several_of found.wish ≡ option_and_then several_in given
+-- this is what a command and its arguments ask for, and the options do not clash
+pub record IsFoundIn (given : Option (Text × List Row)) (found : Invocation) : Type 0 where
+  pub job : option_and_then job_of found.intent ≡ option_and_then asked_in given
+  pub several : option_and_then several_of found.intent ≡ option_and_then several_in given
   pub alike : clash_in given ≡ false
   pub targets : AreTargetsIn given found.targets
 
@@ -24,16 +24,17 @@ pub record IsFoundIn (given : Option (Text × List Row)) (found : Found) : Type 
 abbrev pub AreTargets : List Text → Targets → Type 0
 AreTargets words = AreTargetsIn (subcommand_of postcopy_words words)
 
--- this is found in the words, and in fewer than two nothing is
-pub record IsFound (words : List Text) (found : Found) : Type 0 where
+-- this is found in the words; fewer than two words ask for nothing
+pub record IsFound (words : List Text) (found : Invocation) : Type 0 where
   pub asks : IsFoundIn (subcommand_of postcopy_words words) found
-  pub bare : length words ≤ 1 → found.wish ≡ None
+  pub bare : length words ≤ 1 → found.intent ≡ None
 
--- the words, which are two or more, are refused by this; if the command line takes them, then for options that clash
+-- The words, two or more, are refused with this error. If the command line accepts them, it is because options clash,
+-- or because memory ran out.
 pub record IsRefused (words : List Text) (error : Error) : Type 0 where
   pub more : 1 < length words
   pub clash : takes postcopy_words words ≡ true → (clashing words ≡ true) × (kind_of error ≡ ArgumentConflict)
 
--- the words are read so
-abbrev pub IsRead : List Text → Result Found Error → Type 0
+-- the result of reading the words
+abbrev pub IsRead : List Text → Result Invocation Error → Type 0
 IsRead words found = MatchResult found (IsFound words) (IsRefused words)

@@ -1,53 +1,53 @@
--- The table of commands: the name of each, and the words that name its texts.
+-- The table of commands: the name of each, and the words for its texts.
 use Rattle.std.specs.Prelude.{List, Option, Some, None, map, find, codes, option_map, [], ◌∷◌}
 use Rattle.std.specs.Str.{bytes_eq}
 use Rattle.std.specs.Borrow.{Bor}
 use Rattle.clap.specs.Words.{Text}
-use Rattle.command_words.specs.declared.asked.Asked.{Asked}
-use Rattle.command_words.specs.declared.asked.Asked.TheVariants.{One, Two, Migrate, Draw, Window}
-use Rattle.command_words.specs.declared.asked.Pages.{Pages}
-use Rattle.command_words.specs.declared.asked.Carrier.{Carrier}
-use Rattle.command_words.specs.declared.asked.Carrier.TheVariants.{Memory, Tcp}
-use Rattle.command_words.specs.declared.asked.Checks.{Checks}
-use Rattle.command_words.specs.declared.asked.Audits.{Audits}
-use Rattle.command_words.specs.declared.asked.Explains.{Explains}
-use Rattle.command_words.specs.declared.asked.Lists.{Lists}
-use Rattle.command_words.specs.declared.asked.VerdictForm.TheVariants as verdict
-use Rattle.command_words.specs.declared.asked.ReportForm.TheVariants as report
-use Rattle.command_words.specs.declared.asked.StoryForm.TheVariants as story
-use Rattle.command_words.specs.declared.asked.Several.{Several}
-use Rattle.command_words.specs.declared.asked.Topic.TheVariants as topic
-use Rattle.command_words.specs.declared.asked.Wish.{Wish}
-use Rattle.command_words.specs.declared.asked.Wish.TheVariants.{Job}
-use Rattle.command_words.specs.declared.asked.Wish.TheVariants as wish
-use Rattle.command_words.specs.declared.asked.Demand.TheVariants.{Safety}
-use Rattle.command_words.specs.declared.asked.Format.{Format}
-use Rattle.command_words.specs.declared.asked.Format.TheVariants as format
-use Rattle.command_words.specs.declared.asked.OneText.TheVariants.{Certify, Audit, Explain}
-use Rattle.command_words.specs.declared.asked.TwoTexts.TheVariants.{Check, Replay, Steps}
+use Rattle.command_words.specs.declared.requests.Request.{Request}
+use Rattle.command_words.specs.declared.requests.Request.TheVariants.{One, Two, Migrate, Draw, Window}
+use Rattle.command_words.specs.declared.requests.Pages.{Pages}
+use Rattle.command_words.specs.declared.requests.Carrier.{Carrier}
+use Rattle.command_words.specs.declared.requests.Carrier.TheVariants.{Memory, Tcp}
+use Rattle.command_words.specs.declared.requests.Checks.{Checks}
+use Rattle.command_words.specs.declared.requests.Audits.{Audits}
+use Rattle.command_words.specs.declared.requests.Explains.{Explains}
+use Rattle.command_words.specs.declared.requests.Lists.{Lists}
+use Rattle.command_words.specs.declared.requests.VerdictForm.TheVariants as verdict
+use Rattle.command_words.specs.declared.requests.ReportForm.TheVariants as report
+use Rattle.command_words.specs.declared.requests.StoryForm.TheVariants as story
+use Rattle.command_words.specs.declared.requests.Several.{Several}
+use Rattle.command_words.specs.declared.requests.NamedTopic.TheVariants as topic
+use Rattle.command_words.specs.declared.requests.Intent.{Intent}
+use Rattle.command_words.specs.declared.requests.Intent.TheVariants.{Job}
+use Rattle.command_words.specs.declared.requests.Intent.TheVariants as intent
+use Rattle.command_words.specs.declared.requests.Demand.TheVariants.{Safety}
+use Rattle.command_words.specs.declared.requests.Format.{Format}
+use Rattle.command_words.specs.declared.requests.Format.TheVariants as format
+use Rattle.command_words.specs.declared.requests.OneText.TheVariants.{Certify, Audit, Explain}
+use Rattle.command_words.specs.declared.requests.TwoTexts.TheVariants.{Check, Replay, Steps}
 use Rattle.command_words.specs.declared.table.Word.{Word}
-use Rattle.command_words.specs.declared.table.Row.{Row}
+use Rattle.command_words.specs.declared.table.CommandRow.{CommandRow}
 
--- what is asked of a certificate where no option says more: a safe session, and the verdict in a line
+-- what `check` asks for without options: a safe session, and the verdict as a line
 abbrev pub plain : Checks
 plain = record { demand = Safety; form = verdict.Line }
 
--- and of an audit: a safe session, and the report in lines
+-- what `audit` asks for without options: a safe session, and the report in lines
 abbrev pub plain_audit : Audits
 plain_audit = record { demand = Safety; form = report.Lines }
 
--- and of an explanation: a safe session, and what the report names, in words
+-- what `explain` asks for without options: a safe session, and the story of its report in words
 abbrev pub plain_explanation : Explains
 plain_explanation = record { demand = Safety; form = story.Words topic.Report }
 
--- the pages of a window, in the place of those that its words tell
+-- no pages: a placeholder for those that the words of `window` give
 abbrev pub no_pages : Pages
 no_pages = record { first = 0; count = 0 }
 
--- `check SESSION CERT`, `certify SESSION`, `audit SESSION`, `explain SESSION`, `replay SESSION RUNS`,
--- `steps SCRIPT EVENTS`, `migrate SCRIPT`, `draw SESSION`, `draw SESSION RUNS`, `window RECORDING FIRST COUNT`; with no option,
--- this is asked
-abbrev pub table : List (Text × Asked Text)
+-- what each of these asks for without options: `check SESSION CERT`, `certify SESSION`, `audit SESSION`, `explain
+-- SESSION`, `replay SESSION RUNS`, `steps SCRIPT EVENTS`, `migrate SCRIPT`, `draw SESSION`, `draw SESSION RUNS`,
+-- `window RECORDING FIRST COUNT`
+abbrev pub table : List (Text × Request Text)
 table =
     (codes "check", Two (Check plain) (codes "SESSION") (codes "CERT")) ∷
     (codes "certify", One Certify (codes "SESSION")) ∷
@@ -59,16 +59,16 @@ table =
     (codes "draw", Draw topic.Report (codes "SESSION") (Some (codes "RUNS"))) ∷
     (codes "window", Window no_pages (codes "RECORDING") None) ∷ []
 
--- the name of what carries a migration
+-- the name of a carrier of a migration
 abbrev pub carrier_name : Carrier → Text
 carrier_name Memory = codes "memory"
 carrier_name Tcp = codes "tcp"
 
--- what may carry a migration
+-- the carriers of a migration
 abbrev pub carriers : List Carrier
 carriers = Memory ∷ Tcp ∷ []
 
--- what has this name, of what may carry a migration
+-- the carrier with this name
 abbrev pub carrier_named : Text → Option Carrier
 carrier_named name = find (λ carrier. bytes_eq (carrier_name carrier) name) carriers
 
@@ -77,16 +77,16 @@ abbrev pub format_name : Format → Text
 format_name format.Text = codes "text"
 format_name format.Json = codes "json"
 
--- the forms that an answer may have by the option `--format`
+-- the forms of an answer that the option `--format` can name
 abbrev pub formats : List Format
 formats = format.Text ∷ format.Json ∷ []
 
--- what has this name, of these forms
+-- the form with this name
 abbrev pub format_named : Text → Option Format
 format_named name = find (λ format. bytes_eq (format_name format) name) formats
 
 -- a command, with another word for each of its texts
-abbrev pub asked_map : {V W : Type 0} → (V → W) → Asked V → Asked W
+abbrev pub asked_map : {V W : Type 0} → (V → W) → Request V → Request W
 asked_map f (One task word) = One task (f word)
 asked_map f (Two task first second) = Two task (f first) (f second)
 asked_map f (Migrate carrier word) = Migrate carrier (f word)
@@ -94,34 +94,34 @@ asked_map f (Draw topic word further) = Draw topic (f word) (option_map f furthe
 asked_map f (Window pages word lines) = Window pages (f word) (option_map f lines)
 
 -- what is asked for, with the names of its texts
-abbrev pub asked_names : Asked (Bor Text) → Asked Text
+abbrev pub asked_names : Request (Bor Text) → Request Text
 asked_names asked = asked_map (λ name. name.now) asked
 
--- the sessions that are to be audited, by their names, with what is asked of them
+-- the names of the sessions to audit, with what is asked about each
 abbrev pub several_names : Several → Lists × List Text
 several_names several = (several.lists, map (λ name. name.now) several.names.items)
 
--- the command that is wished
-abbrev pub job_of : Wish → Option (Asked Text)
+-- the command that is asked for
+abbrev pub job_of : Intent → Option (Request Text)
 job_of (Job job) = Some (asked_names job)
-job_of (wish.Several several) = None
+job_of (intent.Several several) = None
 
--- the sessions that are wished to be audited
-abbrev pub several_of : Wish → Option (Lists × List Text)
+-- the sessions to audit
+abbrev pub several_of : Intent → Option (Lists × List Text)
 several_of (Job job) = None
-several_of (wish.Several several) = Some (several_names several)
+several_of (intent.Several several) = Some (several_names several)
 
--- what a row of the program's table asks with
-abbrev pub word_names : Asked Word → Asked Text
+-- what a row of the program's table asks for, with the names of its words
+abbrev pub word_names : Request Word → Request Text
 word_names asked = asked_map (λ word. word.name.now) asked
 
--- what a further word of a row names
+-- the name of a row's optional word
 abbrev pub further_name : Option Word → Option Text
 further_name word = option_map (λ w. w.name.now) word
 
 -- a row of the program's table
-abbrev pub row_of : Row → Text × Asked Text
+abbrev pub row_of : CommandRow → Text × Request Text
 row_of row = (row.name.now, word_names row.asked)
 
-abbrev pub rows_of : List Row → List (Text × Asked Text)
+abbrev pub rows_of : List CommandRow → List (Text × Request Text)
 rows_of rows = map row_of rows

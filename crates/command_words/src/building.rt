@@ -6,20 +6,20 @@ ghost use Rattle.command_words.specs.Words.{choice_rule, command_words, flag_rul
 ghost use Rattle.clap.specs.Words.{app_of, kind_of, rule_of, with_rule};
 ghost use Rattle.clap.specs.declared.builder.command.Command.TheViews.{out-Command as fields_of};
 
-use crate::asked::{Asked, Format, OneText, TwoTexts};
+use crate::requests::{Format, OneText, Request, TwoTexts};
 use crate::table::{
-    ALL, COMPLETE, COMPLETE_PAGES, COUNT, FIRST, FORMAT, LINE, LINES, LINK, OUTPUT, PAGE, QUIET,
-    Row, Word, commands,
+    ALL, COMPLETE, COMPLETE_PAGES, COUNT, CommandRow, FIRST, FORMAT, LINE, LINES, LINK, OUTPUT,
+    PAGE, QUIET, Word, commands,
 };
 use clap::builder::ValueParser;
 use clap::error::ErrorKind;
 use clap::{Arg, ArgAction, Command};
 use std::alloc::{AllocError, Global};
 
-/// The greatest number that an option may have.
+/// The greatest number for an option.
 const MOST_NUMBER: u64 = 4_294_967_295;
 
-/// The greatest number of pages, or of a page.
+/// The greatest number for pages or a page.
 const MOST_PAGES: u64 = 9_223_372_036_854_775_807;
 
 const VERSION: &str = "1.0.0";
@@ -57,12 +57,12 @@ const LINES_HELP: &str =
 const OUTPUT_HELP: &str =
     "Write the answer to this file instead of standard output. The file gets all of it or stays as it was";
 
-/// An option that names one of several.
+/// An option that names one of several values.
 #[derive(Clone, Copy)]
 pub struct Choice {
     /// Its word, without dashes.
     pub option: &'static str,
-    /// What the help calls its value.
+    /// The name of its value in the help.
     pub value: &'static str,
     pub help: &'static str,
 }
@@ -79,16 +79,16 @@ const FORMAT_CHOICE: Choice = Choice {
     help: "Format of the answer: lines of text, or a JSON object on one line",
 };
 
-/// The parsers of what options name.
+/// The parsers of the values of options.
 #[derive(Clone, Copy)]
 pub struct Choices<'a> {
-    /// Of what carries a migration.
+    /// The parser of carriers.
     pub carriers: ValueParser<'a>,
-    /// Of the forms that an answer may have.
+    /// The parser of forms of an answer.
     pub formats: ValueParser<'a>,
 }
 
-// The command with one more word that has to be there.
+// Returns the command with one more required word.
 fn with_word<'a>(
     alloc: Global,
     command: Command<'a>,
@@ -102,7 +102,7 @@ fn with_word<'a>(
     command.arg(arg)
 }
 
-// The command with one more word that has to be there, and tells a number of pages.
+// Returns the command with one more required word, which gives a number of pages.
 fn with_count<'a>(
     alloc: Global,
     command: Command<'a>,
@@ -119,7 +119,7 @@ fn with_count<'a>(
     command.arg(arg)
 }
 
-// The command with one more word that may be there.
+// Returns the command with one more optional word.
 fn with_further_word<'a>(
     alloc: Global,
     command: Command<'a>,
@@ -135,7 +135,7 @@ fn with_further_word<'a>(
     }
 }
 
-// The command with an option that names one of what this parser reads; where it is not there, this one is meant.
+// Returns the command with an option whose value this parser accepts, and with this default.
 fn with_choice<'a>(
     alloc: Global,
     command: Command<'a>,
@@ -156,7 +156,7 @@ fn with_choice<'a>(
     command.arg(arg)
 }
 
-// The command with an option that has no value.
+// Returns the command with an option without a value.
 fn with_flag<'a>(
     alloc: Global,
     command: Command<'a>,
@@ -174,7 +174,7 @@ fn with_flag<'a>(
     command.arg(arg)
 }
 
-// The command with the option that asks for a session of a whole migration.
+// Returns the command with the option that requires a session of a whole migration.
 fn with_complete<'a>(alloc: Global, command: Command<'a>) -> Result<Command<'a>, AllocError>
     requires { (fields_of command).has_globals ≡ false }
     ensures app { IfOk result (λ c. app_of c ≡ with_complete (app_of command.entry)) }
@@ -183,7 +183,7 @@ fn with_complete<'a>(alloc: Global, command: Command<'a>) -> Result<Command<'a>,
     with_flag(alloc, command, COMPLETE, COMPLETE_HELP)
 }
 
-// The command with the option that asks for one which tells how each owed page came.
+// Returns the command with the option that requires a session that says how each owed page came.
 fn with_complete_pages<'a>(alloc: Global, command: Command<'a>) -> Result<Command<'a>, AllocError>
     requires { (fields_of command).has_globals ≡ false }
     ensures app { IfOk result (λ c. app_of c ≡ with_complete_pages (app_of command.entry)) }
@@ -192,7 +192,7 @@ fn with_complete_pages<'a>(alloc: Global, command: Command<'a>) -> Result<Comman
     with_flag(alloc, command, COMPLETE_PAGES, COMPLETE_PAGES_HELP)
 }
 
-// The command with both.
+// Returns the command with both of these options.
 fn with_demand<'a>(alloc: Global, command: Command<'a>) -> Result<Command<'a>, AllocError>
     requires { (fields_of command).has_globals ≡ false }
     ensures app { IfOk result (λ c. app_of c ≡ with_demand (app_of command.entry)) }
@@ -202,7 +202,7 @@ fn with_demand<'a>(alloc: Global, command: Command<'a>) -> Result<Command<'a>, A
     with_complete_pages(alloc, command)
 }
 
-// The command with an option that has a number.
+// Returns the command with an option that has a number as its value.
 fn with_number<'a>(
     alloc: Global,
     command: Command<'a>,
@@ -221,7 +221,7 @@ fn with_number<'a>(
     command.arg(arg)
 }
 
-// The command with the option that asks for the faults of all pages.
+// Returns the command with the option for the faults of all pages.
 fn with_all<'a>(alloc: Global, command: Command<'a>) -> Result<Command<'a>, AllocError>
     requires { (fields_of command).has_globals ≡ false }
     ensures app { IfOk result (λ c. app_of c ≡ with_all (app_of command.entry)) }
@@ -230,7 +230,7 @@ fn with_all<'a>(alloc: Global, command: Command<'a>) -> Result<Command<'a>, Allo
     with_flag(alloc, command, ALL, ALL_HELP)
 }
 
-// The command with the option that names a page.
+// Returns the command with the option for a page.
 fn with_page<'a>(alloc: Global, command: Command<'a>) -> Result<Command<'a>, AllocError>
     requires { (fields_of command).has_globals ≡ false }
     ensures app { IfOk result (λ c. app_of c ≡ with_page (app_of command.entry)) }
@@ -239,7 +239,7 @@ fn with_page<'a>(alloc: Global, command: Command<'a>) -> Result<Command<'a>, All
     with_number(alloc, command, PAGE, PAGE_HELP)
 }
 
-// The command with the option that names a line of a session.
+// Returns the command with the option for a line of a session.
 fn with_line<'a>(alloc: Global, command: Command<'a>) -> Result<Command<'a>, AllocError>
     requires { (fields_of command).has_globals ≡ false }
     ensures app { IfOk result (λ c. app_of c ≡ with_line (app_of command.entry)) }
@@ -248,7 +248,7 @@ fn with_line<'a>(alloc: Global, command: Command<'a>) -> Result<Command<'a>, All
     with_number(alloc, command, LINE, LINE_HELP)
 }
 
-// The command with the option that names the file of a recording's lines.
+// Returns the command with the option for the file of a recording's lines.
 fn with_lines<'a>(alloc: Global, command: Command<'a>) -> Result<Command<'a>, AllocError>
     requires { (fields_of command).has_globals ≡ false }
     ensures app { IfOk result (λ c. app_of c ≡ with_lines (app_of command.entry)) }
@@ -261,7 +261,7 @@ fn with_lines<'a>(alloc: Global, command: Command<'a>) -> Result<Command<'a>, Al
     command.arg(arg)
 }
 
-// The command with the option that names the file of its answer.
+// Returns the command with the option for the file of its answer.
 fn with_output<'a>(alloc: Global, command: Command<'a>) -> Result<Command<'a>, AllocError>
     requires { (fields_of command).has_globals ≡ false }
     ensures app { IfOk result (λ c. app_of c ≡ with_output (app_of command.entry)) }
@@ -275,7 +275,7 @@ fn with_output<'a>(alloc: Global, command: Command<'a>) -> Result<Command<'a>, A
     command.arg(arg)
 }
 
-// The command with the option that asks for the first line alone.
+// Returns the command with the option for the first line alone.
 fn with_quiet<'a>(alloc: Global, command: Command<'a>) -> Result<Command<'a>, AllocError>
     requires { (fields_of command).has_globals ≡ false }
     ensures app { IfOk result (λ c. app_of c ≡ with_quiet (app_of command.entry)) }
@@ -284,7 +284,7 @@ fn with_quiet<'a>(alloc: Global, command: Command<'a>) -> Result<Command<'a>, Al
     with_flag(alloc, command, QUIET, QUIET_HELP)
 }
 
-// The command with the option that names the form of its answer; where it is not there, lines of text are meant.
+// Returns the command with the option for the form of its answer. The default is lines of text.
 fn with_format<'a>(
     alloc: Global,
     command: Command<'a>,
@@ -297,7 +297,7 @@ fn with_format<'a>(
     with_choice(alloc, command, &FORMAT_CHOICE, formats, Format::Text.name())
 }
 
-// The command with the word that names its text; more than one session may be audited.
+// Returns the command with the word for its text. `audit` takes several sessions.
 fn with_text<'a>(
     alloc: Global,
     command: Command<'a>,
@@ -320,7 +320,7 @@ fn with_text<'a>(
     }
 }
 
-// The command on one text, with its options.
+// Returns the command on one text, with its options.
 fn with_one<'a>(
     alloc: Global,
     command: Command<'a>,
@@ -349,7 +349,7 @@ fn with_one<'a>(
     }
 }
 
-// The command on two texts, with its options.
+// Returns the command on two texts, with its options.
 fn with_two<'a>(
     alloc: Global,
     command: Command<'a>,
@@ -369,28 +369,29 @@ fn with_two<'a>(
     }
 }
 
-// The command with a word for each of its texts, and its own options, where these parsers read what options name.
+// Returns the command with a word for each of its texts, and its own options. `choices` has the parsers of their
+// values.
 fn with_words<'a>(
     alloc: Global,
     command: Command<'a>,
     choices: Choices<'a>,
-    asked: &Asked<Word>,
+    asked: &Request<Word>,
 ) -> Result<Command<'a>, AllocError>
     requires { (fields_of command).has_globals ≡ false }
     ensures app { IfOk result (λ c. app_of c ≡ with_words choices.entry (app_of command.entry) (word_names asked.now)) }
     ensures local { IfOk result (λ c. (fields_of c).has_globals ≡ false) }
 {
     match asked {
-        Asked::One(task, word) => {
+        Request::One(task, word) => {
             let command = with_text(alloc, command, *task, word)?;
             with_one(alloc, command, choices.formats, *task)
         }
-        Asked::Two(task, first, second) => {
+        Request::Two(task, first, second) => {
             let command = with_word(alloc, command, first)?;
             let command = with_word(alloc, command, second)?;
             with_two(alloc, command, choices.formats, *task)
         }
-        Asked::Migrate(carrier, word) => {
+        Request::Migrate(carrier, word) => {
             let command = with_word(alloc, command, word)?;
             with_choice(
                 alloc,
@@ -400,12 +401,12 @@ fn with_words<'a>(
                 carrier.name(),
             )
         }
-        Asked::Draw(_, word, further) => {
+        Request::Draw(_, word, further) => {
             let command = with_word(alloc, command, word)?;
             let command = with_further_word(alloc, command, further)?;
             with_page(alloc, command)
         }
-        Asked::Window(_, word, _) => {
+        Request::Window(_, word, _) => {
             let command = with_word(alloc, command, word)?;
             let command = with_count(alloc, command, &FIRST)?;
             let command = with_count(alloc, command, &COUNT)?;
@@ -414,8 +415,12 @@ fn with_words<'a>(
     }
 }
 
-// The command of a row, where these parsers read what options name.
-fn command_of<'a>(alloc: Global, choices: Choices<'a>, row: &Row) -> Result<Command<'a>, AllocError>
+// Returns the command of a row. `choices` has the parsers of the values of options.
+fn command_of<'a>(
+    alloc: Global,
+    choices: Choices<'a>,
+    row: &CommandRow,
+) -> Result<Command<'a>, AllocError>
     ensures app { IfOk result (λ c. app_of c ≡ command_words choices.entry (row_of row.now)) }
     ensures local { IfOk result (λ c. (fields_of c).has_globals ≡ false) }
 {
@@ -424,7 +429,7 @@ fn command_of<'a>(alloc: Global, choices: Choices<'a>, row: &Row) -> Result<Comm
     with_output(alloc, command)
 }
 
-// The program, with no command yet.
+// Returns the program, with no command yet.
 fn program<'a>(alloc: Global) -> Command<'a>
     ensures app { app_of result ≡ program_words }
     ensures local { (fields_of result).has_globals ≡ false }
@@ -436,14 +441,14 @@ fn program<'a>(alloc: Global) -> Command<'a>
         .subcommand_required(true)
 }
 
-/// The error of words that have options which mean nothing together, as this tells.
+/// Returns the error for words that have options that clash. `clash` is its message.
 pub(crate) fn refused_for(alloc: Global, clash: &str) -> Result<clap::Error, AllocError>
     ensures { IfOk result (λ e. kind_of e ≡ ErrorKind.ArgumentConflict) }
 {
     program(alloc).error(ErrorKind::ArgumentConflict, clash)
 }
 
-/// The command line of the program, where these parsers read what options name.
+/// Returns the command line of the program. `choices` has the parsers of the values of options.
 pub(crate) fn command_line<'a>(
     alloc: Global,
     choices: Choices<'a>,

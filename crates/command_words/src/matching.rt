@@ -7,15 +7,15 @@ ghost use Rattle.command_words.specs.Readings.{IsFoundIn};
 ghost use Rattle.command_words.specs.Words.{IsRefusedFor, all_faults_form_in, answer_kind, answer_of, asked_of, audits_in, carrier_in, checks_in, clash_in, clashes, clashing, count_in, count_of, demand_in, explains_in, faults_clash, further_in, given_in, has, is_set, lines_file, list_form_in, lists_in, number_in, number_of, one_in, only_of, page_in, postcopy_words, report_form_in, sessions_in, several_among, several_given, short_form_in, story_form_in, told_with, topic_in, topics_clash, two_in, verdict_form_in, wants_object, window_in, word_texts};
 ghost use Rattle.clap.specs.Words.{all_of, first_of, found_of, kind_of, rows_of, subcommand_of, subcommand_rows_of, takes};
 
-use crate::asked::{
-    AnswerKind, Asked, Audits, Carrier, Checks, Demand, Explains, Format, Found, Job, ListForm,
-    Lists, NO_TARGETS, OneText, Pages, ReportForm, Several, StoryForm, Targets, Topic, TwoTexts,
-    VerdictForm, Wish,
-};
 use crate::building::{Choices, command_line, refused_for};
+use crate::requests::{
+    AnswerKind, Audits, Carrier, Checks, Demand, Explains, Format, Intent, Invocation, Job,
+    ListForm, Lists, NO_TARGETS, NamedTopic, OneText, Pages, ReportForm, Request, Several,
+    StoryForm, Targets, TwoTexts, VerdictForm,
+};
 use crate::table::{
-    ALL, COMPLETE, COMPLETE_PAGES, COUNT, FIRST, FORMAT, LINE, LINES, LINK, OUTPUT, PAGE, QUIET,
-    Row, SESSION, Word, carrier_named, carrier_names, commands, format_named, format_names,
+    ALL, COMPLETE, COMPLETE_PAGES, COUNT, CommandRow, FIRST, FORMAT, LINE, LINES, LINK, OUTPUT,
+    PAGE, QUIET, SESSION, Word, carrier_named, carrier_names, commands, format_named, format_names,
 };
 use clap::ArgMatches;
 use clap::builder::ValueParser;
@@ -32,21 +32,21 @@ const ALL_IN_A_LINE: &str = "the argument '--all' cannot be used with '--quiet'"
 const ALL_OF_SEVERAL: &str =
     "the argument '--all' cannot be used with several sessions, unless '--format json' is given";
 
-// What was given for a word or an option.
+// Returns the argument for a word or an option.
 fn name_given<'a>(id: &str, matches: &ArgMatches<'a>) -> Option<&'a str>
     ensures { option_map (λ name. name.now) result ≡ first_of id.now (rows_of (found_of matches.now)) }
 {
     matches.get_str(id)
 }
 
-// All that was given for a word.
+// Returns all arguments for a word.
 fn names_given<'m, 'a>(id: &str, matches: &'m ArgMatches<'a>) -> Option<&'m [&'a str]>
     ensures { option_map (λ names. word_texts names.now) result ≡ all_of id.now (rows_of (found_of matches.now)) }
 {
     matches.get_strs(id)
 }
 
-// The only name that was given for a word.
+// Returns the argument for a word, if it has only one.
 fn only_given<'a>(id: &str, matches: &ArgMatches<'a>) -> Option<&'a str>
     ensures { option_map (λ name. name.now) result ≡ only_of id.now (rows_of (found_of matches.now)) }
 {
@@ -56,7 +56,7 @@ fn only_given<'a>(id: &str, matches: &ArgMatches<'a>) -> Option<&'a str>
     }
 }
 
-// What carries a migration: what was named, or else this.
+// Returns the carrier of a migration that was named, or else this one.
 fn carrier_given(otherwise: Carrier, matches: &ArgMatches<'_>) -> Carrier
     ensures { result ≡ carrier_in (rows_of (found_of matches.now)) otherwise }
 {
@@ -66,7 +66,7 @@ fn carrier_given(otherwise: Carrier, matches: &ArgMatches<'_>) -> Carrier
     }
 }
 
-// Whether an option without a value was given.
+// Returns whether an option without a value was given.
 fn is_given(option: &str, matches: &ArgMatches<'_>) -> bool
     ensures { result ≡ is_set (first_of option.now (rows_of (found_of matches.now))) }
 {
@@ -76,7 +76,8 @@ fn is_given(option: &str, matches: &ArgMatches<'_>) -> bool
     }
 }
 
-// What is asked of a session: that it is complete where an option was given, or else that it is safe. Of both the whole counts.
+// Returns what is required of a session: that it is complete, if an option says so, or else that it is safe. If both
+// options are given, the session must tell of a whole migration.
 fn demand_given(matches: &ArgMatches<'_>) -> Demand
     ensures { result ≡ demand_in (rows_of (found_of matches.now)) }
 {
@@ -89,7 +90,7 @@ fn demand_given(matches: &ArgMatches<'_>) -> Demand
     }
 }
 
-// Whether an object was asked for.
+// Returns whether an object is asked for.
 fn wants_object(matches: &ArgMatches<'_>) -> bool
     ensures { result ≡ wants_object (rows_of (found_of matches.now)) }
 {
@@ -99,7 +100,7 @@ fn wants_object(matches: &ArgMatches<'_>) -> bool
     }
 }
 
-// How the verdict on a certificate is told.
+// Returns the form of the verdict on a certificate.
 fn verdict_form(matches: &ArgMatches<'_>) -> VerdictForm
     ensures { result ≡ verdict_form_in (rows_of (found_of matches.now)) }
 {
@@ -110,7 +111,7 @@ fn verdict_form(matches: &ArgMatches<'_>) -> VerdictForm
     }
 }
 
-// What is asked of a session and its certificate.
+// Returns what is asked about a session and its certificate.
 fn checks_given(matches: &ArgMatches<'_>) -> Checks
     ensures { result ≡ checks_in (rows_of (found_of matches.now)) }
 {
@@ -120,7 +121,7 @@ fn checks_given(matches: &ArgMatches<'_>) -> Checks
     }
 }
 
-// How the faults of all pages are told.
+// Returns the form of a report with the faults of all pages.
 fn all_faults_form(matches: &ArgMatches<'_>) -> ReportForm
     ensures { result ≡ all_faults_form_in (rows_of (found_of matches.now)) }
 {
@@ -131,7 +132,7 @@ fn all_faults_form(matches: &ArgMatches<'_>) -> ReportForm
     }
 }
 
-// How a report is told, of which the first line is asked for where it is told in lines.
+// Returns the form of a report in lines: all of them, or the first alone.
 fn short_form(matches: &ArgMatches<'_>) -> ReportForm
     ensures { result ≡ short_form_in (rows_of (found_of matches.now)) }
 {
@@ -142,7 +143,7 @@ fn short_form(matches: &ArgMatches<'_>) -> ReportForm
     }
 }
 
-// How the report on a session is told.
+// Returns the form of the report on a session.
 fn report_form(matches: &ArgMatches<'_>) -> ReportForm
     ensures { result ≡ report_form_in (rows_of (found_of matches.now)) }
 {
@@ -155,7 +156,7 @@ fn report_form(matches: &ArgMatches<'_>) -> ReportForm
     }
 }
 
-// What is asked of an audit.
+// Returns what an audit asks.
 fn audits_given(matches: &ArgMatches<'_>) -> Audits
     ensures { result ≡ audits_in (rows_of (found_of matches.now)) }
 {
@@ -165,7 +166,7 @@ fn audits_given(matches: &ArgMatches<'_>) -> Audits
     }
 }
 
-// How the reports on several sessions are told.
+// Returns the form of the reports on several sessions.
 fn list_form(matches: &ArgMatches<'_>) -> ListForm
     ensures { result ≡ list_form_in (rows_of (found_of matches.now)) }
 {
@@ -178,7 +179,7 @@ fn list_form(matches: &ArgMatches<'_>) -> ListForm
     }
 }
 
-// What is asked of the audit of several sessions.
+// Returns what the audit of several sessions asks about each.
 fn lists_given(matches: &ArgMatches<'_>) -> Lists
     ensures { result ≡ lists_in (rows_of (found_of matches.now)) }
 {
@@ -188,14 +189,14 @@ fn lists_given(matches: &ArgMatches<'_>) -> Lists
     }
 }
 
-// The number that a text tells, if it does.
+// Returns the number that a text gives, if it gives one.
 fn number_of(text: &str) -> Option<u32>
     ensures { result ≡ number_of text.now }
 {
     text.parse::<u32>().ok()
 }
 
-// The number that was given for an option.
+// Returns the number that was given for an option.
 fn number_given(option: &str, matches: &ArgMatches<'_>) -> Option<u32>
     ensures { result ≡ number_in option.now (rows_of (found_of matches.now)) }
 {
@@ -205,14 +206,14 @@ fn number_given(option: &str, matches: &ArgMatches<'_>) -> Option<u32>
     }
 }
 
-// The number of pages that a text tells, if it does.
+// Returns the number of pages that a text gives, if it gives one.
 fn count_of(text: &str) -> Option<u64>
     ensures { result ≡ count_of text.now }
 {
     text.parse::<u64>().ok()
 }
 
-// The number of pages that was given for a word.
+// Returns the number of pages that was given for a word.
 fn count_given(word: &str, matches: &ArgMatches<'_>) -> Option<u64>
     ensures { result ≡ count_in word.now (rows_of (found_of matches.now)) }
 {
@@ -222,7 +223,7 @@ fn count_given(word: &str, matches: &ArgMatches<'_>) -> Option<u64>
     }
 }
 
-// The window that was given.
+// Returns the window that was given.
 fn window_given<'a>(word: &Word, matches: &ArgMatches<'a>) -> Option<Job<'a>>
     ensures { option_map asked_names result ≡ window_in (rows_of (found_of matches.now)) word.now.name.now }
 {
@@ -230,41 +231,41 @@ fn window_given<'a>(word: &Word, matches: &ArgMatches<'a>) -> Option<Job<'a>>
     let first = count_given(FIRST.name, matches)?;
     let count = count_given(COUNT.name, matches)?;
     let lines = name_given(LINES, matches);
-    Some(Asked::Window(Pages { first, count }, name, lines))
+    Some(Request::Window(Pages { first, count }, name, lines))
 }
 
-// What is told: the page that an option names, or else this.
-fn page_given(otherwise: Topic, matches: &ArgMatches<'_>) -> Topic
+// Returns the topic: the page that an option names, or else this one.
+fn page_given(otherwise: NamedTopic, matches: &ArgMatches<'_>) -> NamedTopic
     ensures { result ≡ page_in (rows_of (found_of matches.now)) otherwise }
 {
     match number_given(PAGE, matches) {
-        Some(page) => Topic::Page(page),
+        Some(page) => NamedTopic::Page(page),
         None => otherwise,
     }
 }
 
-// What is told: the line that an option names, or the page, or else this.
-fn topic_given(otherwise: Topic, matches: &ArgMatches<'_>) -> Topic
+// Returns the topic: the line that an option names, or else the page, or else this one.
+fn topic_given(otherwise: NamedTopic, matches: &ArgMatches<'_>) -> NamedTopic
     ensures { result ≡ topic_in (rows_of (found_of matches.now)) otherwise }
 {
     match number_given(LINE, matches) {
-        Some(line) => Topic::Line(line),
+        Some(line) => NamedTopic::Line(line),
         None => page_given(otherwise, matches),
     }
 }
 
-// How it is told what happened in a session.
+// Returns the form of the story of a session.
 fn story_form(matches: &ArgMatches<'_>) -> StoryForm
     ensures { result ≡ story_form_in (rows_of (found_of matches.now)) }
 {
     if wants_object(matches) {
         StoryForm::Object
     } else {
-        StoryForm::Words(topic_given(Topic::Report, matches))
+        StoryForm::Words(topic_given(NamedTopic::Report, matches))
     }
 }
 
-// What is asked of an explanation.
+// Returns what an explanation asks.
 fn explains_given(matches: &ArgMatches<'_>) -> Explains
     ensures { result ≡ explains_in (rows_of (found_of matches.now)) }
 {
@@ -274,7 +275,7 @@ fn explains_given(matches: &ArgMatches<'_>) -> Explains
     }
 }
 
-// A command on one text, with what is asked of it.
+// Returns a command on one text, with what the arguments ask for.
 fn one_given(task: OneText, matches: &ArgMatches<'_>) -> OneText
     ensures { result ≡ one_in (rows_of (found_of matches.now)) task }
 {
@@ -285,7 +286,7 @@ fn one_given(task: OneText, matches: &ArgMatches<'_>) -> OneText
     }
 }
 
-// A command on two texts, with what is asked of them.
+// Returns a command on two texts, with what the arguments ask for.
 fn two_given(task: TwoTexts, matches: &ArgMatches<'_>) -> TwoTexts
     ensures { result ≡ two_in (rows_of (found_of matches.now)) task }
 {
@@ -295,19 +296,19 @@ fn two_given(task: TwoTexts, matches: &ArgMatches<'_>) -> TwoTexts
     }
 }
 
-// A command on one text; an explanation is one on two where the file of a recording's lines is named.
+// Returns a command on one text. An explanation is a command on two if the file of a recording's lines is named.
 fn told_with<'a>(lines: Option<&'a str>, task: OneText, name: &'a str) -> Job<'a>
     ensures { asked_names result ≡ told_with (option_map (λ name. name.now) lines.entry) task name.now }
 {
     match (task, lines) {
         (OneText::Explain(explains), Some(lines)) => {
-            Asked::Two(TwoTexts::Explain(explains), name, lines)
+            Request::Two(TwoTexts::Explain(explains), name, lines)
         }
-        _ => Asked::One(task, name),
+        _ => Request::One(task, name),
     }
 }
 
-// What was given for a word that may be there.
+// Returns the argument for an optional word.
 fn further_given<'a>(word: &Option<Word>, matches: &ArgMatches<'a>) -> Option<&'a str>
     ensures { option_map (λ name. name.now) result ≡ further_in (rows_of (found_of matches.now)) (further_name word.now) }
 {
@@ -317,42 +318,42 @@ fn further_given<'a>(word: &Option<Word>, matches: &ArgMatches<'a>) -> Option<&'
     }
 }
 
-// What a command asks for, with the names that its words were given.
-fn given<'a>(asks: &Asked<Word>, matches: &ArgMatches<'a>) -> Option<Job<'a>>
+// Returns what a command asks for, with the names that were given for its words.
+fn given<'a>(asks: &Request<Word>, matches: &ArgMatches<'a>) -> Option<Job<'a>>
     ensures { option_map asked_names result ≡ given_in (rows_of (found_of matches.now)) (word_names asks.now) }
 {
     match asks {
-        Asked::One(task, word) => {
+        Request::One(task, word) => {
             let name = only_given(word.name, matches)?;
             let lines = name_given(LINES, matches);
             Some(told_with(lines, one_given(*task, matches), name))
         }
-        Asked::Two(task, first, second) => {
+        Request::Two(task, first, second) => {
             let first = name_given(first.name, matches)?;
             let second = name_given(second.name, matches)?;
-            Some(Asked::Two(two_given(*task, matches), first, second))
+            Some(Request::Two(two_given(*task, matches), first, second))
         }
-        Asked::Migrate(carrier, word) => {
+        Request::Migrate(carrier, word) => {
             let name = name_given(word.name, matches)?;
-            Some(Asked::Migrate(carrier_given(*carrier, matches), name))
+            Some(Request::Migrate(carrier_given(*carrier, matches), name))
         }
-        Asked::Draw(topic, word, further) => {
+        Request::Draw(topic, word, further) => {
             let name = name_given(word.name, matches)?;
             let further = further_given(further, matches);
-            Some(Asked::Draw(page_given(*topic, matches), name, further))
+            Some(Request::Draw(page_given(*topic, matches), name, further))
         }
-        Asked::Window(_, word, _) => window_given(word, matches),
+        Request::Window(_, word, _) => window_given(word, matches),
     }
 }
 
-// The row of this name.
-fn row_named<'a>(rows: &'a [Row], name: &str) -> Option<&'a Row>
+// Returns the row with this name.
+fn row_named<'a>(rows: &'a [CommandRow], name: &str) -> Option<&'a CommandRow>
     ensures { option_map (λ row. row.now) result ≡ find (λ row. bytes_eq row.name.now name.now) rows.now }
 {
     rows.iter().find(|row| row.name == name)
 }
 
-// What the matches of the command of this name ask for.
+// Returns what the matches of the command with this name ask for.
 fn job_of<'a>(name: &str, matches: &ArgMatches<'a>) -> Option<Job<'a>>
     ensures { option_map asked_names result ≡ asked_of (name.now, rows_of (found_of matches.now)) }
 {
@@ -362,14 +363,14 @@ fn job_of<'a>(name: &str, matches: &ArgMatches<'a>) -> Option<Job<'a>>
     }
 }
 
-// Whether an option that has a value was given.
+// Returns whether an option with a value was given.
 fn is_named(option: &str, matches: &ArgMatches<'_>) -> bool
     ensures { result ≡ has option.now (rows_of (found_of matches.now)) }
 {
     name_given(option, matches).is_some()
 }
 
-// The sessions that were given, if they are several.
+// Returns the sessions that were given, if there are several.
 fn sessions_given<'m, 'a>(matches: &'m ArgMatches<'a>) -> Option<&'m [&'a str]>
     ensures { option_map (λ names. word_texts names.now) result ≡ sessions_in (rows_of (found_of matches.now)) }
 {
@@ -379,7 +380,7 @@ fn sessions_given<'m, 'a>(matches: &'m ArgMatches<'a>) -> Option<&'m [&'a str]>
     }
 }
 
-// Which of the options that name what is told mean nothing together, if they do.
+// Returns the message on the options for topics that clash, if some do.
 fn clash_of_topics(matches: &ArgMatches<'_>) -> Option<&'static str>
     ensures { is_some result ≡ topics_clash (rows_of (found_of matches.now)) }
 {
@@ -394,7 +395,7 @@ fn clash_of_topics(matches: &ArgMatches<'_>) -> Option<&'static str>
     None
 }
 
-// Why the faults of all pages cannot be told so, if they cannot.
+// Returns the message on why the option for the faults of all pages clashes with the others, if it does.
 fn clash_of_faults(matches: &ArgMatches<'_>) -> Option<&'static str>
     ensures { is_some result ≡ faults_clash (rows_of (found_of matches.now)) }
 {
@@ -410,7 +411,7 @@ fn clash_of_faults(matches: &ArgMatches<'_>) -> Option<&'static str>
     None
 }
 
-// Which options mean nothing together, if some do.
+// Returns the message on options that clash, if some do.
 fn clash_of(matches: &ArgMatches<'_>) -> Option<&'static str>
     ensures { is_some result ≡ clashes (rows_of (found_of matches.now)) }
 {
@@ -420,7 +421,7 @@ fn clash_of(matches: &ArgMatches<'_>) -> Option<&'static str>
     }
 }
 
-// What the command line finds in the words.
+// Returns what the command line finds in the words.
 fn matches_in<'a>(alloc: Global, words: &'a [&'a str]) -> Result<ArgMatches<'a>, clap::Error>
     ensures ok { IfOk result (λ m. subcommand_rows_of m ≡ subcommand_of postcopy_words (word_texts words.entry.now)) }
     ensures err { IfErr result (λ e. takes postcopy_words (word_texts words.entry.now) ≡ true → kind_of e ≡ ErrorKind.OutOfMemory) }
@@ -436,7 +437,7 @@ fn matches_in<'a>(alloc: Global, words: &'a [&'a str]) -> Result<ArgMatches<'a>,
     }
 }
 
-// What is asked of the sessions of an audit, if they are several.
+// Returns what is asked about the sessions of an audit, if there are several.
 fn sessions_asked<'a>(
     alloc: Global,
     matches: &ArgMatches<'a>,
@@ -454,93 +455,94 @@ fn sessions_asked<'a>(
     }))
 }
 
-// What the matches of the command of this name ask for: a command on named texts, or else the audit of several sessions.
-fn wish_of<'a>(
+// Returns what the matches of the command with this name ask for: a command on named texts, or else the audit of
+// several sessions.
+fn intent_of<'a>(
     alloc: Global,
     name: &str,
     matches: &ArgMatches<'a>,
-) -> Result<Option<Wish<'a>>, AllocError>
+) -> Result<Option<Intent<'a>>, AllocError>
     ensures job { IfOk result (λ r. option_and_then job_of r ≡ asked_of (name.now, rows_of (found_of matches.now))) }
     ensures several { IfOk result (λ r. option_and_then several_of r ≡ several_given (name.now, rows_of (found_of matches.now))) }
 {
     if let Some(job) = job_of(name, matches) {
-        return Ok(Some(Wish::Job(job)));
+        return Ok(Some(Intent::Job(job)));
     }
     if name != "audit" {
         return Ok(None);
     }
     match sessions_asked(alloc, matches)? {
-        Some(several) => Ok(Some(Wish::Several(several))),
+        Some(several) => Ok(Some(Intent::Several(several))),
         None => Ok(None),
     }
 }
 
-// The file for the lines of a window, where one is asked for.
-fn lines_file<'a>(wish: &Option<Wish<'a>>) -> Option<&'a str>
-    ensures { option_map (λ name. name.now) result ≡ lines_file (option_and_then job_of wish.now) }
+// Returns the file for the lines of a window, if one is named.
+fn lines_file<'a>(intent: &Option<Intent<'a>>) -> Option<&'a str>
+    ensures { option_map (λ name. name.now) result ≡ lines_file (option_and_then job_of intent.now) }
 {
-    match wish {
-        Some(Wish::Job(Asked::Window(_, _, lines))) => *lines,
+    match intent {
+        Some(Intent::Job(Request::Window(_, _, lines))) => *lines,
         _ => None,
     }
 }
 
-// What the answer of a command is.
+// Returns the kind of a command's answer.
 fn answer_of(job: &Job<'_>) -> AnswerKind
     ensures { result ≡ answer_of (asked_names job.now) }
 {
     match job {
-        Asked::One(OneText::Certify, _)
-        | Asked::Two(TwoTexts::Steps, _, _)
-        | Asked::Migrate(..)
-        | Asked::Draw(..)
-        | Asked::Window(..) => AnswerKind::Artifact,
-        Asked::One(OneText::Audit(_) | OneText::Explain(_), _)
-        | Asked::Two(TwoTexts::Check(_) | TwoTexts::Replay | TwoTexts::Explain(_), _, _) => {
+        Request::One(OneText::Certify, _)
+        | Request::Two(TwoTexts::Steps, _, _)
+        | Request::Migrate(..)
+        | Request::Draw(..)
+        | Request::Window(..) => AnswerKind::Artifact,
+        Request::One(OneText::Audit(_) | OneText::Explain(_), _)
+        | Request::Two(TwoTexts::Check(_) | TwoTexts::Replay | TwoTexts::Explain(_), _, _) => {
             AnswerKind::Report
         }
     }
 }
 
-// What the answer to a wish is.
-fn answer_kind(wish: &Option<Wish<'_>>) -> AnswerKind
-    ensures { result ≡ answer_kind (option_and_then job_of wish.now) }
+// Returns the kind of the answer to an intent.
+fn answer_kind(intent: &Option<Intent<'_>>) -> AnswerKind
+    ensures { result ≡ answer_kind (option_and_then job_of intent.now) }
 {
-    match wish {
-        Some(Wish::Job(job)) => answer_of(job),
-        Some(Wish::Several(_)) | None => AnswerKind::Report,
+    match intent {
+        Some(Intent::Job(job)) => answer_of(job),
+        Some(Intent::Several(_)) | None => AnswerKind::Report,
     }
 }
 
-// What is found of the command of this name. The error: its options clash, or there is no memory.
+// Returns what is found for the command with this name. Fails if its options clash, or memory runs out.
 fn found_for<'a>(
     alloc: Global,
     name: &str,
     matches: &ArgMatches<'a>,
-) -> Result<Found<'a>, clap::Error>
+) -> Result<Invocation<'a>, clap::Error>
     ensures ok { IfOk result (IsFoundIn (Some (name.now, rows_of (found_of matches.now)))) }
     ensures err { IfErr result (λ e. IsRefusedFor (clashes (rows_of (found_of matches.now))) (kind_of e)) }
 {
     if let Some(clash) = clash_of(matches) {
         return Err(refused_for(alloc, clash)?);
     }
-    let wish = wish_of(alloc, name, matches)?;
+    let intent = intent_of(alloc, name, matches)?;
     let targets = Targets {
-        lines: lines_file(&wish),
+        lines: lines_file(&intent),
         output: name_given(OUTPUT, matches),
-        answer: answer_kind(&wish),
+        answer: answer_kind(&intent),
     };
-    Ok(Found { wish, targets })
+    Ok(Invocation { intent, targets })
 }
 
 /// Nothing is found.
-pub(crate) const NOTHING: Found<'static> = Found {
-    wish: None,
+pub(crate) const NOTHING: Invocation<'static> = Invocation {
+    intent: None,
     targets: NO_TARGETS,
 };
 
-// What is found in the matches. The error as for [`found_for`].
-fn found_in<'a>(alloc: Global, matches: &ArgMatches<'a>) -> Result<Found<'a>, clap::Error>
+// Returns what is found in the matches. Fails as [`found_for`] does.
+fn found_in<'a>(alloc: Global, matches: &ArgMatches<'a>) -> Result<Invocation<'a>, clap::Error>
     ensures ok { IfOk result (IsFoundIn (subcommand_rows_of matches.now)) }
     ensures err { IfErr result (λ e. IsRefusedFor (clash_in (subcommand_rows_of matches.now)) (kind_of e)) }
 {
@@ -550,10 +552,12 @@ fn found_in<'a>(alloc: Global, matches: &ArgMatches<'a>) -> Result<Found<'a>, cl
     }
 }
 
-/// What is found in words, of which the first is the program's own name. The error is clap's: it tells why the words are no
-/// command, that they have options which mean nothing together, or is the help or the version that was asked for, or that
-/// memory ran out.
-pub(crate) fn find_in<'a>(alloc: Global, words: &'a [&'a str]) -> Result<Found<'a>, clap::Error>
+/// Returns what is found in words. The first word is the program's own name. The error is clap's: the words are no
+/// command, they have options that clash, they ask for the help or the version, or memory ran out.
+pub(crate) fn find_in<'a>(
+    alloc: Global,
+    words: &'a [&'a str],
+) -> Result<Invocation<'a>, clap::Error>
     ensures ok { IfOk result (IsFoundIn (subcommand_of postcopy_words (word_texts words.entry.now))) }
     ensures err { IfErr result (λ e. takes postcopy_words (word_texts words.entry.now) ≡ true → IsRefusedFor (clashing (word_texts words.entry.now)) (kind_of e)) }
 {

@@ -1,19 +1,19 @@
-//! The words of a command line, read.
+//! Reading the words of a command line.
 
 ghost use Rattle.std.specs.Prelude.{◌≡◌, IfOk};
 ghost use Rattle.command_words.specs.Words.{word_texts};
 
-use crate::asked::{Found, NO_TARGETS, Targets, Wish};
 use crate::matching::{NOTHING, find_in};
+use crate::requests::{Intent, Invocation, NO_TARGETS, Targets};
 use clap::error::ErrorKind;
 use std::alloc::{AllocError, Global};
 use std::marker::Model;
 
-/// What the words of a command line ask for, or why they are refused. The words are its model.
+/// What the words of a command line ask for, or why they are refused. The model of a reading is its words.
 #[derive(Drop)]
 pub struct Reading<'a> {
     words: &'a [&'a str],
-    found: Result<Found<'a>, clap::Error>,
+    found: Result<Invocation<'a>, clap::Error>,
 }
 
 impl<'a> Model for Reading<'a> {
@@ -28,7 +28,7 @@ impl<'a> Model for Reading<'a> {
     ghost invariant = { λ r. IsRead (word_texts r.words.now) r.found };
 }
 
-/// Reads the words of a command line, of which the first is the program's own name. An error: there is no memory for that.
+/// Reads the words of a command line. The first word is the program's own name. Fails only if memory runs out.
 pub fn read_words<'a>(alloc: Global, words: &'a [&'a str]) -> Result<Reading<'a>, AllocError>
     ensures { IfOk result (λ reading. reading ≡ word_texts words.entry.now) }
 {
@@ -63,10 +63,9 @@ impl<'a> Reading<'a> {
     ghost use Rattle.command_words.specs.Readings.{AreTargets};
     ghost use Rattle.command_words.specs.Words.{asked, clashing, postcopy_words, several_asked, target_names};
 
-    /// What the words ask for. `None`: they are the program's own name alone, or not even this. The error is clap's: it tells
-    /// why the words are no command or that they have options which mean nothing together, or is the help or the version that
-    /// was asked for.
-    pub fn wish(self) -> Result<Option<Wish<'a>>, clap::Error>
+    /// Returns what the words ask for, or `None` if they are the program's own name alone, or not even that. The error
+    /// is clap's: the words are no command, they have options that clash, or they ask for the help or the version.
+    pub fn intent(self) -> Result<Option<Intent<'a>>, clap::Error>
         ensures bare { length self.entry ≤ 1 → result ≡ Ok None }
         ensures job { IfOk result (λ r. option_and_then job_of r ≡ asked self.entry) }
         ensures several { IfOk result (λ r. option_and_then several_of r ≡ several_asked self.entry) }
@@ -74,13 +73,13 @@ impl<'a> Reading<'a> {
         ensures err { IfErr result (λ e. takes postcopy_words self.entry ≡ true → (clashing self.entry ≡ true) × (kind_of e ≡ ArgumentConflict)) }
     {
         match self.found {
-            Ok(found) => Ok(found.wish),
+            Ok(found) => Ok(found.intent),
             Err(error) => Err(error),
         }
     }
 
-    /// The files that the words name for what is written, as in `-o FILE` and `--lines FILE`. Of words that are refused no file
-    /// is named.
+    /// Returns the files that the words name for what is written, as in `-o FILE` and `--lines FILE`. Words that are
+    /// refused name no file.
     pub fn targets(&self) -> Targets<'a>
         ensures taken { takes postcopy_words self.now ≡ true → clashing self.now ≡ false → AreTargets self.now result }
         ensures other { AreTargets self.now result ⊎ (target_names result ≡ (None, None)) }

@@ -3,27 +3,27 @@
 ghost use Rattle.std.specs.Prelude.{◌≡◌, map};
 ghost use Rattle.command_words.specs.Table.{carriers, carrier_name, carrier_named, format_name, format_named, formats, rows_of, table};
 
-use crate::asked::{
-    Asked, Audits, Carrier, Checks, Demand, Explains, Format, OneText, Pages, ReportForm,
-    StoryForm, Topic, TwoTexts, VerdictForm,
+use crate::requests::{
+    Audits, Carrier, Checks, Demand, Explains, Format, NamedTopic, OneText, Pages, ReportForm,
+    Request, StoryForm, TwoTexts, VerdictForm,
 };
 
-/// A word of the command line that names a text.
+/// A word of the command line that stands for a text.
 #[derive(Clone, Copy)]
 pub struct Word {
-    /// What the word stands for.
+    /// The name of the word.
     pub name: &'static str,
-    /// What the text is.
+    /// The help for the text.
     pub help: &'static str,
 }
 
 /// A command.
 #[derive(Clone, Copy)]
-pub struct Row {
+pub struct CommandRow {
     pub name: &'static str,
-    /// What the command is for, with an example.
+    /// The help for the command, with an example.
     pub about: &'static str,
-    pub asked: Asked<Word>,
+    pub asked: Request<Word>,
 }
 
 /// The word for a session.
@@ -63,69 +63,69 @@ pub const FIRST: Word = Word {
     help: "Number of the first page",
 };
 
-/// The word for how many pages a window has.
+/// The word for the number of pages of a window.
 pub const COUNT: Word = Word {
     name: "COUNT",
     help: "Number of pages",
 };
 
-/// The option that names what carries a migration.
+/// The option for the carrier of a migration.
 pub const LINK: &str = "link";
 
-/// The option that asks for a session of a whole migration.
+/// The option that requires a session of a whole migration.
 pub const COMPLETE: &str = "complete";
 
-/// The option that asks for one that tells of the halt, of the resume, and of how each owed page came.
+/// The option that requires a session that has the halt, the resume, and how each owed page came.
 pub const COMPLETE_PAGES: &str = "complete-pages";
 
-/// The option that asks for the first line alone.
+/// The option for the first line alone.
 pub const QUIET: &str = "quiet";
 
-/// The option that names the form of an answer.
+/// The option for the form of an answer.
 pub const FORMAT: &str = "format";
 
-/// The option that asks for the faults of all pages.
+/// The option for the faults of all pages.
 pub const ALL: &str = "all";
 
-/// The option that names a page.
+/// The option for a page.
 pub const PAGE: &str = "page";
 
-/// The option that names a line of a session's text.
+/// The option for a line of a session's text.
 pub const LINE: &str = "line";
 
-/// The option that names the file of which line of a recording each line of its window was.
+/// The option for the file that has, for each line of a window, the line of its recording.
 pub const LINES: &str = "lines";
 
-/// The option that names the file that an answer goes to.
+/// The option for the file of an answer.
 pub const OUTPUT: &str = "output";
 
-/// What is asked of a certificate where no option says more: a safe session, and the verdict in a line.
+/// What `check` asks for without options: a safe session, and the verdict as a line.
 const PLAIN_CHECK: Checks = Checks {
     demand: Demand::Safety,
     form: VerdictForm::Line,
 };
 
-/// What is asked of an audit where no option says more: a safe session, and the report in lines.
+/// What `audit` asks for without options: a safe session, and the report in lines.
 const PLAIN_AUDIT: Audits = Audits {
     demand: Demand::Safety,
     form: ReportForm::Lines,
 };
 
-/// The pages of a window, in the place of those that its words tell.
+/// No pages: a placeholder for those that the words of `window` give.
 const NO_PAGES: Pages = Pages { first: 0, count: 0 };
 
 static FORMATS: [Format; 2] = [Format::Text, Format::Json];
 
 static FORMAT_NAMES: [&str; 2] = ["text", "json"];
 
-/// The names of the forms that an answer may have.
+/// Returns the names of the forms of an answer.
 pub fn format_names() -> &'static [&'static str]
     ensures { map (λ name. name.now) result.now ≡ map format_name formats }
 {
     &FORMAT_NAMES
 }
 
-/// What has this name, of the forms that an answer may have.
+/// Returns the form of an answer with this name.
 pub fn format_named(name: &str) -> Option<Format>
     ensures { result ≡ format_named name.now }
 {
@@ -136,14 +136,14 @@ static CARRIERS: [Carrier; 2] = [Carrier::Memory, Carrier::Tcp];
 
 static CARRIER_NAMES: [&str; 2] = ["memory", "tcp"];
 
-/// The names of what may carry a migration.
+/// Returns the names of the carriers of a migration.
 pub fn carrier_names() -> &'static [&'static str]
     ensures { map (λ name. name.now) result.now ≡ map carrier_name carriers }
 {
     &CARRIER_NAMES
 }
 
-/// What has this name, of what may carry a migration.
+/// Returns the carrier of a migration with this name.
 pub fn carrier_named(name: &str) -> Option<Carrier>
     ensures { result ≡ carrier_named name.now }
 {
@@ -153,62 +153,62 @@ pub fn carrier_named(name: &str) -> Option<Carrier>
         .copied()
 }
 
-static COMMANDS: [Row; 9] = [
-    Row {
+static COMMANDS: [CommandRow; 9] = [
+    CommandRow {
         name: "check",
         about: "Judge the certificate of a session. Example: postcopy check session cert",
-        asked: Asked::Two(TwoTexts::Check(PLAIN_CHECK), SESSION, CERT),
+        asked: Request::Two(TwoTexts::Check(PLAIN_CHECK), SESSION, CERT),
     },
-    Row {
+    CommandRow {
         name: "certify",
         about: "Write the certificate of a clean session, or the first line of the report on another. Example: postcopy certify session",
-        asked: Asked::One(OneText::Certify, SESSION),
+        asked: Request::One(OneText::Certify, SESSION),
     },
-    Row {
+    CommandRow {
         name: "audit",
         about: "Write the report on a session, or a line on each of several. Example: postcopy audit session",
-        asked: Asked::One(OneText::Audit(PLAIN_AUDIT), SESSION),
+        asked: Request::One(OneText::Audit(PLAIN_AUDIT), SESSION),
     },
-    Row {
+    CommandRow {
         name: "explain",
         about: "Explain what happened in a session, with the records of its fault. Example: postcopy explain session",
-        asked: Asked::One(
+        asked: Request::One(
             OneText::Explain(Explains {
                 demand: Demand::Safety,
-                form: StoryForm::Words(Topic::Report),
+                form: StoryForm::Words(NamedTopic::Report),
             }),
             SESSION,
         ),
     },
-    Row {
+    CommandRow {
         name: "replay",
         about: "Replay a session in the order of its runs. Example: postcopy replay session runs",
-        asked: Asked::Two(TwoTexts::Replay, SESSION, RUNS),
+        asked: Request::Two(TwoTexts::Replay, SESSION, RUNS),
     },
-    Row {
+    CommandRow {
         name: "steps",
         about: "Write the session that events record from a guest script. Example: postcopy steps script events",
-        asked: Asked::Two(TwoTexts::Steps, SCRIPT, EVENTS),
+        asked: Request::Two(TwoTexts::Steps, SCRIPT, EVENTS),
     },
-    Row {
+    CommandRow {
         name: "migrate",
         about: "Migrate the guest of a script, and write its session and certificate. Example: postcopy migrate script | postcopy",
-        asked: Asked::Migrate(Carrier::Memory, SCRIPT),
+        asked: Request::Migrate(Carrier::Memory, SCRIPT),
     },
-    Row {
+    CommandRow {
         name: "draw",
         about: "Draw the records of a session as SVG, in the order of its report or of runs. Example: postcopy draw session -o picture.svg",
-        asked: Asked::Draw(Topic::Report, SESSION, Some(RUNS)),
+        asked: Request::Draw(NamedTopic::Report, SESSION, Some(RUNS)),
     },
-    Row {
+    CommandRow {
         name: "window",
         about: "Write the session of some pages of a recording. Example: postcopy window recording 4096 1024 -o session",
-        asked: Asked::Window(NO_PAGES, RECORDING, None),
+        asked: Request::Window(NO_PAGES, RECORDING, None),
     },
 ];
 
-/// The commands.
-pub fn commands() -> &'static [Row]
+/// Returns the commands.
+pub fn commands() -> &'static [CommandRow]
     ensures { rows_of result.now ≡ table }
 {
     &COMMANDS

@@ -2,9 +2,9 @@
 use Rattle.std.proofs.Common.{◌≡◌, ℕ, ◌<◌, List, arith, subst, refl, codes, sym, ap, ◌∙◌, Option, Some, None}
 use Rattle.std.specs.Borrow.{Bor}
 use Rattle.clap.specs.Words.{Text}
-use Rattle.command_words.specs.declared.asked.Asked.{Asked}
-use Rattle.command_words.specs.declared.asked.Asked.TheVariants.{Draw}
-use Rattle.command_words.specs.declared.asked.Topic.{Topic}
+use Rattle.command_words.specs.declared.requests.Request.{Request}
+use Rattle.command_words.specs.declared.requests.Request.TheVariants.{Draw}
+use Rattle.command_words.specs.declared.requests.NamedTopic.{NamedTopic}
 use Rattle.command_words.specs.Table.{asked_names}
 use Rattle.std.specs.Prelude.{Result, Ok, Err, IfOk}
 use Rattle.std.specs.declared.alloc.AllocError.{AllocError}
@@ -23,11 +23,11 @@ use Rattle.commands.specs.Drawings.{Drawing, SessionText, RunsText, Drawn, IsDra
 use Rattle.command_texts.proofs.Said.{says_right}
 
 -- what was told of a session alone, and of a session with runs, was told of what the words ask for
-pub told_alone : (job : Asked (Bor Text)) (topic : Topic) (name : Bor Text) (further : Option (Bor Text)) (P : Asked Text → Type 0) → job ≡ Draw topic name further → further ≡ None → P (Draw topic name.now None) → P (asked_names job)
-told_alone job topic name further P is none p = subst (λ (a : Asked (Bor Text)). P (asked_names a)) (sym (is ∙ ap (λ (o : Option (Bor Text)). Draw topic name o) none)) p
+pub told_alone : (job : Request (Bor Text)) (topic : NamedTopic) (name : Bor Text) (further : Option (Bor Text)) (P : Request Text → Type 0) → job ≡ Draw topic name further → further ≡ None → P (Draw topic name.now None) → P (asked_names job)
+told_alone job topic name further P is none p = subst (λ (a : Request (Bor Text)). P (asked_names a)) (sym (is ∙ ap (λ (o : Option (Bor Text)). Draw topic name o) none)) p
 
-pub told_along : (job : Asked (Bor Text)) (topic : Topic) (name second : Bor Text) (further : Option (Bor Text)) (P : Asked Text → Type 0) → job ≡ Draw topic name further → further ≡ Some second → P (Draw topic name.now (Some second.now)) → P (asked_names job)
-told_along job topic name second further P is some p = subst (λ (a : Asked (Bor Text)). P (asked_names a)) (sym (is ∙ ap (λ (o : Option (Bor Text)). Draw topic name o) some)) p
+pub told_along : (job : Request (Bor Text)) (topic : NamedTopic) (name second : Bor Text) (further : Option (Bor Text)) (P : Request Text → Type 0) → job ≡ Draw topic name further → further ≡ Some second → P (Draw topic name.now (Some second.now)) → P (asked_names job)
+told_along job topic name second further P is some p = subst (λ (a : Request (Bor Text)). P (asked_names a)) (sym (is ∙ ap (λ (o : Option (Bor Text)). Draw topic name o) some)) p
 
 drawing_few : (d : Drawing) → drawing_status d < 2
 drawing_few (SessionText line) = omega arith

@@ -10,7 +10,7 @@ use Rattle.audit_model.specs.World.{IsSafe}
 use Rattle.audit_model.proofs.Unsafe.{safe_exactly_if_clean}
 use Rattle.cert_check.specs.Verdicts.{IsVerdict}
 use Rattle.cert_check.specs.declared.verdict.Verdict.TheVariants as verdict
-use Rattle.judged_texts.specs.declared.wanted.Wanted.{Wanted}
+use Rattle.judged_texts.specs.declared.audit_part.AuditPart.{AuditPart}
 use Rattle.command_texts.specs.Cutting.{IsCutAtEnd}
 use Rattle.judge_commands.specs.Answers.{IsAuditAnswer, IsVerdictAnswer}
 use Rattle.judge_commands.proofs.Judged.{cut_texts, judged_clean, judged_text}
@@ -43,7 +43,7 @@ migrations_judged certs script text first second answer status h cut k =
     let texts = cut_texts w.session w.cert text first second w.fits w.cert_fits w.is_text cut in
     k.is_status ∙ judged_text certs w.session w.cert first second texts w.checked.0 w.checked.1 k.value k.is_right
 
-pub migrations_clean : (wanted : Wanted) (script text first second answer : List ℕ) (status : ℕ) → IsMigrateAnswer script text 0 → IsCutAtEnd text first second → IsAuditAnswer wanted first answer status → status ≡ 0
+pub migrations_clean : (wanted : AuditPart) (script text first second answer : List ℕ) (status : ℕ) → IsMigrateAnswer script text 0 → IsCutAtEnd text first second → IsAuditAnswer wanted first answer status → status ≡ 0
 migrations_clean wanted script text first second answer status h cut k =
     let w = wrote_by script text h in
     let texts = cut_texts w.session w.cert text first second w.fits w.cert_fits w.is_text cut in

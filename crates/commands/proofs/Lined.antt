@@ -5,8 +5,8 @@ use Rattle.std.specs.Borrow.{Bor}
 use Rattle.std.specs.Global.{Vec}
 use Rattle.clap.specs.Words.{Text}
 use Rattle.command_texts.specs.declared.answer.Fault.{Fault}
-use Rattle.command_words.specs.declared.asked.Asked.TheVariants.{Window}
-use Rattle.command_words.specs.declared.asked.Pages.{Pages}
+use Rattle.command_words.specs.declared.requests.Request.TheVariants.{Window}
+use Rattle.command_words.specs.declared.requests.Pages.{Pages}
 use Rattle.window_commands.specs.Windows.{HasWindowLines}
 use Rattle.commands.specs.Told.{HasLines, window_of}
 

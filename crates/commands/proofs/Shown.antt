@@ -2,15 +2,15 @@
 use Rattle.std.proofs.Common.{◌≡◌, ◌∙◌, ℕ, List, [], ◌∷◌, Option, Some, None, Result, Ok, inl, inr, refl, subst, sym}
 use Rattle.std.specs.Prelude.{codes}
 use Rattle.clap.specs.Words.{Text}
-use Rattle.command_words.specs.declared.asked.Asked.{Asked}
-use Rattle.command_words.specs.declared.asked.Asked.TheVariants.{Two}
-use Rattle.command_words.specs.declared.asked.Checks.{Checks}
-use Rattle.command_words.specs.declared.asked.VerdictForm.{VerdictForm}
-use Rattle.command_words.specs.declared.asked.TwoTexts.TheVariants.{Check}
+use Rattle.command_words.specs.declared.requests.Request.{Request}
+use Rattle.command_words.specs.declared.requests.Request.TheVariants.{Two}
+use Rattle.command_words.specs.declared.requests.Checks.{Checks}
+use Rattle.command_words.specs.declared.requests.VerdictForm.{VerdictForm}
+use Rattle.command_words.specs.declared.requests.TwoTexts.TheVariants.{Check}
 use Rattle.command_words.specs.Table.{plain}
 use Rattle.command_words.specs.Words.{asked, asked_by}
 use Rattle.command_words.proofs.Plain.{IsTaken, taken_plain}
-use Rattle.completeness.specs.declared.missing.Extent.{Extent}
+use Rattle.completeness.specs.declared.lack.Extent.{Extent}
 use Rattle.cert_check.specs.declared.verdict.Verdict.{Verdict}
 use Rattle.cert_check.specs.declared.verdict.Verdict.TheVariants.{SessionText, CertText, Shape, Pages, Runs, Page, Yes}
 use Rattle.judged_texts.specs.Checked.{HeadlineHolds, IsTextVerdict}
@@ -19,7 +19,7 @@ use Rattle.command_texts.specs.Told.{Ends}
 use Rattle.command_texts.specs.Written.{Streams}
 use Rattle.migration_types.specs.Sessions.{Recorded}
 use Rattle.audit_report.specs.ToldLines.{own}
-use Rattle.completeness.specs.declared.missing.Missing.{Missing}
+use Rattle.completeness.specs.declared.lack.Lack.{Lack}
 use Rattle.session_answers.specs.Lacks.{TellsLack}
 use Rattle.judge_commands.specs.Answers.{IsVerdictTold, verdict_lack, verdict_status, verdict_text}
 use Rattle.judge_commands.specs.Completed.{IsChecked, IsDemanded}
@@ -41,7 +41,7 @@ yes_told : (words : Verdict → List ℕ) (texts : List ℕ × List ℕ) (text :
 yes_told words texts text h = yes_of texts.0 texts.1 h.value h.is_right h.is_status
 
 -- what is answered with status 0 where more is asked is answered so without asking
-without_asking : (complete : Option Extent) (IsLackTold : Recorded → Missing → List ℕ → Type 0) (IsPlain : List ℕ → ℕ → Type 0) (session text : List ℕ) → IsDemanded complete IsLackTold IsPlain session text 0 → IsPlain text 0
+without_asking : (complete : Option Extent) (IsLackTold : Recorded → Lack → List ℕ → Type 0) (IsPlain : List ℕ → ℕ → Type 0) (session text : List ℕ) → IsDemanded complete IsLackTold IsPlain session text 0 → IsPlain text 0
 without_asking None IsLackTold IsPlain session text h = h
 without_asking (Some extent) IsLackTold IsPlain session text (inl h) = h.is_plain
 without_asking (Some extent) IsLackTold IsPlain session text (inr h) = let refused : 0 ≡ 1 = h.refused in absurd cc

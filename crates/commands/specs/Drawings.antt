@@ -1,4 +1,4 @@
--- What becomes of a session that is to be drawn.
+-- The result of drawing a session.
 use Rattle.std.specs.Prelude.{ℕ, List, codes}
 use Rattle.text_lines.specs.Text.{IsSpelling, IsRefusalLine}
 use Rattle.migration_types.specs.declared.cert.Run.{Run}
@@ -17,21 +17,21 @@ pub data Drawing : Type 0 where
   RunsText : ℕ → Drawing
   Drawn : List ℕ → Drawing
 
--- the text is that of a picture on this topic in the order of the session's report
+-- the text is that of a picture about this topic, in the order of the session's report
 abbrev pub IsDrawn : Topic → Recorded → List ℕ → Type 0
 IsDrawn topic s text = (r : Report) × IsReport s r × IsPictureText s r topic text
 
--- or along these runs, with the report above it
+-- the text is that of a picture along these runs, with the report above it
 abbrev pub IsDrawnAlong : Topic → List Run → Recorded → List ℕ → Type 0
 IsDrawnAlong topic runs s text = (r : Report) × IsReport s r × IsPictureTextAlong s r topic runs text
 
--- what becomes of the text of a session
+-- the result for the text of a session
 abbrev pub IsDrawing : Topic → List ℕ → Drawing → Type 0
 IsDrawing topic session (SessionText line) = IsRefusalLine SpellsSession session line
 IsDrawing topic session (RunsText line) = ⊥
 IsDrawing topic session (Drawn text) = (s : Recorded) × IsSpelling SpellsSession s session × IsDrawn topic s text
 
--- what becomes of the texts of a session and of an order, of which the session is judged first
+-- the result for the texts of a session and of an order; if both are refused, the line is that of the session
 abbrev pub IsDrawingAlong : Topic → List ℕ → List ℕ → Drawing → Type 0
 IsDrawingAlong topic session runs (SessionText line) = IsRefusalLine SpellsSession session line
 IsDrawingAlong topic session runs (RunsText line) = (s : Recorded) × IsSpelling SpellsSession s session × IsRefusalLine SpellsOrder runs line
@@ -47,10 +47,10 @@ abbrev pub drawing_status : Drawing → ℕ
 drawing_status (Drawn text) = 0
 drawing_status other = 1
 
--- `draw` with a session, on this topic: what becomes of it
+-- `draw` with a session: the result, about this topic
 abbrev pub IsDrawAnswer : Topic → List ℕ → List ℕ → ℕ → Type 0
 IsDrawAnswer topic session = IsAnswer (IsDrawing topic session) drawing_text drawing_status
 
--- `draw` with a session and runs, on this topic: what becomes of them
+-- `draw` with a session and runs: the result, about this topic
 abbrev pub IsDrawAlongAnswer : Topic → List ℕ × List ℕ → List ℕ → ℕ → Type 0
 IsDrawAlongAnswer topic texts = IsAnswer (IsDrawingAlong topic texts.0 texts.1) drawing_text drawing_status

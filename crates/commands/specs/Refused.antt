@@ -1,4 +1,4 @@
--- What becomes of words that are refused.
+-- The outcome for words that ask for the help or the version, or that are no command.
 use Rattle.std.specs.Prelude.{◌≡◌, ◌≢◌, ◌⊎◌, ℕ}
 use Rattle.std.specs.Io.KnownBytes.{Keeps}
 use Rattle.clap.specs.declared.error.kind.ErrorKind.{ErrorKind}
@@ -8,11 +8,11 @@ use Rattle.command_texts.specs.declared.answer.Fault.TheVariants.{Memory}
 use Rattle.command_texts.specs.Answers.{IsOutputFault, fault_line}
 use Rattle.command_texts.specs.Written.{AppendsFront, Gains, Streams}
 
--- the help or the version was asked for
+-- the words ask for the help or the version
 abbrev pub IsAsking : ErrorKind → Type 0
 IsAsking kind = (kind ≡ DisplayHelp) ⊎ (kind ≡ DisplayVersion)
 
--- the words are no command: the output stays, and the errors gain what is wrong with them
+-- the words are no command: nothing is written to the output, and the errors say what is wrong
 pub record IsMisuse (kind : ErrorKind) (old new : Streams) (status : ℕ) : Type 0 where
   pub no_help : kind ≢ DisplayHelp
   pub no_version : kind ≢ DisplayVersion
@@ -20,14 +20,14 @@ pub record IsMisuse (kind : ErrorKind) (old new : Streams) (status : ℕ) : Type
   pub output : Keeps old.0 new.0
   pub errors : Gains old.1 new.1
 
--- the output gained the help or the version that was asked for, and the errors stay
+-- the help or the version was written to the output, and nothing to the errors
 pub record IsShown (kind : ErrorKind) (old new : Streams) (status : ℕ) : Type 0 where
   pub asked : IsAsking kind
   pub is_status : status ≡ 0
   pub output : Gains old.0 new.0
   pub errors : Keeps old.1 new.1
 
--- or it was asked for and the output failed, which the errors tell
+-- the help or the version was asked for and the output failed, which the errors report
 pub record IsUnshown (kind : ErrorKind) (old new : Streams) (status : ℕ) : Type 0 where
   pub asked : IsAsking kind
   pub is_status : status ≡ 3
@@ -36,13 +36,13 @@ pub record IsUnshown (kind : ErrorKind) (old new : Streams) (status : ℕ) : Typ
   pub is_fault : IsOutputFault fault
   pub errors : AppendsFront old.1 new.1 (fault_line fault)
 
--- there was no memory, which the errors tell
+-- memory ran out, which the errors report
 pub record IsStarved (old new : Streams) (status : ℕ) : Type 0 where
   pub is_status : status ≡ 4
   pub output : Keeps old.0 new.0
   pub errors : AppendsFront old.1 new.1 (fault_line Memory)
 
--- what becomes of words that are refused with this kind
+-- the outcome for words with an error of this kind
 abbrev pub IsRefusalOf : ErrorKind → Streams → Streams → ℕ → Type 0
 IsRefusalOf kind old new status =
     IsMisuse kind old new status ⊎ (IsShown kind old new status ⊎ (IsUnshown kind old new status ⊎ IsStarved old new status))

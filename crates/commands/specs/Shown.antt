@@ -1,23 +1,24 @@
--- What a `check` shows that ends with status 0.
+-- What a `check` shows if it ends with status 0.
 use Rattle.std.specs.Prelude.{◌≡◌, ◌⊎◌, List, [], ◌∷◌, Some, true, codes, ℕ}
 use Rattle.clap.specs.Words.{Text, takes}
-use Rattle.command_words.specs.declared.asked.Asked.TheVariants.{Two}
-use Rattle.command_words.specs.declared.asked.Checks.{Checks}
-use Rattle.command_words.specs.declared.asked.TwoTexts.TheVariants.{Check}
+use Rattle.command_words.specs.declared.requests.Request.TheVariants.{Two}
+use Rattle.command_words.specs.declared.requests.Checks.{Checks}
+use Rattle.command_words.specs.declared.requests.TwoTexts.TheVariants.{Check}
 use Rattle.command_words.specs.Words.{IsPlain, asked, postcopy_words}
 use Rattle.judged_texts.specs.Checked.{HeadlineHolds}
 
--- the command line takes the words, and they ask for a `check` of the texts under these names, with whatever options
+-- the command line accepts the words, and they ask for a `check` of the texts under these names, with any options
 pub record IsTakenAsCheck (words : List Text) (first second : Text) : Type 0 where
   pub checks : Checks
   pub taken : takes postcopy_words words ≡ true
   pub asks : asked words ≡ Some (Two (Check checks) first second)
 
--- the words are `check FIRST SECOND`, with names that are no options, or the command line takes them as a `check` of these
+-- the words are `check FIRST SECOND` with names that are no options, or the command line accepts them as a `check` of
+-- these texts
 abbrev pub AsksCheck : List Text → Text → Text → Type 0
 AsksCheck words first second = IsPlain words (codes "check") (first ∷ second ∷ []) ⊎ IsTakenAsCheck words first second
 
--- there were two such texts, and the headline holds of them
+-- there were two such texts, and the headline holds for them
 pub record ShowsHeadline (AreTexts : List ℕ × List ℕ → Type 0) : Type 0 where
   pub texts : List ℕ × List ℕ
   pub are_texts : AreTexts texts

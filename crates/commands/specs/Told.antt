@@ -1,42 +1,42 @@
--- What the program tells of the texts that the words name.
+-- What the program says about the texts that the words name.
 use Rattle.std.specs.Prelude.{◌≡◌, ◌<◌, ◌⊎◌, ℕ, List, Option, Some, None, Result, Ok, Err, MatchOption, MatchResult, codes}
 use Rattle.std.specs.Global.{Vec}
-use Rattle.command_words.specs.declared.asked.Asked.{Asked}
-use Rattle.command_words.specs.declared.asked.Asked.TheVariants.{One, Two, Migrate, Draw, Window}
-use Rattle.command_words.specs.declared.asked.Pages.{Pages}
+use Rattle.command_words.specs.declared.requests.Request.{Request}
+use Rattle.command_words.specs.declared.requests.Request.TheVariants.{One, Two, Migrate, Draw, Window}
+use Rattle.command_words.specs.declared.requests.Pages.{Pages}
 use Rattle.window_cut.specs.declared.pages.Window.{Window as CutWindow}
 use Rattle.window_commands.specs.Windows.{EndsWindow, HasWindowLines}
-use Rattle.command_words.specs.declared.asked.Demand.{Demand}
-use Rattle.command_words.specs.declared.asked.Demand.TheVariants.{Safety}
-use Rattle.command_words.specs.declared.asked.Demand.TheVariants as demand
-use Rattle.command_words.specs.declared.asked.Audits.{Audits}
-use Rattle.command_words.specs.declared.asked.Explains.{Explains}
-use Rattle.command_words.specs.declared.asked.Lists.{Lists}
-use Rattle.command_words.specs.declared.asked.ReportForm.{ReportForm}
-use Rattle.command_words.specs.declared.asked.ReportForm.TheVariants as report
-use Rattle.command_words.specs.declared.asked.ListForm.{ListForm}
-use Rattle.command_words.specs.declared.asked.ListForm.TheVariants as list
-use Rattle.command_words.specs.declared.asked.StoryForm.{StoryForm}
-use Rattle.command_words.specs.declared.asked.StoryForm.TheVariants as story
-use Rattle.command_words.specs.declared.asked.OneText.{OneText}
-use Rattle.command_words.specs.declared.asked.OneText.TheVariants.{Certify, Audit, Explain}
-use Rattle.command_words.specs.declared.asked.TwoTexts.{TwoTexts}
-use Rattle.command_words.specs.declared.asked.TwoTexts.TheVariants.{Check, Replay, Steps}
-use Rattle.command_words.specs.declared.asked.TwoTexts.TheVariants as two
+use Rattle.command_words.specs.declared.requests.Demand.{Demand}
+use Rattle.command_words.specs.declared.requests.Demand.TheVariants.{Safety}
+use Rattle.command_words.specs.declared.requests.Demand.TheVariants as demand
+use Rattle.command_words.specs.declared.requests.Audits.{Audits}
+use Rattle.command_words.specs.declared.requests.Explains.{Explains}
+use Rattle.command_words.specs.declared.requests.Lists.{Lists}
+use Rattle.command_words.specs.declared.requests.ReportForm.{ReportForm}
+use Rattle.command_words.specs.declared.requests.ReportForm.TheVariants as report
+use Rattle.command_words.specs.declared.requests.ListForm.{ListForm}
+use Rattle.command_words.specs.declared.requests.ListForm.TheVariants as list
+use Rattle.command_words.specs.declared.requests.StoryForm.{StoryForm}
+use Rattle.command_words.specs.declared.requests.StoryForm.TheVariants as story
+use Rattle.command_words.specs.declared.requests.OneText.{OneText}
+use Rattle.command_words.specs.declared.requests.OneText.TheVariants.{Certify, Audit, Explain}
+use Rattle.command_words.specs.declared.requests.TwoTexts.{TwoTexts}
+use Rattle.command_words.specs.declared.requests.TwoTexts.TheVariants.{Check, Replay, Steps}
+use Rattle.command_words.specs.declared.requests.TwoTexts.TheVariants as two
 use Rattle.window_commands.specs.Tables.{SpellsTable}
-use Rattle.command_words.specs.declared.asked.Topic.{Topic as Named}
-use Rattle.command_words.specs.declared.asked.Topic.TheVariants as named
+use Rattle.command_words.specs.declared.requests.NamedTopic.{NamedTopic}
+use Rattle.command_words.specs.declared.requests.NamedTopic.TheVariants as named
 use Rattle.session_story.specs.declared.topics.Topic.{Topic}
 use Rattle.session_story.specs.declared.topics.Topic.TheVariants as topic
 use Rattle.session_answers.specs.declared.forms.Ask.{Ask}
-use Rattle.session_answers.specs.declared.forms.Form.{Form}
-use Rattle.session_answers.specs.declared.forms.Form.TheVariants as form
+use Rattle.session_answers.specs.declared.forms.AnswerForm.{AnswerForm}
+use Rattle.session_answers.specs.declared.forms.AnswerForm.TheVariants as form
 use Rattle.session_answers.specs.declared.forms.Story.{Story}
 use Rattle.session_answers.specs.declared.forms.Story.TheVariants as tells
-use Rattle.judged_texts.specs.declared.wanted.Wanted.TheVariants as wanted
+use Rattle.judged_texts.specs.declared.audit_part.AuditPart.TheVariants as wanted
 use Rattle.command_words.specs.Table.{plain}
-use Rattle.completeness.specs.declared.missing.Extent.{Extent}
-use Rattle.completeness.specs.declared.missing.Extent.TheVariants as extent
+use Rattle.completeness.specs.declared.lack.Extent.{Extent}
+use Rattle.completeness.specs.declared.lack.Extent.TheVariants as extent
 use Rattle.session_log.specs.Grammar.{SpellsSession}
 use Rattle.cert_text.specs.Grammar.{SpellsCert}
 use Rattle.cert_text.specs.Order.{SpellsOrder}
@@ -58,27 +58,27 @@ use Rattle.host_commands.specs.Steps.{IsStepsAnswer}
 use Rattle.host_commands.specs.Migrations.{IsMigrateAnswer}
 use Rattle.commands.specs.Drawings.{IsDrawAnswer, IsDrawAlongAnswer}
 
--- of what is told, by the topic that the words name
-abbrev pub told_topic : Named → Topic
+-- the topic that the words name
+abbrev pub told_topic : NamedTopic → Topic
 told_topic named.Report = topic.Report
 told_topic (named.Page page) = topic.Page page
 told_topic (named.Line line) = topic.Line line
 
--- to what extent a session has to be complete, where that is asked
+-- to what extent a session must be complete, if that is asked
 abbrev pub extent_of : Demand → Option Extent
 extent_of Safety = None
 extent_of demand.Pages = Some extent.Pages
 extent_of demand.Whole = Some extent.Whole
 
--- how a report is told, alone and in a list, and what happened
-abbrev pub report_form : ReportForm → Form
+-- the form of a report, of each report in a list, and of a story
+abbrev pub report_form : ReportForm → AnswerForm
 report_form report.Lines = form.Lines wanted.Report
 report_form report.FirstLine = form.Lines wanted.FirstLine
 report_form report.AllFaults = form.AllFaults
 report_form report.Object = form.Object
 report_form report.AllFaultsObject = form.AllFaultsObject
 
-abbrev pub list_form : ListForm → Form
+abbrev pub list_form : ListForm → AnswerForm
 list_form list.FirstLines = form.Lines wanted.FirstLine
 list_form list.Objects = form.Object
 list_form list.AllFaultsObjects = form.AllFaultsObject
@@ -87,7 +87,7 @@ abbrev pub story_form : StoryForm → Story
 story_form (story.Words topic) = tells.Words (told_topic topic)
 story_form story.Object = tells.Object
 
--- what an audit asks of a session, an explanation, and an audit of several sessions of each
+-- what an audit asks about a session, what an explanation asks, and what an audit of several sessions asks about each
 abbrev pub audit_ask : Audits → Ask
 audit_ask audits = record { form = report_form audits.form; complete = extent_of audits.demand }
 
@@ -97,7 +97,7 @@ explain_ask explains = record { form = form.Story (story_form explains.form); co
 abbrev pub list_ask : Lists → Ask
 list_ask lists = record { form = list_form lists.form; complete = extent_of lists.demand }
 
--- what a command on one text asks of it
+-- what a command on one text asks about it
 abbrev pub ask_of : OneText → Ask
 ask_of Certify = record { form = form.Lines wanted.Certificate; complete = None }
 ask_of (Audit audits) = audit_ask audits
@@ -114,7 +114,7 @@ IsTwoAnswer Replay texts = IsReplayAnswer texts.0 texts.1
 IsTwoAnswer Steps texts = IsStepsAnswer texts.0 texts.1
 IsTwoAnswer (two.Explain explains) texts = IsExplainedByTable (story_form explains.form) (extent_of explains.demand) texts
 
--- the answer where there are no words: the one of `check` that no option changes
+-- the answer if there are no words: that of `check` without options
 abbrev pub IsPlainCheck : List ℕ × List ℕ → List ℕ → ℕ → Type 0
 IsPlainCheck = IsTwoAnswer (Check plain)
 
@@ -122,39 +122,39 @@ IsPlainCheck = IsTwoAnswer (Check plain)
 abbrev pub NoNote : {T : Type 0} → T → Type 0
 NoNote texts = ⊥
 
--- there is one on the first of two texts, a session
+-- there is a note on the first of two texts, which is a session
 abbrev pub NotesFirst : List ℕ × List ℕ → Type 0
 NotesFirst texts = TellsNoUse texts.0
 
--- what is told beside the answer of a command on one text: why it is refused, and that a session tells of no use
+-- beside the answer of a command on one text: why the text is refused, and the note on a session without a use
 abbrev pub IsBesideOne : OneText → List ℕ → List ℕ → ℕ → Option (List ℕ) → Option (List ℕ) → Type 0
 IsBesideOne task name = TellsWhyOf (IsRefusedAt SpellsSession) TellsNoUse (how_much (ask_of task).form) name
 
--- nothing more is told of two texts
+-- nothing more is said about two texts
 abbrev pub AddsNothing : List ℕ × List ℕ → List ℕ → List ℕ → List ℕ → Type 0
 AddsNothing texts name before after = after ≡ before
 
--- what is told beside the answer of a command on two texts: why one is refused, of `check` what of the certificate does not fit
--- the session, and that a session that is judged tells of no use
+-- beside the answer of a command on two texts: why one is refused; for `check`, the part of the certificate that does
+-- not fit the session; and the note on a session without a use, if the command judges it
 abbrev pub IsBesideTwo : TwoTexts → List ℕ → List ℕ → List ℕ × List ℕ → ℕ → Option (List ℕ) → Option (List ℕ) → Type 0
 IsBesideTwo (Check checks) = TellsBeside (IsRefusedAt SpellsSession) (IsRefusedAt SpellsCert) AddsMisfitOf NotesFirst
 IsBesideTwo Replay = TellsBeside (IsRefusedAt SpellsSession) (IsRefusedAt SpellsOrder) AddsNothing NoNote
 IsBesideTwo Steps = TellsBeside (IsRefusedAt SpellsScript) (IsRefusedAt SpellsEvents) AddsNothing NoNote
 IsBesideTwo (two.Explain explains) = TellsBeside (IsRefusedAt SpellsSession) (IsRefusedAt SpellsTable) AddsNothing NotesFirst
 
--- the faults of a command on the text under a name, and on the texts under two
+-- the faults of a command on the text under a name, and on the texts under two names
 abbrev pub IsFaultOf : List ℕ → Fault → Type 0
 IsFaultOf name = IsTextFault (λ n. n ≡ name)
 
 abbrev pub IsFaultOfTwo : List ℕ → List ℕ → Fault → Type 0
 IsFaultOfTwo first second = IsTextFault (λ n. (n ≡ first) ⊎ (n ≡ second))
 
--- the pages that a window has
+-- the window of these pages
 abbrev pub window_of : Pages → CutWindow
 window_of pages = record { first = pages.first; count = pages.count }
 
--- what a command asks for was told of the texts under its names, or it came to a fault
-abbrev pub EndsAsked : Asked (List ℕ) → (List ℕ → Option (List ℕ)) → Option (List ℕ) → Streams → Streams → Result ℕ Fault → Type 0
+-- the command wrote what is asked for about the texts under its names, or it failed with a fault
+abbrev pub EndsAsked : Request (List ℕ) → (List ℕ → Option (List ℕ)) → Option (List ℕ) → Streams → Streams → Result ℕ Fault → Type 0
 EndsAsked (One task name) files input =
     Ends (IsFaultOf name) (IsNamed name files input) (IsOneAnswer task) (IsBesideOne task name)
 EndsAsked (Two task first second) files input =
@@ -167,12 +167,12 @@ EndsAsked (Draw topic first (Some second)) files input =
     Ends (IsFaultOfTwo first second) (AreNamed first second files input) (IsDrawAlongAnswer (told_topic topic)) (TellsBeside (IsRefusedAt SpellsSession) (IsRefusedAt SpellsOrder) AddsNothing NoNote first second)
 EndsAsked (Window pages name lines) files input = EndsWindow (window_of pages) name files
 
--- where the lines of a window are asked for, this is their table, and otherwise it stays
-abbrev pub HasLines : Asked (List ℕ) → (List ℕ → Option (List ℕ)) → Option (List ℕ) → Option (List ℕ) → Option (Vec ℕ) → Option (Vec ℕ) → Type 0
+-- if the lines of a window are asked for, this is their table; otherwise nothing changes
+abbrev pub HasLines : Request (List ℕ) → (List ℕ → Option (List ℕ)) → Option (List ℕ) → Option (List ℕ) → Option (Vec ℕ) → Option (Vec ℕ) → Type 0
 HasLines (Window pages name (Some lines)) files old new before after = MatchOption after ⊥ (λ table. HasWindowLines (window_of pages) name files old new table.items)
 HasLines other files old new before after = after ≡ before
 
--- something came to a fault, which the errors tell then, with its status
+-- it failed with a fault, and the errors report it, with its status
 pub record TellsFault (EndsSo : Streams → Result ℕ Fault → Type 0) (new : Streams) (status : ℕ) : Type 0 where
   pub fault : Fault
   pub is_status : status ≡ fault_status fault
@@ -180,19 +180,19 @@ pub record TellsFault (EndsSo : Streams → Result ℕ Fault → Type 0) (new : 
   pub ends : EndsSo (new.0, before) (Err fault)
   pub told : AppendsFront before new.1 (fault_line fault)
 
--- the status of something that ends so: its own, which is one of these, or that of a fault
+-- the status of something that ends like this: its own, which must be one of these, or that of a fault
 abbrev pub IsSettledAs : (ℕ → Type 0) → (Streams → Result ℕ Fault → Type 0) → Streams → ℕ → Type 0
 IsSettledAs IsOwn EndsSo new status = (IsOwn status × EndsSo new (Ok status)) ⊎ TellsFault EndsSo new status
 
--- its own is 0 or 1
+-- its own status is 0 or 1
 abbrev pub IsSettled : (Streams → Result ℕ Fault → Type 0) → Streams → ℕ → Type 0
 IsSettled = IsSettledAs (λ status. status < 2)
 
--- that of a list is 3 where a text was not read
+-- the own status of a list is also 3, if a text was not read
 abbrev pub IsSettledList : (Streams → Result ℕ Fault → Type 0) → Streams → ℕ → Type 0
 IsSettledList = IsSettledAs IsListStatus
 
--- at a status above 2 the errors tell a fault that has it
+-- the errors report a fault that has this status
 pub record IsFaultTold (old new : Option (List ℕ)) (status : ℕ) : Type 0 where
   pub fault : Fault
   pub is_status : status ≡ fault_status fault
@@ -202,17 +202,18 @@ pub record IsFaultTold (old new : Option (List ℕ)) (status : ℕ) : Type 0 whe
   pub told : AppendsFront before behind (fault_line fault)
   pub more : Gains behind new
 
--- where there are no words: the answer of `check` to the two texts of the input
+-- if there are no words: the answer of `check` to the two texts of the input
 abbrev pub EndsBare : Option (List ℕ) → Streams → Streams → Result ℕ Fault → Type 0
 EndsBare input = Ends (IsFaultOfTwo (codes "-") (codes "-")) (AreOfInput input) IsPlainCheck (IsBesideTwo (Check plain) (codes "-") (codes "-"))
 
--- lines stand after the names of the sessions, with "2 of 3 sessions are clean" or the like at the end, and objects have the names
+-- lines follow the names of the sessions, and "2 of 3 sessions are clean" or the like is the last line; objects have
+-- the names in them
 abbrev pub list_style : ListForm → Style
 list_style list.FirstLines = Some (codes " sessions are clean\n")
 list_style list.Objects = None
 list_style list.AllFaultsObjects = None
 
--- the audits of the sessions under these names were told, as this is asked, or the list ended before
+-- the audits of the sessions under these names were written, or the list stopped early
 abbrev pub EndsSeveral : Lists × List (List ℕ) → (List ℕ → Option (List ℕ)) → Streams → Streams → Result ℕ Fault → Type 0
 EndsSeveral several files old new done =
     MatchResult done

@@ -1,4 +1,4 @@
-//! Who answers to what is asked: an arm for each command.
+//! Running what is asked for: an arm for each command.
 
 ghost use Rattle.std.specs.Prelude.{◌≡◌, ◌≢◌, ◌⊎◌, ◌<◌, Ok, true, false, IfOk, MatchOption};
 ghost use Rattle.guest_script.specs.Scripts.{SpellsScript};
@@ -19,7 +19,7 @@ use command_texts::{
     Console, Fault, Gathered, Telling, TextSource, perform_one, perform_two, read_named, tell_why,
     written,
 };
-use command_words::{Asked, Carrier, Job, OneText, Pages, Topic, TwoTexts};
+use command_words::{Carrier, Job, NamedTopic, OneText, Pages, Request, TwoTexts};
 use guest_script::ScriptParts;
 use host_commands::{StepsCommand, migrate_read};
 use judge_commands::{AuditCommand, CheckCommand, ExplainByTable, ReplayCommand};
@@ -30,7 +30,7 @@ use std::thread::Threads;
 use window_commands::perform_window;
 use window_cut::Window;
 
-// Does a command on the text under a name.
+// Runs a command on the text under a name.
 fn asked_one<'a, R: Threads + Sync, S: TextSource, I: Read + Send, O: Write, E: Write>(
     console: &mut Console<'_, R, S, I, O, E>,
     task: OneText,
@@ -47,7 +47,7 @@ fn asked_one<'a, R: Threads + Sync, S: TextSource, I: Read + Send, O: Write, E: 
     perform_one(console, &command, name)
 }
 
-// Does a command on the texts under two names, read in this order.
+// Runs a command on the texts under two names, which are read in this order.
 fn asked_two<'a, R: Threads + Sync, S: TextSource, I: Read + Send, O: Write, E: Write>(
     console: &mut Console<'_, R, S, I, O, E>,
     task: TwoTexts,
@@ -110,15 +110,15 @@ fn asked_migrate<
     Ok(status)
 }
 
-// Draws the session under a name, along the runs under a further one where there is one.
+// Draws the session under a name, along the runs under a second name if there is one.
 fn asked_draw<'a, R: Threads + Sync, S: TextSource, I: Read + Send, O: Write, E: Write>(
     console: &mut Console<'_, R, S, I, O, E>,
-    asked: Topic,
+    asked: NamedTopic,
     name: &'a str,
     further: Option<&'a str>,
 ) -> Result<u8, Fault<'a>>
     ensures few { IfOk result (λ status. status < 2) }
-    ensures told { EndsAsked (asked_names (Asked.Draw asked name.entry further.entry)) (S.bytes_of console.old.texts.now) (I.remaining console.old.input) (O.contents console.old.output, E.contents console.old.errors) (O.contents console.new.output, E.contents console.new.errors) result }
+    ensures told { EndsAsked (asked_names (Request.Draw asked name.entry further.entry)) (S.bytes_of console.old.texts.now) (I.remaining console.old.input) (O.contents console.old.output, E.contents console.old.errors) (O.contents console.new.output, E.contents console.new.errors) result }
     ensures gains { BothGain (O.contents console.old.output, E.contents console.old.errors) (O.contents console.new.output, E.contents console.new.errors) }
 {
     let topic = told_topic(asked);
@@ -129,7 +129,8 @@ fn asked_draw<'a, R: Threads + Sync, S: TextSource, I: Read + Send, O: Write, E:
     }
 }
 
-// Cuts the window of these pages out of the recording under a name, with the table of its lines where a file is named for it.
+// Cuts the window of these pages out of the recording under a name. Also makes the table of its lines if a file is
+// named for it.
 fn asked_window<'a, R, S: TextSource, I, O: Write, E: Write>(
     console: &mut Console<'_, R, S, I, O, E>,
     pages: Pages,
@@ -151,7 +152,7 @@ fn asked_window<'a, R, S: TextSource, I, O: Write, E: Write>(
     perform_window(console, window, lined, name, lines)
 }
 
-/// Does what the words ask for. Where a window is written, and its lines are asked for, their table is put into `lines`.
+/// Does what the words ask for. If a window is written and its lines are asked for, puts their table into `lines`.
 pub fn perform<
     'a,
     R: Threads + Wait + Sync + Net<Listener = TcpListener, Stream = TcpStream>,
@@ -171,11 +172,11 @@ pub fn perform<
     ensures gains { BothGain (O.contents console.old.output, E.contents console.old.errors) (O.contents console.new.output, E.contents console.new.errors) }
 {
     match job {
-        Asked::One(task, name) => asked_one(console, task, name),
-        Asked::Two(task, first, second) => asked_two(console, task, first, second),
-        Asked::Migrate(carrier, name) => asked_migrate(console, carrier, name),
-        Asked::Draw(topic, name, further) => asked_draw(console, topic, name, further),
-        Asked::Window(pages, name, file) => {
+        Request::One(task, name) => asked_one(console, task, name),
+        Request::Two(task, first, second) => asked_two(console, task, first, second),
+        Request::Migrate(carrier, name) => asked_migrate(console, carrier, name),
+        Request::Draw(topic, name, further) => asked_draw(console, topic, name, further),
+        Request::Window(pages, name, file) => {
             asked_window(console, pages, name, file.is_some(), lines)
         }
     }

@@ -22,7 +22,7 @@ use session_story::Topic;
 use std::alloc::{AllocError, Global};
 use std::thread::Threads;
 
-/// The answer where the text of a session is refused at this line.
+/// Returns the answer for a session's text that is refused at this line.
 fn refused_session(alloc: Global, line: u32) -> Result<Answer, AllocError>
     ensures { IfOk result (λ answer. Says answer (refusal_text line) 1) }
 {
@@ -32,7 +32,7 @@ fn refused_session(alloc: Global, line: u32) -> Result<Answer, AllocError>
     })
 }
 
-/// The picture of a session in the order of its report, about this topic.
+/// Returns the picture of a session about this topic, in the order of its report.
 #[tactic(auto, using(crate::proofs::Drawn::is_drawn))]
 fn drawn<R: Threads + Sync>(
     rt: &R,
@@ -47,7 +47,7 @@ fn drawn<R: Threads + Sync>(
     Ok(text)
 }
 
-/// The picture of a session along runs, about this topic.
+/// Returns the picture of a session about this topic, along runs.
 fn drawn_along<R: Threads + Sync>(
     rt: &R,
     alloc: Global,
@@ -62,7 +62,7 @@ fn drawn_along<R: Threads + Sync>(
     Ok(text)
 }
 
-/// The picture of a session, by what was read of its text.
+/// Returns the picture of a session, given what was read from its text.
 fn draw_read<R: Threads + Sync>(
     rt: &R,
     alloc: Global,
@@ -83,7 +83,7 @@ fn draw_read<R: Threads + Sync>(
     }
 }
 
-/// The picture of a session along runs, by what was read of their texts.
+/// Returns the picture of a session along runs, given what was read from their texts.
 fn draw_along_read<R: Threads + Sync>(
     rt: &R,
     alloc: Global,

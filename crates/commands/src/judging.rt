@@ -1,4 +1,4 @@
-//! What the words ask of a session, as the commands that judge one take it.
+//! What the words ask about a session, in the form that the judging commands take.
 
 ghost use Rattle.std.specs.Prelude.{◌≡◌};
 ghost use Rattle.command_texts.specs.Several.{style_of};
@@ -8,13 +8,13 @@ use crate::topics::told_topic;
 use command_texts::Listing;
 use command_words::{Audits, Demand, Explains, ListForm, Lists, OneText, ReportForm, StoryForm};
 use completeness::Extent;
-use judged_texts::Wanted;
-use session_answers::{Ask, Form, Story};
+use judged_texts::AuditPart;
+use session_answers::{AnswerForm, Ask, Story};
 
-/// What ends the list of what is told of several sessions, after how many of how many are clean.
+/// The end of the last line of a list, after how many of how many sessions are clean.
 const ARE_CLEAN: &[u8] = b" sessions are clean\n";
 
-/// To what extent a session has to be complete, where that is asked.
+/// Returns to what extent a session must be complete, if that is asked.
 pub(crate) fn extent_of(demand: Demand) -> Option<Extent>
     ensures { result ≡ extent_of demand }
 {
@@ -25,31 +25,31 @@ pub(crate) fn extent_of(demand: Demand) -> Option<Extent>
     }
 }
 
-// How the report on a session is told.
-fn report_form(form: ReportForm) -> Form
+// Returns the form of the report on a session.
+fn report_form(form: ReportForm) -> AnswerForm
     ensures { result ≡ report_form form }
 {
     match form {
-        ReportForm::Lines => Form::Lines(Wanted::Report),
-        ReportForm::FirstLine => Form::Lines(Wanted::FirstLine),
-        ReportForm::AllFaults => Form::AllFaults,
-        ReportForm::Object => Form::Object,
-        ReportForm::AllFaultsObject => Form::AllFaultsObject,
+        ReportForm::Lines => AnswerForm::Lines(AuditPart::Report),
+        ReportForm::FirstLine => AnswerForm::Lines(AuditPart::FirstLine),
+        ReportForm::AllFaults => AnswerForm::AllFaults,
+        ReportForm::Object => AnswerForm::Object,
+        ReportForm::AllFaultsObject => AnswerForm::AllFaultsObject,
     }
 }
 
-// How the report on each of several sessions is told.
-fn list_form(form: ListForm) -> Form
+// Returns the form of the report on each of several sessions.
+fn list_form(form: ListForm) -> AnswerForm
     ensures { result ≡ list_form form }
 {
     match form {
-        ListForm::FirstLines => Form::Lines(Wanted::FirstLine),
-        ListForm::Objects => Form::Object,
-        ListForm::AllFaultsObjects => Form::AllFaultsObject,
+        ListForm::FirstLines => AnswerForm::Lines(AuditPart::FirstLine),
+        ListForm::Objects => AnswerForm::Object,
+        ListForm::AllFaultsObjects => AnswerForm::AllFaultsObject,
     }
 }
 
-/// How it is told what happened in a session.
+/// Returns the form of the story of a session.
 pub(crate) fn story_form(form: StoryForm) -> Story
     ensures { result ≡ story_form form }
 {
@@ -59,7 +59,7 @@ pub(crate) fn story_form(form: StoryForm) -> Story
     }
 }
 
-// What an audit asks of a session.
+// Returns what an audit asks about a session.
 fn audit_ask(audits: Audits) -> Ask
     ensures { result ≡ audit_ask audits }
 {
@@ -69,17 +69,17 @@ fn audit_ask(audits: Audits) -> Ask
     }
 }
 
-// What an explanation asks of a session.
+// Returns what an explanation asks about a session.
 fn explain_ask(explains: Explains) -> Ask
     ensures { result ≡ explain_ask explains }
 {
     Ask {
-        form: Form::Story(story_form(explains.form)),
+        form: AnswerForm::Story(story_form(explains.form)),
         complete: extent_of(explains.demand),
     }
 }
 
-/// What the audit of several sessions asks of each.
+/// Returns what the audit of several sessions asks about each.
 pub(crate) fn list_ask(lists: Lists) -> Ask
     ensures { result ≡ list_ask lists }
 {
@@ -89,7 +89,8 @@ pub(crate) fn list_ask(lists: Lists) -> Ask
     }
 }
 
-/// How the answers to several sessions are listed: by lines after their names, and how many are clean, or by objects.
+/// Returns how the answers to several sessions are listed: as lines after their names, with how many are clean, or as
+/// objects.
 pub(crate) fn listing_of(form: ListForm) -> Listing<'static>
     ensures { style_of result ≡ list_style form }
 {
@@ -99,13 +100,13 @@ pub(crate) fn listing_of(form: ListForm) -> Listing<'static>
     }
 }
 
-/// What a command on one text asks of it.
+/// Returns what a command on one text asks about it.
 pub(crate) fn ask_of(task: OneText) -> Ask
     ensures { result ≡ ask_of task }
 {
     match task {
         OneText::Certify => Ask {
-            form: Form::Lines(Wanted::Certificate),
+            form: AnswerForm::Lines(AuditPart::Certificate),
             complete: None,
         },
         OneText::Audit(audits) => audit_ask(audits),

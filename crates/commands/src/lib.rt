@@ -1,4 +1,4 @@
-//! The program as a library: what its words ask for is answered by one of the commands.
+//! The program as a library: one of the commands does what the words ask for.
 #![tactic(auto)]
 
 mod answering;

@@ -18,7 +18,7 @@ use command_texts::{
     ACCEPTED, Console, Fault, STANDARD_OUTPUT, TextSource, USAGE, perform_two, tell, write_or_why,
     write_whole,
 };
-use command_words::{Reading, VerdictForm, Wish};
+use command_words::{Intent, Reading, VerdictForm};
 use judge_commands::CheckCommand;
 use judged_texts::headline_holds_at_yes;
 use std::alloc::{AllocError, Global};
@@ -43,7 +43,7 @@ fn check_input<R: Threads + Sync, S: TextSource, I: Read + Send, O: Write, E: Wr
     perform_two(console, &command, "-", "-")
 }
 
-// The status of what was done, whose fault is told.
+// Returns the status of what was done, and reports its fault, if it has one.
 fn settle<E: Write>(done: Result<u8, Fault<'_>>, errors: &mut E) -> u8
     ensures settled { MatchResult done.entry (λ status. (result ≡ status) × (E.contents errors.new ≡ E.contents errors.old)) (λ fault. (result ≡ fault_status fault) × AppendsFront (E.contents errors.old) (E.contents errors.new) (fault_line fault)) }
     ensures gains { Gains (E.contents errors.old) (E.contents errors.new) }
@@ -54,14 +54,14 @@ fn settle<E: Write>(done: Result<u8, Fault<'_>>, errors: &mut E) -> u8
     }
 }
 
-// What clap tells of words.
+// Returns the text that clap has for an error in the words.
 fn told_text(alloc: Global, error: &clap::Error) -> Result<String, AllocError> {
     let mut text = String::new(alloc);
     write!(text, "{error}")?;
     Ok(text)
 }
 
-// Tells of words that were refused, or shows the help or the version, in this text.
+// Reports an error in the words, or shows the help or the version, with this text.
 fn tell_words<O: Write, E: Write>(
     error: &clap::Error,
     text: &str,
@@ -80,7 +80,7 @@ fn tell_words<O: Write, E: Write>(
     }
 }
 
-// Tells of words that were refused, or shows the help or the version.
+// Reports an error in the words, or shows the help or the version.
 fn refuse<O: Write, E: Write>(
     alloc: Global,
     error: &clap::Error,
@@ -95,36 +95,36 @@ fn refuse<O: Write, E: Write>(
     }
 }
 
-// Does what is wished, and tells a fault of it.
+// Does what the words ask for, and reports a fault of it.
 fn grant<
     R: Threads + Wait + Sync + Net<Listener = TcpListener, Stream = TcpStream>,
     S: TextSource,
     I: Read + Send,
     O: Write,
     E: Write,
->(console: &mut Console<'_, R, S, I, O, E>, wish: Wish<'_>, lines: &mut Option<Vec<u8>>) -> u8
+>(console: &mut Console<'_, R, S, I, O, E>, intent: Intent<'_>, lines: &mut Option<Vec<u8>>) -> u8
     ensures known { (result ≢ 2) × (result ≤ 4) }
     ensures fault { 2 < result → IsFaultTold (E.contents console.old.errors) (E.contents console.new.errors) result }
-    ensures job { IfSome (job_of wish.entry) (λ job. IsSettled (EndsAsked job (S.bytes_of console.old.texts.now) (I.remaining console.old.input) (O.contents console.old.output, E.contents console.old.errors)) (O.contents console.new.output, E.contents console.new.errors) result) }
-    ensures several { IfSome (several_of wish.entry) (λ asked. IsSettledList (EndsSeveral asked (S.bytes_of console.old.texts.now) (O.contents console.old.output, E.contents console.old.errors)) (O.contents console.new.output, E.contents console.new.errors) result) }
-    ensures lines { result ≡ 0 → IfSome (job_of wish.entry) (λ job. HasLines job (S.bytes_of console.old.texts.now) (O.contents console.old.output) (O.contents console.new.output) lines.old lines.new) }
-    ensures unlined { job_of wish.entry ≡ None → lines.new ≡ lines.old }
+    ensures job { IfSome (job_of intent.entry) (λ job. IsSettled (EndsAsked job (S.bytes_of console.old.texts.now) (I.remaining console.old.input) (O.contents console.old.output, E.contents console.old.errors)) (O.contents console.new.output, E.contents console.new.errors) result) }
+    ensures several { IfSome (several_of intent.entry) (λ asked. IsSettledList (EndsSeveral asked (S.bytes_of console.old.texts.now) (O.contents console.old.output, E.contents console.old.errors)) (O.contents console.new.output, E.contents console.new.errors) result) }
+    ensures lines { result ≡ 0 → IfSome (job_of intent.entry) (λ job. HasLines job (S.bytes_of console.old.texts.now) (O.contents console.old.output) (O.contents console.new.output) lines.old lines.new) }
+    ensures unlined { job_of intent.entry ≡ None → lines.new ≡ lines.old }
     ensures kept { result ≢ 0 → lines.new ≡ lines.old }
     ensures gains { BothGain (O.contents console.old.output, E.contents console.old.errors) (O.contents console.new.output, E.contents console.new.errors) }
 {
-    match wish {
-        Wish::Job(job) => {
+    match intent {
+        Intent::Job(job) => {
             let done = perform(console, job, lines);
             settle(done, &mut console.errors)
         }
-        Wish::Several(several) => {
+        Intent::Several(several) => {
             let done = asked_several(console, &several);
             settle(done, &mut console.errors)
         }
     }
 }
 
-// Judges the two texts of the input, where there are no words.
+// Judges the two texts of the input, if there are no words.
 fn check_bare<R: Threads + Sync, S: TextSource, I: Read + Send, O: Write, E: Write>(
     console: &mut Console<'_, R, S, I, O, E>,
 ) -> u8
@@ -137,25 +137,40 @@ fn check_bare<R: Threads + Sync, S: TextSource, I: Read + Send, O: Write, E: Wri
     settle(done, &mut console.errors)
 }
 
-/// The program: it reads the texts that the words name, writes what the command answers to them, and answers its status.
+/// Runs the program: reads the texts that the words name, writes the command's answer to them, and returns the exit
+/// status.
 ///
-/// It goes by a reading of the words, of which the first is the program's own name; with no other it checks the two texts of the input. The status is
-/// 0 where all is well or help was asked for, 1 for another answer, 2 where the words are no command or have options that mean
-/// nothing together, 3 where a text was not read whole, has too many bytes or takes too many reads (`FORMATS` says how many),
-/// where a migration's link failed, or the output was not written, and 4 where memory ran out. At 2 to 4 the errors tell why. At 1
-/// they tell why a text is refused, or what of a certificate does not fit its session. The texts are read in the order of the
-/// words, and both before an answer is sought. Of several sessions each is audited, and its answer written, before the next is read;
-/// one that is not read is told, and the next ones are audited; of the input among them nothing is said. The output gains the answer
-/// also where the words name a file for it, which the reading tells. Where they name one for the lines of a window, and the status
-/// is 0, the table of the lines is put into `lines`.
+/// `reading` is a reading of the words. The first word is the program's own name. If there is no other, the program
+/// checks the two texts of the input.
 ///
-/// Where a `check` ends with status 0, whatever its options are, the bytes that were read as its first text spell one session,
-/// and the headline holds of it: it has a merging, and in every merging each read or write after handover finds its page
-/// resident, each read gives what one machine that never moved gives, each page is placed at most once, and over no later
-/// read, write or release, and a released page is never sent and comes back as zeros.
+/// The status is:
+/// - 0 if all is well, or help was asked for
+/// - 1 for any other answer
+/// - 2 if the words are no command, or have options that do not go together
+/// - 3 if a text could not be read to its end, has too many bytes or takes too many reads (`FORMATS` says how many), if
+///   the link or a thread of a migration failed, or if the output could not be written
+/// - 4 if memory ran out
 ///
-/// The handle starts and joins threads, and opens the connection of a migration over TCP. Nothing is promised of when a
-/// migration ends.
+/// At 2 to 4 the errors say why. At 1 they say why a text is refused, or which part of a certificate does not fit its
+/// session.
+///
+/// The texts are read in the order of the words. If there are two, both are read before the answer is made. Several
+/// sessions are audited one by one: the answer to one is written before the next is read. If one cannot be read, the
+/// errors say so, and the next one is audited. If the input is one of them, nothing is promised about the bytes that it
+/// held.
+///
+/// The answer is written to the output, even if the words name a file for it, which `reading` says. If the words name a
+/// file for the lines of a window, and the status is 0, their table is put into `lines`. Otherwise `lines` stays as it
+/// was.
+///
+/// If a `check` ends with status 0, with any options, the bytes that were read as its first text spell one session, and
+/// the headline holds for it. It has a merging. In every merging, each read or write after handover finds its page
+/// resident, and each read gives what one machine that never moved gives. Each page is placed at most once, and not
+/// over a later read, write or release. A page that is released at the halt is never sent, and whatever is placed for
+/// it is zeros.
+///
+/// The handle starts and joins threads, and opens the connection of a migration over TCP. Nothing is promised about
+/// when a migration ends.
 pub fn run<
     R: Threads + Wait + Sync + Net<Listener = TcpListener, Stream = TcpStream>,
     S: TextSource,
@@ -181,8 +196,8 @@ pub fn run<
     ensures headline { (first second : List ℕ) → AsksCheck reading.entry first second → result ≡ 0 → ShowsHeadline (AreNamed first second (S.bytes_of console.old.texts.now) (I.remaining console.old.input)) }
 {
     headline_holds_at_yes();
-    match reading.wish() {
-        Ok(Some(wish)) => grant(console, wish, lines),
+    match reading.intent() {
+        Ok(Some(intent)) => grant(console, intent, lines),
         Ok(None) => check_bare(console),
         Err(error) => refuse(
             console.alloc,

@@ -1,4 +1,4 @@
-//! The audit of several sessions: a line for each, after its name, and how many are clean; or an object for each.
+//! The audit of several sessions: a line for each one after its name, and how many are clean; or an object for each.
 
 ghost use Rattle.std.specs.Prelude.{◌≡◌, IfOk};
 ghost use Rattle.command_texts.specs.Several.{IsListStatus, TellsOneUnread};
@@ -13,7 +13,7 @@ use judge_commands::AuditCommand;
 use std::io::{Read, Write};
 use std::thread::Threads;
 
-/// Audits several sessions, as this is asked.
+/// Audits several sessions in the way that the words ask for.
 pub(crate) fn asked_several<
     'a,
     R: Threads + Sync,

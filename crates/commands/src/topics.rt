@@ -1,18 +1,18 @@
-//! What of a session is told, or drawn.
+//! The topic of a story or a picture.
 
 ghost use Rattle.std.specs.Prelude.{◌≡◌};
 ghost use Rattle.commands.specs.Told.{told_topic};
 
-use command_words::Topic as Named;
+use command_words::NamedTopic;
 use session_story::Topic;
 
-/// The topic that the words name.
-pub(crate) fn told_topic(named: Named) -> Topic
+/// Returns the topic that the words name.
+pub(crate) fn told_topic(named: NamedTopic) -> Topic
     ensures { result ≡ told_topic named }
 {
     match named {
-        Named::Report => Topic::Report,
-        Named::Page(page) => Topic::Page(page),
-        Named::Line(line) => Topic::Line(line),
+        NamedTopic::Report => Topic::Report,
+        NamedTopic::Page(page) => Topic::Page(page),
+        NamedTopic::Line(line) => Topic::Line(line),
     }
 }

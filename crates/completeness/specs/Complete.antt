@@ -11,10 +11,10 @@ use Rattle.migration_types.specs.Sessions.{Recorded}
 use Rattle.audit_model.specs.Flat.{in_ledger, freed, at_halt}
 use Rattle.audit_model.specs.Shape.{earlier, passes, is_halt, is_resume, is_taking, is_placement_of}
 use Rattle.page_facts.specs.Tables.{some_before}
-use Rattle.completeness.specs.declared.missing.Missing.{Missing}
-use Rattle.completeness.specs.declared.missing.Missing.TheVariants as missing
-use Rattle.completeness.specs.declared.missing.Extent.{Extent}
-use Rattle.completeness.specs.declared.missing.Extent.TheVariants as extent
+use Rattle.completeness.specs.declared.lack.Lack.{Lack}
+use Rattle.completeness.specs.declared.lack.Lack.TheVariants as missing
+use Rattle.completeness.specs.declared.lack.Extent.{Extent}
+use Rattle.completeness.specs.declared.lack.Extent.TheVariants as extent
 
 -- whether it says that every owed page is placed, or released at the target
 abbrev pub is_all : PagerRec → Bool
@@ -105,7 +105,7 @@ IsComplete extent.Pages = HasPages
 IsComplete extent.Whole = IsWhole
 
 -- This is missing from the logs. If the guest returned to the source, everything after a resume is missing.
-abbrev pub IsMissing : Recorded → Missing → Type 0
+abbrev pub IsMissing : Recorded → Lack → Type 0
 IsMissing s missing.Halt = list_any is_halt s.guest ≡ false
 IsMissing s missing.Returned = has_returned s ≡ true
 IsMissing s missing.Resume = list_any is_resume s.guest ≡ false
@@ -115,7 +115,7 @@ IsMissing s missing.Done = has_done s ≡ false
 IsMissing s (missing.Taken n) = is_taken_left s n ≡ true
 
 -- The order of what is missing: by its kind, and then by the number of the page or the record.
-abbrev pub kind : Missing → ℕ
+abbrev pub kind : Lack → ℕ
 kind missing.Halt = 0
 kind missing.Returned = 1
 kind missing.Resume = 2
@@ -124,13 +124,13 @@ kind missing.All = 4
 kind missing.Done = 5
 kind (missing.Taken n) = 6
 
-abbrev pub number : Missing → ℕ
+abbrev pub number : Lack → ℕ
 number (missing.Page page) = page
 number (missing.Taken n) = n
 number _ = 0
 
 -- whether a session that is complete to this extent must have this
-abbrev pub is_asked : Extent → Missing → Bool
+abbrev pub is_asked : Extent → Lack → Bool
 is_asked extent.Pages missing.Halt = true
 is_asked extent.Pages missing.Returned = true
 is_asked extent.Pages missing.Resume = true
@@ -141,13 +141,13 @@ is_asked extent.Pages (missing.Taken n) = false
 is_asked extent.Whole m = true
 
 -- this is missing, and nothing before it in the order is
-pub record IsFirstMissing (s : Recorded) (m : Missing) : Type 0 where
+pub record IsFirstMissing (s : Recorded) (m : Lack) : Type 0 where
   pub is_missing : IsMissing s m
-  pub is_first : (other : Missing) → IsMissing s other →
+  pub is_first : (other : Lack) → IsMissing s other →
       (kind m < kind other) ⊎ ((kind m ≡ kind other) × (number m ≤ number other))
 
 -- The first thing that is missing is one that the extent requires. What it does not require comes last in the order, so
 -- nothing that it requires comes after it.
-pub record Lacks (e : Extent) (s : Recorded) (m : Missing) : Type 0 where
+pub record Lacks (e : Extent) (s : Recorded) (m : Lack) : Type 0 where
   pub asked : is_asked e m ≡ true
   pub is_first : IsFirstMissing s m

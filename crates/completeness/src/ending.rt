@@ -7,7 +7,7 @@ ghost use Rattle.page_facts.specs.Moved.{PagerPage};
 ghost use Rattle.completeness.specs.Complete.{is_all, is_done, is_end, brings_end, takes_end, has_end, has_done, places_owed, placed_to};
 ghost use Rattle.completeness.specs.inner.Walks.{AreSeen};
 
-use crate::pages::Seen;
+use crate::pages::LogFacts;
 use migration_types::{LinkRec, PagerRec, Session, SourceRec};
 
 /// Returns whether it says that every owed page has come.
@@ -25,7 +25,7 @@ fn is_done_behind(told: bool, rec: &SourceRec) -> bool
 }
 
 /// Returns whether a record places a page that the target was owed.
-fn places_owed(seen: &Seen, session: &Session, rec: &PagerRec) -> bool
+fn places_owed(seen: &LogFacts, session: &Session, rec: &PagerRec) -> bool
     requires seen { AreSeen session.now seen.now }
     requires page { PagerPage session.now.geometry.pages rec.now }
     ensures { result ≡ places_owed session.now rec.now }
@@ -39,7 +39,7 @@ fn places_owed(seen: &Seen, session: &Session, rec: &PagerRec) -> bool
 
 /// Returns the number after the pager's last record that places an owed page, or 0 if none does. Makes a pass over its
 /// log.
-pub(crate) fn placed_to(session: &Session, seen: &Seen) -> usize
+pub(crate) fn placed_to(session: &Session, seen: &LogFacts) -> usize
     requires is_session { IsSession session.now }
     requires seen { AreSeen session.now seen.now }
     ensures { result ≡ placed_to session.now (length session.now.pager) }

@@ -8,12 +8,12 @@
 #![tactic(auto)]
 
 mod ending;
-mod missing;
+mod lack;
 mod pages;
 mod searching;
 mod taken;
 mod uses;
 
-pub use missing::{Extent, Missing};
+pub use lack::{Extent, Lack};
 pub use searching::first_missing;
 pub use uses::tells_use;

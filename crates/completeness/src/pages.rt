@@ -23,7 +23,7 @@ use std::alloc::{AllocError, Global};
 
 /// What the whole logs say about the pages.
 #[derive(Drop)]
-pub(crate) struct Seen {
+pub(crate) struct LogFacts {
     /// Those that are released at the halt.
     ledger: Ledger,
     /// Those that the pager placed.
@@ -126,14 +126,14 @@ fn is_left(released: bool, placed: bool, freed: bool) -> bool
     !(released || placed || freed)
 }
 
-impl Seen {
+impl LogFacts {
     /// Returns what the logs of a session say about the pages. Makes one pass over the pager's log and two over the
     /// guest's, and allocates memory for three marks for each page. Fails only if memory runs out.
-    pub(crate) fn of(alloc: Global, session: &Session) -> Result<Seen, AllocError>
+    pub(crate) fn of(alloc: Global, session: &Session) -> Result<LogFacts, AllocError>
         requires { IsSession session.now }
         ensures { IfOk result (AreSeen session.now) }
     {
-        Ok(Seen {
+        Ok(LogFacts {
             ledger: ledger_at_halt(alloc, session)?,
             placed: placed_pages(alloc, session)?,
             freed: freed_pages(alloc, session)?,
@@ -164,7 +164,7 @@ impl Seen {
 }
 
 /// Returns the least owed page that was never placed nor released at the target. Allocates no memory.
-pub(crate) fn first_page(session: &Session, seen: &Seen) -> Option<PageNo>
+pub(crate) fn first_page(session: &Session, seen: &LogFacts) -> Option<PageNo>
     requires { AreSeen session.now seen.now }
     ensures { MatchOption result (NonePass (is_page_left session.now) session.now.geometry.pages) (IsLeast (is_page_left session.now) session.now.geometry.pages) }
 {

@@ -8,8 +8,8 @@ ghost use Rattle.completeness.specs.Complete.{is_back, HasPages, IsComplete, IsW
 ghost use Rattle.completeness.specs.inner.Walks.{AreSeen};
 
 use crate::ending::{has_done, has_end, placed_to};
-use crate::missing::{Extent, Missing};
-use crate::pages::{Seen, first_page};
+use crate::lack::{Extent, Lack};
+use crate::pages::{LogFacts, first_page};
 use crate::taken::first_taken;
 use audit_model::{has_resume, is_halt};
 use migration_types::{GuestRec, Session, SourceRec};
@@ -40,8 +40,8 @@ fn has_back(source: &[SourceRec]) -> bool
 fn missing_behind(
     alloc: Global,
     session: &Session,
-    seen: &Seen,
-) -> Result<Option<Missing>, AllocError>
+    seen: &LogFacts,
+) -> Result<Option<Lack>, AllocError>
     requires is_session { IsSession session.now }
     requires seen { AreSeen session.now seen.now }
     requires pages { HasPages session.now }
@@ -49,41 +49,41 @@ fn missing_behind(
 {
     let placed = placed_to(session, seen);
     if !has_end(session, placed) {
-        return Ok(Some(Missing::All));
+        return Ok(Some(Lack::All));
     }
     if !has_done(session, placed) {
-        return Ok(Some(Missing::Done));
+        return Ok(Some(Lack::Done));
     }
     match first_taken(alloc, session)? {
-        Some(n) => Ok(Some(Missing::Taken(n))),
+        Some(n) => Ok(Some(Lack::Taken(n))),
         None => Ok(None),
     }
 }
 
 /// Returns the first thing that is missing from a session that must be complete to this extent, in the order of
-/// [`Missing`] and then by the number of the page or the record. Returns `None` if the session is complete to this
+/// [`Lack`] and then by the number of the page or the record. Returns `None` if the session is complete to this
 /// extent. Makes a few passes over the logs, and allocates memory for three marks for each page and, for the whole, one
 /// for each record of the pager. Fails only if memory runs out.
 pub fn first_missing(
     alloc: Global,
     session: &Session,
     extent: Extent,
-) -> Result<Option<Missing>, AllocError>
+) -> Result<Option<Lack>, AllocError>
     ensures { IfOk result (λ found. MatchOption found (IsComplete extent session.now) (Lacks extent session.now)) }
 {
     session.keeps_limits();
     if !has_halt(session.guest()) {
-        return Ok(Some(Missing::Halt));
+        return Ok(Some(Lack::Halt));
     }
     if !has_resume(session.guest()) {
         return match has_back(session.source()) {
-            true => Ok(Some(Missing::Returned)),
-            false => Ok(Some(Missing::Resume)),
+            true => Ok(Some(Lack::Returned)),
+            false => Ok(Some(Lack::Resume)),
         };
     }
-    let seen = Seen::of(alloc, session)?;
+    let seen = LogFacts::of(alloc, session)?;
     if let Some(page) = first_page(session, &seen) {
-        return Ok(Some(Missing::Page(page)));
+        return Ok(Some(Lack::Page(page)));
     }
     match extent {
         Extent::Pages => Ok(None),

@@ -1,2 +1,2 @@
--- What serves proofs alone.
+-- Definitions that only proofs use.
 pub mod Moments

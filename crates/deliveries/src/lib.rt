@@ -1,4 +1,4 @@
-//! What the link and the lane deliver, where those who take it write down which message came.
+//! The deliveries of the link and of the lane, if the receiver of a message records which one it is.
 #![tactic(auto)]
 
 mod delivering;

@@ -1,4 +1,4 @@
-//! Messages over the link or the lane, by the records that tell of them.
+//! Messages over the link or the lane, with the records that send and take them.
 
 ghost use Rattle.std.specs.Prelude.{◌≡◌, ℕ};
 ghost use Rattle.deliveries.specs.Deliveries.{of_pager};
@@ -7,14 +7,15 @@ ghost use Rattle.deliveries.specs.inner.Moments.{moment_of};
 /// A message that was sent and taken.
 #[derive(Clone, Copy, Debug, PartialEq, Eq)]
 pub enum Message {
-    /// A packet: the number of the source's record in it, and that of the pager's record that takes it.
+    /// A packet: the number of the source's record that sends it, and of the pager's record that takes it.
     Down { sent: u64, taken: u64 },
-    /// What the pager sends: the number of its record, and that of the source's record that takes it.
+    /// A message that the pager sends: the number of the record that sends it, and of the source's record that takes
+    /// it.
     Up { sent: u64, taken: u64 },
 }
 
 impl Message {
-    /// The number of the pager's record that takes it or sends it.
+    /// Returns the number of the pager's record that takes it or sends it.
     pub fn of_pager(self) -> u64
         ensures { result ≡ of_pager self }
     {
@@ -24,7 +25,8 @@ impl Message {
         }
     }
 
-    /// When it is delivered: right before the pager's record that takes it, or right behind the one that sends it.
+    /// Returns the moment of its delivery: just before the pager's record that takes it, or just after the one that
+    /// sends it.
     pub(crate) fn moment(self) -> u128
         ensures { result ≡ moment_of self }
     {

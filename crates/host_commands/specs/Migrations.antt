@@ -1,4 +1,4 @@
--- What becomes of a script whose migration is run.
+-- The outcome of running the migration of a script.
 use Rattle.std.specs.Prelude.{◌≡◌, ℕ, List, ◌++◌, codes}
 use Rattle.text_lines.specs.Text.{ended, IsSpelling, IsRefusalLine}
 use Rattle.migration_types.specs.Certs.{Certified, IsCert}
@@ -20,10 +20,10 @@ use Rattle.host_checks.specs.Outcomes.{AreOfLog, AreOfScript, IsDone}
 use Rattle.host_checks.specs.declared.transcript.Answered.{Answered}
 use Rattle.command_texts.specs.Answers.{IsAnswer, numbered}
 
--- A session that was recorded of a script's migration, and its certificate: the version, the machine and its initial pages
--- are the script's; the certificate is right, and every merging of the session is safe; each virtual processor did its operations,
--- with the answers that the guest's log has; the source was told that every owed page is placed, and each is resident at
--- the end of the certificate's merging.
+-- A session that was recorded from a script's migration, and its certificate. The version, the machine and the initial
+-- pages are the script's. The certificate is right, and every merging of the session is safe. Each virtual processor
+-- did its operations, with the answers that the guest's log has. The source was told that every owed page is placed,
+-- and each is resident at the end of the certificate's merging.
 pub record IsMigrationOf (script : Scenario) (session : Recorded) (cert : Certified) : Type 0 where
   pub version : session.version ≡ script.version
   pub geometry : session.geometry ≡ script.geometry
@@ -36,8 +36,8 @@ pub record IsMigrationOf (script : Scenario) (session : Recorded) (cert : Certif
   pub done : IsDone session
   pub owed : HasEachOwed session (spelled cert.runs)
 
--- the script's text is refused at this line, a log had no room, this is the report on what was recorded, which is not
--- clean, another check fails, or this was recorded with this certificate
+-- the script's text is refused at this line; a log had no room; the session is not clean, with this report; another
+-- check fails; or this was recorded, with this certificate
 pub data Migration : Type 0 where
   ScriptText : ℕ → Migration
   LogFull : Migration
@@ -45,8 +45,8 @@ pub data Migration : Type 0 where
   TranscriptDiffers : Migration
   Records : Recorded → Certified → Migration
 
--- What becomes of the text. Of a run that was refused nothing is told but the report, which is on a session of the script. What was recorded is within all
--- limits, so that its text is read.
+-- The outcome for the text. If a run is refused, the text is that of a script, and a report is on a session of this
+-- script, but nothing more is promised. What was recorded is within all limits, so its text can be read.
 abbrev pub IsMigration : List ℕ → Migration → Type 0
 IsMigration script (ScriptText line) = IsRefusalLine SpellsScript script line
 IsMigration script LogFull = (s : Scenario) × IsSpelling SpellsScript s script
@@ -54,7 +54,7 @@ IsMigration script (AuditRefused report) = (s : Scenario) × IsSpelling SpellsSc
 IsMigration script TranscriptDiffers = (s : Scenario) × IsSpelling SpellsScript s script
 IsMigration script (Records session cert) = (s : Scenario) × IsSpelling SpellsScript s script × IsMigrationOf s session cert × IsSession session × IsCert cert
 
--- the text of a session, and behind it that of its certificate
+-- the text of a session, followed by that of its certificate
 abbrev pub certified_text : Recorded → Certified → List ℕ
 certified_text session cert = ended (session_lines session) ++ ended (cert_lines cert)
 
@@ -65,11 +65,11 @@ migration_text (AuditRefused report) = report_text report
 migration_text TranscriptDiffers = codes "transcript-differs\n"
 migration_text (Records session cert) = certified_text session cert
 
--- 0 for a session with its certificate, and 1 for every other outcome
+-- 0 for a session with its certificate, and 1 for any other outcome
 abbrev pub migration_status : Migration → ℕ
 migration_status (Records session cert) = 0
 migration_status other = 1
 
--- `migrate`: what becomes of the script
+-- `migrate`: the outcome for the script
 abbrev pub IsMigrateAnswer : List ℕ → List ℕ → ℕ → Type 0
 IsMigrateAnswer script = IsAnswer (IsMigration script) migration_text migration_status

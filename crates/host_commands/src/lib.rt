@@ -1,4 +1,4 @@
-//! What the commands answer that make a session of a script: by a list of events, or by a migration in threads.
+//! The commands that make a session from a script: with a list of events, or with a migration in threads.
 #![tactic(auto)]
 
 mod migrating;

@@ -23,7 +23,7 @@ use std::net::{Net, TcpListener, TcpStream};
 use std::sync::Wait;
 use std::thread::Threads;
 
-/// Runs the migration of a script over a carrier.
+/// Runs the migration of a script with a carrier.
 fn carried<R: Threads + Wait + Sync + Net<Listener = TcpListener, Stream = TcpStream>>(
     rt: &R,
     alloc: Global,
@@ -39,7 +39,7 @@ fn carried<R: Threads + Wait + Sync + Net<Listener = TcpListener, Stream = TcpSt
     }
 }
 
-/// The answer that a migration is: the text of its session, and after it that of its certificate.
+/// Returns the answer for a migration: the text of its session, followed by that of its certificate.
 fn certified(alloc: Global, migrated: &Migrated) -> Result<Answer, AllocError>
     ensures { IfOk result (λ answer. Says answer (certified_text migrated.now.session migrated.now.cert) 0) }
 {
@@ -52,7 +52,7 @@ fn certified(alloc: Global, migrated: &Migrated) -> Result<Answer, AllocError>
     })
 }
 
-/// The answer that a report is.
+/// Returns the answer for a report.
 fn reported(alloc: Global, report: &Report) -> Result<Answer, AllocError>
     requires { ReportFits report.now }
     ensures { IfOk result (λ answer. Says answer (report_text report.now) 1) }
@@ -64,7 +64,7 @@ fn reported(alloc: Global, report: &Report) -> Result<Answer, AllocError>
     })
 }
 
-/// The answer to a run that was refused.
+/// Returns the answer for a run that was refused.
 fn stopped(alloc: Global, fault: &RunFault) -> Result<Answer, Fault<'static>>
     requires { (s : Scenario) × IsRunFault s fault.now }
     ensures told { (s : Scenario) (text : List ℕ) → IsRunFault s fault.now → IsSpelling SpellsScript s text → IfOk result (λ answer. IsMigrateAnswer text answer.text.items answer.status) }
@@ -80,7 +80,7 @@ fn stopped(alloc: Global, fault: &RunFault) -> Result<Answer, Fault<'static>>
     }
 }
 
-/// What becomes of a script, whatever its text is.
+/// Returns the answer for a script, for any text that spells it.
 fn answer_to<R: Threads + Wait + Sync + Net<Listener = TcpListener, Stream = TcpStream>>(
     rt: &R,
     alloc: Global,
@@ -100,8 +100,8 @@ fn answer_to<R: Threads + Wait + Sync + Net<Listener = TcpListener, Stream = Tcp
     }
 }
 
-/// `migrate`: what becomes of a script, by what was read of its text. Its migration is run in threads over this carrier, with a
-/// gate that never waits. The faults: there is no memory, a thread could not be made, or the link failed.
+/// `migrate`: runs the migration of a script in threads, with this carrier and a gate that never waits, given what was
+/// read from the script's text. Fails if memory runs out, a thread could not be started, or the link failed.
 pub fn migrate_read<R: Threads + Wait + Sync + Net<Listener = TcpListener, Stream = TcpStream>>(
     rt: &R,
     alloc: Global,

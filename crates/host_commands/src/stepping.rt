@@ -1,4 +1,4 @@
-//! The session that events record of a script, as a text and a status.
+//! The session that events record from a script, as a text and a status.
 
 ghost use Rattle.std.specs.Prelude.{◌≡◌, ℕ, List, IfOk, ⊤};
 ghost use Rattle.text_lines.specs.Answer.{IsRead};
@@ -17,7 +17,7 @@ use session_core::{CoreFault, run};
 use session_log::write_session;
 use std::alloc::{AllocError, Global};
 
-/// The answer that a session is.
+/// Returns the answer for a session.
 fn recorded(alloc: Global, session: &Session) -> Result<Answer, AllocError>
     ensures { IfOk result (λ answer. Says answer (ended (session_lines session.now)) 0) }
 {
@@ -28,7 +28,7 @@ fn recorded(alloc: Global, session: &Session) -> Result<Answer, AllocError>
     })
 }
 
-/// What becomes of a script with events, whatever their texts are.
+/// Returns the answer for a script with events, for any texts that spell them.
 fn answer_to(alloc: Global, script: &Script, events: &[Event]) -> Result<Answer, AllocError>
     ensures { (first second : List ℕ) → IsSpelling SpellsScript script.now first → IsSpelling SpellsEvents events.now second → IfOk result (λ answer. IsStepsAnswer first second answer.text.items answer.status) }
 {
@@ -39,7 +39,7 @@ fn answer_to(alloc: Global, script: &Script, events: &[Event]) -> Result<Answer,
     }
 }
 
-/// What becomes of a script, whatever its text is, with what was read of the text of events.
+/// Returns the answer for a script, for any text that spells it, given what was read from the text of events.
 fn with_events(
     alloc: Global,
     script: &Script,
@@ -53,7 +53,7 @@ fn with_events(
     }
 }
 
-/// What becomes of a script with events, by what was read of their texts.
+/// Returns the answer for a script with events, given what was read from their texts.
 fn steps_read(
     alloc: Global,
     script: &Result<Script, u32>,
@@ -67,7 +67,7 @@ fn steps_read(
     }
 }
 
-/// `steps`: the session that events record of a script.
+/// `steps`: the session that events record from a script.
 #[derive(Clone, Copy)]
 pub struct StepsCommand;
 

@@ -11,8 +11,8 @@ use Rattle.host_checks.specs.declared.transcript.Answered.{Answered}
 use Rattle.host_checks.specs.declared.outcome.Migrated.{Migrated}
 use Rattle.host_checks.specs.declared.outcome.RunFault.{RunFault}
 use Rattle.host_checks.specs.declared.outcome.RunFault.TheVariants as told
-use Rattle.host_threads.specs.declared.bell.Fault.{Fault}
-use Rattle.host_threads.specs.declared.bell.Fault.TheVariants.{LogFull, Memory, Threads, Link, Astray}
+use Rattle.host_threads.specs.declared.stop_reason.StopReason.{StopReason}
+use Rattle.host_threads.specs.declared.stop_reason.StopReason.TheVariants.{LogFull, Memory, Threads, Link, Astray}
 use Rattle.host_threads.specs.declared.side.TargetSide.{TargetSide}
 use Rattle.host_threads.specs.declared.side.TargetSide.TheVariants.{Guest, Moving, Target}
 
@@ -23,15 +23,15 @@ IsLeft (Some s) link pager (Guest b) left = left ≡ None
 IsLeft (Some s) link pager Moving left = left ≡ None
 IsLeft (Some s) link pager (Target t) left = left ≡ Some (record { guest = t.held.log; source = s.log; link = link.log; lane = link.lane_log; pager = pager }, t.held.frames)
 
--- the result for a fault of the threads, before anything is checked
-abbrev pub told_as : Fault → Option RunFault
+-- the refusal of a run that stopped for this reason, before anything is checked
+abbrev pub told_as : StopReason → Option RunFault
 told_as LogFull = Some told.LogFull
 told_as Memory = Some told.Memory
 told_as Threads = Some told.Threads
 told_as Link = Some told.Link
 told_as Astray = None
 
-abbrev pub told_of : Option Fault → Option RunFault
+abbrev pub told_of : Option StopReason → Option RunFault
 told_of None = None
 told_of (Some fault) = told_as fault
 

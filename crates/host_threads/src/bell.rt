@@ -1,29 +1,15 @@
 //! The bell, which wakes the threads, and whether the run stops.
 
+use crate::stop_reason::StopReason;
 use migration_types::PageNo;
 use std::alloc::{AllocError, Global};
 use std::sync::atomic::{AtomicBool, AtomicU32, AtomicUsize, Ordering};
 use std::sync::{Mutex, Wait};
 use std::thread::Parker;
 
-/// Why a run stops. If there are several reasons, the least is kept.
-#[derive(Clone, Copy, PartialEq, Eq, PartialOrd, Ord)]
-pub(crate) enum Fault {
-    /// A log has no room for a record.
-    LogFull,
-    /// Memory ran out.
-    Memory,
-    /// A thread could not be started.
-    Threads,
-    /// The link failed.
-    Link,
-    /// A book, a packet or an operation is not of the script's machine, or a book is not where it should be.
-    Astray,
-}
-
-/// The threads other than those of the virtual processors.
+/// The role of a thread that is not of a virtual processor.
 #[derive(Clone, Copy)]
-pub(crate) enum Party {
+pub(crate) enum ThreadRole {
     Source,
     Link,
     Pager,
@@ -62,7 +48,7 @@ pub(crate) struct Bell {
     is_done: AtomicBool,
     is_stopped: AtomicBool,
     /// This lock is taken last.
-    fault: Mutex<Option<Fault>>,
+    reason: Mutex<Option<StopReason>>,
 }
 
 impl Bell {
@@ -84,7 +70,7 @@ impl Bell {
             ended: AtomicUsize::new(0),
             is_done: AtomicBool::new(false),
             is_stopped: AtomicBool::new(false),
-            fault: Mutex::new(None),
+            reason: Mutex::new(None),
         })
     }
 
@@ -105,17 +91,17 @@ impl Bell {
         self.is_stopped() || (is_done && self.ended.load(Ordering::SeqCst) >= self.vcpus.len())
     }
 
-    fn parker(&self, party: Party) -> &Parker {
-        match party {
-            Party::Source => &self.source,
-            Party::Link => &self.link,
-            Party::Pager => &self.pager,
+    fn parker(&self, role: ThreadRole) -> &Parker {
+        match role {
+            ThreadRole::Source => &self.source,
+            ThreadRole::Link => &self.link,
+            ThreadRole::Pager => &self.pager,
         }
     }
 
-    /// Rings a party, which may have something to do.
-    pub(crate) fn ring(&self, party: Party) {
-        self.parker(party).unpark();
+    /// Rings the thread of this role, which may have something to do.
+    pub(crate) fn ring(&self, role: ThreadRole) {
+        self.parker(role).unpark();
     }
 
     /// Rings the source and the pager, which may have something to do.
@@ -129,15 +115,15 @@ impl Bell {
         self.link.unpark();
     }
 
-    /// Waits until the party is rung.
-    pub(crate) fn wait<R: Wait>(&self, rt: &R, party: Party) {
-        self.parker(party).park(rt);
+    /// Waits until the thread of this role is rung.
+    pub(crate) fn wait<R: Wait>(&self, rt: &R, role: ThreadRole) {
+        self.parker(role).park(rt);
     }
 
     /// Notes that a virtual processor is at its move.
     pub(crate) fn arrive(&self) {
         self.arrived.fetch_add(1, Ordering::SeqCst);
-        self.ring(Party::Source);
+        self.ring(ThreadRole::Source);
     }
 
     /// Notes that a virtual processor has ended.
@@ -153,9 +139,9 @@ impl Bell {
         }
     }
 
-    /// Stops the run, keeps the least of the faults, and wakes all threads.
-    pub(crate) fn stop<R: Wait>(&self, rt: &R, fault: Fault) {
-        self.keep(rt, fault);
+    /// Stops the run, keeps the least of the reasons, and wakes all threads.
+    pub(crate) fn stop<R: Wait>(&self, rt: &R, reason: StopReason) {
+        self.keep(rt, reason);
         self.is_stopped.store(true, Ordering::SeqCst);
         self.ring_parties();
         for waiter in &self.vcpus {
@@ -163,11 +149,11 @@ impl Bell {
         }
     }
 
-    fn keep<R: Wait>(&self, rt: &R, fault: Fault) {
-        let mut kept = self.fault.lock(rt);
+    fn keep<R: Wait>(&self, rt: &R, reason: StopReason) {
+        let mut kept = self.reason.lock(rt);
         let least = match *kept {
-            Some(earlier) if earlier <= fault => earlier,
-            _ => fault,
+            Some(earlier) if earlier <= reason => earlier,
+            _ => reason,
         };
         *kept = Some(least);
     }
@@ -222,8 +208,8 @@ impl Bell {
     }
 
     /// Returns why the run stopped, if it did.
-    pub(crate) fn into_fault(self) -> Option<Fault> {
-        let Bell { fault, .. } = self;
-        fault.into_inner()
+    pub(crate) fn into_reason(self) -> Option<StopReason> {
+        let Bell { reason, .. } = self;
+        reason.into_inner()
     }
 }

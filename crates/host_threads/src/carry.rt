@@ -6,8 +6,8 @@ ghost use Rattle.page_stream.specs.Bytes.{packet_bytes, Fits, IsShort};
 ghost use Rattle.page_stream.specs.Streams.{Takes};
 ghost use Rattle.host_threads.specs.Echoes.{Carries, HasCarried};
 
-use crate::bell::Fault;
 use crate::relay::Relay;
+use crate::stop_reason::StopReason;
 use migration_types::{Geometry, PageNo};
 use page_stream::{Packet, Stream, StreamFaultKind, encode, one_reading};
 use std::alloc::Global;
@@ -22,11 +22,11 @@ pub(crate) enum CarryFault {
     Link,
 }
 
-impl From<CarryFault> for Fault {
-    fn from(fault: CarryFault) -> Fault {
+impl From<CarryFault> for StopReason {
+    fn from(fault: CarryFault) -> StopReason {
         match fault {
-            CarryFault::Memory => Fault::Memory,
-            CarryFault::Link => Fault::Link,
+            CarryFault::Memory => StopReason::Memory,
+            CarryFault::Link => StopReason::Link,
         }
     }
 }

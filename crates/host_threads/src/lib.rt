@@ -14,6 +14,7 @@ mod run;
 mod shared;
 mod side;
 mod source;
+mod stop_reason;
 mod turns;
 mod vcpu;
 

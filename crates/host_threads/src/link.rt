@@ -6,10 +6,11 @@ ghost use Rattle.page_stream.specs.declared.Packet.{Packet as Sent};
 ghost use Rattle.host_threads.specs.Fates.{next_fate, fates_over, line, Meets, HaveMet, HaveTurned};
 ghost use Rattle.host_threads.specs.Passages.{HasPassed, IsCarried, arrives};
 
-use crate::bell::{Fault, Party};
+use crate::bell::ThreadRole;
 use crate::passage::Passage;
 use crate::relay::Relay;
-use crate::shared::{Shared, Turn, of_link};
+use crate::shared::{SharedBooks, TurnReport, of_link};
+use crate::stop_reason::StopReason;
 use guest_script::Script;
 use link_book::LinkBook;
 use migration_events::{Direction, Fate};
@@ -89,7 +90,7 @@ fn turn_head<L: Relay>(
     passage: &mut Passage<L>,
     direction: Direction,
     fate: Fate,
-) -> Result<bool, Fault>
+) -> Result<bool, StopReason>
     ensures head { IfOk result (λ met. MatchBool met ((packet : Sent) × (slice_get (line_of direction link.old.part) 0 ≡ Some packet)) (slice_get (line_of direction link.old.part) 0 ≡ None)) }
     ensures turned { IfOk result (λ met. MatchBool met (link.new ≡ record link.old { part = turned direction fate link.old.part }) (link.new ≡ link.old)) }
     ensures passed { IfOk result (λ met. met ≡ true → arrives fate ≡ true → (packet : Sent) → slice_get (line_of direction link.old.part) 0 ≡ Some packet → HasPassed passage.new packet × IsCarried L.held passage.old passage.new packet) }
@@ -114,7 +115,7 @@ fn meet_next<L: Relay>(
     passage: &mut Passage<L>,
     direction: Direction,
     fates: &mut Fates<'_>,
-) -> Result<bool, Fault>
+) -> Result<bool, StopReason>
     ensures met { IfOk result (λ met. MatchBool met (Meets direction (line link.old.part fates.old.left.now) (line link.new.part fates.new.left.now)) ((line link.new.part fates.new.left.now ≡ line link.old.part fates.old.left.now) × (slice_get (line_of direction link.new.part) 0 ≡ None))) }
     ensures err { OnErr result (line link.new.part fates.new.left.now ≡ line link.old.part fates.old.left.now) }
 {
@@ -133,7 +134,7 @@ fn turn_line<L: Relay>(
     direction: Direction,
     fates: &mut Fates<'_>,
     most: usize,
-) -> Result<usize, Fault>
+) -> Result<usize, StopReason>
     ensures met { IfOk result (λ count. HaveMet direction count (line link.old.part fates.old.left.now) (line link.new.part fates.new.left.now)) }
     ensures few { IfOk result (λ count. count ≤ most) }
     ensures fewer { IfOk result (λ count. count < most → slice_get (line_of direction link.new.part) 0 ≡ None) }
@@ -155,7 +156,7 @@ fn turn_at<L: Relay>(
     direction: Direction,
     lines: &mut Lines<'_>,
     most: usize,
-) -> Result<bool, Fault>
+) -> Result<bool, StopReason>
     ensures { IfOk result (λ any. (count : ℕ)
         × (count ≤ most)
         × HaveTurned direction count (record { link = link.old.part; down = lines.old.down.left.now; up = lines.old.up.left.now; lane = lines.old.lane.left.now }) (record { link = link.new.part; down = lines.new.down.left.now; up = lines.new.up.left.now; lane = lines.new.lane.left.now })
@@ -170,27 +171,27 @@ fn turn_at<L: Relay>(
 }
 
 /// Returns the report on turns of a line.
-fn told_turns(turned: Result<bool, Fault>) -> Turn
-    ensures did { result ≡ Turn.Did ↔ turned ≡ Ok true }
-    ensures idle { result ≡ Turn.Idle ↔ turned ≡ Ok false }
-    ensures stops { IfErr turned (λ fault. result ≡ Turn.Stops fault) }
+fn told_turns(turned: Result<bool, StopReason>) -> TurnReport
+    ensures did { result ≡ TurnReport.Did ↔ turned ≡ Ok true }
+    ensures idle { result ≡ TurnReport.Idle ↔ turned ≡ Ok false }
+    ensures stops { IfErr turned (λ fault. result ≡ TurnReport.Stops fault) }
 {
     match turned {
-        Ok(true) => Turn::Did,
-        Ok(false) => Turn::Idle,
-        Err(fault) => Turn::Stops(fault),
+        Ok(true) => TurnReport::Did,
+        Ok(false) => TurnReport::Idle,
+        Err(fault) => TurnReport::Stops(fault),
     }
 }
 
 /// Carries out turns as `turn_at` does, under one lock.
 fn turn_under_lock<R: Wait, L: Relay>(
     rt: &R,
-    shared: &Shared,
+    shared: &SharedBooks,
     passage: &mut Passage<L>,
     direction: Direction,
     lines: &mut Lines<'_>,
     most: usize,
-) -> Turn {
+) -> TurnReport {
     let mut link = shared.link.lock(rt);
     told_turns(turn_at(&mut link, passage, direction, lines, most))
 }
@@ -199,16 +200,16 @@ fn turn_under_lock<R: Wait, L: Relay>(
 /// turn that was not idle.
 fn turn_each<R: Wait, L: Relay>(
     rt: &R,
-    shared: &Shared,
+    shared: &SharedBooks,
     passage: &mut Passage<L>,
     lines: &mut Lines<'_>,
     most: usize,
-) -> Turn {
-    let mut last = Turn::Idle;
+) -> TurnReport {
+    let mut last = TurnReport::Idle;
     for direction in [Direction::Down, Direction::Up, Direction::Lane] {
         match turn_under_lock(rt, shared, passage, direction, lines, most) {
-            Turn::Idle => {}
-            Turn::Stops(fault) => return Turn::Stops(fault),
+            TurnReport::Idle => {}
+            TurnReport::Stops(fault) => return TurnReport::Stops(fault),
             turn => last = turn,
         }
     }
@@ -219,7 +220,7 @@ fn turn_each<R: Wait, L: Relay>(
 /// over. A packet goes through the passage before it is delivered.
 pub(crate) fn run_link<R: Wait, L: Relay + Drop>(
     rt: &R,
-    shared: &Shared,
+    shared: &SharedBooks,
     script: &Script,
     mut passage: Passage<L>,
     most: usize,
@@ -236,7 +237,7 @@ pub(crate) fn run_link<R: Wait, L: Relay + Drop>(
         if has_turned {
             shared.bell.ring_ends();
         } else {
-            shared.bell.wait(rt, Party::Link);
+            shared.bell.wait(rt, ThreadRole::Link);
         }
     }
 }

@@ -11,10 +11,11 @@ ghost use Rattle.host_threads.specs.Tries.{exchange_tries, attend_tries, exchang
 ghost use Rattle.host_threads.specs.Rounds.{Attends, Exchanges, MakesAll};
 ghost use Rattle.host_threads.specs.Turns.{IsTurn, IsUntried};
 
-use crate::bell::{Bell, Fault, Party};
+use crate::bell::{Bell, ThreadRole};
 use crate::gate::{Gate, most_at_once};
-use crate::shared::{Shared, Turn, told, told_to_all};
+use crate::shared::{SharedBooks, TurnReport, told, told_to_all};
 use crate::side::TargetSide;
+use crate::stop_reason::StopReason;
 use crate::turns::{Makes, make_often};
 use book_events::paging::{
     pager_deliver, pager_fault, pager_flush, pager_pop, pager_pull, pager_tick,
@@ -59,38 +60,38 @@ fn exchanges(link: &LinkBook, event: Event) -> bool
 /// Carries out an event on the link's and the pager's books, if it is one that the pager carries out: PagerPop,
 /// PagerPull, PagerFlush or PagerTick. Does not take a packet of another machine.
 #[tactic(auto, using(crate::proofs::Tried::exchange_no_other))]
-fn exchange(link: &mut LinkBook, pager: &mut PagerBook, event: Event) -> Turn
+fn exchange(link: &mut LinkBook, pager: &mut PagerBook, event: Event) -> TurnReport
     ensures turn { exchange_makes event (is_quiet link.old.part) ≡ true → IsTurn result event (receiving link.old.part (part_of pager.old)) (receiving link.new.part (part_of pager.new)) }
     ensures untried { exchange_makes event (is_quiet link.old.part) ≡ false → IsUntried result (receiving link.old.part (part_of pager.old)) (receiving link.new.part (part_of pager.new)) }
 {
     if !exchanges(link, event) {
-        return Turn::Idle;
+        return TurnReport::Idle;
     }
     match event {
         Event::PagerPop => pop_next(link, pager),
         Event::PagerPull => pull_next(link, pager),
         Event::PagerFlush => told(pager_flush(link, pager)),
         Event::PagerTick => told(pager_tick(link, pager)),
-        _ => Turn::Idle,
+        _ => TurnReport::Idle,
     }
 }
 
 /// Takes the oldest packet that has come down, if there is one.
-fn pop_next(link: &mut LinkBook, pager: &mut PagerBook) -> Turn
+fn pop_next(link: &mut LinkBook, pager: &mut PagerBook) -> TurnReport
     ensures { IsTurn result Event.PagerPop (receiving link.old.part (part_of pager.old)) (receiving link.new.part (part_of pager.new)) }
 {
     if !is_first_of(pager.geometry(), link.peek_down()) {
-        return Turn::Stops(Fault::Astray);
+        return TurnReport::Stops(StopReason::Astray);
     }
     told(pager_pop(link, pager))
 }
 
 /// Takes the oldest packet that has come over the lane, if there is one.
-fn pull_next(link: &mut LinkBook, pager: &mut PagerBook) -> Turn
+fn pull_next(link: &mut LinkBook, pager: &mut PagerBook) -> TurnReport
     ensures { IsTurn result Event.PagerPull (receiving link.old.part (part_of pager.old)) (receiving link.new.part (part_of pager.new)) }
 {
     if !is_first_of(pager.geometry(), link.peek_lane()) {
-        return Turn::Stops(Fault::Astray);
+        return TurnReport::Stops(StopReason::Astray);
     }
     told(pager_pull(link, pager))
 }
@@ -111,20 +112,20 @@ fn attends(pager: &PagerBook, event: Event) -> bool
 /// Carries out an event on the pager's and the target's books, if it is one that the pager carries out: PagerFault or
 /// PagerDeliver. Both first cancel the pages that the guest released at the target before they came.
 #[tactic(auto, using(crate::proofs::Tried::attend_no_other))]
-fn attend(pager: &mut PagerBook, target: &mut TargetBook, event: Event) -> Turn
+fn attend(pager: &mut PagerBook, target: &mut TargetBook, event: Event) -> TurnReport
     ensures turn { attend_makes event (is_some pager.old.released) ≡ true → IsTurn result event (placing (part_of pager.old) (target_of target.old)) (placing (part_of pager.new) (target_of target.new)) }
     ensures untried { attend_makes event (is_some pager.old.released) ≡ false → IsUntried result (placing (part_of pager.old) (target_of target.old)) (placing (part_of pager.new) (target_of target.new)) }
 {
     if !attends(pager, event) {
-        return Turn::Idle;
+        return TurnReport::Idle;
     }
     if target.geometry() != pager.geometry() {
-        return Turn::Stops(Fault::Astray);
+        return TurnReport::Stops(StopReason::Astray);
     }
     match event {
         Event::PagerFault => told_to_all(pager_fault(pager, target)),
         Event::PagerDeliver => told_to_all(pager_deliver(pager, target)),
-        _ => Turn::Idle,
+        _ => TurnReport::Idle,
     }
 }
 
@@ -139,12 +140,17 @@ fn placed_last(pager: &PagerBook) -> Option<PageNo> {
 
 /// Carries out an event as `attend` does, and tells the bell which virtual processors it lets go on. The caller rings
 /// them.
-fn attend_told(bell: &Bell, pager: &mut PagerBook, target: &mut TargetBook, event: Event) -> Turn
+fn attend_told(
+    bell: &Bell,
+    pager: &mut PagerBook,
+    target: &mut TargetBook,
+    event: Event,
+) -> TurnReport
     ensures { Attends event result (pager.old, target.old) (pager.new, target.new) }
 {
     let was_resumed = target.is_resumed();
     let turn = attend(pager, target, event);
-    if let Turn::Served = turn {
+    if let TurnReport::Served = turn {
         if !was_resumed && target.is_resumed() {
             bell.resume();
         }
@@ -164,7 +170,7 @@ struct Attending<'a> {
 impl<'a> Makes<PagerBook, TargetBook> for Attending<'a> {
     ghost makes = { λ self event turn old new. Attends event turn old new };
 
-    fn make(&self, pager: &mut PagerBook, target: &mut TargetBook, event: Event) -> Turn {
+    fn make(&self, pager: &mut PagerBook, target: &mut TargetBook, event: Event) -> TurnReport {
         attend_told(self.bell, pager, target, event)
     }
 }
@@ -176,25 +182,30 @@ fn attend_all(
     target: &mut TargetBook,
     events: &[Event],
     most: usize,
-) -> Turn
+) -> TurnReport
     ensures { MakesAll Attends events.now most result (pager.old, target.old) (pager.new, target.new) }
 {
     make_often(&Attending { bell }, pager, target, events, most)
 }
 
 /// Carries out events as `attend_all` does, on the locked books, if there is a target's book.
-fn attend_often<R: Wait>(rt: &R, shared: &Shared, events: &[Event], most: usize) -> Turn {
+fn attend_often<R: Wait>(
+    rt: &R,
+    shared: &SharedBooks,
+    events: &[Event],
+    most: usize,
+) -> TurnReport {
     let mut pager = shared.pager.lock(rt);
     let mut side = shared.target.lock(rt);
     match &mut *side {
-        TargetSide::Guest(_) => Turn::Idle,
-        TargetSide::Moving => Turn::Stops(Fault::Astray),
+        TargetSide::Guest(_) => TurnReport::Idle,
+        TargetSide::Moving => TurnReport::Stops(StopReason::Astray),
         TargetSide::Target(target) => attend_all(&shared.bell, &mut pager, target, events, most),
     }
 }
 
 /// Returns whether there is no source's book yet, or the source is done.
-fn asks_nothing<R: Wait>(rt: &R, shared: &Shared) -> bool {
+fn asks_nothing<R: Wait>(rt: &R, shared: &SharedBooks) -> bool {
     match &*shared.source.lock(rt) {
         Some(book) => book.is_done(),
         None => true,
@@ -202,27 +213,32 @@ fn asks_nothing<R: Wait>(rt: &R, shared: &Shared) -> bool {
 }
 
 /// Carries out PagerTick, unless the source is done.
-fn tick<R: Wait>(rt: &R, shared: &Shared) -> Turn {
+fn tick<R: Wait>(rt: &R, shared: &SharedBooks) -> TurnReport {
     if asks_nothing(rt, shared) {
-        return Turn::Idle;
+        return TurnReport::Idle;
     }
     exchange_often(rt, shared, &[Event::PagerTick], 1)
 }
 
 /// Returns the oldest page that has come, if there is one.
-fn next_page<R: Wait>(rt: &R, shared: &Shared) -> Option<PageNo> {
+fn next_page<R: Wait>(rt: &R, shared: &SharedBooks) -> Option<PageNo> {
     shared.pager.lock(rt).next_page()
 }
 
 /// Carries out PagerDeliver. The first time, the guest resumes. After that, the gate is told the page first.
-fn place<R: Wait, G: Gate>(rt: &R, shared: &Shared, gate: &G, is_resumed: &mut bool) -> Turn {
+fn place<R: Wait, G: Gate>(
+    rt: &R,
+    shared: &SharedBooks,
+    gate: &G,
+    is_resumed: &mut bool,
+) -> TurnReport {
     if !*is_resumed {
         let turn = attend_often(rt, shared, &[Event::PagerDeliver], 1);
-        *is_resumed = matches!(turn, Turn::Served);
+        *is_resumed = matches!(turn, TurnReport::Served);
         return turn;
     }
     let Some(page) = next_page(rt, shared) else {
-        return Turn::Idle;
+        return TurnReport::Idle;
     };
     gate.placing(page);
     attend_often(rt, shared, &[Event::PagerDeliver], 1)
@@ -237,12 +253,17 @@ fn attend_tries() -> [Event; 2]
 }
 
 /// Carries out what there is to do on the pager's and the target's books.
-fn serve<R: Wait, G: Gate>(rt: &R, shared: &Shared, gate: &G, is_resumed: &mut bool) -> Turn {
+fn serve<R: Wait, G: Gate>(
+    rt: &R,
+    shared: &SharedBooks,
+    gate: &G,
+    is_resumed: &mut bool,
+) -> TurnReport {
     if gate.is_open() {
         return attend_often(rt, shared, &attend_tries(), most_at_once(gate));
     }
     match attend_often(rt, shared, &[Event::PagerFault], 1) {
-        Turn::Idle => place(rt, shared, gate, is_resumed),
+        TurnReport::Idle => place(rt, shared, gate, is_resumed),
         other => other,
     }
 }
@@ -254,20 +275,30 @@ struct Exchanging;
 impl Makes<LinkBook, PagerBook> for Exchanging {
     ghost makes = { λ self event turn old new. Exchanges event turn old new };
 
-    fn make(&self, link: &mut LinkBook, pager: &mut PagerBook, event: Event) -> Turn {
+    fn make(&self, link: &mut LinkBook, pager: &mut PagerBook, event: Event) -> TurnReport {
         exchange(link, pager, event)
     }
 }
 
 /// Carries out the first of these events that finds something to do, at most this many times.
-fn exchange_all(link: &mut LinkBook, pager: &mut PagerBook, events: &[Event], most: usize) -> Turn
+fn exchange_all(
+    link: &mut LinkBook,
+    pager: &mut PagerBook,
+    events: &[Event],
+    most: usize,
+) -> TurnReport
     ensures { MakesAll Exchanges events.now most result (link.old, pager.old) (link.new, pager.new) }
 {
     make_often(&Exchanging, link, pager, events, most)
 }
 
 /// Carries out events as `exchange_all` does, on the locked books.
-fn exchange_often<R: Wait>(rt: &R, shared: &Shared, events: &[Event], most: usize) -> Turn {
+fn exchange_often<R: Wait>(
+    rt: &R,
+    shared: &SharedBooks,
+    events: &[Event],
+    most: usize,
+) -> TurnReport {
     let mut link = shared.link.lock(rt);
     let mut pager = shared.pager.lock(rt);
     let turn = exchange_all(&mut link, &mut pager, events, most);
@@ -284,13 +315,13 @@ fn exchange_tries() -> [Event; 3]
 }
 
 /// Carries out what there is to do on the link's and the pager's books, at most this many times.
-fn take_or_offer<R: Wait>(rt: &R, shared: &Shared, most: usize) -> Turn {
+fn take_or_offer<R: Wait>(rt: &R, shared: &SharedBooks, most: usize) -> TurnReport {
     exchange_often(rt, shared, &exchange_tries(), most)
 }
 
 /// Runs the pager, with what comes from the link and the lane and what the guest misses or releases, until the run is
 /// over.
-pub(crate) fn run_pager<R: Wait, G: Gate>(rt: &R, shared: &Shared, gate: &G) {
+pub(crate) fn run_pager<R: Wait, G: Gate>(rt: &R, shared: &SharedBooks, gate: &G) {
     let most = most_at_once(gate);
     let mut is_resumed = false;
     for _ in rt.forever() {
@@ -313,7 +344,7 @@ pub(crate) fn run_pager<R: Wait, G: Gate>(rt: &R, shared: &Shared, gate: &G) {
             break;
         };
         if !has_ticked {
-            shared.bell.wait(rt, Party::Pager);
+            shared.bell.wait(rt, ThreadRole::Pager);
         }
     }
 }

@@ -3,9 +3,9 @@
 ghost use Rattle.std.specs.Prelude.{OnOk};
 ghost use Rattle.host_threads.specs.Passages.{HasPassed, IsCarried};
 
-use crate::bell::Fault;
 use crate::carry::Echo;
 use crate::relay::{Relay, RelayFault};
+use crate::stop_reason::StopReason;
 use page_stream::{Packet, fits};
 
 /// The passage of the packets of the link and of the lane.
@@ -20,7 +20,7 @@ pub(crate) enum Passage<L> {
 impl<L: Relay> Passage<L> {
     /// Sends a packet through the passage. The error is `Astray` only if the packet is not of the relay's machine,
     /// which is checked first, and `Link` if the relay fails, or anything but the packet comes back.
-    pub(crate) fn pass(&mut self, packet: &Packet) -> Result<(), Fault>
+    pub(crate) fn pass(&mut self, packet: &Packet) -> Result<(), StopReason>
         ensures ok { OnOk result (HasPassed self.new packet.now) }
         ensures came { OnOk result (IsCarried L.held self.old self.new packet.now) }
     {
@@ -28,7 +28,7 @@ impl<L: Relay> Passage<L> {
             Passage::InMemory => Ok(()),
             Passage::Over(relay, echo) => {
                 if !fits(echo.geometry(), packet) {
-                    return Err(Fault::Astray);
+                    return Err(StopReason::Astray);
                 }
                 Ok(echo.pass(relay, packet)?)
             }

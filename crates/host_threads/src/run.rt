@@ -7,7 +7,7 @@ ghost use Rattle.host_checks.specs.declared.outcome.RunFault.{RunFault as Refusa
 ghost use Rattle.host_checks.specs.Outcomes.{HasMigrated, IsRunFault};
 ghost use Rattle.host_threads.specs.Runs.{IsLeft, told_as, told_of, IsRunOf};
 
-use crate::bell::{Bell, Fault};
+use crate::bell::Bell;
 use crate::carry::Echo;
 use crate::gate::{Gate, most_at_once};
 use crate::link::run_link;
@@ -15,9 +15,10 @@ use crate::loopback::loopback;
 use crate::pager::run_pager;
 use crate::passage::{NoRelay, Passage};
 use crate::relay::Relay;
-use crate::shared::Shared;
+use crate::shared::SharedBooks;
 use crate::side::TargetSide;
 use crate::source::run_source;
+use crate::stop_reason::StopReason;
 use crate::vcpu::run_vcpu;
 use active_push::SourceBook;
 use book_events::logs::logs_of;
@@ -43,10 +44,10 @@ fn guest_of(alloc: Global, script: &Script) -> Result<GuestBook, AllocError>
 }
 
 /// Returns the books before the first event. Fails only if memory runs out.
-fn books_of(alloc: Global, script: &Script) -> Result<Shared, AllocError> {
+fn books_of(alloc: Global, script: &Script) -> Result<SharedBooks, AllocError> {
     let guest = guest_of(alloc, script)?;
     let pager = PagerBook::new(alloc, script.geometry())?;
-    Ok(Shared {
+    Ok(SharedBooks {
         source: Mutex::new(None),
         link: Mutex::new(LinkBook::new(alloc)),
         pager: Mutex::new(pager),
@@ -60,7 +61,7 @@ fn start_vcpus<'s, E, R: Threads + Wait + Sync, G: Gate>(
     rt: &'s R,
     alloc: Global,
     scope: &Scope<'s, E>,
-    shared: &'s Shared,
+    shared: &'s SharedBooks,
     script: &'s Script,
     gate: &'s G,
 ) -> Vec<JoinHandle<Transcript>> {
@@ -68,12 +69,12 @@ fn start_vcpus<'s, E, R: Threads + Wait + Sync, G: Gate>(
     for (number, vcpu) in script.vcpus().iter().enumerate() {
         let number = u8::try_from(number).unwrap_or(u8::MAX);
         if threads.reserve(1).is_err() {
-            shared.bell.stop(rt, Fault::Memory);
+            shared.bell.stop(rt, StopReason::Memory);
             break;
         }
         match scope.spawn(move || run_vcpu(rt, alloc, shared, gate, number, vcpu)) {
             Ok(thread) => threads.push_reserved(thread),
-            Err(_) => shared.bell.stop(rt, Fault::Threads),
+            Err(_) => shared.bell.stop(rt, StopReason::Threads),
         }
     }
     threads
@@ -83,14 +84,14 @@ fn start_vcpus<'s, E, R: Threads + Wait + Sync, G: Gate>(
 /// run stops.
 fn join_vcpus<R: Threads + Wait>(
     rt: &R,
-    shared: &Shared,
+    shared: &SharedBooks,
     threads: Vec<JoinHandle<Transcript>>,
     transcripts: &mut Vec<Transcript>,
 ) {
     for thread in threads {
         let transcript = thread.join(rt);
         if transcripts.push(transcript).is_err() {
-            shared.bell.stop(rt, Fault::Memory);
+            shared.bell.stop(rt, StopReason::Memory);
         }
     }
 }
@@ -100,7 +101,7 @@ fn join_vcpus<R: Threads + Wait>(
 fn run_threads<R: Threads + Wait + Sync, G: Gate, L: Relay + Drop>(
     rt: &R,
     alloc: Global,
-    shared: &Shared,
+    shared: &SharedBooks,
     script: &Script,
     gate: &G,
     passage: Passage<L>,
@@ -118,7 +119,7 @@ fn run_threads<R: Threads + Wait + Sync, G: Gate, L: Relay + Drop>(
             .ok();
         let pager = scope.spawn(move || run_pager(rt, shared, gate)).ok();
         if source.is_none() || link.is_none() || pager.is_none() {
-            shared.bell.stop(rt, Fault::Threads);
+            shared.bell.stop(rt, StopReason::Threads);
         }
         join_vcpus(rt, shared, threads, &mut transcripts);
         for thread in [source, link, pager] {
@@ -130,16 +131,16 @@ fn run_threads<R: Threads + Wait + Sync, G: Gate, L: Relay + Drop>(
     Ok(transcripts)
 }
 
-/// Returns why a run whose threads met this fault is refused, before anything is checked.
-fn refusal(fault: Fault) -> Option<RunFault>
+/// Returns why a run that stopped for this reason is refused, before anything is checked.
+fn refusal(fault: StopReason) -> Option<RunFault>
     ensures { result ≡ told_as fault }
 {
     match fault {
-        Fault::LogFull => Some(RunFault::LogFull),
-        Fault::Memory => Some(RunFault::Memory),
-        Fault::Threads => Some(RunFault::Threads),
-        Fault::Link => Some(RunFault::Link),
-        Fault::Astray => None,
+        StopReason::LogFull => Some(RunFault::LogFull),
+        StopReason::Memory => Some(RunFault::Memory),
+        StopReason::Threads => Some(RunFault::Threads),
+        StopReason::Link => Some(RunFault::Link),
+        StopReason::Astray => None,
     }
 }
 
@@ -164,9 +165,9 @@ fn left_of(
     }
 }
 
-/// Returns the fault that the threads met, and what they left, as `left_of` does.
-fn left_by(shared: Shared) -> (Option<Fault>, Option<(Logs, Store)>) {
-    let Shared {
+/// Returns why the run stopped, if it did, and what the threads left, as `left_of` does.
+fn left_by(shared: SharedBooks) -> (Option<StopReason>, Option<(Logs, Store)>) {
+    let SharedBooks {
         source,
         link,
         pager,
@@ -179,7 +180,7 @@ fn left_by(shared: Shared) -> (Option<Fault>, Option<(Logs, Store)>) {
         pager.into_inner(),
         target.into_inner(),
     );
-    (bell.into_fault(), left)
+    (bell.into_reason(), left)
 }
 
 /// Returns the result of the checks of what a run left.
@@ -199,12 +200,12 @@ fn settled<R: Threads + Sync>(
     settle(rt, alloc, script, session, store, transcripts)
 }
 
-/// Returns the result of a run whose threads met this fault and left this.
+/// Returns the result of a run that stopped for this reason, if it did, and left this.
 fn outcome<R: Threads + Sync>(
     rt: &R,
     alloc: Global,
     script: &Script,
-    fault: Option<Fault>,
+    fault: Option<StopReason>,
     left: Option<(Logs, Store)>,
     transcripts: Seq<Transcript>,
 ) -> Result<Migrated, RunFault>
@@ -225,7 +226,7 @@ fn checked<R: Threads + Sync>(
     rt: &R,
     alloc: Global,
     script: &Script,
-    shared: Shared,
+    shared: SharedBooks,
     transcripts: Vec<Transcript>,
 ) -> Result<Migrated, RunFault>
     ensures migrated { IfOk result (HasMigrated script.now) }

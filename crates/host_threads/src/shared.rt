@@ -6,10 +6,11 @@ ghost use Rattle.migration_model.specs.Books.{BooksAfter};
 ghost use Rattle.book_events.specs.Parts.{IsMade, IsSame, Tells};
 ghost use Rattle.host_threads.specs.Turns.{IsTurn, fault_by, turn_by, turn_of, to_all};
 
-use crate::bell::{Bell, Fault, Party};
+use crate::bell::{Bell, ThreadRole};
 use crate::side::TargetSide;
+use crate::stop_reason::StopReason;
 use active_push::SourceBook;
-use book_events::{Came, EventFault};
+use book_events::{Effect, EventFault};
 use link_book::{LinkBook, LinkFault};
 use migration_events::Direction;
 use migration_types::PageNo;
@@ -18,7 +19,7 @@ use target_side::{PagerBook, TargetFault};
 
 /// The books, in the order in which their locks are taken, and the bell that wakes the threads.
 #[derive(Drop)]
-pub(crate) struct Shared {
+pub(crate) struct SharedBooks {
     /// `None` until the halt.
     pub source: Mutex<Option<SourceBook>>,
     pub link: Mutex<LinkBook>,
@@ -29,7 +30,7 @@ pub(crate) struct Shared {
 
 /// The report on a turn of a thread.
 #[derive(Clone, Copy)]
-pub(crate) enum Turn {
+pub(crate) enum TurnReport {
     /// It carried out an event.
     Did,
     /// It carried out an event that offered a page.
@@ -39,19 +40,19 @@ pub(crate) enum Turn {
     /// It found nothing to do.
     Idle,
     /// The run must stop.
-    Stops(Fault),
+    Stops(StopReason),
 }
 
-impl Shared {
+impl SharedBooks {
     /// Rings the threads that may have something to do after a turn of the source or the pager on the link's book: the
     /// link if a packet is under way, and both ends, which may tick then, if nothing is under way and no arrival waits.
     /// A turn that found nothing to do rings nobody, so that no end wakes itself again and again.
-    pub(crate) fn ring_over(&self, turn: &Turn, link: &LinkBook) {
-        if let Turn::Idle = turn {
+    pub(crate) fn ring_over(&self, turn: &TurnReport, link: &LinkBook) {
+        if let TurnReport::Idle = turn {
             return;
         }
         if is_under_way(link) {
-            self.bell.ring(Party::Link);
+            self.bell.ring(ThreadRole::Link);
         }
         if link.quiet() {
             self.bell.ring_ends();
@@ -60,15 +61,15 @@ impl Shared {
 
     /// Tells the virtual processors of a turn, or all threads that the run stops. Returns whether there was an event,
     /// or `None` if the run stops.
-    pub(crate) fn tell<R: Wait>(&self, rt: &R, turn: Turn) -> Option<bool> {
+    pub(crate) fn tell<R: Wait>(&self, rt: &R, turn: TurnReport) -> Option<bool> {
         match turn {
-            Turn::Did | Turn::Offered(_) => Some(true),
-            Turn::Served => {
+            TurnReport::Did | TurnReport::Offered(_) => Some(true),
+            TurnReport::Served => {
                 self.bell.ring_vcpus();
                 Some(true)
             }
-            Turn::Idle => Some(false),
-            Turn::Stops(fault) => {
+            TurnReport::Idle => Some(false),
+            TurnReport::Stops(fault) => {
                 self.bell.stop(rt, fault);
                 None
             }
@@ -84,58 +85,58 @@ fn is_under_way(link: &LinkBook) -> bool {
 }
 
 /// Returns the report on an event.
-pub(crate) fn told(came: Result<Came, EventFault>) -> Turn
-    ensures turn { (e : Event) (old new : BooksAfter → BooksAfter) → OnOk came (IsMade e old new) → IfOk came (λ c. Tells c old new) → OnErr came (IsSame old new) → IsTurn result e old new }
-    ensures exact { result ≡ turn_of came }
+pub(crate) fn told(effect: Result<Effect, EventFault>) -> TurnReport
+    ensures turn { (e : Event) (old new : BooksAfter → BooksAfter) → OnOk effect (IsMade e old new) → IfOk effect (λ c. Tells c old new) → OnErr effect (IsSame old new) → IsTurn result e old new }
+    ensures exact { result ≡ turn_of effect }
 {
-    match came {
-        Ok(came) => turn_by(came),
-        Err(fault) => Turn::Stops(of_event(fault)),
+    match effect {
+        Ok(effect) => turn_by(effect),
+        Err(fault) => TurnReport::Stops(of_event(fault)),
     }
 }
 
 /// Returns the report on an event that was not refused.
-fn turn_by(came: Came) -> Turn
-    ensures exact { result ≡ turn_by came }
-    ensures turn { (e : Event) (old new : BooksAfter → BooksAfter) → IsMade e old new → Tells came old new → IsTurn result e old new }
+fn turn_by(effect: Effect) -> TurnReport
+    ensures exact { result ≡ turn_by effect }
+    ensures turn { (e : Event) (old new : BooksAfter → BooksAfter) → IsMade e old new → Tells effect old new → IsTurn result e old new }
 {
-    match came {
-        Came::Nothing => Turn::Idle,
-        Came::Made => Turn::Did,
-        Came::Offered(page) => Turn::Offered(page),
+    match effect {
+        Effect::Nothing => TurnReport::Idle,
+        Effect::Made => TurnReport::Did,
+        Effect::Offered(page) => TurnReport::Offered(page),
     }
 }
 
 /// Returns the report on an event on the pager's and the target's books.
-pub(crate) fn told_to_all(came: Result<Came, EventFault>) -> Turn
-    ensures turn { (e : Event) (old new : BooksAfter → BooksAfter) → OnOk came (IsMade e old new) → IfOk came (λ c. Tells c old new) → OnErr came (IsSame old new) → IsTurn result e old new }
-    ensures exact { result ≡ to_all (turn_of came) }
+pub(crate) fn told_to_all(effect: Result<Effect, EventFault>) -> TurnReport
+    ensures turn { (e : Event) (old new : BooksAfter → BooksAfter) → OnOk effect (IsMade e old new) → IfOk effect (λ c. Tells c old new) → OnErr effect (IsSame old new) → IsTurn result e old new }
+    ensures exact { result ≡ to_all (turn_of effect) }
 {
-    match told(came) {
-        Turn::Did => Turn::Served,
+    match told(effect) {
+        TurnReport::Did => TurnReport::Served,
         other => other,
     }
 }
 
-/// Returns the fault of a run in which an event was refused.
-pub(crate) fn of_event(fault: EventFault) -> Fault
+/// Returns why a run stops in which an event was refused.
+pub(crate) fn of_event(fault: EventFault) -> StopReason
     ensures { result ≡ fault_by fault }
 {
     match fault {
-        EventFault::LogFull => Fault::LogFull,
-        EventFault::Memory => Fault::Memory,
+        EventFault::LogFull => StopReason::LogFull,
+        EventFault::Memory => StopReason::Memory,
     }
 }
 
-/// Returns the fault of a run in which the link's book refused a turn.
-pub(crate) fn of_link(fault: LinkFault) -> Fault
+/// Returns why a run stops in which the link's book refused a turn.
+pub(crate) fn of_link(fault: LinkFault) -> StopReason
     ensures { result ≡ fault_by fault }
 {
     of_event(EventFault::from(fault))
 }
 
-/// Returns the fault of a run in which the guest's or the target's book refused an operation.
-pub(crate) fn of_target(fault: TargetFault) -> Fault
+/// Returns why a run stops in which the guest's or the target's book refused an operation.
+pub(crate) fn of_target(fault: TargetFault) -> StopReason
     ensures { result ≡ fault_by fault }
 {
     of_event(EventFault::from(fault))

@@ -9,10 +9,11 @@ ghost use Rattle.host_threads.specs.Rounds.{Acts, MakesAll};
 ghost use Rattle.host_threads.specs.Turns.{IsTurn, IsUntried};
 ghost use Rattle.host_threads.specs.Sides.{Halts};
 
-use crate::bell::{Fault, Party};
+use crate::bell::ThreadRole;
 use crate::gate::{Gate, most_at_once};
-use crate::shared::{Shared, Turn, of_event, told};
+use crate::shared::{SharedBooks, TurnReport, of_event, told};
 use crate::side::TargetSide;
+use crate::stop_reason::StopReason;
 use crate::turns::{Makes, make_often};
 use active_push::SourceBook;
 use book_events::sending::{push, serve, source_tick};
@@ -46,18 +47,18 @@ fn makes(book: &SourceBook, link: &LinkBook, event: Event) -> bool
 /// Carries out an event on the source's and the link's books, if it is one that the source carries out: Push, Serve or
 /// SourceTick. Pages are pushed within the script's window, and over its lane, if it has one.
 #[tactic(auto, using(crate::proofs::Tried::source_no_other))]
-fn act(book: &mut SourceBook, link: &mut LinkBook, event: Event, script: &Script) -> Turn
+fn act(book: &mut SourceBook, link: &mut LinkBook, event: Event, script: &Script) -> TurnReport
     ensures turn { source_makes event book.old.is_done (is_quiet link.old.part) ≡ true → IsTurn result event (pushing script.now.window (is_some script.now.lane) (part_of book.old) link.old.part) (pushing script.now.window (is_some script.now.lane) (part_of book.new) link.new.part) }
     ensures untried { source_makes event book.old.is_done (is_quiet link.old.part) ≡ false → IsUntried result (sending (part_of book.old) link.old.part) (sending (part_of book.new) link.new.part) }
 {
     if !makes(book, link, event) {
-        return Turn::Idle;
+        return TurnReport::Idle;
     }
     match event {
         Event::Push => told(push(book, link, script.window(), has_lane(script))),
         Event::Serve => told(serve(book, link)),
         Event::SourceTick => told(source_tick(book, link)),
-        _ => Turn::Idle,
+        _ => TurnReport::Idle,
     }
 }
 
@@ -68,23 +69,23 @@ fn halt_guest(
     link: &mut LinkBook,
     side: &mut TargetSide,
     script: &Script,
-) -> Turn
-    ensures did { result ≡ Turn.Did → Halts script.now.pivots side.old link.old.part source.new side.new link.new.part }
-    ensures stays { result ≢ Turn.Did → (source.new ≡ source.old) × (side.new ≡ side.old) × (link.new.part ≡ link.old.part) }
+) -> TurnReport
+    ensures did { result ≡ TurnReport.Did → Halts script.now.pivots side.old link.old.part source.new side.new link.new.part }
+    ensures stays { result ≢ TurnReport.Did → (source.new ≡ source.old) × (side.new ≡ side.old) × (link.new.part ≡ link.old.part) }
 {
     script.keeps_limits();
     match side.halt(link, script.pivots()) {
         Ok(Some(book)) => {
             drop(mem::replace(source, Some(book)));
-            Turn::Did
+            TurnReport::Did
         }
-        Ok(None) => Turn::Stops(Fault::Astray),
-        Err(fault) => Turn::Stops(of_event(fault)),
+        Ok(None) => TurnReport::Stops(StopReason::Astray),
+        Err(fault) => TurnReport::Stops(of_event(fault)),
     }
 }
 
 /// Carries out Halt.
-fn halt<R: Wait>(rt: &R, shared: &Shared, script: &Script) -> Turn {
+fn halt<R: Wait>(rt: &R, shared: &SharedBooks, script: &Script) -> TurnReport {
     let mut source = shared.source.lock(rt);
     let mut link = shared.link.lock(rt);
     let mut side = shared.target.lock(rt);
@@ -102,7 +103,7 @@ struct Acting<'a> {
 impl<'a> Makes<SourceBook, LinkBook> for Acting<'a> {
     ghost makes = { λ self event turn old new. Acts self.script.now event turn old new };
 
-    fn make(&self, book: &mut SourceBook, link: &mut LinkBook, event: Event) -> Turn {
+    fn make(&self, book: &mut SourceBook, link: &mut LinkBook, event: Event) -> TurnReport {
         act(book, link, event, self.script)
     }
 }
@@ -121,18 +122,18 @@ fn act_all(
     script: &Script,
     events: &[Event],
     most: usize,
-) -> Turn
+) -> TurnReport
     ensures { MakesAll (Acts script.now) events.now most result (book.old, link.old) (book.new, link.new) }
 {
     make_often(&Acting { script }, book, link, events, most)
 }
 
 /// Carries out what there is to do after the halt, at most this many times.
-fn turn<R: Wait>(rt: &R, shared: &Shared, script: &Script, most: usize) -> Turn {
+fn turn<R: Wait>(rt: &R, shared: &SharedBooks, script: &Script, most: usize) -> TurnReport {
     let mut source = shared.source.lock(rt);
     let mut link = shared.link.lock(rt);
     let Some(book) = &mut *source else {
-        return Turn::Idle;
+        return TurnReport::Idle;
     };
     let turn = act_all(book, &mut link, script, &source_tries(), most);
     if book.is_done() {
@@ -143,16 +144,21 @@ fn turn<R: Wait>(rt: &R, shared: &Shared, script: &Script, most: usize) -> Turn 
 }
 
 /// Returns the page that was offered, if one was.
-fn page_of(turn: &Turn) -> Option<PageNo> {
+fn page_of(turn: &TurnReport) -> Option<PageNo> {
     match turn {
-        Turn::Offered(page) => Some(*page),
+        TurnReport::Offered(page) => Some(*page),
         _ => None,
     }
 }
 
 /// Runs the source: the halt, once each virtual processor is at its move, and then what there is to serve and to push,
 /// until the run is over.
-pub(crate) fn run_source<R: Wait, G: Gate>(rt: &R, shared: &Shared, gate: &G, script: &Script) {
+pub(crate) fn run_source<R: Wait, G: Gate>(
+    rt: &R,
+    shared: &SharedBooks,
+    gate: &G,
+    script: &Script,
+) {
     let most = most_at_once(gate);
     let mut is_halted = false;
     for _ in rt.forever() {
@@ -160,7 +166,7 @@ pub(crate) fn run_source<R: Wait, G: Gate>(rt: &R, shared: &Shared, gate: &G, sc
             break;
         }
         let turn = if !shared.bell.has_each_arrived() {
-            Turn::Idle
+            TurnReport::Idle
         } else if is_halted {
             turn(rt, shared, script, most)
         } else {
@@ -175,7 +181,7 @@ pub(crate) fn run_source<R: Wait, G: Gate>(rt: &R, shared: &Shared, gate: &G, sc
             gate.offered(page);
         }
         if !has_turned {
-            shared.bell.wait(rt, Party::Source);
+            shared.bell.wait(rt, ThreadRole::Source);
         }
     }
 }

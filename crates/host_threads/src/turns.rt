@@ -1,10 +1,10 @@
 //! Events that a thread carries out one after another, under one hold of its locks.
 
 ghost use Rattle.migration_events.specs.declared.events.Event.{Event as Tried};
-ghost use Rattle.host_threads.specs.declared.shared.Turn.{Turn as Told};
+ghost use Rattle.host_threads.specs.declared.shared.TurnReport.{TurnReport as Told};
 ghost use Rattle.host_threads.specs.Rounds.{MakesAll, MakesFirst};
 
-use crate::shared::Turn;
+use crate::shared::TurnReport;
 use migration_events::Event;
 
 /// What carries out events on two books.
@@ -13,21 +13,26 @@ pub(crate) trait Makes<A, B> {
     ghost makes: { Self → Tried → Told → A × B → A × B → Type 0 };
 
     /// Carries out an event on these books, if there is something to do.
-    fn make(&self, one: &mut A, other: &mut B, event: Event) -> Turn
+    fn make(&self, one: &mut A, other: &mut B, event: Event) -> TurnReport
         ensures { makes self.now event result (one.old, other.old) (one.new, other.new) };
 }
 
 /// Carries out the first of these events that finds something to do.
-fn make_first<A, B, M: Makes<A, B>>(maker: &M, one: &mut A, other: &mut B, events: &[Event]) -> Turn
+fn make_first<A, B, M: Makes<A, B>>(
+    maker: &M,
+    one: &mut A,
+    other: &mut B,
+    events: &[Event],
+) -> TurnReport
     ensures { MakesFirst (M.makes maker.now) events.now result (one.old, other.old) (one.new, other.new) }
 {
     for event in events {
         match maker.make(one, other, *event) {
-            Turn::Idle => {}
+            TurnReport::Idle => {}
             turn => return turn,
         }
     }
-    Turn::Idle
+    TurnReport::Idle
 }
 
 /// Carries out events as `make_first` does, as long as there is something to do, at most this many times. Returns the
@@ -38,14 +43,14 @@ pub(crate) fn make_often<A, B, M: Makes<A, B>>(
     other: &mut B,
     events: &[Event],
     most: usize,
-) -> Turn
+) -> TurnReport
     ensures { MakesAll (M.makes maker.now) events.now most result (one.old, other.old) (one.new, other.new) }
 {
-    let mut last = Turn::Idle;
+    let mut last = TurnReport::Idle;
     for _ in 0..most {
         match make_first(maker, one, other, events) {
-            Turn::Idle => break,
-            Turn::Stops(fault) => return Turn::Stops(fault),
+            TurnReport::Idle => break,
+            TurnReport::Stops(fault) => return TurnReport::Stops(fault),
             turn => last = turn,
         }
     }

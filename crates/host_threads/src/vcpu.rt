@@ -6,10 +6,11 @@ ghost use Rattle.target_side.specs.Guests.{part_of as guest_of};
 ghost use Rattle.target_side.specs.Kept.{geometry_of, part_of as target_of};
 ghost use Rattle.host_threads.specs.Operations.{HasDone, IsGuestStep, IsTargetStep};
 
-use crate::bell::{Fault, Party};
+use crate::bell::ThreadRole;
 use crate::gate::{Gate, most_at_once};
-use crate::shared::{Shared, of_target};
+use crate::shared::{SharedBooks, of_target};
 use crate::side::TargetSide;
+use crate::stop_reason::StopReason;
 use guest_script::Vcpu;
 use host_checks::{Answered, Transcript};
 use migration_events::Op;
@@ -27,17 +28,17 @@ enum Step {
     /// It must wait.
     Waits,
     /// The run must stop.
-    Stops(Fault),
+    Stops(StopReason),
 }
 
 /// Carries out an operation on the guest's book. The result is `Astray` only if the machine does not have its page or
 /// cell.
 fn step_guest(book: &mut GuestBook, vcpu: u8, op: &Op) -> Step
     ensures step { IsGuestStep result vcpu op.now (guest_of book.old) (guest_of book.new) }
-    ensures taken { OpFits book.old.frames.geometry op.now → result ≢ Step.Stops Fault.Astray }
+    ensures taken { OpFits book.old.frames.geometry op.now → result ≢ Step.Stops StopReason.Astray }
 {
     if !op.fits(book.geometry()) {
-        return Step::Stops(Fault::Astray);
+        return Step::Stops(StopReason::Astray);
     }
     match book.access(vcpu, *op) {
         Ok(answer) => Step::Answered(answer),
@@ -49,10 +50,10 @@ fn step_guest(book: &mut GuestBook, vcpu: u8, op: &Op) -> Step
 /// cell.
 fn step_target(book: &mut TargetBook, vcpu: u8, op: &Op) -> Step
     ensures step { IsTargetStep result vcpu op.now (target_of book.old) (target_of book.new) }
-    ensures taken { OpFits (geometry_of book.old) op.now → result ≢ Step.Stops Fault.Astray }
+    ensures taken { OpFits (geometry_of book.old) op.now → result ≢ Step.Stops StopReason.Astray }
 {
     if !op.fits(book.geometry()) {
-        return Step::Stops(Fault::Astray);
+        return Step::Stops(StopReason::Astray);
     }
     match book.access(vcpu, *op) {
         Ok(Access::Done(answer)) => Step::Answered(answer),
@@ -69,19 +70,19 @@ fn work_at_source(
     vcpu: u8,
     ops: &[Op],
     answers: &mut Vec<Answered>,
-) -> Result<(), Fault>
+) -> Result<(), StopReason>
     ensures did { (count : ℕ) × HasDone vcpu (take count ops.now) (guest_of book.old) (guest_of book.new) answers.old.items answers.new.items }
     ensures all { OnOk result (HasDone vcpu ops.now (guest_of book.old) (guest_of book.new) answers.old.items answers.new.items) }
 {
     for at in 0..ops.len() {
         let op = &ops[at];
         if answers.reserve(1).is_err() {
-            return Err(Fault::Memory);
+            return Err(StopReason::Memory);
         }
         match step_guest(book, vcpu, op) {
             Step::Answered(answer) => answers.push_reserved(Answered { op: *op, answer }),
             Step::Stops(fault) => return Err(fault),
-            Step::Missed | Step::Waits => return Err(Fault::Astray),
+            Step::Missed | Step::Waits => return Err(StopReason::Astray),
         }
     }
     Ok(())
@@ -117,7 +118,7 @@ impl<'a> Reached<'a> {
 /// A virtual processor at work: its number, and its answers so far.
 #[derive(Drop)]
 struct Worker<'s, G> {
-    shared: &'s Shared,
+    shared: &'s SharedBooks,
     gate: &'s G,
     vcpu: u8,
     answers: Vec<Answered>,
@@ -125,10 +126,10 @@ struct Worker<'s, G> {
 
 impl<'s, G: Gate> Worker<'s, G> {
     /// Carries out operations at the source, under one lock.
-    fn turn_at_source<R: Wait>(&mut self, rt: &R, ops: &[Op]) -> Result<(), Fault> {
+    fn turn_at_source<R: Wait>(&mut self, rt: &R, ops: &[Op]) -> Result<(), StopReason> {
         let mut side = self.shared.target.lock(rt);
         let TargetSide::Guest(book) = &mut *side else {
-            return Err(Fault::Astray);
+            return Err(StopReason::Astray);
         };
         work_at_source(book, self.vcpu, ops, &mut self.answers)
     }
@@ -157,13 +158,17 @@ impl<'s, G: Gate> Worker<'s, G> {
     /// Carries out operations at the target, at most as many at once as the gate allows, until one must wait. Lends the
     /// gate the book after each that is answered. Tells the bell the page of each release, because another virtual
     /// processor may wait for it, and the page that this one waits for. Rings the pager for a miss.
-    fn reach<'a>(&mut self, book: &mut TargetBook, ops: &'a [Op]) -> Result<Reached<'a>, Fault> {
+    fn reach<'a>(
+        &mut self,
+        book: &mut TargetBook,
+        ops: &'a [Op],
+    ) -> Result<Reached<'a>, StopReason> {
         let bell = &self.shared.bell;
         let count = ops.len().min(most_at_once(self.gate));
         for at in 0..count {
             let op = &ops[at];
             if self.answers.reserve(1).is_err() {
-                return Err(Fault::Memory);
+                return Err(StopReason::Memory);
             }
             match step_target(book, self.vcpu, op) {
                 Step::Answered(answer) => {
@@ -175,7 +180,7 @@ impl<'s, G: Gate> Worker<'s, G> {
                 }
                 Step::Missed => {
                     bell.want(self.vcpu, op.page());
-                    bell.ring(Party::Pager);
+                    bell.ring(ThreadRole::Pager);
                     return Ok(Reached::new(ops, at, true));
                 }
                 Step::Waits => {
@@ -189,7 +194,11 @@ impl<'s, G: Gate> Worker<'s, G> {
     }
 
     /// Carries out operations as `reach` does, under one lock. Before the halt, the first one waits.
-    fn turn_at_target<'a, R: Wait>(&mut self, rt: &R, ops: &'a [Op]) -> Result<Reached<'a>, Fault> {
+    fn turn_at_target<'a, R: Wait>(
+        &mut self,
+        rt: &R,
+        ops: &'a [Op],
+    ) -> Result<Reached<'a>, StopReason> {
         let mut side = self.shared.target.lock(rt);
         match &mut *side {
             TargetSide::Guest(_) => {
@@ -198,7 +207,7 @@ impl<'s, G: Gate> Worker<'s, G> {
                 }
                 Ok(Reached::new(ops, 0, true))
             }
-            TargetSide::Moving => Err(Fault::Astray),
+            TargetSide::Moving => Err(StopReason::Astray),
             TargetSide::Target(book) => self.reach(book, ops),
         }
     }
@@ -208,7 +217,7 @@ impl<'s, G: Gate> Worker<'s, G> {
     fn tell_answered(&self, op: &Op) {
         if let Op::Release { .. } = op {
             self.shared.bell.ring_vcpus();
-            self.shared.bell.ring(Party::Pager);
+            self.shared.bell.ring(ThreadRole::Pager);
         }
         self.gate.answered(self.vcpu, op.page());
     }
@@ -246,7 +255,7 @@ impl<'s, G: Gate> Worker<'s, G> {
 pub(crate) fn run_vcpu<R: Wait, G: Gate>(
     rt: &R,
     alloc: Global,
-    shared: &Shared,
+    shared: &SharedBooks,
     gate: &G,
     vcpu: u8,
     script: &Vcpu,

@@ -2,7 +2,7 @@
 use Rattle.std.proofs.Common.{ℕ, inl, inr, List, Option, IfOk, Result, Ok, Err, codes}
 use Rattle.std.specs.declared.alloc.AllocError.{AllocError}
 use Rattle.text_lines.specs.Text.{IsSpelling, IsRefusalLine}
-use Rattle.completeness.specs.declared.missing.Extent.{Extent}
+use Rattle.completeness.specs.declared.lack.Extent.{Extent}
 use Rattle.audit_report.specs.ToldLines.{line_by}
 use Rattle.command_texts.specs.declared.answer.Answer.{Answer}
 use Rattle.command_texts.specs.Answers.{Says, numbered}

@@ -6,9 +6,9 @@ use Rattle.text_lines.specs.Answer.{IsRead}
 use Rattle.migration_types.specs.Sessions.{Recorded}
 use Rattle.session_log.specs.Grammar.{SpellsSession}
 use Rattle.completeness.specs.Complete.{IsComplete}
-use Rattle.completeness.specs.declared.missing.Extent.{Extent}
+use Rattle.completeness.specs.declared.lack.Extent.{Extent}
 use Rattle.command_texts.specs.declared.answer.Answer.{Answer}
-use Rattle.completeness.specs.declared.missing.Missing.{Missing}
+use Rattle.completeness.specs.declared.lack.Lack.{Lack}
 use Rattle.session_answers.specs.declared.forms.LackForm.{LackForm}
 use Rattle.session_answers.specs.Lacks.{TellsLack}
 use Rattle.judge_commands.specs.Completed.{IsCompleteAnswer, IsDemanded}
@@ -47,7 +47,7 @@ module _ (tell : ℕ → ℕ) (form : LackForm) (IsPlain : List ℕ → ℕ → 
   held_all complete read before (Err error) is_read is is_held = tt
 
 -- the status of an answer that is held stays 0 or 1
-pub demanded_few : (complete : Option Extent) (IsLackTold : Recorded → Missing → List ℕ → Type 0) (IsPlain : List ℕ → ℕ → Type 0) (session text : List ℕ) (status : ℕ) → ((said : List ℕ) (n : ℕ) → IsPlain said n → n < 2) → IsDemanded complete IsLackTold IsPlain session text status → status < 2
+pub demanded_few : (complete : Option Extent) (IsLackTold : Recorded → Lack → List ℕ → Type 0) (IsPlain : List ℕ → ℕ → Type 0) (session text : List ℕ) (status : ℕ) → ((said : List ℕ) (n : ℕ) → IsPlain said n → n < 2) → IsDemanded complete IsLackTold IsPlain session text status → status < 2
 demanded_few None IsLackTold IsPlain session text status few h = few text status h
 demanded_few (Some extent) IsLackTold IsPlain session text status few (inl h) = few text status h.is_plain
 demanded_few (Some extent) IsLackTold IsPlain session text status few (inr h) = rw h.refused (omega arith)

@@ -8,8 +8,8 @@ use Rattle.judged_texts.specs.declared.replaying.Outcome.{Outcome}
 use Rattle.judged_texts.specs.declared.replaying.Outcome.TheVariants as outcome
 use Rattle.judge_commands.specs.Answers.{IsVerdictTold, verdict_lack, verdict_status, verdict_text}
 use Rattle.session_answers.specs.Judged.{IsJudgedTold, Judged, Refused, Reported, judged_status, report_status}
-use Rattle.completeness.specs.declared.missing.Extent.{Extent}
-use Rattle.command_words.specs.declared.asked.VerdictForm.{VerdictForm}
+use Rattle.completeness.specs.declared.lack.Extent.{Extent}
+use Rattle.command_words.specs.declared.requests.VerdictForm.{VerdictForm}
 use Rattle.session_answers.specs.declared.forms.Ask.{Ask}
 use Rattle.session_answers.specs.declared.forms.Story.{Story}
 use Rattle.session_answers.specs.Forms.{Tells, TellsStory}

@@ -1,4 +1,4 @@
--- What the commands on a session, and on a session with its certificate, answer.
+-- The answers of the commands on a session, and on a session with its certificate.
 use Rattle.std.specs.Prelude.{ℕ, List, [], ◌∷◌, codes}
 use Rattle.text_lines.specs.Text.{ended}
 use Rattle.judged_texts.specs.Checked.{IsTextVerdict}
@@ -6,17 +6,17 @@ use Rattle.cert_check.specs.declared.verdict.Verdict.{Verdict}
 use Rattle.cert_check.specs.declared.verdict.Verdict.TheVariants.{SessionText, CertText, Shape, Pages, Runs, Page, Yes}
 use Rattle.audit_report.specs.ReportText.{shape_line}
 use Rattle.report_json.specs.JsonText.{verdict_object}
-use Rattle.judged_texts.specs.declared.wanted.Wanted.{Wanted}
+use Rattle.judged_texts.specs.declared.audit_part.AuditPart.{AuditPart}
 use Rattle.judge_commands.specs.Misfits.{AddsMisfit}
 use Rattle.command_texts.specs.Answers.{IsAnswer, numbered}
 use Rattle.command_texts.specs.declared.why.Telling.{Telling}
 use Rattle.command_texts.specs.declared.why.Telling.TheVariants.{Short, Full}
-use Rattle.command_words.specs.declared.asked.VerdictForm.{VerdictForm}
-use Rattle.command_words.specs.declared.asked.VerdictForm.TheVariants.{Line, Object}
+use Rattle.command_words.specs.declared.requests.VerdictForm.{VerdictForm}
+use Rattle.command_words.specs.declared.requests.VerdictForm.TheVariants.{Line, Object}
 use Rattle.session_answers.specs.Judged.{IsJudgedTold}
 use Rattle.session_answers.specs.Forms.{TellsWanted}
-use Rattle.session_answers.specs.declared.forms.Form.{Form}
-use Rattle.session_answers.specs.declared.forms.Form.TheVariants as form
+use Rattle.session_answers.specs.declared.forms.AnswerForm.{AnswerForm}
+use Rattle.session_answers.specs.declared.forms.AnswerForm.TheVariants as form
 use Rattle.session_answers.specs.declared.forms.Story.TheVariants as story
 use Rattle.session_answers.specs.declared.forms.LackForm.{LackForm}
 use Rattle.session_answers.specs.declared.forms.LackForm.TheVariants as lack
@@ -31,12 +31,12 @@ verdict_line (Runs n) = numbered (codes "runs line ") n
 verdict_line (Page n) = numbered (codes "page line ") n
 verdict_line Yes = codes "yes\n"
 
--- 0 for yes, and 1 for every other verdict
+-- 0 for yes, and 1 for any other verdict
 abbrev pub verdict_status : Verdict → ℕ
 verdict_status Yes = 0
 verdict_status other = 1
 
--- the verdict on two texts, in these words
+-- the verdict on two texts, in this form
 abbrev pub IsVerdictTold : (Verdict → List ℕ) → List ℕ × List ℕ → List ℕ → ℕ → Type 0
 IsVerdictTold words texts = IsAnswer (IsTextVerdict texts.0 texts.1) words verdict_status
 
@@ -44,7 +44,7 @@ IsVerdictTold words texts = IsAnswer (IsTextVerdict texts.0 texts.1) words verdi
 abbrev pub IsVerdictAnswer : List ℕ → List ℕ → List ℕ → ℕ → Type 0
 IsVerdictAnswer session cert = IsVerdictTold verdict_line (session, cert)
 
--- the text of a verdict in this form, and the way to tell what a session lacks
+-- the text of a verdict in this form, and the form of a line that says what is missing from a session
 abbrev pub verdict_text : VerdictForm → Verdict → List ℕ
 verdict_text Line = verdict_line
 verdict_text Object = verdict_object
@@ -53,15 +53,16 @@ abbrev pub verdict_lack : VerdictForm → LackForm
 verdict_lack Line = lack.Line
 verdict_lack Object = lack.Object
 
--- beside the answer of `check`: what of the certificate does not fit the session, by the verdict on the two texts
+-- beside the answer of `check`: the part of the certificate that does not fit the session, according to the verdict on
+-- the two texts
 abbrev pub AddsMisfitOf : List ℕ × List ℕ → List ℕ → List ℕ → List ℕ → Type 0
 AddsMisfitOf texts name before after = (verdict : Verdict) × IsTextVerdict texts.0 texts.1 verdict × AddsMisfit name verdict before after
 
--- `audit` and `certify`: what is wanted of the report on the session
-abbrev pub IsAuditAnswer : Wanted → List ℕ → List ℕ → ℕ → Type 0
+-- `audit` and `certify`: the part of the report on the session that is asked for
+abbrev pub IsAuditAnswer : AuditPart → List ℕ → List ℕ → ℕ → Type 0
 IsAuditAnswer wanted = IsJudgedTold (TellsWanted wanted)
 
--- how much is told beside the answer of a text that is refused: more where what happened is told in words
-abbrev pub how_much : Form → Telling
+-- how much is said beside the answer to a text that is refused: more if the answer is a story in words
+abbrev pub how_much : AnswerForm → Telling
 how_much (form.Story (story.Words topic)) = Full
 how_much other = Short

@@ -1,7 +1,7 @@
--- What is explained with each line told by a table.
+-- Stories whose line numbers come from a table.
 use Rattle.std.specs.Prelude.{◌≡◌, ℕ, ◌⊎◌, List, Option, codes}
 use Rattle.text_lines.specs.Text.{IsSpelling, IsRefusalLine}
-use Rattle.completeness.specs.declared.missing.Extent.{Extent}
+use Rattle.completeness.specs.declared.lack.Extent.{Extent}
 use Rattle.audit_report.specs.ToldLines.{line_by}
 use Rattle.command_texts.specs.Answers.{numbered}
 use Rattle.window_commands.specs.Tables.{SpellsTable}
@@ -15,7 +15,8 @@ pub record IsTableRefused (table : List ℕ) (text : List ℕ) (status : ℕ) : 
   pub is_text : text ≡ numbered (codes "lines-text line ") line
   pub is_status : status ≡ 1
 
--- `explain` of the first of two texts, with its lines told by the table that the second spells, where that is one
+-- `explain` for the first of two texts, with the line numbers of the table that the second text spells; or the line at
+-- which the second is refused
 abbrev pub IsExplainedByTable : Story → Option Extent → List ℕ × List ℕ → List ℕ → ℕ → Type 0
 IsExplainedByTable story complete texts text status =
     ((table : List ℕ) × IsSpelling SpellsTable table texts.1 × IsExplained (line_by table) story complete texts.0 text status)

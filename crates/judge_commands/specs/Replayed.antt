@@ -1,4 +1,4 @@
--- The line and the status of what becomes of a merging of a session along its runs.
+-- The line and the status of the outcome of a replay along runs.
 use Rattle.std.specs.Prelude.{ℕ, List, [], ◌∷◌, codes}
 use Rattle.text_lines.specs.Text.{ended}
 use Rattle.audit_report.specs.ReportText.{shape_line}
@@ -16,11 +16,11 @@ outcome_line NoMerging = codes "no-merging\n"
 outcome_line (Broken n) = numbered (codes "broken line ") n
 outcome_line Safe = codes "safe\n"
 
--- 0 for safe, and 1 for every other outcome
+-- 0 for safe, and 1 for any other outcome
 abbrev pub outcome_status : Outcome → ℕ
 outcome_status Safe = 0
 outcome_status other = 1
 
--- `replay`: what becomes of the session along the runs
+-- `replay`: the outcome for the session along the runs
 abbrev pub IsReplayAnswer : List ℕ → List ℕ → List ℕ → ℕ → Type 0
 IsReplayAnswer session runs = IsAnswer (IsOutcome session runs) outcome_line outcome_status

@@ -1,4 +1,4 @@
-//! What is asked of a session, answered with a status.
+//! What is asked about a session, answered with a text and a status.
 
 ghost use Rattle.std.specs.Prelude.{◌≡◌, ℕ, List, IfOk};
 ghost use Rattle.std.specs.Thread.{IsSync};
@@ -18,22 +18,22 @@ use audit_report::{OwnLines, Report, audit};
 use command_texts::{Answer, Given, OnOne, REFUSED, Telling, given, status_where};
 use migration_types::Session;
 use page_facts::InThreads;
-use session_answers::{Ask, Form, print_refusal, print_told};
+use session_answers::{AnswerForm, Ask, print_refusal, print_told};
 use session_log::{SessionReader, session_texts_are_unambiguous};
 use std::alloc::{AllocError, Global};
 use std::thread::Threads;
 
-/// The status of a report.
+/// Returns the status of a report.
 pub fn report_status(report: &Report) -> u8
     ensures { result ≡ report_status report.now }
 {
     status_where(matches!(report, Report::Clean(_)))
 }
 
-/// The report on a session, told in this form.
+/// Returns the report on a session, in this form.
 fn reported<R: Threads + Sync>(
     rt: &R,
-    form: Form,
+    form: AnswerForm,
     alloc: Global,
     session: &Session,
 ) -> Result<Answer, AllocError>
@@ -45,8 +45,8 @@ fn reported<R: Threads + Sync>(
     Ok(Answer { text, status })
 }
 
-/// The line at which a session's text is refused, told in this form.
-fn refused(form: Form, alloc: Global, line: u32) -> Result<Answer, AllocError>
+/// Returns the answer for a session's text that is refused at this line, in this form.
+fn refused(form: AnswerForm, alloc: Global, line: u32) -> Result<Answer, AllocError>
     ensures { IfOk result (SaysRefusal (Tells form) line) }
 {
     let text = print_refusal(alloc, line, form)?;
@@ -56,10 +56,10 @@ fn refused(form: Form, alloc: Global, line: u32) -> Result<Answer, AllocError>
     })
 }
 
-/// What is judged of a session's text, told in this form, by what was read of the text.
+/// Returns the audit of a session's text in this form, given what was read from the text.
 fn audit_read<R: Threads + Sync>(
     rt: &R,
-    form: Form,
+    form: AnswerForm,
     alloc: Global,
     session: &Result<Session, u32>,
 ) -> Result<Answer, AllocError>
@@ -71,7 +71,7 @@ fn audit_read<R: Threads + Sync>(
     }
 }
 
-/// The answer to what is asked of a session, by what was read of its text.
+/// Returns the answer to what is asked about a session, given what was read from its text.
 fn answered<R: Threads + Sync>(
     rt: &R,
     ask: Ask,
@@ -92,7 +92,7 @@ fn answered<R: Threads + Sync>(
     )
 }
 
-/// `audit`, `certify` and `explain`: what is asked of a session.
+/// `audit`, `certify` and `explain`: what is asked about a session.
 #[derive(Clone, Copy)]
 pub struct AuditCommand<'a, R> {
     pub rt: &'a R,

@@ -28,14 +28,14 @@ use std::alloc::{AllocError, Global};
 use std::thread::Threads;
 use text_lines::{push_keyed, push_line};
 
-/// The status of a verdict.
+/// Returns the status of a verdict.
 pub fn verdict_status(verdict: Verdict) -> u8
     ensures { result ≡ verdict_status verdict }
 {
     status_where(matches!(verdict, Verdict::Yes))
 }
 
-/// Adds the line of a verdict.
+/// Appends the line of a verdict.
 pub fn push_verdict(out: &mut Vec<u8>, verdict: Verdict) -> Result<(), AllocError>
     ensures { OnOk result (out.new.items ≡ out.old.items ++ verdict_line verdict) }
 {
@@ -50,7 +50,8 @@ pub fn push_verdict(out: &mut Vec<u8>, verdict: Verdict) -> Result<(), AllocErro
     }
 }
 
-/// The verdict on a session and a certificate, by what was read of their texts: told in this form, and as it is.
+/// Returns the verdict on a session and a certificate, as an answer in this form and as a value, given what was read
+/// from their texts.
 fn judge_read<R: Threads + Sync>(
     rt: &R,
     form: VerdictForm,
@@ -71,7 +72,8 @@ fn judge_read<R: Threads + Sync>(
     Ok((answer, verdict))
 }
 
-/// The answer to what is asked of a session and its certificate, by what was read of their texts, and the verdict.
+/// Returns the answer to what is asked about a session and its certificate, and the verdict, given what was read from
+/// their texts.
 fn checked<R: Threads + Sync>(
     rt: &R,
     form: VerdictForm,
@@ -100,9 +102,9 @@ fn checked<R: Threads + Sync>(
 #[derive(Clone, Copy)]
 pub struct CheckCommand<'a, R> {
     pub rt: &'a R,
-    /// How the verdict is told.
+    /// The form of the verdict.
     pub form: VerdictForm,
-    /// How much of a migration the session has to tell of, where that is asked.
+    /// To what extent the session must be complete, if that is asked.
     pub complete: Option<Extent>,
 }
 

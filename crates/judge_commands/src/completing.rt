@@ -1,4 +1,4 @@
-//! Answers that are held to a session, where it has to be complete: they stay, but for a session that lacks something.
+//! Answers if a session must be complete. They stay as they are, unless something is missing from the session.
 
 ghost use Rattle.std.specs.Prelude.{IfOk};
 ghost use Rattle.judge_commands.specs.inner.Held.{IsHeld, IsHeldWhere};
@@ -10,7 +10,7 @@ use migration_types::Session;
 use session_answers::{LackForm, print_lack_of};
 use std::alloc::{AllocError, Global};
 
-/// An answer, held to a session.
+/// Returns an answer, or the answer that says what is missing from a session, if it is not complete.
 fn held_to<L: Lines>(
     lines: &L,
     form: LackForm,
@@ -34,8 +34,9 @@ fn held_to<L: Lines>(
     }
 }
 
-/// An answer, held to what was read of a session's text, where the session has to be complete to an extent. Where the answer says
-/// that all is well, and the session lacks something that is asked for, that is told instead, by these lines.
+/// Returns an answer, or the answer that says what is missing from a session, given what was read from its text.
+/// Something counts as missing only if the session must be complete to an extent, and the answer says that all is well.
+/// `lines` gives the line numbers.
 pub(crate) fn held<L: Lines>(
     lines: &L,
     form: LackForm,

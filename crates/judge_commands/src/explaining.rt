@@ -1,4 +1,4 @@
-//! What happened in a session, with its lines told by a table.
+//! Stories of sessions whose line numbers come from a table.
 
 ghost use Rattle.std.specs.Prelude.{◌≡◌, ℕ, List, IfOk, ⊤};
 ghost use Rattle.std.specs.Thread.{IsSync};
@@ -25,7 +25,7 @@ use std::alloc::{AllocError, Global};
 use std::thread::Threads;
 use window_commands::TableParts;
 
-/// What happened in a session, told in this form by these lines.
+/// Returns the story of a session in this form, with these line numbers.
 fn told<R: Threads + Sync, L: Lines>(
     rt: &R,
     lines: &L,
@@ -41,7 +41,7 @@ fn told<R: Threads + Sync, L: Lines>(
     Ok(Answer { text, status })
 }
 
-/// The line at which a session's text is refused, told in this form by these lines.
+/// Returns the answer for a session's text that is refused at this line, in this form, with these line numbers.
 fn told_refused<L: Lines>(
     lines: &L,
     story: Story,
@@ -57,7 +57,7 @@ fn told_refused<L: Lines>(
     })
 }
 
-/// What happened in a session, told in this form by these lines, by what was read of its text.
+/// Returns the story of a session in this form, with these line numbers, given what was read from its text.
 fn told_read<R: Threads + Sync, L: Lines>(
     rt: &R,
     lines: &L,
@@ -73,7 +73,7 @@ fn told_read<R: Threads + Sync, L: Lines>(
     }
 }
 
-/// The answer to what is asked of a session, told by these lines, by what was read of its text.
+/// Returns the answer to what is asked about a session, with these line numbers, given what was read from its text.
 fn explained<R: Threads + Sync, L: Lines>(
     rt: &R,
     lines: &L,
@@ -89,7 +89,8 @@ fn explained<R: Threads + Sync, L: Lines>(
     held(lines, story.of_lack(), complete, alloc, session, answer)
 }
 
-/// The answer with each line told by a table, by what was read of the texts of a session and of the table.
+/// Returns the answer with the line numbers of a table, given what was read from the texts of a session and of the
+/// table.
 fn explained_by<R: Threads + Sync>(
     rt: &R,
     story: Story,
@@ -106,13 +107,13 @@ fn explained_by<R: Threads + Sync>(
     }
 }
 
-/// `explain` with a table: what happened in a session, with each line told by the table that the second text spells.
+/// `explain` with a table: the story of a session, with the line numbers of the table that the second text spells.
 #[derive(Clone, Copy)]
 pub struct ExplainByTable<'a, R> {
     pub rt: &'a R,
-    /// How it is told.
+    /// The form of the story.
     pub story: Story,
-    /// How much of a migration the session has to tell of, where that is asked.
+    /// To what extent the session must be complete, if that is asked.
     pub complete: Option<Extent>,
 }
 

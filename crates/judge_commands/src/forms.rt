@@ -1,4 +1,4 @@
-//! How a verdict is told, and how much beside an answer.
+//! The form of a verdict, and how much is said beside an answer.
 
 ghost use Rattle.std.specs.Prelude.{◌≡◌, ◌++◌, OnOk};
 ghost use Rattle.judge_commands.specs.Answers.{how_much, verdict_lack, verdict_text};
@@ -8,10 +8,10 @@ use cert_check::Verdict;
 use command_texts::Telling;
 use command_words::VerdictForm;
 use report_json::push_verdict as push_verdict_object;
-use session_answers::{Form, LackForm, Story};
+use session_answers::{AnswerForm, LackForm, Story};
 use std::alloc::AllocError;
 
-/// Adds the text that tells a verdict in this form. An error: there is no memory for it.
+/// Appends the text of a verdict in this form. Fails only if memory runs out.
 pub(crate) fn push_told(
     out: &mut Vec<u8>,
     form: VerdictForm,
@@ -25,7 +25,7 @@ pub(crate) fn push_told(
     }
 }
 
-/// How it is told what a session lacks, where a verdict is told in this form.
+/// Returns the form of a line that says what is missing from a session, given the form of a verdict.
 pub(crate) fn lack_beside(form: VerdictForm) -> LackForm
     ensures { result ≡ verdict_lack form }
 {
@@ -35,16 +35,16 @@ pub(crate) fn lack_beside(form: VerdictForm) -> LackForm
     }
 }
 
-/// How much is told beside the answer of a text that is refused, where a report is told in this form.
-pub(crate) fn telling_beside(form: Form) -> Telling
+/// Returns how much is said beside the answer to a text that is refused, given the form of a report.
+pub(crate) fn telling_beside(form: AnswerForm) -> Telling
     ensures { result ≡ how_much form }
 {
     match form {
-        Form::Story(Story::Words(_)) => Telling::Full,
-        Form::Lines(_)
-        | Form::AllFaults
-        | Form::Object
-        | Form::AllFaultsObject
-        | Form::Story(Story::Object) => Telling::Short,
+        AnswerForm::Story(Story::Words(_)) => Telling::Full,
+        AnswerForm::Lines(_)
+        | AnswerForm::AllFaults
+        | AnswerForm::Object
+        | AnswerForm::AllFaultsObject
+        | AnswerForm::Story(Story::Object) => Telling::Short,
     }
 }

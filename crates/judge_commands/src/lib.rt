@@ -1,4 +1,4 @@
-//! What the commands answer that judge a session by its text, alone or with a certificate or runs.
+//! The commands that judge a session by its text, alone or with a certificate or runs.
 #![tactic(auto)]
 
 mod auditing;

@@ -1,4 +1,4 @@
-//! An entry that is not right, in words, and the one that is.
+//! Words about an entry that is not right, and about the right one.
 
 ghost use Rattle.std.specs.Prelude.{◌<◌};
 ghost use Rattle.page_facts.specs.Findings.{IsFindings};
@@ -12,14 +12,14 @@ use refusal_words::push_quote;
 use session_story::{push_place, push_record};
 use std::alloc::AllocError;
 
-/// Adds the line of a page's entry between quotation marks, as a certificate has it.
+/// Appends the line of a page's entry between quotation marks, as it is in a certificate.
 fn push_line(out: &mut String, page: u32, entry: Entry) -> Result<(), AllocError> {
     let mut line = Vec::new(*out.allocator());
     push_entry_line(&mut line, page, entry)?;
     push_quote(out, line.as_slice())
 }
 
-/// Adds a page's first use at the target, and the look before it.
+/// Appends a page's first use at the target, and the look before it.
 fn push_first(out: &mut String, session: &Session, first: Option<First>) -> Result<(), AllocError> {
     let Some(first) = first else {
         return out.push_str("; it is not used at the target");
@@ -30,7 +30,7 @@ fn push_first(out: &mut String, session: &Session, first: Option<First>) -> Resu
     push_place(out, session, LogName::Guest, first.see)
 }
 
-/// Adds what an entry says of its page.
+/// Appends what an entry says about its page.
 fn push_said(out: &mut String, session: &Session, entry: Entry) -> Result<(), AllocError> {
     match entry {
         Entry::Nothing => out.push_str("is not placed, and is not used at the target"),
@@ -54,7 +54,7 @@ fn push_said(out: &mut String, session: &Session, entry: Entry) -> Result<(), Al
     }
 }
 
-/// Adds the entry that is right, and what it says.
+/// Appends the right entry, and what it says.
 fn push_right(
     out: &mut String,
     session: &Session,
@@ -67,7 +67,7 @@ fn push_right(
     push_said(out, session, entry)
 }
 
-/// Adds that no entry of a page with these findings can be right, and which fault it has.
+/// Appends that no entry can be right for a page with these findings, and which fault the page has.
 fn push_none(
     out: &mut String,
     session: &Session,
@@ -86,7 +86,7 @@ fn push_none(
     out.push_str("; \"postcopy explain\" tells of the session's first fault")
 }
 
-/// Adds what may stand where the entry of a page does.
+/// Appends the entry that is expected for a page.
 fn push_wanted(out: &mut String, session: &Session, page: PageNo) -> Result<(), AllocError>
     requires { page < session.now.geometry.pages }
 {
@@ -97,7 +97,7 @@ fn push_wanted(out: &mut String, session: &Session, page: PageNo) -> Result<(), 
     }
 }
 
-/// Adds what the entry at this line of the certificate says, and what may stand there.
+/// Appends what the entry at this line of the certificate says, and which one is expected.
 pub(crate) fn push_entry(
     out: &mut String,
     session: &Session,

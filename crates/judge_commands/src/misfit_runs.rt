@@ -1,14 +1,14 @@
-//! A run that cannot be taken, in words; or the records that no run takes.
+//! Words about a run that cannot be taken, or about the records that no run takes.
 
 use cert_check::run_at;
-use merge_runs::{Taken, goes_to};
+use merge_runs::{TakenCounts, goes_to};
 use migration_types::{LogName, Run, Session, logs};
 use session_story::{log_word, push_place, push_record};
 use std::alloc::AllocError;
 
-/// How many records of each log these runs take.
-fn taken_by(runs: &[Run]) -> Taken {
-    let mut taken = Taken::nothing();
+/// Returns how many records of each log these runs take.
+fn taken_by(runs: &[Run]) -> TakenCounts {
+    let mut taken = TakenCounts::nothing();
     for run in runs {
         let count = taken.of(run.log).saturating_add(run.count as usize);
         taken = taken.with(run.log, count);
@@ -16,7 +16,7 @@ fn taken_by(runs: &[Run]) -> Taken {
     taken
 }
 
-/// Adds how many records a log has, which is not enough.
+/// Appends how many records a log has, for a run that takes more.
 fn push_past(out: &mut String, session: &Session, log: LogName) -> Result<(), AllocError> {
     let word = log_word(log);
     let count = session.len(log);
@@ -34,7 +34,7 @@ fn push_past(out: &mut String, session: &Session, log: LogName) -> Result<(), Al
     }
 }
 
-/// Adds that a record has to come after the one that it names, which is not taken.
+/// Appends that a record must come after the one that it names, which is not taken yet.
 fn push_early(
     out: &mut String,
     session: &Session,
@@ -51,11 +51,11 @@ fn push_early(
     Ok(())
 }
 
-/// Adds the first record that a run cannot take, where these were taken before it, and what stands in its way.
+/// Appends the first record that a run cannot take after these, and why it cannot.
 fn push_run(
     out: &mut String,
     session: &Session,
-    taken: &Taken,
+    taken: &TakenCounts,
     run: &Run,
 ) -> Result<(), AllocError> {
     let from = taken.of(run.log);
@@ -69,7 +69,7 @@ fn push_run(
     }
 }
 
-/// Adds how many more records of a log there are, if there are more.
+/// Appends how many more records of a log there are, if there are any.
 fn push_more(out: &mut String, log: LogName, more: usize) -> Result<(), AllocError> {
     if more == 0 {
         return Ok(());
@@ -78,8 +78,8 @@ fn push_more(out: &mut String, log: LogName, more: usize) -> Result<(), AllocErr
     write!(out, " and {more} more of the {word}")
 }
 
-/// Adds the records that are left where these were taken: of each log the first, and how many more there are.
-fn push_left(out: &mut String, session: &Session, taken: &Taken) -> Result<(), AllocError> {
+/// Appends the records that are left after these: the first of each log, and how many more there are.
+fn push_left(out: &mut String, session: &Session, taken: &TakenCounts) -> Result<(), AllocError> {
     let mut before = "no run takes the session's ";
     for log in logs() {
         let from = taken.of(log);
@@ -94,7 +94,8 @@ fn push_left(out: &mut String, session: &Session, taken: &Taken) -> Result<(), A
     Ok(())
 }
 
-/// Adds what stands in the way of the run at this line of the certificate, or at its `end` which records no run takes.
+/// Appends why the run at this line of the certificate cannot be taken. If the line is that of `end`, appends which
+/// records no run takes.
 pub(crate) fn push_runs(
     out: &mut String,
     session: &Session,

@@ -1,4 +1,5 @@
-//! What of a certificate does not fit its session, in words for people. They may change, and no program should read them.
+//! Words for people about the part of a certificate that does not fit its session. They may change, and no program
+//! should parse them.
 
 ghost use Rattle.std.specs.Prelude.{◌≡◌, OnOk};
 ghost use Rattle.judge_commands.specs.Misfits.{AddsMisfit, misfit_line};
@@ -10,10 +11,10 @@ use migration_types::{Cert, Session};
 use refusal_words::push_at;
 use std::alloc::AllocError;
 
-/// The line of a certificate's text that tells how many pages it is of.
+/// The line of a certificate's text that has its number of pages.
 const PAGES_LINE: u32 = 2;
 
-/// The line of the certificate that does not fit, where the verdict is that one does not.
+/// Returns the line of the certificate that does not fit, if the verdict is about one.
 fn misfit_line(verdict: Verdict) -> Option<u32>
     ensures { result ≡ misfit_line verdict }
 {
@@ -24,7 +25,7 @@ fn misfit_line(verdict: Verdict) -> Option<u32>
     }
 }
 
-/// Adds that the session and the certificate have different numbers of pages.
+/// Appends that the session and the certificate have different numbers of pages.
 fn push_pages(out: &mut String, session: &Session, cert: &Cert) -> Result<(), AllocError> {
     let found = cert.entries().len();
     let wanted = session.geometry().pages();
@@ -34,7 +35,7 @@ fn push_pages(out: &mut String, session: &Session, cert: &Cert) -> Result<(), Al
     )
 }
 
-/// Adds what does not fit.
+/// Appends what does not fit.
 fn push_words(
     out: &mut String,
     session: &Session,
@@ -49,9 +50,10 @@ fn push_words(
     }
 }
 
-/// Adds why the verdict on a session and a certificate is one on a line of the certificate, where it is: in one line that
-/// begins as `NAME:LINE: `, with the name that the certificate stands under. Of an entry it tells what the logs say, by a few
-/// passes over them and memory for one page; of a run it takes one pass over the runs. An error: there is no memory for it.
+/// Appends one line that says why a certificate does not fit its session, if the verdict is about a line of the
+/// certificate. It begins with `NAME:LINE: `, where `NAME` is the name of the certificate. For an entry it says what
+/// the logs say, which takes a few passes over them and memory for one page. For a run it takes one pass over the runs.
+/// Fails only if memory runs out.
 pub fn push_misfit(
     out: &mut Vec<u8>,
     name: &[u8],

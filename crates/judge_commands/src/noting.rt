@@ -1,4 +1,4 @@
-//! The note on a session of which little can be judged.
+//! The note on a session about which little can be judged.
 
 ghost use Rattle.std.specs.Prelude.{ℕ, List, MatchOption};
 ghost use Rattle.text_lines.specs.Answer.{IsRead};
@@ -9,11 +9,12 @@ use completeness::tells_use;
 use migration_types::Session;
 use session_log::session_texts_are_unambiguous;
 
-/// What is told of a session without a use.
+/// The note on a session without a use.
 const NO_USE: &str =
     "note: the guest neither reads nor writes a page after a resume, so no use of one was judged";
 
-/// The note on a session, by what was read of its text: there is one where it tells of no read and no write behind a resume.
+/// Returns the note on a session, given what was read from its text. There is one if the session has no read and no
+/// write after a resume.
 pub(crate) fn note_on(session: &Result<Session, u32>) -> Option<&'static str>
     ensures { (text : List ℕ) → IsRead SpellsSession text session.now → MatchOption result (TellsNoUse text → ⊥) (λ _. TellsNoUse text) }
 {

@@ -1,4 +1,4 @@
-//! What becomes of a merging of a session along its runs, as a line and a status.
+//! The outcome of a replay of a session along runs, as a line and a status.
 
 ghost use Rattle.std.specs.Prelude.{◌≡◌, ◌++◌, ℕ, List, IfOk, OnOk, ⊤};
 ghost use Rattle.text_lines.specs.Answer.{IsRead};
@@ -15,14 +15,14 @@ use session_log::SessionReader;
 use std::alloc::{AllocError, Global};
 use text_lines::{push_keyed, push_line};
 
-/// The status of an outcome.
+/// Returns the status of an outcome.
 fn outcome_status(outcome: Outcome) -> u8
     ensures { result ≡ outcome_status outcome }
 {
     status_where(matches!(outcome, Outcome::Safe))
 }
 
-/// Adds the line of an outcome.
+/// Appends the line of an outcome.
 fn push_outcome(out: &mut Vec<u8>, outcome: Outcome) -> Result<(), AllocError>
     ensures { OnOk result (out.new.items ≡ out.old.items ++ outcome_line outcome) }
 {
@@ -36,7 +36,7 @@ fn push_outcome(out: &mut Vec<u8>, outcome: Outcome) -> Result<(), AllocError>
     }
 }
 
-/// What becomes of the replay of a session along runs, by what was read of their texts.
+/// Returns the outcome of the replay of a session along runs, given what was read from their texts.
 fn replay_read(
     alloc: Global,
     session: &Result<Session, u32>,
@@ -53,7 +53,7 @@ fn replay_read(
     })
 }
 
-/// `replay`: what becomes of a session along runs.
+/// `replay`: the outcome for a session along runs.
 #[derive(Clone, Copy)]
 pub struct ReplayCommand;
 

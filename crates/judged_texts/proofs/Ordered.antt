@@ -10,7 +10,7 @@ use Rattle.migration_types.specs.Certs.{Certified, AreRuns, IsCert}
 use Rattle.cert_text.specs.Runs.{runs_text_header, runs_lines}
 use Rattle.cert_text.specs.Grammar.{cert_lines}
 use Rattle.page_facts.specs.declared.page_fault.PageFault.{PageFault}
-use Rattle.cert_text.specs.declared.forms.Form.TheVariants as form
+use Rattle.cert_text.specs.declared.forms.OrderForm.TheVariants as form
 use Rattle.audit_report.specs.declared.report.Report.TheVariants.{Faulty, Clean}
 use Rattle.audit_report.specs.Reports.{IsReport}
 use Rattle.audit_report.specs.ReportText.{report_lines}

@@ -6,28 +6,28 @@ use Rattle.session_log.specs.Grammar.{SpellsSession}
 use Rattle.audit_model.specs.Mergings.{HasMerging}
 use Rattle.audit_model.specs.World.{IsSafe}
 use Rattle.audit_model.specs.Shape.{IsRightShape}
-use Rattle.judged_texts.specs.declared.auditing.Audited.{Audited}
-use Rattle.judged_texts.specs.declared.auditing.Audited.TheVariants.{Refused, Reported}
+use Rattle.judged_texts.specs.declared.auditing.TextAudit.{TextAudit}
+use Rattle.judged_texts.specs.declared.auditing.TextAudit.TheVariants.{Refused, Reported}
 use Rattle.audit_report.specs.declared.report.Report.TheVariants.{Clean, Shape, Knot, Faulty}
 use Rattle.audit_report.specs.Reports.{IsReport, IsClean, ReportFits}
 
 -- the line at which the bytes are refused, or the report on the session that they spell
-abbrev pub IsAudited : List ℕ → Audited → Type 0
+abbrev pub IsAudited : List ℕ → TextAudit → Type 0
 IsAudited session (Refused line) = IsRefusalLine SpellsSession session line
 IsAudited session (Reported report) = (recorded : Recorded) × IsSpelling SpellsSession recorded session × IsReport recorded report
 
 -- there is a report
-abbrev pub HasReport : Audited → Type 0
+abbrev pub HasReport : TextAudit → Type 0
 HasReport (Refused line) = ⊥
 HasReport (Reported report) = Unit {0}
 
 -- there is a report, and it says that the session is clean
-abbrev pub FindsClean : Audited → Type 0
+abbrev pub FindsClean : TextAudit → Type 0
 FindsClean (Refused line) = ⊥
 FindsClean (Reported report) = IsClean report
 
 -- there is a report, and it says that a page has a fault
-abbrev pub FindsFault : Audited → Type 0
+abbrev pub FindsFault : TextAudit → Type 0
 FindsFault (Refused line) = ⊥
 FindsFault (Reported (Shape fault)) = ⊥
 FindsFault (Reported (Knot left found)) = ⊥
@@ -43,6 +43,6 @@ abbrev pub IsSafeExactlyIf : Type 0 → Recorded → Type 0
 IsSafeExactlyIf Says s = IsRightShape s → HasMerging s → (IsSafe s ↔ Says)
 
 -- the report is within the limits of its text
-abbrev pub AuditedFits : Audited → Type 0
+abbrev pub AuditedFits : TextAudit → Type 0
 AuditedFits (Refused line) = Unit {0}
 AuditedFits (Reported report) = ReportFits report

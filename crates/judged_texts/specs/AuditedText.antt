@@ -4,10 +4,10 @@ use Rattle.text_lines.specs.Text.{ended}
 use Rattle.cert_text.specs.Grammar.{cert_lines}
 use Rattle.audit_report.specs.declared.report.Report.{Report}
 use Rattle.audit_report.specs.declared.report.Report.TheVariants as report
-use Rattle.judged_texts.specs.declared.auditing.Audited.{Audited}
-use Rattle.judged_texts.specs.declared.auditing.Audited.TheVariants.{Refused, Reported}
-use Rattle.judged_texts.specs.declared.wanted.Wanted.{Wanted}
-use Rattle.judged_texts.specs.declared.wanted.Wanted.TheVariants as wanted
+use Rattle.judged_texts.specs.declared.auditing.TextAudit.{TextAudit}
+use Rattle.judged_texts.specs.declared.auditing.TextAudit.TheVariants.{Refused, Reported}
+use Rattle.judged_texts.specs.declared.audit_part.AuditPart.{AuditPart}
+use Rattle.judged_texts.specs.declared.audit_part.AuditPart.TheVariants as wanted
 use Rattle.audit_report.specs.ReportText.{first_line, report_text}
 use Rattle.audit_report.specs.RefusalText.{refusal_text}
 
@@ -19,17 +19,17 @@ certificate_text (report.Knot left found) = ended (first_line (report.Knot left 
 certificate_text (report.Faulty line fault order many) = ended (first_line (report.Faulty line fault order many) ∷ [])
 
 -- the wanted part of a report
-abbrev pub wanted_text : Wanted → Report → List ℕ
+abbrev pub wanted_text : AuditPart → Report → List ℕ
 wanted_text wanted.Report r = report_text r
 wanted_text wanted.Certificate r = certificate_text r
 wanted_text wanted.FirstLine r = ended (first_line r ∷ [])
 
 -- the wanted part of the audit of a text
-abbrev pub audited_text : Wanted → Audited → List ℕ
+abbrev pub audited_text : AuditPart → TextAudit → List ℕ
 audited_text wanted (Refused line) = refusal_text line
 audited_text wanted (Reported r) = wanted_text wanted r
 
 -- the first line for an audit: the line that says where the text is refused, or the first line of the report
-abbrev pub summary_text : Audited → List ℕ
+abbrev pub summary_text : TextAudit → List ℕ
 summary_text (Refused line) = refusal_text line
 summary_text (Reported r) = ended (first_line r ∷ [])

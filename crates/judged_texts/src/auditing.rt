@@ -8,13 +8,13 @@ ghost use Rattle.judged_texts.specs.inner.Read.{IsReportOn};
 
 use audit_report::{Report, audit_by};
 use migration_types::Session;
-use page_facts::Alone;
+use page_facts::OneThread;
 use session_log::{read_session, session_texts_are_unambiguous};
 use std::alloc::{AllocError, Global};
 
 /// The result of the audit of a session's text.
 #[derive(Drop)]
-pub enum Audited {
+pub enum TextAudit {
     /// The text is refused at this line. Lines count from 1.
     Refused(u32),
     /// The report on the session that the text spells.
@@ -22,15 +22,15 @@ pub enum Audited {
 }
 
 /// Returns the report on a session that was read. Fails only if memory runs out.
-fn reported(alloc: Global, session: &Session) -> Result<Audited, AllocError>
+fn reported(alloc: Global, session: &Session) -> Result<TextAudit, AllocError>
     ensures report { IfOk result (IsReportOn session.now) }
     ensures safe { IfOk result (λ audited. FindsClean audited → IsSafe session.now) }
     ensures exactly { IfOk result (λ audited. IsSafeExactlyIf (FindsClean audited) session.now) }
     ensures faulty { IfOk result (λ audited. FindsFault audited → IsUnsafe session.now) }
     ensures fits { IfOk result AuditedFits }
 {
-    match audit_by(&Alone, alloc, session) {
-        Ok(report) => Ok(Audited::Reported(report)),
+    match audit_by(&OneThread, alloc, session) {
+        Ok(report) => Ok(TextAudit::Reported(report)),
         Err(error) => Err(error),
     }
 }
@@ -43,7 +43,7 @@ fn reported(alloc: Global, session: &Session) -> Result<Audited, AllocError>
 ///
 /// The calling thread judges the pages alone, and waits for nobody. Nothing is assumed about who wrote the text. Fails
 /// only if memory runs out, which may happen before the text is judged.
-pub fn audit_text(alloc: Global, session: &[u8]) -> Result<Audited, AllocError>
+pub fn audit_text(alloc: Global, session: &[u8]) -> Result<TextAudit, AllocError>
     ensures audited { IfOk result (IsAudited session.now) }
     ensures one_session { IfOk result (λ audited. HasReport audited → SpellsOneSession session.now) }
     ensures safe { IfOk result (λ audited. FindsClean audited → OfSpelled session.now IsSafe) }
@@ -54,6 +54,6 @@ pub fn audit_text(alloc: Global, session: &[u8]) -> Result<Audited, AllocError>
     session_texts_are_unambiguous();
     match read_session(alloc, session) {
         Ok(recorded) => reported(alloc, &recorded),
-        Err(fault) => Ok(Audited::Refused(fault.refused_line()?)),
+        Err(fault) => Ok(TextAudit::Refused(fault.refused_line()?)),
     }
 }

@@ -13,7 +13,7 @@ use audit_model::certified_is_safe;
 use cert_check::{EntryJudges, Verdict, check_by};
 use cert_text::{cert_texts_are_unambiguous, read_cert};
 use migration_types::{Cert, Session};
-use page_facts::{Alone, InThreads};
+use page_facts::{InThreads, OneThread};
 use session_log::{read_session, session_texts_are_unambiguous};
 use std::alloc::{AllocError, Global};
 use std::marker::Sync;
@@ -156,5 +156,5 @@ pub fn check_texts_alone(alloc: Global, session: &[u8], cert: &[u8]) -> Result<V
     ensures placed_untouched { result ≡ Ok Verdict.Yes → OfSpelled session.now PlacedUntouched }
     ensures released_as_zeros { result ≡ Ok Verdict.Yes → OfSpelled session.now ReleasedAsZeros }
 {
-    check_texts_by(&Alone, alloc, session, cert)
+    check_texts_by(&OneThread, alloc, session, cert)
 }

@@ -3,14 +3,14 @@
 //! and its place.
 #![tactic(auto)]
 
+mod audit_part;
 mod auditing;
 mod checking;
 mod orders;
 mod replaying;
-mod wanted;
 
-pub use auditing::{Audited, audit_text};
+pub use audit_part::{AuditPart, print_audited, print_wanted};
+pub use auditing::{TextAudit, audit_text};
 pub use checking::{check_read, check_texts, check_texts_alone, headline_holds_at_yes};
 pub use orders::reports_tell_orders;
 pub use replaying::{Outcome, find_outcome, replay_texts};
-pub use wanted::{Wanted, print_audited, print_wanted};

@@ -12,7 +12,7 @@ use crate::demands::{guest_met, pager_met, source_met};
 use crate::is_merging;
 use crate::moving::Moving;
 use crate::outcome::{MergeFault, Replay};
-use crate::taken::Taken;
+use crate::taken::TakenCounts;
 use crate::unmoved::step_unmoved;
 use audit_model::mergings_are_walks;
 use migration_types::{GuestRec, LogName, PagerRec, Run, Session, SourceRec};
@@ -151,7 +151,7 @@ fn run_all(
     ensures run { OnOk result (IsReplaying session.now (spelled runs.now) replaying.new) }
 {
     mergings_are_walks();
-    let mut taken = Taken::nothing();
+    let mut taken = TakenCounts::nothing();
     for (place, run) in runs.iter().enumerate() {
         let count = run.count as usize;
         run_log(alloc, session, replaying, run.log, taken.of(run.log), count)?;

@@ -45,7 +45,7 @@ use Rattle.std.proofs.lemmas.Option.{slice_get_within}
 use Rattle.std.specs.List.{AllByRecursion}
 use Rattle.std.specs.Prelude.{is_some, slice_get}
 use Rattle.target_side.specs.TargetPart.{TargetPart}
-use Rattle.target_side.specs.declared.Missing.{Missing}
+use Rattle.target_side.specs.declared.UntakenMiss.{UntakenMiss}
 use Rattle.target_side.specs.PagerPart.{PagerPart}
 use Rattle.target_side.specs.declared.Incoming.{Incoming}
 
@@ -105,7 +105,7 @@ pub record HasCome (s : Recorded) (x : Incoming) : Type 0 where
 abbrev pub IsReady : Recorded → Type 0
 IsReady s = slice_get s.pager 1 ≡ Some Ready
 
-abbrev pub HasMissed : Recorded → Missing → Type 0
+abbrev pub HasMissed : Recorded → UntakenMiss → Type 0
 HasMissed s x = (slice_get s.guest x.number ≡ Some (Miss x.vcpu x.page)) × IsReady s
 
 -- somebody waits for a page that there is
@@ -260,7 +260,7 @@ module _ (s t : Recorded) (x : Extends s t) where
     wants = λ p n e. x.pager n _ (k.wants p n e);
   }
 
-  pub misses_stay : (misses : List Missing) → AllByRecursion (HasMissed s) misses → AllByRecursion (HasMissed t) misses
+  pub misses_stay : (misses : List UntakenMiss) → AllByRecursion (HasMissed s) misses → AllByRecursion (HasMissed t) misses
   misses_stay misses k = each_weaker (HasMissed s) (HasMissed t) (λ y h. (x.guest y.number _ h.0, ready_stays h.1)) misses k
 
   pub frontier_stays : (frontier : Option ℕ) → ((k : ℕ) → frontier ≡ Some k → (n : ℕ) × (slice_get s.guest n ≡ Some (See k))) → (k : ℕ) → frontier ≡ Some k → (n : ℕ) × (slice_get t.guest n ≡ Some (See k))

@@ -33,7 +33,7 @@ use Rattle.std.specs.List.{range_with_len}
 use Rattle.std.specs.Prelude.{nat_lt, slice_get}
 use Rattle.target_side.specs.TargetPart.{Accessed, TargetPart, accesses, does, done_over, frees, lacks, looks, misses_page, resumes, settled as with_settled, target_access, with_misses}
 use Rattle.target_side.specs.declared.Access.TheVariants.{Missed, Waiting}
-use Rattle.target_side.specs.declared.Missing.{Missing}
+use Rattle.target_side.specs.declared.UntakenMiss.{UntakenMiss}
 use Rattle.target_side.specs.PagerPart.{Paged, PagerPart, Sent, deliver, delivers_by, delivers_next, fault_absent, fault_join, fault_new, faults, faults_by, first_absent, flushes, is_released, next_fault, pager_flush, pager_pop, pager_pull, pager_tick, places, pops_by, pulls_by, settles, takes, ticks, ticks_at, zeroes}
 use Rattle.target_side.specs.declared.Incoming.{Incoming}
 
@@ -210,7 +210,7 @@ module _ (miss p v : ℕ) (b : PagerPart) (t : TargetPart) where
   fault_more true = record { pager = one_more b.log _; target = none_more t.log }
   fault_more false = absent_more
 
-faults_more : (misses : List Missing) (b : PagerPart) (t : TargetPart) → PagedMore b t (faults misses b t)
+faults_more : (misses : List UntakenMiss) (b : PagerPart) (t : TargetPart) → PagedMore b t (faults misses b t)
 faults_more [] b t = paged_none b t []
 faults_more (x ∷ rest) b t =
     let k = fault_more x.number x.page x.vcpu b (with_misses rest t) (is_resident (t.placed x.page) (t.freed x.page)) in
@@ -220,7 +220,7 @@ faults_more (x ∷ rest) b t =
 settled_more : (b : PagerPart) (t : TargetPart) (r : Paged) → PagedMore (settles t.unsettled b) (with_settled t) r → PagedMore b t r
 settled_more b t r k = record { pager = subst (λ log. IsLittleMore log r.pager.log) (settles_log t.unsettled b) k.pager; target = k.target }
 
-faults_by_more : (released : Option (List ℕ)) (misses : List Missing) (b : PagerPart) (t : TargetPart) → PagedMore b t (faults_by released misses b t)
+faults_by_more : (released : Option (List ℕ)) (misses : List UntakenMiss) (b : PagerPart) (t : TargetPart) → PagedMore b t (faults_by released misses b t)
 faults_by_more None misses b t = paged_none b t []
 faults_by_more (Some released) misses b t = faults_more misses b t
 

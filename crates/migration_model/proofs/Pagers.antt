@@ -43,7 +43,7 @@ use Rattle.std.specs.Prelude.{is_some, slice_get, slice_index, ◌+◌, ◌==◌
 use Rattle.target_side.specs.PagerPart.{PagerPart, deliver, delivers_at, delivers_by, delivers_next, fault_absent, fault_at, fault_join, fault_new, faults, faults_by, first_absent, is_listed, is_released, next_fault, oldest, places, pops_by, pops_first, pulls_by, takes, ticks, ticks_at, wants_page, zeroes}
 use Rattle.target_side.specs.TargetPart.{resumes}
 use Rattle.target_side.specs.declared.Incoming.{Incoming}
-use Rattle.target_side.specs.declared.Missing.{Missing}
+use Rattle.target_side.specs.declared.UntakenMiss.{UntakenMiss}
 use Rattle.migration_types.specs.Contents.{IsContent}
 
 listed_released : (ledger : Pages) (xs : List ℕ) (p : ℕ) → is_listed p (filter ledger xs) ≡ true → ledger p ≡ true
@@ -505,7 +505,7 @@ module _ (o : List Name) (m : ℕ) (a : BooksAfter) (k : AwayKept (o ++ (Pager, 
       go true e = close_pager o (session_after a) (Fault m) _ k
       go false e = fault_absent_keeps p v lt e
 
-with_misses : {o : List Name} (misses : List Missing) (a : BooksAfter) → AwayKept o a → AllByRecursion (HasMissed (session_after a)) misses → AwayKept o (record a { target = record a.target { misses = misses } })
+with_misses : {o : List Name} (misses : List UntakenMiss) (a : BooksAfter) → AwayKept o a → AllByRecursion (HasMissed (session_after a)) misses → AwayKept o (record a { target = record a.target { misses = misses } })
 with_misses misses a k new = record {
   named = k.named;
   started = k.started;
@@ -536,7 +536,7 @@ with_misses misses a k new = record {
   lanes = k.lanes;
 }
 
-taken_keeps : (o : List Name) (xs : List Missing) (a : BooksAfter) → AwayKept o a → a.target.misses ≡ xs → Arrives o a (paged (faults xs a.pager a.target) a)
+taken_keeps : (o : List Name) (xs : List UntakenMiss) (a : BooksAfter) → AwayKept o a → a.target.misses ≡ xs → Arrives o a (paged (faults xs a.pager a.target) a)
 taken_keeps o [] a k e = close_none o (session_after a) a k
 taken_keeps o (x ∷ rest) a k e =
     let s = session_after a in

@@ -33,7 +33,7 @@ use Rattle.std.proofs.lemmas.Option.{slice_get_within}
 use Rattle.std.specs.List.{AllByRecursion}
 use Rattle.std.specs.Prelude.{is_some, map, ◌==◌}
 use Rattle.target_side.specs.TargetPart.{TargetPart}
-use Rattle.target_side.specs.declared.Missing.{Missing}
+use Rattle.target_side.specs.declared.UntakenMiss.{UntakenMiss}
 use Rattle.migration_events.specs.declared.ops.Op.TheVariants.{Read as ReadCell, Release as ReleasePage, Write as WriteCell}
 
 pub with_vcpus : {o : List Name} (vcpus : List Vcpu) (a : BooksAfter) → AwayKept o a → VcpusKept a.version a.source.geometry vcpus → AwayKept o (record a { vcpus = vcpus })
@@ -405,7 +405,7 @@ miss_pushed v p a kept on low fits =
     let s = session_after a in
     let t = guest_more (Miss v p) s in
     let base = target_idle (Miss v p) a kept (λ p c x. refl) refl in
-    let new : Missing = record { number = length s.guest; vcpu = v; page = p } in
+    let new : UntakenMiss = record { number = length s.guest; vcpu = v; page = p } in
     guest_pushed (Miss v p) a.target.is_resumed (record a.target { misses = a.target.misses ++ new ∷ [] }) a kept on refl (names_none s) tt (low, fits) refl refl kept.resumed_ready
     (record {
       places = base.places;

@@ -13,8 +13,8 @@ use Rattle.audit_model.specs.Walks.{next, cursors_from}
 use Rattle.merge_runs.specs.Taken.{cursors_of}
 use Rattle.merge_runs.proofs.Walking.{cursors_append, cursors_run}
 use Rattle.order_picture.specs.declared.focus.Mark.{Mark}
-use Rattle.order_picture.specs.declared.picture.Row.{Row}
-use Rattle.order_picture.specs.declared.picture.Row.TheVariants.{Record, Fold}
+use Rattle.order_picture.specs.declared.picture.PictureRow.{PictureRow}
+use Rattle.order_picture.specs.declared.picture.PictureRow.TheVariants.{Record, Fold}
 use Rattle.order_picture.specs.declared.rows.Building.{Building}
 use Rattle.order_picture.specs.Rows.{Covers, is_faulty, row_is_faulty, shows_fault}
 use Rattle.order_picture.specs.inner.Built.{IsBuilt, closed_rows}
@@ -31,7 +31,7 @@ is_empty : {A : Type 0} (xs : List A) → length xs ≤ 0 → xs ≡ []
 is_empty [] le = refl
 is_empty (x ∷ xs) le = absurd (omega arith)
 
-covers_more : (mark : Name → Mark) (rows more : List Row) (xs ys : List Name) → Covers mark rows xs → Covers mark more ys → Covers mark (rows ++ more) (xs ++ ys)
+covers_more : (mark : Name → Mark) (rows more : List PictureRow) (xs ys : List Name) → Covers mark rows xs → Covers mark more ys → Covers mark (rows ++ more) (xs ++ ys)
 covers_more mark [] more xs ys none c = subst (λ (zs : List Name). Covers mark more (zs ++ ys)) (sym none) c
 covers_more mark (Record log place m ∷ rows) more xs ys h c = (h.0 ++ ys, ap (λ (zs : List Name). zs ++ ys) h.1, h.2, covers_more mark rows more h.0 ys h.3 c)
 covers_more mark (Fold counts ∷ rows) more xs ys h c = (h.0, h.1 ++ ys, ap (λ (zs : List Name). zs ++ ys) h.2 ∙ append_assoc h.0 h.1 ys, h.3, covers_more mark rows more h.1 ys h.4 c)
@@ -40,7 +40,7 @@ covers_more mark (Fold counts ∷ rows) more xs ys h c = (h.0, h.1 ++ ys, ap (λ
 pub closed_covers : (mark : Name → Mark) (b : Building) (names : List Name) → IsBuilt mark b names → Covers mark (closed_rows b) names
 closed_covers mark b names built = go (cases_lt 0 b.folded)
   where
-    more : List Row
+    more : List PictureRow
     more = b.rows.items ++ Fold b.since ∷ []
 
     some : Covers mark more names
@@ -66,7 +66,7 @@ kept mark b d names name m built look rows since none left = record {
   covered = names ++ name ∷ [];
   folded = [];
   parts = sym (append-nil (names ++ name ∷ []));
-  covers = subst (λ (rs : List Row). Covers mark rs (names ++ name ∷ [])) (sym rows) (covers_more mark (closed_rows b) (Record name.0 name.1 m ∷ []) names (name ∷ []) (closed_covers mark b names built) ([], refl, look, refl));
+  covers = subst (λ (rs : List PictureRow). Covers mark rs (names ++ name ∷ [])) (sym rows) (covers_more mark (closed_rows b) (Record name.0 name.1 m ∷ []) names (name ∷ []) (closed_covers mark b names built) ([], refl, look, refl));
   counts = since;
   count = none;
   shown = shows ∙ (ap (λ x. x || (is_faulty m || false)) (closed_shows b ∙ built.shown) ∙ (ap (λ (y : Mark). list_any faulty_name names || (is_faulty y || false)) look ∙ sym (list_any-append faulty_name names (name ∷ []))));
@@ -85,7 +85,7 @@ counted mark b d names name built other rows since more left = record {
   covered = built.covered;
   folded = built.folded ++ name ∷ [];
   parts = ap (λ (ns : List Name). ns ++ name ∷ []) built.parts ∙ append_assoc built.covered built.folded (name ∷ []);
-  covers = subst (λ (rs : List Row). Covers mark rs built.covered) (sym rows) built.covers;
+  covers = subst (λ (rs : List PictureRow). Covers mark rs built.covered) (sym rows) built.covers;
   counts = since ∙ (ap (λ (c : Cursors). moved c name.0 1) built.counts ∙ sym (cursors_append at_start built.folded (name ∷ []) ∙ cursors_run (cursors_from at_start built.folded) name.0 name.1 1));
   count = let n = length_push built.folded name in omega (arith, more, n, built.count);
   shown = ap shows_fault rows ∙ (built.shown ∙ (same (is_faulty (mark name)) refl ∙ sym (list_any-append faulty_name names (name ∷ []))));

@@ -6,14 +6,14 @@ use Rattle.std.proofs.lemmas.Bool.Decides.{nat_tests}
 use Rattle.std.proofs.lemmas.List.{append_assoc, append-nil}
 use Rattle.std.proofs.lemmas.List.Folds.{list_any-append}
 use Rattle.migration_types.specs.Receipts.{Name}
-use Rattle.order_picture.specs.declared.picture.Row.{Row}
-use Rattle.order_picture.specs.declared.picture.Row.TheVariants.{Fold}
+use Rattle.order_picture.specs.declared.picture.PictureRow.{PictureRow}
+use Rattle.order_picture.specs.declared.picture.PictureRow.TheVariants.{Fold}
 use Rattle.order_picture.specs.declared.rows.Building.{Building}
 use Rattle.order_picture.specs.Rows.{has_row, is_at, is_certain, is_next_to, is_row_of}
 use Rattle.order_picture.specs.inner.Built.{Extends, at_left, certain_left, closed_rows, next_left}
 
 -- what came since the last row, and more, stands behind the rows
-pub closed_extends : (b : Building) (more after : List Row) → after ≡ closed_rows b ++ more → Extends b.rows.items after
+pub closed_extends : (b : Building) (more after : List PictureRow) → after ≡ closed_rows b ++ more → Extends b.rows.items after
 closed_extends b more after e = go (nat_lt 0 b.folded) e
   where
     go : (t : Bool) → after ≡ cond t (b.rows.items ++ Fold b.since ∷ []) b.rows.items ++ more → Extends b.rows.items after
@@ -24,7 +24,7 @@ true_or : (x y : Bool) → x ≡ true → (x || y) ≡ true
 true_or x y e = ap (λ b. b || y) e
 
 -- a record that has a row still has it
-pub still_has : (before after : List Row) (name : Name) → Extends before after → has_row before name ≡ true → has_row after name ≡ true
+pub still_has : (before after : List PictureRow) (name : Name) → Extends before after → has_row before name ≡ true → has_row after name ≡ true
 still_has before after name more has = ap (λ rows. has_row rows name) more.1 ∙ (list_any-append (is_row_of name) before more.0 ∙ true_or (has_row before name) (has_row more.0 name) has)
 
 next_falls : (fault : Option ℕ) (n : ℕ) → next_left fault (n + 1) ≤ next_left fault n

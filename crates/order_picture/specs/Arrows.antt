@@ -11,8 +11,8 @@ use Rattle.order_picture.specs.declared.behind.Tie.{Tie}
 use Rattle.order_picture.specs.declared.focus.Mark.{Mark}
 use Rattle.order_picture.specs.declared.focus.Mark.TheVariants as mark
 use Rattle.order_picture.specs.declared.picture.Picture.{Picture}
-use Rattle.order_picture.specs.declared.picture.Row.{Row}
-use Rattle.order_picture.specs.declared.picture.Row.TheVariants.{Record, Fold}
+use Rattle.order_picture.specs.declared.picture.PictureRow.{PictureRow}
+use Rattle.order_picture.specs.declared.picture.PictureRow.TheVariants.{Record, Fold}
 use Rattle.order_picture.specs.declared.shapes.Shape.{Shape}
 use Rattle.order_picture.specs.declared.shapes.Shape.TheVariants.{Arrow, Stub}
 use Rattle.order_picture.specs.Behind.{tie_of}
@@ -24,41 +24,41 @@ is_plain mark.Plain = true
 is_plain m = false
 
 -- whether a row has a marked record
-abbrev pub is_marked : Option Row → Bool
+abbrev pub is_marked : Option PictureRow → Bool
 is_marked None = false
 is_marked (Some (Record log place m)) = if is_plain m then false else true
 is_marked (Some (Fold counts)) = false
 
 -- what the arrow from the row at this place to the record of a row says: whether both are marked
-abbrev pub received_kind : List Row → Row → ℕ → ArrowKind
+abbrev pub received_kind : List PictureRow → PictureRow → ℕ → ArrowKind
 received_kind rows row from = if is_marked (Some row) && is_marked (slice_get rows from) then OfPage else Received
 
 -- the place of the row whose record a row's record receives, if there is one
 abbrev pub sender_at : List (Option ℕ) → ℕ → Option ℕ
 sender_at senders n = get_or senders n None
 
-abbrev pub received_from : Picture → Seat → Row → LogName → Option ℕ → Shape
+abbrev pub received_from : Picture → Seat → PictureRow → LogName → Option ℕ → Shape
 received_from p to row sender (Some from) = Arrow from sender to.row to.log (received_kind p.rows.items row from)
 received_from p to row sender None = Stub to.row to.log sender
 
 -- the arrow to the record of a row, which receives a record of this log: from that record's row, or from nowhere if it
 -- has none
-abbrev pub received_shape : Picture → Seat → Row → LogName → Shape
+abbrev pub received_shape : Picture → Seat → PictureRow → LogName → Shape
 received_shape p to row sender = received_from p to row sender (sender_at p.senders.items to.row)
 
-abbrev pub arrow_by : Picture → ℕ → Row → Option Name → Option Shape
+abbrev pub arrow_by : Picture → ℕ → PictureRow → Option Name → Option Shape
 arrow_by p n (Record log place m) (Some sent) = Some (received_shape p (record { row = n; log = log }) (Record log place m) sent.0)
 arrow_by p n row sent = None
 
 -- the arrow to the record of a row, if it receives one
-abbrev pub arrow_to : Recorded → Picture → ℕ × Row → Option Shape
+abbrev pub arrow_to : Recorded → Picture → ℕ × PictureRow → Option Shape
 arrow_to s p at = arrow_by p at.0 at.1 (row_receipt s at.1)
 
 abbrev pub listed : Option Shape → List Shape
 listed None = []
 listed (Some shape) = shape ∷ []
 
-abbrev pub arrows_to : Recorded → Picture → ℕ × Row → List Shape
+abbrev pub arrows_to : Recorded → Picture → ℕ × PictureRow → List Shape
 arrows_to s p at = listed (arrow_to s p at)
 
 -- the arrows between the rows of the order

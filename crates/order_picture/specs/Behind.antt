@@ -9,8 +9,8 @@ use Rattle.audit_model.specs.Mergings.{run_names}
 use Rattle.audit_model.specs.FoundOrder.{is_received}
 use Rattle.merge_runs.specs.Taken.{cursors_of}
 use Rattle.session_story.specs.declared.explaining.Explanation.TheVariants as explained
-use Rattle.session_story.specs.declared.topics.Told.{Told}
-use Rattle.session_story.specs.declared.topics.Told.TheVariants as told
+use Rattle.session_story.specs.declared.topics.TopicStory.{TopicStory}
+use Rattle.session_story.specs.declared.topics.TopicStory.TheVariants as told
 use Rattle.session_story.specs.declared.waits.Knot.{Knot}
 use Rattle.session_story.specs.declared.waits.Waiting.{Waiting}
 use Rattle.session_story.specs.Waits.{next_in}
@@ -36,7 +36,7 @@ tie_at k None = None
 tie_at k (Some n) = tie (slice_get k.waits.items n) (next_in k n)
 
 -- a waiting record with the waiting record that it waits for, if it is one of those that wait for one another
-abbrev pub tie_of : Told → Name → Option Tie
+abbrev pub tie_of : TopicStory → Name → Option Tie
 tie_of (told.Report (explained.Knot knot)) name = tie_at knot (place_in knot name)
 tie_of t name = None
 

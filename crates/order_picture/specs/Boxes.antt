@@ -13,8 +13,8 @@ use Rattle.order_picture.specs.declared.boxes.Label.TheVariants as label
 use Rattle.order_picture.specs.declared.focus.Mark.{Mark}
 use Rattle.order_picture.specs.declared.focus.Mark.TheVariants as mark
 use Rattle.order_picture.specs.declared.picture.Picture.{Picture}
-use Rattle.order_picture.specs.declared.picture.Row.{Row}
-use Rattle.order_picture.specs.declared.picture.Row.TheVariants as row
+use Rattle.order_picture.specs.declared.picture.PictureRow.{PictureRow}
+use Rattle.order_picture.specs.declared.picture.PictureRow.TheVariants as row
 use Rattle.order_picture.specs.declared.shapes.Shape.{Shape}
 use Rattle.order_picture.specs.declared.shapes.Shape.TheVariants as shape
 use Rattle.order_picture.specs.Behind.{kind_behind, obstacle_of}
@@ -35,16 +35,16 @@ kind_of mark.Concerned = kind.Concerned
 kind_of mark.OfPage = kind.OfPage
 kind_of mark.Plain = kind.Plain
 
-abbrev pub shape_of_row : Recorded → Option Amended → ℕ → Row → Shape
+abbrev pub shape_of_row : Recorded → Option Amended → ℕ → PictureRow → Shape
 shape_of_row s amended n (row.Record log place m) = shape.Record n log place (kind_of m) (line_in s (log, place)) (label_in amended (kind_of m)) Nothing
 shape_of_row s amended n (row.Fold counts) = shape.Fold n counts
 
 -- the shape of a row of the order
-abbrev pub row_shape : Recorded → Option Amended → ℕ × Row → Shape
+abbrev pub row_shape : Recorded → Option Amended → ℕ × PictureRow → Shape
 row_shape s amended at = shape_of_row s amended at.0 at.1
 
 -- the rows of the order
-abbrev pub row_shapes : Recorded → Option Amended → List Row → List Shape
+abbrev pub row_shapes : Recorded → Option Amended → List PictureRow → List Shape
 row_shapes s amended rows = map (row_shape s amended) (enumerate_from 0 rows)
 
 -- the box of a record after the order, in this row, with why the order does not take it

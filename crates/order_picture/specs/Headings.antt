@@ -2,8 +2,8 @@
 use Rattle.std.specs.Prelude.{ℕ, Option, Some, None, if◌then◌else◌}
 use Rattle.audit_report.specs.declared.report.Report.{Report}
 use Rattle.audit_report.specs.declared.report.Report.TheVariants as report
-use Rattle.session_story.specs.declared.topics.Told.{Told}
-use Rattle.session_story.specs.declared.topics.Told.TheVariants as told
+use Rattle.session_story.specs.declared.topics.TopicStory.{TopicStory}
+use Rattle.session_story.specs.declared.topics.TopicStory.TheVariants as told
 use Rattle.session_story.specs.Amended.{is_always_wrong}
 use Rattle.order_picture.specs.declared.headings.OrderShown.{OrderShown}
 use Rattle.order_picture.specs.declared.headings.OrderShown.TheVariants.{EveryOrder, OneOrder, FirstFault, Found, FoundPart, Given, GivenPart}
@@ -12,7 +12,7 @@ use Rattle.order_picture.specs.declared.headings.Shown.TheVariants as shown
 use Rattle.order_picture.specs.declared.picture.Picture.{Picture}
 
 -- an order that shows a fault of the session, given the story
-abbrev pub faulty_order : Told → OrderShown
+abbrev pub faulty_order : TopicStory → OrderShown
 faulty_order (told.Report explanation) = if is_always_wrong explanation then EveryOrder else OneOrder
 faulty_order t = FirstFault
 

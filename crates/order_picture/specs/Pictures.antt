@@ -12,9 +12,9 @@ use Rattle.audit_report.specs.declared.report.Report.{Report}
 use Rattle.audit_report.specs.declared.report.Report.TheVariants as report
 use Rattle.merge_runs.specs.Taken.{cursors_of}
 use Rattle.session_story.specs.declared.faults.FaultStory.{FaultStory}
-use Rattle.session_story.specs.declared.topics.PageTold.{PageTold}
-use Rattle.session_story.specs.declared.topics.Told.{Told}
-use Rattle.session_story.specs.declared.topics.Told.TheVariants as told
+use Rattle.session_story.specs.declared.topics.FullPageStory.{FullPageStory}
+use Rattle.session_story.specs.declared.topics.TopicStory.{TopicStory}
+use Rattle.session_story.specs.declared.topics.TopicStory.TheVariants as told
 use Rattle.session_story.specs.declared.topics.Topic.{Topic}
 use Rattle.session_story.specs.Concerned.{concerned_of}
 use Rattle.session_story.specs.Subjects.{page_of}
@@ -38,21 +38,21 @@ faulty_in None = None
 faulty_in (Some story) = Some (story.fault.log, story.fault.place)
 
 -- the faulty record that a picture is about: the report's, or that of the first fault of the story's page
-abbrev pub fault_for : Report → Told → Option Name
+abbrev pub fault_for : Report → TopicStory → Option Name
 fault_for r (told.Report explanation) = fault_of r
 fault_for r t = faulty_in (fault_in t)
 
-abbrev pub number_in : Option PageTold → Option ℕ
+abbrev pub number_in : Option FullPageStory → Option ℕ
 number_in None = None
 number_in (Some t) = Some t.story.page
 
 -- the page that a picture is about: that of the report's faulty record, or that of the story
-abbrev pub page_for : Recorded → Report → Told → Option ℕ
+abbrev pub page_for : Recorded → Report → TopicStory → Option ℕ
 page_for s r (told.Report explanation) = option_and_then (page_of s) (fault_of r)
 page_for s r t = number_in (page_in t)
 
 -- what a picture is about, given the story: the faulty record, the page, and the record that the fault concerns
-pub record IsFocus (s : Recorded) (r : Report) (t : Told) (focus : Focus) : Type 0 where
+pub record IsFocus (s : Recorded) (r : Report) (t : TopicStory) (focus : Focus) : Type 0 where
   pub fault : focus.fault ≡ fault_for r t
   pub page : focus.page ≡ page_for s r t
   pub concerned : focus.concerned ≡ concerned_of s t

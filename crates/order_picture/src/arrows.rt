@@ -8,7 +8,7 @@ ghost use Rattle.order_picture.specs.Arrows.{arrow_to, arrows, is_direct, is_mar
 
 use crate::behind::{Tie, tie_of};
 use crate::focus::Mark;
-use crate::picture::{Picture, Row, row_receipt};
+use crate::picture::{Picture, PictureRow, row_receipt};
 use crate::records::{Name, is_one};
 use crate::shapes::Shape;
 use migration_types::{LogName, Session};
@@ -35,17 +35,17 @@ pub enum ArrowKind {
 }
 
 /// Returns whether a row has a marked record.
-fn is_marked(row: Option<&Row>) -> bool
+fn is_marked(row: Option<&PictureRow>) -> bool
     ensures { result ≡ is_marked (option_copied row.entry) }
 {
     match row {
-        Some(Row::Record { mark, .. }) => !matches!(mark, Mark::Plain),
+        Some(PictureRow::Record { mark, .. }) => !matches!(mark, Mark::Plain),
         _ => false,
     }
 }
 
 /// Returns what the arrow from the row at this place to the record of a row says.
-fn received_kind(rows: &[Row], row: &Row, from: usize) -> ArrowKind
+fn received_kind(rows: &[PictureRow], row: &PictureRow, from: usize) -> ArrowKind
     ensures { result ≡ received_kind rows.now row.now from }
 {
     if is_marked(Some(row)) && is_marked(rows.get(from)) {
@@ -67,7 +67,7 @@ fn sender_at(senders: &[Option<usize>], place: usize) -> Option<usize>
 
 /// Returns the arrow to the record of a row, which receives a record of this log: from that record's row, or from
 /// nowhere if it has none.
-fn received_shape(picture: &Picture, to: Seat, row: &Row, sender: LogName) -> Shape
+fn received_shape(picture: &Picture, to: Seat, row: &PictureRow, sender: LogName) -> Shape
     ensures { result ≡ received_shape picture.now to row.now sender }
 {
     match sender_at(&picture.senders, to.row) {
@@ -87,11 +87,11 @@ fn received_shape(picture: &Picture, to: Seat, row: &Row, sender: LogName) -> Sh
 }
 
 /// Returns the arrow to the record of a row, if it receives one.
-fn arrow_to(session: &Session, picture: &Picture, place: usize, row: &Row) -> Option<Shape>
+fn arrow_to(session: &Session, picture: &Picture, place: usize, row: &PictureRow) -> Option<Shape>
     ensures { result ≡ arrow_to session.now picture.now (place, row.now) }
 {
     match (row, row_receipt(session, row)) {
-        (Row::Record { log, .. }, Some(sent)) => {
+        (PictureRow::Record { log, .. }, Some(sent)) => {
             let to = Seat {
                 row: place,
                 log: *log,
@@ -145,7 +145,7 @@ fn place_of(names: &[Name], name: Name) -> Option<usize>
 }
 
 /// Returns the place of the box of a record after this many rows of the order, if it has one.
-fn seat_behind(rows: &[Row], behind: &[Name], name: Name) -> Option<Seat>
+fn seat_behind(rows: &[PictureRow], behind: &[Name], name: Name) -> Option<Seat>
     ensures { result ≡ seat_behind (length rows.now) behind.now name }
 {
     match place_of(behind, name) {

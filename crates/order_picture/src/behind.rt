@@ -8,7 +8,7 @@ use crate::boxes::BoxKind;
 use crate::picture::Picture;
 use crate::records::{Name, is_one};
 use migration_types::{LogName, Session, logs};
-use session_story::{Explanation, Knot, Told, Waiting};
+use session_story::{Explanation, Knot, TopicStory, Waiting};
 use std::alloc::{AllocError, Global};
 
 /// A record that waits for another waiting record.
@@ -58,11 +58,11 @@ fn tie_at(knot: &Knot, place: Option<usize>) -> Option<Tie>
 }
 
 /// Returns a record and the record that it waits for, if both are among those that wait for one another.
-pub(crate) fn tie_of(told: &Told, name: Name) -> Option<Tie>
+pub(crate) fn tie_of(told: &TopicStory, name: Name) -> Option<Tie>
     ensures { result ≡ tie_of told.now name }
 {
     match told {
-        Told::Report(Explanation::Knot(knot)) => tie_at(knot, place_in(knot, name)),
+        TopicStory::Report(Explanation::Knot(knot)) => tie_at(knot, place_in(knot, name)),
         _ => None,
     }
 }

@@ -6,7 +6,7 @@ ghost use Rattle.order_picture.specs.Boxes.{behind_box, behind_shape, behind_sha
 
 use crate::behind::{Obstacle, kind_behind, obstacle_of};
 use crate::focus::Mark;
-use crate::picture::{Picture, Row};
+use crate::picture::{Picture, PictureRow};
 use crate::records::Name;
 use crate::shapes::Shape;
 use migration_types::{Session, line_of};
@@ -74,11 +74,11 @@ pub(crate) fn kind_of(mark: Mark) -> BoxKind
 }
 
 /// Returns the shape of a row of the order.
-fn row_shape(session: &Session, amended: &Option<Amended>, place: usize, row: &Row) -> Shape
+fn row_shape(session: &Session, amended: &Option<Amended>, place: usize, row: &PictureRow) -> Shape
     ensures { result ≡ row_shape session.now amended.now (place, row.now) }
 {
     match row {
-        Row::Record {
+        PictureRow::Record {
             log,
             place: number,
             mark,
@@ -91,7 +91,7 @@ fn row_shape(session: &Session, amended: &Option<Amended>, place: usize, row: &R
             label: label_in(amended, kind_of(*mark)),
             obstacle: Obstacle::Nothing,
         },
-        Row::Fold(counts) => Shape::Fold {
+        PictureRow::Fold(counts) => Shape::Fold {
             row: place,
             counts: *counts,
         },
@@ -103,7 +103,7 @@ pub(crate) fn push_rows(
     shapes: &mut Vec<Shape>,
     session: &Session,
     amended: &Option<Amended>,
-    rows: &[Row],
+    rows: &[PictureRow],
 ) -> Result<(), AllocError>
     ensures { OnOk result (shapes.new.items ≡ shapes.old.items ++ row_shapes session.now amended.now rows.now) }
 {

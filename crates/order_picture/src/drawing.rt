@@ -17,7 +17,7 @@ use crate::style::{
     Paint, ROW_TEXT, SIGN, SOFT, STUB, STUB_LINE, arrow_paint, box_paint, head_of,
 };
 use crate::words::{LINES, push_records, push_title};
-use merge_runs::Taken;
+use merge_runs::TakenCounts;
 use migration_types::LogName;
 use std::alloc::{AllocError, Global};
 use text_lines::push_number;
@@ -280,7 +280,7 @@ pub(crate) fn push_fold(
     alloc: Global,
     columns: Columns,
     row: usize,
-    counts: &Taken,
+    counts: &TakenCounts,
 ) -> Result<(), AllocError> {
     let mut words = Vec::new(alloc);
     push_records(&mut words, counts)?;

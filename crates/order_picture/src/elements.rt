@@ -1,6 +1,6 @@
 //! The elements of SVG that a picture is made of.
 
-use crate::style::{Head, Paint};
+use crate::style::{ArrowHead, Paint};
 use std::alloc::AllocError;
 use text_lines::push_number;
 
@@ -83,7 +83,7 @@ pub(crate) fn push_ends(
 }
 
 /// Appends the head of a line, and ends the line.
-pub(crate) fn end_arrow(out: &mut Vec<u8>, head: Head) -> Result<(), AllocError> {
+pub(crate) fn end_arrow(out: &mut Vec<u8>, head: ArrowHead) -> Result<(), AllocError> {
     push(out, b" marker-end='url(#")?;
     push(out, head.name)?;
     push(out, b")'/>")
@@ -99,7 +99,7 @@ pub(crate) fn push_path(out: &mut Vec<u8>, path: &[u8], paint: Paint) -> Result<
 }
 
 /// Appends the head of an arrow, which lines then refer to.
-pub(crate) fn push_head(out: &mut Vec<u8>, head: Head) -> Result<(), AllocError> {
+pub(crate) fn push_head(out: &mut Vec<u8>, head: ArrowHead) -> Result<(), AllocError> {
     push(out, b"<marker")?;
     push_attribute(out, b"id", head.name)?;
     push(out, b" viewBox='0 0 8 8' refX='8' refY='4'")?;

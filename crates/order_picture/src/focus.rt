@@ -8,7 +8,7 @@ ghost use Rattle.order_picture.specs.Pictures.{fault_for, fault_of, faulty_in, n
 use crate::records::{Name, is_one};
 use audit_report::Report;
 use migration_types::{PageNo, Session};
-use session_story::{FaultStory, PageTold, Told, concerned_of, page_of};
+use session_story::{FaultStory, FullPageStory, TopicStory, concerned_of, page_of};
 
 /// Why a record stands out.
 #[derive(Clone, Copy, Debug, PartialEq, Eq)]
@@ -82,11 +82,11 @@ fn faulty_in(fault: &Option<FaultStory>) -> Option<Name>
 }
 
 /// Returns the faulty record that a picture is about, given the story.
-fn fault_for(report: &Report, told: &Told) -> Option<Name>
+fn fault_for(report: &Report, told: &TopicStory) -> Option<Name>
     ensures { result ≡ fault_for report.now told.now }
 {
     match told {
-        Told::Report(_) => fault_of(report),
+        TopicStory::Report(_) => fault_of(report),
         _ => faulty_in(&told.fault()),
     }
 }
@@ -102,7 +102,7 @@ fn page_of_fault(session: &Session, report: &Report) -> Option<PageNo>
 }
 
 /// Returns the page of the story, if there is one.
-fn number_in(page: &Option<PageTold>) -> Option<PageNo>
+fn number_in(page: &Option<FullPageStory>) -> Option<PageNo>
     ensures { result ≡ number_in page.now }
 {
     match page {
@@ -112,17 +112,17 @@ fn number_in(page: &Option<PageTold>) -> Option<PageNo>
 }
 
 /// Returns the page that a picture is about, given the story.
-fn page_for(session: &Session, report: &Report, told: &Told) -> Option<PageNo>
+fn page_for(session: &Session, report: &Report, told: &TopicStory) -> Option<PageNo>
     ensures { result ≡ page_for session.now report.now told.now }
 {
     match told {
-        Told::Report(_) => page_of_fault(session, report),
+        TopicStory::Report(_) => page_of_fault(session, report),
         _ => number_in(&told.page()),
     }
 }
 
 /// Returns what a picture is about, given the story.
-pub(crate) fn focus_of(session: &Session, report: &Report, told: &Told) -> Focus
+pub(crate) fn focus_of(session: &Session, report: &Report, told: &TopicStory) -> Focus
     ensures { IsFocus session.now report.now told.now result }
 {
     Focus {

@@ -10,7 +10,7 @@ use crate::style::{
 use crate::words::{push_facts, push_order};
 use audit_report::{Report, push_first_line};
 use migration_types::Session;
-use session_story::{Told, push_summary};
+use session_story::{TopicStory, push_summary};
 use std::alloc::{AllocError, Global};
 
 /// The number of first sentences of the story in a heading.
@@ -21,7 +21,7 @@ const MOST_SENTENCES: usize = 2;
 pub(crate) struct Subject<'a> {
     pub session: &'a Session,
     pub report: &'a Report,
-    pub told: &'a Told,
+    pub told: &'a TopicStory,
 }
 
 /// A heading while it is written.

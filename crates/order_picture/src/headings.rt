@@ -5,7 +5,7 @@ ghost use Rattle.order_picture.specs.Headings.{faulty_order, found_order, given_
 
 use crate::picture::Picture;
 use audit_report::Report;
-use session_story::{Told, is_always_wrong};
+use session_story::{TopicStory, is_always_wrong};
 
 /// Which order a picture shows.
 #[derive(Clone, Copy)]
@@ -36,11 +36,11 @@ pub enum OrderShown {
 }
 
 /// Returns what the heading says about an order that shows a fault of the session, given the story.
-fn faulty_order(told: &Told) -> OrderShown
+fn faulty_order(told: &TopicStory) -> OrderShown
     ensures { result ≡ faulty_order told.now }
 {
     match told {
-        Told::Report(explanation) => {
+        TopicStory::Report(explanation) => {
             if is_always_wrong(explanation) {
                 OrderShown::EveryOrder
             } else {

@@ -7,7 +7,7 @@ use crate::focus::{Focus, Mark, mark_of};
 use crate::records::Name;
 use crate::rows::Certain;
 use migration_types::{GuestRec, LOG_COUNT, LogName, Session, logs};
-use session_story::{Told, tells_of};
+use session_story::{TopicStory, tells_of};
 use std::alloc::{AllocError, Global};
 
 /// How many are kept at each end of the order.
@@ -77,7 +77,7 @@ fn uses(session: &Session, name: Name) -> bool {
 #[derive(Clone, Copy)]
 pub(crate) struct Keeping<'a> {
     pub session: &'a Session,
-    pub told: &'a Told,
+    pub told: &'a TopicStory,
     pub focus: &'a Focus,
     /// The places of the order whose records always have rows, or are next to such a record.
     pub certain: Certain,
@@ -88,7 +88,7 @@ pub(crate) struct Keeping<'a> {
 /// Returns whether a picture is about the order: its story is that of the report, and the report names no record of a
 /// page.
 fn is_of_order(keeping: &Keeping<'_>) -> bool {
-    keeping.focus.page.is_none() && matches!(keeping.told, Told::Report(_))
+    keeping.focus.page.is_none() && matches!(keeping.told, TopicStory::Report(_))
 }
 
 /// Returns whether a record concerns what the picture is about: a page, or the order.

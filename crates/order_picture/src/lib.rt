@@ -30,7 +30,7 @@ pub use behind::Obstacle;
 pub use boxes::{BoxKind, Label};
 pub use focus::{Focus, Mark};
 pub use headings::{OrderShown, Shown};
-pub use picture::{MOST_ROWS, Picture, Row, plan_along, plan_on};
+pub use picture::{MOST_ROWS, Picture, PictureRow, plan_along, plan_on};
 pub use shapes::{Shape, picture_shapes};
 pub use signs::Sign;
 pub use svg::{picture_text, print_picture_along, print_picture_on, write_shapes};

@@ -9,7 +9,7 @@ ghost use Rattle.order_picture.specs.OrderParts.{IsOrderPart};
 
 use crate::records::Name;
 use audit_model::mergings_are_walks;
-use merge_runs::{Taken, first_bad_run};
+use merge_runs::{TakenCounts, first_bad_run};
 use migration_types::{LogName, Run, Session};
 use std::alloc::{AllocError, Global};
 
@@ -17,7 +17,7 @@ use std::alloc::{AllocError, Global};
 #[derive(Drop)]
 pub(crate) struct OrderPart {
     pub names: Vec<Name>,
-    pub taken: Taken,
+    pub taken: TakenCounts,
     /// The place of the first run that cannot be taken, or the number of runs if records are left.
     pub bad: Option<usize>,
 }
@@ -34,13 +34,17 @@ fn push_run(names: &mut Vec<Name>, log: LogName, from: u32, count: u32) -> Resul
 }
 
 /// Appends the names of the records that the runs take, and returns how many of each log there are.
-fn push_runs(names: &mut Vec<Name>, session: &Session, runs: &[Run]) -> Result<Taken, AllocError>
+fn push_runs(
+    names: &mut Vec<Name>,
+    session: &Session,
+    runs: &[Run],
+) -> Result<TakenCounts, AllocError>
     requires limits { IsSession session.now }
     requires walk { Walks session.now at_start (spelled runs.now) }
     ensures names { OnOk result (names.new.items ≡ names.old.items ++ spelled runs.now) }
     ensures taken { IfOk result (λ taken. cursors_of taken ≡ cursors_from at_start (spelled runs.now)) }
 {
-    let mut taken = Taken::nothing();
+    let mut taken = TakenCounts::nothing();
     for (place, run) in runs.iter().enumerate() {
         push_run(names, run.log, taken.of(run.log) as u32, run.count)?;
         taken = taken.moved(run.log, run.count as usize);

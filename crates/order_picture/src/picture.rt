@@ -12,9 +12,9 @@ use crate::records::{Name, is_one};
 use crate::rows::{Certain, rows_of};
 use audit_report::Report;
 use cert_maker::found_runs;
-use merge_runs::Taken;
+use merge_runs::TakenCounts;
 use migration_types::{GuestRec, LogName, Run, Session};
-use session_story::{Told, Topic, tell};
+use session_story::{Topic, TopicStory, tell};
 use std::alloc::{AllocError, Global};
 
 /// The greatest number of rows in a picture.
@@ -22,7 +22,7 @@ pub const MOST_ROWS: usize = 203;
 
 /// A row of a picture.
 #[derive(Clone, Copy)]
-pub enum Row {
+pub enum PictureRow {
     /// The record of this log and number.
     Record {
         log: LogName,
@@ -30,56 +30,56 @@ pub enum Row {
         mark: Mark,
     },
     /// A fold of this many records of each log.
-    Fold(Taken),
+    Fold(TakenCounts),
 }
 
 /// The plan of a picture.
 #[derive(Drop)]
 pub struct Picture {
     /// The rows, from the first record on.
-    pub rows: Vec<Row>,
+    pub rows: Vec<PictureRow>,
     /// For each row, the row whose record it receives, if there is one.
     pub senders: Vec<Option<usize>>,
     /// How many records of each log the picture has.
-    pub taken: Taken,
+    pub taken: TakenCounts,
     /// The place of the first run that cannot be taken, or the number of runs if records are left. `None` if the
     /// picture has all records.
     pub bad: Option<usize>,
     /// The story of the session.
-    pub told: Told,
+    pub told: TopicStory,
     /// What the picture is about.
     pub focus: Focus,
 }
 
 /// Returns whether it is the row of this record.
-fn is_row_of(name: Name, row: &Row) -> bool
+fn is_row_of(name: Name, row: &PictureRow) -> bool
     ensures { result ≡ is_row_of name row.now }
 {
     match row {
-        Row::Record { log, place, .. } => is_one(Some(name), (*log, *place)),
-        Row::Fold(_) => false,
+        PictureRow::Record { log, place, .. } => is_one(Some(name), (*log, *place)),
+        PictureRow::Fold(_) => false,
     }
 }
 
 /// Returns the record that the row's record is a receipt for.
-pub(crate) fn row_receipt(session: &Session, row: &Row) -> Option<Name>
+pub(crate) fn row_receipt(session: &Session, row: &PictureRow) -> Option<Name>
     ensures { result ≡ row_receipt session.now row.now }
 {
     match row {
-        Row::Record { log, place, .. } => session.named((*log, *place)),
-        Row::Fold(_) => None,
+        PictureRow::Record { log, place, .. } => session.named((*log, *place)),
+        PictureRow::Fold(_) => None,
     }
 }
 
 /// Returns the place of the row of this record.
-fn row_with(rows: &[Row], name: Name) -> Option<usize>
+fn row_with(rows: &[PictureRow], name: Name) -> Option<usize>
     ensures { result ≡ position (is_row_of name) rows.now }
 {
     rows.iter().position(|row| is_row_of(name, row))
 }
 
 /// Returns the place of the row whose record the row's record receives.
-fn sender_of(session: &Session, rows: &[Row], row: &Row) -> Option<usize>
+fn sender_of(session: &Session, rows: &[PictureRow], row: &PictureRow) -> Option<usize>
     ensures { result ≡ sender_of session.now rows.now row.now }
 {
     match row_receipt(session, row) {
@@ -92,7 +92,7 @@ fn sender_of(session: &Session, rows: &[Row], row: &Row) -> Option<usize>
 fn senders_of(
     alloc: Global,
     session: &Session,
-    rows: &[Row],
+    rows: &[PictureRow],
 ) -> Result<Vec<Option<usize>>, AllocError>
     ensures { IfOk result (λ senders. senders.items ≡ map (sender_of session.now rows.now) rows.now) }
 {

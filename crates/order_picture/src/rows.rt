@@ -11,9 +11,9 @@ ghost use Rattle.order_picture.specs.Rows.{Covers, HasCertain, has_row, is_at, i
 ghost use Rattle.order_picture.specs.inner.Built.{Extends, HasCertainBelow, IsBuilt, certain_left, closed_rows};
 
 use crate::focus::{Focus, Mark, mark_of};
-use crate::picture::Row;
+use crate::picture::PictureRow;
 use crate::records::{Name, is_one};
-use merge_runs::Taken;
+use merge_runs::TakenCounts;
 use migration_types::{LogName, Session};
 use std::alloc::{AllocError, Global};
 
@@ -24,9 +24,9 @@ const MOST_OTHERS: usize = 194;
 /// The rows so far.
 #[derive(Drop)]
 pub(crate) struct Building {
-    pub rows: Vec<Row>,
+    pub rows: Vec<PictureRow>,
     /// How many records of each log came after the last row.
-    pub since: Taken,
+    pub since: TakenCounts,
     /// How many these are in all.
     pub folded: usize,
     /// How many more rows there may be for records other than the faulty one.
@@ -50,7 +50,7 @@ impl Building {
     {
         Building {
             rows: Vec::new(alloc),
-            since: Taken::nothing(),
+            since: TakenCounts::nothing(),
             folded: 0,
             room: MOST_OTHERS,
             fault_left: 1,
@@ -66,9 +66,9 @@ impl Building {
         ensures fault_left { OnOk result (self.new.fault_left ≡ self.old.fault_left) }
     {
         if self.folded > 0 {
-            self.rows.push(Row::Fold(self.since))?;
+            self.rows.push(PictureRow::Fold(self.since))?;
         }
-        self.since = Taken::nothing();
+        self.since = TakenCounts::nothing();
         self.folded = 0;
         Ok(())
     }
@@ -78,14 +78,14 @@ impl Building {
     fn keep(&mut self, name: Name, mark: Mark) -> Result<(), AllocError>
         ensures more { OnOk result (Extends self.old.rows.items self.new.rows.items) }
         ensures own { OnOk result (has_row self.new.rows.items name ≡ true) }
-        ensures rows { OnOk result (self.new.rows.items ≡ closed_rows self.old ++ Row.Record name.0 name.1 mark ∷ []) }
+        ensures rows { OnOk result (self.new.rows.items ≡ closed_rows self.old ++ PictureRow.Record name.0 name.1 mark ∷ []) }
         ensures since { OnOk result (cursors_of self.new.since ≡ at_start) }
         ensures folded { OnOk result (self.new.folded ≡ 0) }
         ensures room { OnOk result (self.new.room ≡ self.old.room) }
         ensures fault_left { OnOk result (self.new.fault_left ≡ self.old.fault_left) }
     {
         self.close()?;
-        self.rows.push(Row::Record {
+        self.rows.push(PictureRow::Record {
             log: name.0,
             place: name.1,
             mark,
@@ -311,7 +311,7 @@ pub(crate) fn rows_of(
     order: &[Name],
     wanted: &[bool],
     certain: Certain,
-) -> Result<Vec<Row>, AllocError>
+) -> Result<Vec<PictureRow>, AllocError>
     ensures covers { IfOk result (λ rows. Covers (mark_of session.now focus.now) rows.items order.now) }
     ensures few { IfOk result (λ rows. length rows.items ≤ 203) }
     ensures shown { IfOk result (λ rows. shows_fault rows.items ≡ list_any (is_one focus.now.fault) order.now) }

@@ -13,7 +13,7 @@ use crate::picture::Picture;
 use crate::records::Name;
 use crate::signs::{Sign, signs_in};
 use audit_report::Report;
-use merge_runs::Taken;
+use merge_runs::TakenCounts;
 use migration_types::{LogName, Session, logs};
 use session_story::amended_by;
 use std::alloc::{AllocError, Global};
@@ -59,7 +59,7 @@ pub enum Shape {
     /// A row with a fold of this many records of each log.
     Fold {
         row: usize,
-        counts: Taken,
+        counts: TakenCounts,
     },
     /// An entry of the legend.
     Legend(Sign),

@@ -304,14 +304,14 @@ pub(crate) fn arrow_paint(kind: ArrowKind) -> Paint {
 
 /// The head of an arrow: the name by which lines refer to it, its size, and its paint.
 #[derive(Clone, Copy)]
-pub(crate) struct Head {
+pub(crate) struct ArrowHead {
     pub name: &'static [u8],
     pub size: u64,
     pub paint: Paint,
 }
 
 /// Returns the heads of the arrows.
-pub(crate) fn heads() -> [Head; 3] {
+pub(crate) fn heads() -> [ArrowHead; 3] {
     [
         head_of(ArrowKind::Received),
         head_of(ArrowKind::OfPage),
@@ -320,9 +320,9 @@ pub(crate) fn heads() -> [Head; 3] {
 }
 
 /// Returns the head of an arrow.
-pub(crate) fn head_of(kind: ArrowKind) -> Head {
+pub(crate) fn head_of(kind: ArrowKind) -> ArrowHead {
     match kind {
-        ArrowKind::Received => Head {
+        ArrowKind::Received => ArrowHead {
             name: b"head",
             size: 9,
             paint: Paint {
@@ -333,7 +333,7 @@ pub(crate) fn head_of(kind: ArrowKind) -> Head {
                 dashes: b"",
             },
         },
-        ArrowKind::OfPage => Head {
+        ArrowKind::OfPage => ArrowHead {
             name: b"head-page",
             size: 10,
             paint: Paint {
@@ -344,7 +344,7 @@ pub(crate) fn head_of(kind: ArrowKind) -> Head {
                 dashes: b"",
             },
         },
-        ArrowKind::Tied | ArrowKind::TiedBehind => Head {
+        ArrowKind::Tied | ArrowKind::TiedBehind => ArrowHead {
             name: b"head-tied",
             size: 10,
             paint: Paint {

@@ -19,7 +19,7 @@ use crate::shapes::{Shape, picture_shapes};
 use crate::style::{COLUMNS_LEFT, DARK_COLOURS, FONT, FONTS, LEGEND_GAP, PAPER, heads};
 use audit_report::{Report, push_first_line};
 use migration_types::{LOG_COUNT, Run, Session};
-use session_story::{Told, Topic};
+use session_story::{Topic, TopicStory};
 use std::alloc::{AllocError, Global};
 use text_lines::push_number;
 
@@ -29,7 +29,7 @@ const CLOSING: &[u8] = b"</svg>\n";
 
 /// The size of a picture.
 #[derive(Clone, Copy)]
-struct Extent {
+struct PictureSize {
     columns: Columns,
     /// The number of its rows.
     rows: usize,
@@ -94,7 +94,11 @@ fn letters_of(alloc: Global, subject: Subject<'_>, one: &RecordBox) -> Result<us
 
 /// Returns the size of the picture of these shapes: it has a row for each record and each fold, and columns as wide as
 /// the labels need.
-fn extent_of(alloc: Global, subject: Subject<'_>, shapes: &[Shape]) -> Result<Extent, AllocError> {
+fn size_of(
+    alloc: Global,
+    subject: Subject<'_>,
+    shapes: &[Shape],
+) -> Result<PictureSize, AllocError> {
     let mut has = [false; LOG_COUNT];
     let mut letters = [0; LOG_COUNT];
     let mut rows: usize = 0;
@@ -111,7 +115,7 @@ fn extent_of(alloc: Global, subject: Subject<'_>, shapes: &[Shape]) -> Result<Ex
             _ => {}
         }
     }
-    Ok(Extent {
+    Ok(PictureSize {
         columns: Columns { has, letters },
         rows,
         entries,
@@ -160,10 +164,10 @@ fn push_shape(
     out: &mut Vec<u8>,
     alloc: Global,
     subject: Subject<'_>,
-    extent: Extent,
+    size: PictureSize,
     shape: &Shape,
 ) -> Result<(), AllocError> {
-    let columns = extent.columns;
+    let columns = size.columns;
     if let Some(arrow) = arrow_of(shape) {
         return push_arrow(out, columns, &arrow);
     }
@@ -171,7 +175,7 @@ fn push_shape(
         return push_record(out, alloc, subject, columns, &one);
     }
     match shape {
-        Shape::Column(log) => push_column(out, columns, extent.rows, *log),
+        Shape::Column(log) => push_column(out, columns, size.rows, *log),
         Shape::Stub { row, log, sender } => {
             let to = Seat {
                 row: *row,
@@ -206,24 +210,24 @@ fn push_body(
     out: &mut Vec<u8>,
     alloc: Global,
     subject: Subject<'_>,
-    extent: Extent,
+    size: PictureSize,
     shapes: &[Shape],
 ) -> Result<(), AllocError> {
     push_margin_name(out)?;
     for shape in shapes {
-        push_shape(out, alloc, subject, extent, shape)?;
+        push_shape(out, alloc, subject, size, shape)?;
     }
-    push_legend(out, extent.rows, shapes)
+    push_legend(out, size.rows, shapes)
 }
 
 /// Returns what comes between the opening and the closing tag.
 fn inside_of(alloc: Global, subject: Subject<'_>, shapes: &[Shape]) -> Result<Vec<u8>, AllocError> {
-    let extent = extent_of(alloc, subject, shapes)?;
-    let width = extent.columns.width();
+    let size = size_of(alloc, subject, shapes)?;
+    let width = size.columns.width();
     let heading = heading_of(alloc, subject, shapes, width)?;
     let more = heading.beyond();
-    let height = top_of(extent.rows)
-        .saturating_add(legend_height(extent.entries))
+    let height = top_of(size.rows)
+        .saturating_add(legend_height(size.entries))
         .saturating_add(more);
     let mut out = Vec::new(alloc);
     push_size(&mut out, width, height)?;
@@ -232,7 +236,7 @@ fn inside_of(alloc: Global, subject: Subject<'_>, shapes: &[Shape]) -> Result<Ve
     push(&mut out, b"<g transform='translate(0 ")?;
     push_number(&mut out, more)?;
     push(&mut out, b")'>\n")?;
-    push_body(&mut out, alloc, subject, extent, shapes)?;
+    push_body(&mut out, alloc, subject, size, shapes)?;
     push(&mut out, b"</g>\n")?;
     Ok(out)
 }
@@ -243,7 +247,7 @@ pub fn write_shapes(
     out: &mut Vec<u8>,
     session: &Session,
     report: &Report,
-    told: &Told,
+    told: &TopicStory,
     shapes: &[Shape],
 ) -> Result<(), AllocError>
     ensures { OnOk result ((text : List ℕ) × IsSvg text × (out.new.items ≡ out.old.items ++ text)) }

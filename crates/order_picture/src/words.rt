@@ -6,7 +6,7 @@ use crate::heading::Subject;
 use crate::headings::OrderShown;
 use crate::records::Name;
 use crate::signs::Sign;
-use merge_runs::{Taken, all_of};
+use merge_runs::{TakenCounts, all_of};
 use migration_types::{Session, logs};
 use session_story::{push_record, push_wait};
 use std::alloc::{AllocError, Global};
@@ -32,7 +32,7 @@ fn push_many(out: &mut Vec<u8>, count: u64, one: &[u8]) -> Result<(), AllocError
 }
 
 /// Returns how many records these counts make.
-fn sum_of(counts: &Taken) -> u64 {
+fn sum_of(counts: &TakenCounts) -> u64 {
     let mut sum: u64 = 0;
     for log in logs() {
         sum = sum.saturating_add(counts.of(log) as u64);
@@ -42,7 +42,7 @@ fn sum_of(counts: &Taken) -> u64 {
 
 /// Appends how many records these counts make, and how many each log has that has some, as in "15 records: guest 12,
 /// link 3".
-pub(crate) fn push_records(out: &mut Vec<u8>, counts: &Taken) -> Result<(), AllocError> {
+pub(crate) fn push_records(out: &mut Vec<u8>, counts: &TakenCounts) -> Result<(), AllocError> {
     push_many(out, sum_of(counts), b" record")?;
     let mut before: &[u8] = b": ";
     for log in logs() {

@@ -7,7 +7,7 @@ use Rattle.migration_types.specs.declared.pages.InitPage.{InitPage}
 use Rattle.migration_types.specs.Extents.{Extent}
 use Rattle.migration_types.specs.Memory.{Memory, initial, with_content}
 use Rattle.migration_types.specs.Sessions.{Recorded}
-use Rattle.page_facts.specs.declared.range.Seen.{Seen}
+use Rattle.page_facts.specs.declared.range.PageState.{PageState}
 use Rattle.page_facts.specs.declared.range.Range.{Range}
 use Rattle.page_facts.specs.Ranges.{IsRange}
 use Rattle.page_facts.specs.Begun.{AreBegun, IsGiven}
@@ -56,9 +56,9 @@ begun_range s first count g le was = record {
         let lt = slice_get_within g.seen.items k v at in
         record {
           memory = was.each k (let m = was.many in omega (arith, lt, m)) ∙ ap (λ f. initial s.init (f + k)) (sym was.first_is);
-          released = ap (λ (x : Seen). x.released) is;
-          wrong = ap (λ (x : Seen). x.wrong) is;
-          touch = ap (λ (x : Seen). x.touch) is;
+          released = ap (λ (x : PageState). x.released) is;
+          wrong = ap (λ (x : PageState). x.wrong) is;
+          touch = ap (λ (x : PageState). x.touch) is;
         };
   };
 }

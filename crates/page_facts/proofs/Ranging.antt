@@ -16,7 +16,7 @@ use Rattle.migration_types.specs.Paged.{guest_page}
 use Rattle.migration_types.specs.Paged.{of_page, is_page}
 use Rattle.page_facts.specs.Tables.{or_here, first_before}
 use Rattle.page_facts.specs.Judged.{is_late_touch}
-use Rattle.page_facts.specs.declared.range.Seen.{Seen}
+use Rattle.page_facts.specs.declared.range.PageState.{PageState}
 use Rattle.page_facts.specs.declared.range.Range.{Range}
 use Rattle.page_facts.specs.Ranges.{cells_by, released_by, wrong_at, IsSeen, IsSeenOn, touch_at, memory_by, IsStepOn, AreSeen}
 use Rattle.page_facts.proofs.Framing.{flat_same, ledger_same, wrong_same, flat_on, ledger_on, wrong_on}
@@ -107,7 +107,7 @@ module _ (s : Recorded) (page n : ℕ) (r : GuestRec) (is : slice_get s.guest n 
       go (See k) e = sym (noted_none old n)
 
   -- a record of another page leaves all as it was
-  seen_same : of_page guest_page page r ≡ false → (cells : ℕ → ℕ) (v : Seen) → IsSeen s page n cells v → IsSeen s page (suc n) cells v
+  seen_same : of_page guest_page page r ≡ false → (cells : ℕ → ℕ) (v : PageState) → IsSeen s page n cells v → IsSeen s page (suc n) cells v
   seen_same other cells v was =
       let le : n ≤ suc n = omega arith in
       record {
@@ -121,7 +121,7 @@ module _ (s : Recorded) (page n : ℕ) (r : GuestRec) (is : slice_get s.guest n 
       none k a b = let e : n ≡ k = omega (arith, a, b) in subst (λ j. passes (of_page guest_page page) (slice_get s.guest j) ≡ false) e (ap (λ o. passes (of_page guest_page page) o) is ∙ other)
 
   -- a record of the page
-  seen_on : (late : Bool) → late ≡ is_target (home s n) → of_page guest_page page r ≡ true → (cells : ℕ → ℕ) (v w : Seen) → IsSeen s page n cells v → IsSeenOn r n late cells v w → IsSeen s page (suc n) (cells_by r cells) w
+  seen_on : (late : Bool) → late ≡ is_target (home s n) → of_page guest_page page r ≡ true → (cells : ℕ → ℕ) (v w : PageState) → IsSeen s page n cells v → IsSeenOn r n late cells v w → IsSeen s page (suc n) (cells_by r cells) w
   seen_on late at own cells v w was on = record {
     memory = ap (λ (m : ℕ → ℕ). cells_by r m) was.memory ∙ flat_on s page n r is own;
     released = on.released ∙ ap (λ b. released_by r b) was.released ∙ ledger_on s page n r is own;
@@ -130,8 +130,8 @@ module _ (s : Recorded) (page n : ℕ) (r : GuestRec) (is : slice_get s.guest n 
   }
 
 -- the same in other words
-seen_as : (s : Recorded) (p q n m : ℕ) (cells more : ℕ → ℕ) (v w : Seen) → p ≡ q → n ≡ m → cells ≡ more → v ≡ w → IsSeen s p n cells v → IsSeen s q m more w
-seen_as s p q n m cells more v w a b c d h = subst (λ k. IsSeen s k m more w) a (subst (λ k. IsSeen s p k more w) b (subst (λ (f : ℕ → ℕ). IsSeen s p n f w) c (subst (λ (x : Seen). IsSeen s p n cells x) d h)))
+seen_as : (s : Recorded) (p q n m : ℕ) (cells more : ℕ → ℕ) (v w : PageState) → p ≡ q → n ≡ m → cells ≡ more → v ≡ w → IsSeen s p n cells v → IsSeen s q m more w
+seen_as s p q n m cells more v w a b c d h = subst (λ k. IsSeen s k m more w) a (subst (λ k. IsSeen s p k more w) b (subst (λ (f : ℕ → ℕ). IsSeen s p n f w) c (subst (λ (x : PageState). IsSeen s p n cells x) d h)))
 
 -- ---- all pages of the range
 
@@ -166,10 +166,10 @@ module _ (s : Recorded) (n : ℕ) (r : GuestRec) (is : slice_get s.guest n ≡ S
       page_is : (q : ℕ) → of_page guest_page q r ≡ (p == q)
       page_is q = ap (λ o. is_page o q) of
 
-      by : (j : ℕ) (v : Seen) → slice_get new.seen.items j ≡ Some v → (b : Bool) → (k == j) ≡ b → IsSeen s (new.first + j) (n + 1) (memory_of new.cells j) v
+      by : (j : ℕ) (v : PageState) → slice_get new.seen.items j ≡ Some v → (b : Bool) → (k == j) ≡ b → IsSeen s (new.first + j) (n + 1) (memory_of new.cells j) v
       by j v stands true e =
           let same : k ≡ j = eqb-true k j e in
-          let set : slice_get (slice_set old.seen.items k on.next) k ≡ Some v = ap (λ (xs : List Seen). slice_get xs k) (sym on.seen) ∙ ap (λ i. slice_get new.seen.items i) same ∙ stands in
+          let set : slice_get (slice_set old.seen.items k on.next) k ≡ Some v = ap (λ (xs : List PageState). slice_get xs k) (sym on.seen) ∙ ap (λ i. slice_get new.seen.items i) same ∙ stands in
           let h = set_here old.seen.items k on.next v set in
           let own : of_page guest_page (old.first + k) r ≡ true = page_is (old.first + k) ∙ eq-eqb p (old.first + k) here in
           let place : old.first + k ≡ new.first + j = let f = on.first in omega (arith, f, same) in
@@ -178,7 +178,7 @@ module _ (s : Recorded) (n : ℕ) (r : GuestRec) (is : slice_get s.guest n ≡ S
           (seen_on s (old.first + k) n r is old.late at own (memory_of old.cells k) h.0 on.next (was.each k h.0 h.1) (on.on h.0 h.1))
       by j v stands false e =
           let ne : k ≢ j = λ same. absurd (let t = eq-eqb k j same in cc) in
-          let before : slice_get old.seen.items j ≡ Some v = sym (set_other old.seen.items k j on.next ne) ∙ ap (λ (xs : List Seen). slice_get xs j) (sym on.seen) ∙ stands in
+          let before : slice_get old.seen.items j ≡ Some v = sym (set_other old.seen.items k j on.next ne) ∙ ap (λ (xs : List PageState). slice_get xs j) (sym on.seen) ∙ stands in
           let far : p ≢ old.first + j = λ same. ne (omega (arith, same, here)) in
           let other : of_page guest_page (old.first + j) r ≡ false = page_is (old.first + j) ∙ unlike p (old.first + j) far in
           let place : old.first + j ≡ new.first + j = let f = on.first in omega (arith, f) in

@@ -46,15 +46,15 @@ pub trait JudgesEntries {
 
 /// The calling thread alone, page after page. It waits for nobody.
 #[derive(Clone, Copy)]
-pub struct Alone;
+pub struct OneThread;
 
-impl<Q: Question> Judges<Q> for Alone {
+impl<Q: Question> Judges<Q> for OneThread {
     fn ask(&self, question: &Q, alloc: Global, session: &Session) -> Result<Q::Answer, AllocError> {
         answer_alone(question, alloc, session)
     }
 }
 
-impl JudgesEntries for Alone {
+impl JudgesEntries for OneThread {
     fn first_wrong_entry(
         &self,
         alloc: Global,

@@ -25,7 +25,7 @@ mod right_entry;
 
 pub use facts::{PageFacts, facts_of};
 pub use findings::Findings;
-pub use judges::{Alone, InThreads, Judges, JudgesEntries, is_small};
+pub use judges::{InThreads, Judges, JudgesEntries, OneThread, is_small};
 pub use machine::halt_place;
 pub use page_fault::{FirstFault, PageFault, fault_of, first_of_pages_is_first, first_page_fault};
 pub use question::{Question, answer_apart};

@@ -7,7 +7,7 @@ ghost use Rattle.page_facts.specs.Ranges.{AreSeen, IsRange};
 ghost use Rattle.page_facts.specs.RangeFindings.{AreReleased, IsJudged};
 ghost use Rattle.page_facts.specs.Findings.{IsFindings};
 
-use crate::findings::{Findings, Placed, Sent, findings_at};
+use crate::findings::{Findings, Placed, WrongSends, findings_at};
 use crate::looks::first_looks;
 use crate::machine::halt_place;
 use crate::range::{Range, run_range};
@@ -18,13 +18,13 @@ use std::alloc::{AllocError, Global};
 
 /// What is known about the pages of a range once all logs are read.
 #[derive(Drop)]
-pub struct Judged {
+pub struct RangeFacts {
     /// What was seen of each at the end.
     pub range: Range,
     /// Whether each was released at the halt.
     pub released: Vec<bool>,
     /// What was sent of each.
-    pub sent: Sent,
+    pub sent: WrongSends,
     /// What was placed of each.
     pub placed: Placed,
 }
@@ -52,7 +52,11 @@ pub(crate) fn item_at<T: Copy>(column: &Vec<T>, index: usize) -> T
 }
 
 /// Returns what all logs say about the pages of a range that is as at the start. Fails only if memory runs out.
-fn judge_from_start(alloc: Global, session: &Session, start: Range) -> Result<Judged, AllocError>
+fn judge_from_start(
+    alloc: Global,
+    session: &Session,
+    start: Range,
+) -> Result<RangeFacts, AllocError>
     requires limits { IsSession session.now }
     requires start { IsRange session.now 0 start }
     ensures judged { IfOk result (IsJudged session.now) }
@@ -63,12 +67,12 @@ fn judge_from_start(alloc: Global, session: &Session, start: Range) -> Result<Ju
     let halt = halt_place(session.guest());
     run_range(session, &mut range, 0, halt);
     let released = released_of(session, alloc, &range)?;
-    let mut sent = Sent::none(alloc, session, &range)?;
+    let mut sent = WrongSends::none(alloc, session, &range)?;
     run_source(session, &range, &mut sent);
     let mut placed = Placed::none(alloc, session, &range)?;
     run_pager(session, &range, &mut placed);
     run_range(session, &mut range, halt, session.guest().len());
-    Ok(Judged {
+    Ok(RangeFacts {
         range,
         released,
         sent,
@@ -83,7 +87,7 @@ pub(crate) fn judge_range(
     session: &Session,
     first: usize,
     count: usize,
-) -> Result<Judged, AllocError>
+) -> Result<RangeFacts, AllocError>
     requires limits { IsSession session.now }
     requires some { 0 < count }
     requires within { first + count ≤ session.now.geometry.pages }

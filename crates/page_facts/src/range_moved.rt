@@ -6,7 +6,7 @@ ghost use Rattle.audit_model.specs.Flat.{at_halt};
 ghost use Rattle.page_facts.specs.Ranges.{AreSeen};
 ghost use Rattle.page_facts.specs.Columns.{IsOutside, IsAt, AreSent, ArePlaced};
 
-use crate::findings::{Placed, Sent, take_place, take_send};
+use crate::findings::{Placed, WrongSends, take_place, take_send};
 use crate::range::Range;
 use migration_types::{PageNo, Session};
 
@@ -26,7 +26,7 @@ pub(crate) fn index_of(range: &Range, page: PageNo) -> Option<usize>
 }
 
 /// Takes in the source's records: what was sent of each page.
-pub(crate) fn run_source(session: &Session, range: &Range, sent: &mut Sent)
+pub(crate) fn run_source(session: &Session, range: &Range, sent: &mut WrongSends)
     requires limits { IsSession session.now }
     requires halted { AreSeen session.now (at_halt session.now) range.now }
     requires sent { AreSent session.now range.now 0 sent.old }

@@ -6,7 +6,7 @@ ghost use Rattle.migration_types.specs.Sessions.{IsSession};
 ghost use Rattle.page_facts.specs.Ranges.{IsRange};
 ghost use Rattle.page_facts.specs.Begun.{AreBegun, IsGiven, AreUnseen};
 
-use crate::range::{Range, Seen};
+use crate::range::{PageState, Range};
 use crate::range_moved::index_of;
 use migration_types::{Geometry, InitPage, PageNo, Session};
 use page_store::Store;
@@ -42,11 +42,11 @@ fn give(range: &mut Range, given: &InitPage)
 }
 
 /// Returns rows for this many pages with nothing seen. Fails only if memory runs out.
-fn unseen_for(alloc: Global, count: usize) -> Result<Vec<Seen>, AllocError>
+fn unseen_for(alloc: Global, count: usize) -> Result<Vec<PageState>, AllocError>
     ensures many { IfOk result (λ seen. length seen.items ≡ count) }
     ensures unseen { IfOk result (λ seen. AreUnseen seen.items) }
 {
-    let unseen = Seen {
+    let unseen = PageState {
         released: false,
         wrong: None,
         touch: None,

@@ -1,15 +1,19 @@
 //! Records migrations, and audits recorded sessions.
 //!
-//! `postcopy check SESSION CERT` reads the two texts and writes one line, the verdict. `certify SESSION` writes the certificate
-//! of a session, `audit SESSION` the report on it, `explain SESSION` in words what the report's first line comes from, and
-//! `replay SESSION RUNS` what becomes of a merging. `draw SESSION` draws a session's records. `steps SCRIPT EVENTS` writes the
-//! session that events record of a script, and `migrate SCRIPT` migrates the script's guest in threads and writes the session
-//! that was recorded, and its certificate after it; `window RECORDING FIRST COUNT` writes the session of some pages of a recording
-//! of any size. With `-o FILE` these three write a file. A file named `-` is standard input;
-//! where two are, the first text ends with the first line `end`. With no word it does `check - -`. The status is 0 where all is
-//! well, 1 for another answer, 2 for words that are no command, 3 for a file, a link or an output that failed, and 4 where
-//! memory ran out. Standard error tells what failed, why a text is refused, and what of a certificate does not fit. An output
-//! whose reader goes away, as `head` does, has not failed: the rest is dropped.
+//! `postcopy check SESSION CERT` reads the two texts and writes one line, the verdict. `certify SESSION` writes the
+//! certificate of a session, `audit SESSION` the report on it, and `explain SESSION` the story that the report's first
+//! line sums up, in words. `replay SESSION RUNS` writes the outcome of a merging. `draw SESSION` draws a session's
+//! records. `steps SCRIPT EVENTS` writes the session that events record from a script. `migrate SCRIPT` migrates the
+//! script's guest in threads, and writes the session that was recorded, followed by its certificate. `window RECORDING
+//! FIRST COUNT` writes the session of some pages of a recording of any size. With `-o FILE` the answer goes to a file.
+//!
+//! A file named `-` is standard input. If two files are, the first text ends with the first line `end`. Without words,
+//! the program does `check - -`.
+//!
+//! The status is 0 if all is well, 1 for any other answer, 2 for words that are no command, 3 for a file, a link, a
+//! thread or an output that failed, and 4 if memory ran out. Standard error says what failed, why a text is refused,
+//! and which part of a certificate does not fit. It is no failure of the output if its reader closes it, as `head`
+//! does: the rest is dropped.
 #![tactic(auto)]
 
 ghost use Rattle.std.specs.Prelude.{◌≤◌};
@@ -71,7 +75,7 @@ fn slices<'a>(alloc: Global, words: &'a [String]) -> Result<Vec<&'a str>, AllocE
     words.iter().map(|word| word.as_str()).collect(alloc)
 }
 
-// The bytes of a word, of which the first is the program's own name, or none where there are no more.
+// Returns the bytes of a word, or `None` if there are no more words. The first word is the program's own name.
 fn word_bytes<R: Env>(rt: &R, alloc: Global, number: usize) -> Result<Option<Vec<u8>>, AllocError> {
     let mut room = 256_usize;
     for _ in 0..usize::BITS {
@@ -88,7 +92,7 @@ fn word_bytes<R: Env>(rt: &R, alloc: Global, number: usize) -> Result<Option<Vec
     Err(AllocError)
 }
 
-// Adds which word is the first that is not UTF-8.
+// Appends which word is the first that is not UTF-8.
 fn push_wrong_word<R: Env>(rt: &R, alloc: Global, out: &mut String) -> Result<(), AllocError> {
     for number in 0..usize::MAX {
         let Some(bytes) = word_bytes(rt, alloc, number)? else {
@@ -103,7 +107,7 @@ fn push_wrong_word<R: Env>(rt: &R, alloc: Global, out: &mut String) -> Result<()
     out.push('\n')
 }
 
-// Tells which word is not UTF-8.
+// Reports which word is not UTF-8.
 fn tell_wrong_word<R: Env, E: Write>(rt: &R, alloc: Global, errors: &mut E) {
     let mut told = String::new(alloc);
     if push_wrong_word(rt, alloc, &mut told).is_ok() {
@@ -111,7 +115,7 @@ fn tell_wrong_word<R: Env, E: Write>(rt: &R, alloc: Global, errors: &mut E) {
     }
 }
 
-// Tells why the words were not had.
+// Reports why the words could not be read.
 fn refuse_words<R: Env, E: Write>(rt: &R, alloc: Global, error: &io::Error, errors: &mut E) -> u8
     ensures { (2 ≤ result) × (result ≤ 4) }
 {
@@ -122,7 +126,7 @@ fn refuse_words<R: Env, E: Write>(rt: &R, alloc: Global, error: &io::Error, erro
     USAGE
 }
 
-// Answers to the words, and writes the answer to this output. The table of a window's lines is put into `lines`.
+// Does what the words ask for, and writes the answer to this output. Puts the table of a window's lines into `lines`.
 fn answer<R, O: Write, E: Write>(
     rt: &R,
     alloc: Global,
@@ -148,7 +152,7 @@ where
     run(&mut console, reading, lines)
 }
 
-// Why an answer was not put where it goes.
+// Returns the fault for an answer that could not be written to its file.
 fn put_fault<'a>(name: &'a str, error: &io::Error) -> Fault<'a> {
     if error.kind() == ErrorKind::OutOfMemory {
         Fault::Memory
@@ -186,7 +190,7 @@ fn write<O: Write>(text: &[u8], output: &mut O) -> Result<(), Fault<'static>> {
     }
 }
 
-// Gives a text its name, where it has a file, or else writes it to the output.
+// Writes a text to the file with this name, if there is one, or else to the output.
 fn keep_or_write<'a, R: Files + RandomSource, O: Write>(
     rt: &R,
     alloc: Global,
@@ -208,8 +212,9 @@ struct Written {
     table: Option<Vec<u8>>,
 }
 
-// Puts an answer where it goes: into the file of its name or else to the output, and the table of lines into its file. Each has all
-// of it or stays as it was, and the file of the table does where the answer goes nowhere.
+// Writes an answer to the file that is named for it, or else to the output, and writes the table of lines to its file.
+// Each file gets all of its text or stays as it was. The table's file stays as it was if the answer could not be
+// written.
 fn put<'a, R: Files + RandomSource, O: Write>(
     rt: &R,
     alloc: Global,
@@ -230,7 +235,8 @@ fn put<'a, R: Files + RandomSource, O: Write>(
     }
 }
 
-// Answers to the words. The answer goes where they say, where one with its status does, and else to the output.
+// Does what the words ask for. The answer goes to the file that the words name, if an answer with its status goes to a
+// file, and else to the output.
 fn answer_into<R, O: Write, E: Write>(
     rt: &R,
     alloc: Global,
@@ -255,7 +261,7 @@ where
     }
 }
 
-// Whether the two files that the words name are one, as far as it can be told.
+// Returns whether the two files that the words name are the same file, as far as it can be known.
 fn are_one<R: Files>(rt: &R, alloc: Global, targets: Targets<'_>) -> io::Result<bool> {
     match (targets.lines, targets.output) {
         (Some(lines), Some(output)) => is_one_file(rt, alloc, lines, output),
@@ -263,13 +269,13 @@ fn are_one<R: Files>(rt: &R, alloc: Global, targets: Targets<'_>) -> io::Result<
     }
 }
 
-// Tells that the two files that the words name are one.
+// Reports that the two files that the words name are the same file.
 fn refuse_targets<E: Write>(errors: &mut E) -> u8 {
     let _ = errors.write_all(b"error: --lines and --output name one file\n");
     USAGE
 }
 
-// Answers to the words, and writes the answer where they say.
+// Does what the words ask for, and writes the answer where they say.
 fn answer_to<R, O: Write, E: Write>(
     rt: &R,
     alloc: Global,
@@ -293,7 +299,7 @@ where
     match are_one(rt, alloc, targets) {
         Ok(true) => refuse_targets(errors),
         Err(error) if error.kind() == ErrorKind::OutOfMemory => tell(Fault::Memory, errors),
-        // Where it cannot be told, it is told by the writing that fails.
+        // If it cannot be known, the writing fails and says so.
         Ok(false) | Err(_) => answer_into(rt, alloc, reading, targets, output, errors),
     }
 }

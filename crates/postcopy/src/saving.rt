@@ -1,4 +1,4 @@
-//! Files that have an answer whole, or stay as they were.
+//! Files that get the whole answer, or stay as they were.
 
 use std::alloc::{AllocError, Global};
 use std::fs::{self, Metadata, OpenFile, OpenOptions, Permissions};
@@ -8,28 +8,28 @@ use std::path::PathBuf;
 use std::random::RandomSource;
 use std::rt::Files;
 
-/// The most links that lead to a file: the system follows no more.
+/// The most links that lead to a file. The system follows no more.
 const MOST_LINKS: u32 = 40;
 
-/// The most names that are tried for a draft.
+/// The most names to try for a draft.
 const MOST_NAMES: u32 = 64;
 
-/// Who may read, write and run a file that is new, as far as the process's mask lets them.
+/// The mode of a new file, before the process's mask.
 const NEW_MODE: u32 = 0o666;
 
-/// The bits of a mode that tell who may read, write and run the file.
+/// The permission bits of a mode.
 const MODE_BITS: u32 = 0o777;
 
 // Where a name leads.
 #[derive(Drop)]
 enum Place {
-    // To a plain file, or to none yet. The name is no link.
+    // To a regular file, or to none yet. The name is no link.
     Named(PathBuf, Option<Metadata>),
-    // To what keeps its place: a device, a pipe, a folder, or an open file of a process.
+    // To something that is written in place: a device, a pipe, a folder, or an open file of a process.
     Fixed,
 }
 
-// Whether a link is one of a process to its open files, as `/dev/stdout` leads to one.
+// Returns whether a link is one of those from a process to its open files. `/dev/stdout` leads to one of those.
 fn is_of_process<F: Files>(files: &F, link: &Metadata) -> bool {
     match fs::metadata(files, "/proc") {
         Ok(found) => found.dev() == link.dev(),
@@ -37,7 +37,7 @@ fn is_of_process<F: Files>(files: &F, link: &Metadata) -> bool {
     }
 }
 
-// Where a name leads, behind all links.
+// Returns where a name leads, after all links are followed.
 fn place_of<F: Files>(files: &F, alloc: Global, name: &str) -> io::Result<Place> {
     let mut at = PathBuf::from_str(alloc, name)?;
     for _ in 0..MOST_LINKS {
@@ -60,14 +60,14 @@ fn place_of<F: Files>(files: &F, alloc: Global, name: &str) -> io::Result<Place>
     Err(io::Error::from(ErrorKind::FilesystemLoop))
 }
 
-// Whether two names are those of one folder. The name of the folder that the process is in is empty.
+// Returns whether two names are those of the same folder. The name of the current folder is empty.
 fn is_one_folder<F: Files>(files: &F, one: &str, other: &str) -> io::Result<bool> {
     let one = fs::metadata(files, if one == "" { "." } else { one })?;
     let other = fs::metadata(files, if other == "" { "." } else { other })?;
     Ok(one.dev() == other.dev() && one.ino() == other.ino())
 }
 
-// Whether two names, which are no links, are the same name in the same folder.
+// Returns whether two names, which are no links, are the same name in the same folder.
 fn is_one_name<F: Files>(files: &F, one: &PathBuf, other: &PathBuf) -> io::Result<bool> {
     if one.file_name() != other.file_name() {
         return Ok(false);
@@ -78,8 +78,8 @@ fn is_one_name<F: Files>(files: &F, one: &PathBuf, other: &PathBuf) -> io::Resul
     }
 }
 
-/// Whether two names lead to one file, as far as it can be told: they are equal, or behind all links they are the same name in
-/// the same folder.
+/// Returns whether two names lead to the same file, as far as it can be known: they are equal, or, after all links are
+/// followed, they are the same name in the same folder.
 pub fn is_one_file<F: Files>(files: &F, alloc: Global, one: &str, other: &str) -> io::Result<bool> {
     if one == other {
         return Ok(true);
@@ -90,20 +90,20 @@ pub fn is_one_file<F: Files>(files: &F, alloc: Global, one: &str, other: &str) -
     }
 }
 
-// A number that nobody guesses.
+// Returns a number that nobody can guess.
 fn random_number<R: RandomSource>(random: &R) -> io::Result<u64> {
     let mut bytes = [0; 8];
     random.fill_bytes(&mut bytes)?;
     Ok(u64::from_le_bytes(bytes))
 }
 
-// The name of a draft in the folder of a file.
+// Returns the name of a draft in the folder of a file.
 fn draft_name(alloc: Global, name: &PathBuf, number: u64) -> Result<PathBuf, AllocError> {
     let draft = format!(in alloc; ".postcopy-{number:016x}.part")?;
     name.with_file_name(alloc, draft.as_str())
 }
 
-// A new file in the folder of another, under a name that nothing had.
+// Creates a file in the folder of another, under a name that did not exist.
 fn created<F: Files + RandomSource>(
     files: &F,
     alloc: Global,
@@ -126,7 +126,7 @@ fn created<F: Files + RandomSource>(
     Err(io::Error::from(ErrorKind::AlreadyExists))
 }
 
-// Gives a draft the owner and the group of the file whose name it gets, where the process may, or else the group alone.
+// Gives a draft the owner and the group of the file that it replaces. If the process may not, it tries the group alone.
 fn keep_owner<F: Files>(files: &F, draft: &PathBuf, old: &Metadata, new: &Metadata) {
     if old.uid() == new.uid() && old.gid() == new.gid() {
         return;
@@ -137,7 +137,7 @@ fn keep_owner<F: Files>(files: &F, draft: &PathBuf, old: &Metadata, new: &Metada
     }
 }
 
-// Gives a draft what the file whose name it gets has beside its text: its owner, as far as it can be, and its mode.
+// Gives a draft the mode of the file that it replaces, and its owner, as far as possible.
 fn keep_access<F: Files>(
     files: &F,
     draft: &PathBuf,
@@ -152,7 +152,7 @@ fn keep_access<F: Files>(
     file.set_permissions(Permissions::from_mode(mode))
 }
 
-// Writes a draft, and waits until it is kept.
+// Writes a draft, and waits until the system has stored it.
 fn write_draft<F: Files>(
     files: &F,
     draft: &PathBuf,
@@ -167,7 +167,7 @@ fn write_draft<F: Files>(
     file.sync_all()
 }
 
-// Writes to what keeps its place. An open file of a process is gone on with.
+// Writes to something that is written in place. Appends to an open file of a process.
 fn write_fixed<F: Files>(files: &F, name: &str, text: &[u8]) -> io::Result<()> {
     let goes_on = fs::metadata(files, name)?.is_file();
     OpenOptions::new()
@@ -177,18 +177,18 @@ fn write_fixed<F: Files>(files: &F, name: &str, text: &[u8]) -> io::Result<()> {
         .write_all(text)
 }
 
-/// A text that is written, and gets its name by [`Draft::keep`].
+/// A text that has been written, and gets its name with [`Draft::keep`].
 #[derive(Drop)]
 pub enum Draft {
-    /// It stands under the first of these names, and gets the second.
+    /// It has the first of these names, and gets the second.
     Part(PathBuf, PathBuf),
-    /// It was written to what keeps its place.
+    /// It was written in place.
     Written,
 }
 
 impl Draft {
-    /// Writes a text that is to get this name. It stands in the same folder under a name of its own until it gets this one. What
-    /// has its own place, as a device or a pipe, is written at once.
+    /// Writes a text that is to get this name. Until then it has a name of its own in the same folder. If the name
+    /// leads to something that is written in place, such as a device or a pipe, writes to that at once.
     pub fn new<F: Files + RandomSource>(
         files: &F,
         alloc: Global,
@@ -216,7 +216,7 @@ impl Draft {
         }
     }
 
-    /// Gives the text its name. Where that fails it is removed.
+    /// Gives the text its name. If that fails, removes the text.
     pub fn keep<F: Files>(self, files: &F) -> io::Result<()> {
         let Draft::Part(draft, name) = &self else {
             return Ok(());

@@ -1,8 +1,8 @@
 -- What the kind of an answer says that is held to a complete session, by the kind of the answer before.
 use Rattle.std.proofs.Common.{◌≡◌, ◌≢◌, ◌⊎◌, inl, inr, ℕ, List, ap, sym, ◌∙◌, arith}
 use Rattle.audit_report.specs.declared.report.Report.TheVariants as report
-use Rattle.judged_texts.specs.declared.auditing.Audited.{Audited}
-use Rattle.judged_texts.specs.declared.auditing.Audited.TheVariants.{Refused, Reported}
+use Rattle.judged_texts.specs.declared.auditing.TextAudit.{TextAudit}
+use Rattle.judged_texts.specs.declared.auditing.TextAudit.TheVariants.{Refused, Reported}
 use Rattle.judged_texts.specs.Audited.{IsSafeExactlyIf}
 use Rattle.judged_texts.specs.Checked.{OfSpelled}
 use Rattle.postcopy_c.specs.declared.answer.PostcopyAnswer.{PostcopyAnswer}
@@ -14,7 +14,7 @@ use Rattle.postcopy_c.specs.Showings.{IsShownAnswer, SaysSafe}
 abbrev pub IsKept : ℕ → ℕ → Type 0
 IsKept before after = (after ≡ before) ⊎ ((before ≡ 2) × (after ≡ 17))
 
-never_incomplete : (a : Audited) (text_len : ℕ) → (audited_numbers a text_len).kind ≢ 17
+never_incomplete : (a : TextAudit) (text_len : ℕ) → (audited_numbers a text_len).kind ≢ 17
 never_incomplete (Refused line) text_len e = omega (arith, e)
 never_incomplete (Reported (report.Clean cert)) text_len e = omega (arith, e)
 never_incomplete (Reported (report.Shape fault)) text_len e = omega (arith, e)

@@ -8,8 +8,8 @@ use Rattle.text_lines.specs.declared.FaultKind.{FaultKind}
 use Rattle.text_lines.specs.declared.FaultKind.TheVariants.{Form, Range, Ended, Memory}
 use Rattle.migration_types.specs.Sessions.{Recorded}
 use Rattle.session_log.specs.Grammar.{SpellsSession}
-use Rattle.judged_texts.specs.declared.auditing.Audited.{Audited}
-use Rattle.judged_texts.specs.declared.auditing.Audited.TheVariants.{Refused, Reported}
+use Rattle.judged_texts.specs.declared.auditing.TextAudit.{TextAudit}
+use Rattle.judged_texts.specs.declared.auditing.TextAudit.TheVariants.{Refused, Reported}
 use Rattle.postcopy_c.specs.declared.answer.PostcopyAnswer.{PostcopyAnswer}
 use Rattle.postcopy_c.specs.declared.showing.ShownAs.{ShownAs}
 use Rattle.postcopy_c.specs.declared.showing.Showing.{Showing}
@@ -23,21 +23,21 @@ use Rattle.postcopy_c.proofs.Joined.{nil_behind}
 use Rattle.postcopy_c.proofs.Zipped.{zipped_as}
 
 -- the audit alone
-abbrev pub audits : Result Showing AllocError → Result Audited AllocError
+abbrev pub audits : Result Showing AllocError → Result TextAudit AllocError
 audits (Ok showing) = Ok showing.audited
 audits (Err e) = Err e
 
-pub of_audits : (Holds : Audited → Type 0) (found : Result Showing AllocError) → IfOk (audits found) Holds → IfOk found (λ showing. Holds showing.audited)
+pub of_audits : (Holds : TextAudit → Type 0) (found : Result Showing AllocError) → IfOk (audits found) Holds → IfOk found (λ showing. Holds showing.audited)
 of_audits Holds (Ok showing) h = h
 of_audits Holds (Err e) h = tt
 
-pub to_audits : (Holds : Audited → Type 0) (found : Result Showing AllocError) → IfOk found (λ showing. Holds showing.audited) → IfOk (audits found) Holds
+pub to_audits : (Holds : TextAudit → Type 0) (found : Result Showing AllocError) → IfOk found (λ showing. Holds showing.audited) → IfOk (audits found) Holds
 to_audits Holds (Ok showing) h = h
 to_audits Holds (Err e) h = tt
 
 pub showing_of : (asked : List ShownAs) (text : List ℕ) (s : Recorded) (found : Result Showing AllocError) → IsSpelling SpellsSession s text → IfOk found (IsShowingOf asked s) → IfOk found (IsShowing asked text)
 showing_of asked text s (Ok showing) spells is = record {
-  are_shown = subst (λ (a : Audited). AreShown asked text a (texts_of showing.texts)) (sym is.is_reported)
+  are_shown = subst (λ (a : TextAudit). AreShown asked text a (texts_of showing.texts)) (sym is.is_reported)
       (zipped_as (λ shown_as t. IsShownReport shown_as s is.report t) (λ shown_as t. IsShown shown_as text (Reported is.report) t) asked (texts_of showing.texts)
       (λ shown_as t shown. (s, spells, is.is_report, shown)) is.are_shown);
   measured = is.measured;
@@ -60,7 +60,7 @@ refusal_shown asked text line told kind held refused is shown measured = record 
 
 -- what is told of one thing that is asked
 module _ (shown_as : ShownAs) (session before after : List ℕ) (answer : PostcopyAnswer) where
-  tells_one : (audited : Audited) (texts : List (List ℕ)) → AreShown (shown_as ∷ []) session audited texts → answer ≡ audited_numbers audited (length (concat texts))
+  tells_one : (audited : TextAudit) (texts : List (List ℕ)) → AreShown (shown_as ∷ []) session audited texts → answer ≡ audited_numbers audited (length (concat texts))
       → IsPut (concat texts) before after → TellsShown shown_as session before after answer
   tells_one audited [] shown numbers put = absurd shown
   tells_one audited (text ∷ []) shown numbers put = record {

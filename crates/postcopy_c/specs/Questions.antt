@@ -1,11 +1,11 @@
--- What the call answers that takes several questions of one session.
+-- The answer of the call that takes several questions about one session.
 use Rattle.std.specs.Prelude.{◌≡◌, ◌⊎◌, ◌<◌, ℕ, List, length, Option, Some, None, Vec}
 use Rattle.std.specs.Global.{Global}
 use Rattle.std.specs.List.{AllZip, Contains, concat}
-use Rattle.completeness.specs.declared.missing.Extent.TheVariants.{Whole, Pages}
-use Rattle.judged_texts.specs.declared.auditing.Audited.{Audited}
-use Rattle.judged_texts.specs.declared.wanted.Wanted.TheVariants as wanted
-use Rattle.session_answers.specs.declared.forms.Form.TheVariants as form
+use Rattle.completeness.specs.declared.lack.Extent.TheVariants.{Whole, Pages}
+use Rattle.judged_texts.specs.declared.auditing.TextAudit.{TextAudit}
+use Rattle.judged_texts.specs.declared.audit_part.AuditPart.TheVariants as wanted
+use Rattle.session_answers.specs.declared.forms.AnswerForm.TheVariants as form
 use Rattle.session_answers.specs.declared.forms.Story.TheVariants as story
 use Rattle.session_story.specs.declared.topics.Topic.TheVariants as topic
 use Rattle.postcopy_c.specs.declared.answer.PostcopyAnswer.{PostcopyAnswer}
@@ -17,7 +17,7 @@ use Rattle.postcopy_c.specs.Answers.{IsPut}
 use Rattle.postcopy_c.specs.Texts.{ends_from}
 use Rattle.postcopy_c.specs.Showings.{AreShown}
 
--- The table of questions: what each asks to be shown, by its number, and about which page or line. No other number is a question's.
+-- The table of questions: what each number asks to be shown, and about which page or line. Any other number is unknown.
 pub record IsAsked (question : PostcopyQuestion) (asked : Option ShownAs) : Type 0 where
   pub audit : question.asks ≡ 1 → asked ≡ Some (Told (form.Lines wanted.Report))
   pub certify : question.asks ≡ 2 → asked ≡ Some (Told (form.Lines wanted.Certificate))
@@ -34,46 +34,46 @@ pub record IsAsked (question : PostcopyQuestion) (asked : Option ShownAs) : Type
   pub explain_object : question.asks ≡ 13 → asked ≡ Some (Told (form.Story story.Object))
   pub none : (question.asks ≡ 0) ⊎ (13 < question.asks) → asked ≡ None
 
--- what a list of questions asks to be shown, each in its place
+-- what each of these questions asks to be shown, in order
 abbrev pub AreAsked : List PostcopyQuestion → List ShownAs → Type 0
 AreAsked questions asked = AllZip (λ question shown_as. IsAsked question (Some shown_as)) questions asked
 
--- one of them has a number that is no question's
+-- one of the questions has an unknown number
 abbrev pub HasUnknown : List PostcopyQuestion → Type 0
 HasUnknown questions = (question : PostcopyQuestion) × Contains questions question × IsAsked question None
 
--- what the list asks, or nothing where one of them is unknown
+-- what each question asks to be shown, or `None` if one is unknown
 abbrev pub AsksAll : List PostcopyQuestion → Option (Vec ShownAs Global) → Type 0
 AsksAll questions (Some asked) = AreAsked questions asked.items
 AsksAll questions None = HasUnknown questions
 
--- The audit of the bytes is told by its numbers. The room has the texts that show it, one for each of what is asked and each behind
--- the one before, and the ends have the place where each ends.
+-- The audit of the bytes, in numbers. The room has the texts that show it, one for each question, one after another.
+-- The ends say where each text ends.
 pub record TellsAll (asked : List ShownAs) (session ends_before ends_after before after : List ℕ) (answer : PostcopyAnswer) : Type 0 where
-  pub audited : Audited
+  pub audited : TextAudit
   pub texts : List (List ℕ)
   pub are_shown : AreShown asked session audited texts
   pub are_numbers : answer ≡ audited_numbers audited (length (concat texts))
   pub is_put : IsPut (concat texts) before after
   pub are_ends : IsPut (ends_from 0 texts) ends_before ends_after
 
--- this alone is said, and nothing is written
+-- this is the whole answer, and nothing is written
 pub record SaysOnly (said : PostcopyAnswer) (ends_before ends_after before after : List ℕ) (answer : PostcopyAnswer) : Type 0 where
   pub are_numbers : answer ≡ said
   pub ends_stay : ends_after ≡ ends_before
   pub stays : after ≡ before
 
--- what is asked is told, or memory was refused
+-- what is asked, or memory ran out
 abbrev pub IsToldAll : List ShownAs → List ℕ → List ℕ → List ℕ → List ℕ → List ℕ → PostcopyAnswer → Type 0
 IsToldAll asked session ends_before ends_after before after answer =
     TellsAll asked session ends_before ends_after before after answer ⊎ SaysOnly no_memory ends_before ends_after before after answer
 
--- an answer to a list with an unknown question
+-- the answer to a list with an unknown question
 abbrev pub no_question : PostcopyAnswer
 no_question = numbers 18 0 0 0
 
--- What the questions ask is told, or that one of them is unknown, or memory was refused. Each text is that of the call that
--- takes this question alone.
+-- What the questions ask, or that one of them is unknown, or that memory ran out. Each text is that of the call for
+-- this question alone.
 abbrev pub AreAnswers : List PostcopyQuestion → List ℕ → List ℕ → List ℕ → List ℕ → List ℕ → PostcopyAnswer → Type 0
 AreAnswers questions session ends_before ends_after before after answer =
     ((asked : List ShownAs) × AreAsked questions asked × IsToldAll asked session ends_before ends_after before after answer)

@@ -1,4 +1,4 @@
--- Texts that stand one behind the other.
+-- Texts, one after another.
 use Rattle.std.specs.Prelude.{◌≡◌, ℕ, ◌+◌, List, [], ◌∷◌, length, map, Vec}
 use Rattle.std.specs.Global.{Global}
 use Rattle.std.specs.List.{concat}
@@ -8,12 +8,12 @@ use Rattle.postcopy_c.specs.declared.texts.Texts.{Texts}
 abbrev pub texts_of : Texts → List (List ℕ)
 texts_of held = map (λ (text : Vec ℕ Global). text.items) held.each.items
 
--- where each ends, where the first begins at this place
+-- where each text ends, if the first begins here
 unfoldable pub ends_from : ℕ → List (List ℕ) → List ℕ
 ends_from at [] = []
 ends_from at (text ∷ texts) = (at + length text) ∷ ends_from (at + length text) texts
 
--- it is known where they end, and how long they are together
+-- the ends and the total length are those of the texts
 pub record AreMeasured (held : Texts) : Type 0 where
   pub ends : held.ends.items ≡ ends_from 0 (texts_of held)
   pub whole : held.whole ≡ length (concat (texts_of held))

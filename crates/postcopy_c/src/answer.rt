@@ -11,24 +11,24 @@ use crate::kinds::{
 use crate::reasons::{number_of_page, number_of_shape};
 use audit_report::Report;
 use cert_check::{ShapeFault, Verdict};
-use judged_texts::{Audited, Outcome};
+use judged_texts::{Outcome, TextAudit};
 use std::alloc::AllocError;
 
-/// An answer as C has it.
+/// An answer, as C has it.
 #[repr(C)]
 #[derive(Clone, Copy)]
 pub struct PostcopyAnswer {
-    /// Which answer it is, by the numbers of `kinds`.
+    /// Which answer it is: a number of `kinds`.
     pub kind: u32,
-    /// The line of a text that the answer names, from 1 on, or 0.
+    /// The line of a text that the answer names, counted from 1, or 0.
     pub line: u32,
-    /// Why, by the numbers of `reasons`, or 0.
+    /// The reason: a number of `reasons`, or 0.
     pub reason: u32,
-    /// How many bytes the text of the answer has, whether or not there was room for it.
+    /// The length of the answer's text in bytes, whether or not it fits into the room.
     pub text_len: usize,
 }
 
-/// An answer of this kind, with a line or 0.
+/// Returns an answer of this kind, with a line or 0.
 fn at_line(kind: u32, line: u32, text_len: usize) -> PostcopyAnswer
     ensures { result ≡ numbers kind line 0 text_len }
 {
@@ -40,7 +40,7 @@ fn at_line(kind: u32, line: u32, text_len: usize) -> PostcopyAnswer
     }
 }
 
-/// The answer that a session has not the right shape.
+/// Returns the answer for a session that does not have the right shape.
 fn misshapen(fault: &ShapeFault, text_len: usize) -> PostcopyAnswer
     ensures { result ≡ numbers SHAPE fault.now.line (shape_number fault.now.reason) text_len }
 {
@@ -52,21 +52,21 @@ fn misshapen(fault: &ShapeFault, text_len: usize) -> PostcopyAnswer
     }
 }
 
-/// The answer where memory ran out.
+/// Returns the answer if memory ran out.
 pub(crate) fn out_of_memory() -> PostcopyAnswer
     ensures { result ≡ no_memory }
 {
     at_line(NO_MEMORY, 0, 0)
 }
 
-/// The answer where the number of a question is no question's.
+/// Returns the answer to a question with an unknown number.
 pub(crate) fn unknown_question() -> PostcopyAnswer
     ensures { result ≡ no_question }
 {
     at_line(NO_QUESTION, 0, 0)
 }
 
-/// The numbers of a verdict. Those of `Yes` are of no other.
+/// Returns the numbers of a verdict. No other verdict has those of `Yes`.
 pub(crate) fn verdict_answer(verdict: Result<Verdict, AllocError>) -> PostcopyAnswer
     ensures numbers { result ≡ verdict_numbers verdict }
     ensures only_yes { result.kind ≡ YES → verdict ≡ Ok Verdict.Yes }
@@ -83,7 +83,7 @@ pub(crate) fn verdict_answer(verdict: Result<Verdict, AllocError>) -> PostcopyAn
     }
 }
 
-/// The numbers of what becomes of a replay.
+/// Returns the numbers of the outcome of a replay.
 pub(crate) fn replay_answer(outcome: Result<Outcome, AllocError>) -> PostcopyAnswer
     ensures { result ≡ replay_numbers outcome }
 {
@@ -98,16 +98,16 @@ pub(crate) fn replay_answer(outcome: Result<Outcome, AllocError>) -> PostcopyAns
     }
 }
 
-/// The numbers of an audit whose text has so many bytes.
-pub(crate) fn audited_answer(audited: &Audited, text_len: usize) -> PostcopyAnswer
+/// Returns the numbers of an audit whose text has this length.
+pub(crate) fn audited_answer(audited: &TextAudit, text_len: usize) -> PostcopyAnswer
     ensures { result ≡ audited_numbers audited.now text_len }
 {
     match audited {
-        Audited::Refused(line) => at_line(SESSION_TEXT, *line, text_len),
-        Audited::Reported(Report::Clean(_)) => at_line(CLEAN, 0, text_len),
-        Audited::Reported(Report::Shape(fault)) => misshapen(fault, text_len),
-        Audited::Reported(Report::Knot { left, .. }) => at_line(KNOT, left.line, text_len),
-        Audited::Reported(Report::Faulty { line, fault, .. }) => PostcopyAnswer {
+        TextAudit::Refused(line) => at_line(SESSION_TEXT, *line, text_len),
+        TextAudit::Reported(Report::Clean(_)) => at_line(CLEAN, 0, text_len),
+        TextAudit::Reported(Report::Shape(fault)) => misshapen(fault, text_len),
+        TextAudit::Reported(Report::Knot { left, .. }) => at_line(KNOT, left.line, text_len),
+        TextAudit::Reported(Report::Faulty { line, fault, .. }) => PostcopyAnswer {
             kind: FAULTY,
             line: *line,
             reason: number_of_page(fault.reason),

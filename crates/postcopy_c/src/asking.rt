@@ -1,4 +1,4 @@
-//! Several questions of one session, which is read once and judged once.
+//! Several questions about one session, which is read once and judged once.
 
 ghost use Rattle.std.specs.Prelude.{◌≡◌, ◌≢◌, IfOk};
 ghost use Rattle.audit_model.specs.World.{IsSafe};
@@ -14,45 +14,45 @@ use crate::questions::{
 };
 use crate::showing::{ShownAs, tell_all};
 use completeness::Extent;
-use judged_texts::Wanted;
-use session_answers::{Form, Story};
+use judged_texts::AuditPart;
+use session_answers::{AnswerForm, Story};
 use session_story::Topic;
 use std::alloc::{AllocError, Global};
 
-/// A question of a session, as C has it.
+/// A question about a session, as C has it.
 #[repr(C)]
 #[derive(Clone, Copy)]
 pub struct PostcopyQuestion {
-    /// What is asked, by the numbers of `questions`.
+    /// What it asks: a number of `questions`.
     pub asks: u32,
-    /// The page, or the line of the session's text, that is asked about. A question about neither does not read it.
+    /// The page, or the line of the session's text, that it asks about. Other questions ignore it.
     pub about: u32,
 }
 
-/// What a question asks to be shown, or nothing where its number is no question's.
+/// Returns what a question asks to be shown, or `None` if its number is unknown.
 fn asked_by(question: &PostcopyQuestion) -> Option<ShownAs>
     ensures { IsAsked question.now result }
 {
     let about = question.about;
     Some(match question.asks {
-        AUDIT => ShownAs::Told(Form::Lines(Wanted::Report)),
-        CERTIFY => ShownAs::Told(Form::Lines(Wanted::Certificate)),
-        AUDIT_ALL => ShownAs::Told(Form::AllFaults),
+        AUDIT => ShownAs::Told(AnswerForm::Lines(AuditPart::Report)),
+        CERTIFY => ShownAs::Told(AnswerForm::Lines(AuditPart::Certificate)),
+        AUDIT_ALL => ShownAs::Told(AnswerForm::AllFaults),
         MISSING => ShownAs::Lack(Extent::Whole),
         MISSING_PAGES => ShownAs::Lack(Extent::Pages),
-        EXPLAIN => ShownAs::Told(Form::Story(Story::Words(Topic::Report))),
-        EXPLAIN_PAGE => ShownAs::Told(Form::Story(Story::Words(Topic::Page(about)))),
-        EXPLAIN_LINE => ShownAs::Told(Form::Story(Story::Words(Topic::Line(about)))),
+        EXPLAIN => ShownAs::Told(AnswerForm::Story(Story::Words(Topic::Report))),
+        EXPLAIN_PAGE => ShownAs::Told(AnswerForm::Story(Story::Words(Topic::Page(about)))),
+        EXPLAIN_LINE => ShownAs::Told(AnswerForm::Story(Story::Words(Topic::Line(about)))),
         DRAW => ShownAs::Picture(Topic::Report),
         DRAW_PAGE => ShownAs::Picture(Topic::Page(about)),
-        AUDIT_OBJECT => ShownAs::Told(Form::Object),
-        AUDIT_ALL_OBJECT => ShownAs::Told(Form::AllFaultsObject),
-        EXPLAIN_OBJECT => ShownAs::Told(Form::Story(Story::Object)),
+        AUDIT_OBJECT => ShownAs::Told(AnswerForm::Object),
+        AUDIT_ALL_OBJECT => ShownAs::Told(AnswerForm::AllFaultsObject),
+        EXPLAIN_OBJECT => ShownAs::Told(AnswerForm::Story(Story::Object)),
         _ => return None,
     })
 }
 
-/// What the questions ask to be shown, or nothing where the number of one is no question's.
+/// Returns what each question asks to be shown, or `None` if the number of one is unknown.
 fn asked_by_all(
     alloc: Global,
     questions: &[PostcopyQuestion],
@@ -69,7 +69,7 @@ fn asked_by_all(
     Ok(Some(asked))
 }
 
-/// Tells what the questions ask of the session that a text spells.
+/// Answers the questions about the session that a text spells.
 pub(crate) fn tell_answers(
     alloc: Global,
     session: &[u8],

@@ -1,4 +1,4 @@
-//! What a clean session lacks, told by numbers and by a line in the caller's room.
+//! What is missing from a clean session, as numbers and as a line in the caller's room.
 
 ghost use Rattle.std.specs.Prelude.{◌≡◌, ◌≢◌, ◌⊎◌};
 ghost use Rattle.audit_model.specs.World.{IsSafe};
@@ -12,7 +12,7 @@ use crate::showing::{ShownAs, tell_shown};
 use completeness::Extent;
 use std::alloc::Global;
 
-/// An answer, of another kind where a clean session lacks something.
+/// Returns an answer with another kind if something is missing from a clean session.
 fn held_to_complete(answer: &PostcopyAnswer) -> PostcopyAnswer
     ensures held { IsHeld answer.now result }
     ensures kinds { (result.kind ≡ answer.now.kind) ⊎ ((answer.now.kind ≡ CLEAN) × (result.kind ≡ INCOMPLETE)) }
@@ -29,7 +29,7 @@ fn held_to_complete(answer: &PostcopyAnswer) -> PostcopyAnswer
     }
 }
 
-/// Tells what the session that a text spells lacks, of what this extent asks for.
+/// Says what is missing for this extent from the session that a text spells: as an answer, and as a line in the room.
 pub(crate) fn tell_missing(
     alloc: Global,
     session: &[u8],

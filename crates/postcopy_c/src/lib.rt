@@ -1,4 +1,4 @@
-//! The checker, the auditor and the replay for callers in C and in whatever calls C. Their header is `postcopy.h`.
+//! The checker, the auditor and the replay, for C and any language that can call C. The header is `postcopy.h`.
 #![tactic(auto)]
 
 ghost use Rattle.std.specs.Prelude.{◌≡◌, ◌≢◌};
@@ -31,15 +31,15 @@ use crate::refusals::{PostcopyRefusal, tell_why};
 use crate::showing::{ShownAs, tell_shown};
 use crate::telling::tell_audit;
 use completeness::Extent;
-use judged_texts::{Wanted, check_texts_alone, replay_texts};
-use session_answers::{Form, Story};
+use judged_texts::{AuditPart, check_texts_alone, replay_texts};
+use session_answers::{AnswerForm, Story};
 use session_story::Topic;
 use std::alloc::Global;
 
-/// The version: 10,000 for each of its first number, 100 for each of its second, and its third.
+/// The version: 10,000 times its first number, plus 100 times its second, plus its third.
 pub const VERSION: u32 = 10_000;
 
-/// The verdict on the bytes of a session and of its certificate, as `judged_texts::check_texts_alone` has it.
+/// Returns the verdict on the bytes of a session and of its certificate, as `judged_texts::check_texts_alone` does.
 #[unsafe(no_mangle)]
 pub extern "C" fn postcopy_check(alloc: Global, session: &[u8], cert: &[u8]) -> PostcopyAnswer
     ensures verdict { IsVerdictAnswer session.now cert.now result }
@@ -56,7 +56,7 @@ pub extern "C" fn postcopy_check(alloc: Global, session: &[u8], cert: &[u8]) -> 
     verdict_answer(check_texts_alone(alloc, session, cert))
 }
 
-/// What becomes of the bytes of a session along the order that others tell, as `judged_texts::replay_texts` has it.
+/// Returns the outcome of the bytes of a session along an order that is given, as `judged_texts::replay_texts` does.
 #[unsafe(no_mangle)]
 pub extern "C" fn postcopy_replay(alloc: Global, session: &[u8], runs: &[u8]) -> PostcopyAnswer
     ensures answer { IsReplayAnswer session.now runs.now result }
@@ -64,50 +64,50 @@ pub extern "C" fn postcopy_replay(alloc: Global, session: &[u8], runs: &[u8]) ->
     replay_answer(replay_texts(alloc, session, runs))
 }
 
-/// The certificate of a session that is clean, and of another the first line of its report. The text stands at the front of
-/// the room where it fits, and its whole length is answered; where it does not fit the room stays as it was.
+/// Writes the certificate of a clean session, or for any other session the first line of its report. Returns the length
+/// of the whole text. The text is written to the front of the room if it fits. Otherwise the room stays as it was.
 #[unsafe(no_mangle)]
 pub extern "C" fn postcopy_certify(alloc: Global, session: &[u8], room: &mut [u8]) -> PostcopyAnswer
-    ensures told { IsAuditAnswer Wanted.Certificate session.now room.old room.new result }
+    ensures told { IsAuditAnswer AuditPart.Certificate session.now room.old room.new result }
     ensures one_session { result.kind ≢ SESSION_TEXT → result.kind ≢ NO_MEMORY → SpellsOneSession session.now }
     ensures safe { result.kind ≡ CLEAN → OfSpelled session.now IsSafe }
     ensures exactly { result.kind ≢ NO_MEMORY → OfSpelled session.now (IsSafeExactlyIf (result.kind ≡ CLEAN)) }
     ensures faulty { result.kind ≡ FAULTY → OfSpelled session.now IsUnsafe }
 {
-    tell_audit(alloc, session, Wanted::Certificate, room)
+    tell_audit(alloc, session, AuditPart::Certificate, room)
 }
 
-/// The report on a session, as a text that is handed over as that of `postcopy_certify` is.
+/// Writes the report on a session, in the same way as `postcopy_certify`.
 #[unsafe(no_mangle)]
 pub extern "C" fn postcopy_audit(alloc: Global, session: &[u8], room: &mut [u8]) -> PostcopyAnswer
-    ensures told { IsAuditAnswer Wanted.Report session.now room.old room.new result }
+    ensures told { IsAuditAnswer AuditPart.Report session.now room.old room.new result }
     ensures one_session { result.kind ≢ SESSION_TEXT → result.kind ≢ NO_MEMORY → SpellsOneSession session.now }
     ensures safe { result.kind ≡ CLEAN → OfSpelled session.now IsSafe }
     ensures exactly { result.kind ≢ NO_MEMORY → OfSpelled session.now (IsSafeExactlyIf (result.kind ≡ CLEAN)) }
     ensures faulty { result.kind ≡ FAULTY → OfSpelled session.now IsUnsafe }
 {
-    tell_audit(alloc, session, Wanted::Report, room)
+    tell_audit(alloc, session, AuditPart::Report, room)
 }
 
-/// The first line of the report on a session, and each page that has a fault, as a text that is handed over as that of
-/// `postcopy_certify` is. Of a session that has not the right shape, or no merging, no page is told.
+/// Writes the first line of the report on a session, and each page that has a fault, in the same way as
+/// `postcopy_certify`. If the session does not have the right shape, or has no merging, no pages are listed.
 #[unsafe(no_mangle)]
 pub extern "C" fn postcopy_audit_all(
     alloc: Global,
     session: &[u8],
     room: &mut [u8],
 ) -> PostcopyAnswer
-    ensures told { IsShownAnswer (ShownAs.Told Form.AllFaults) session.now room.old room.new result }
+    ensures told { IsShownAnswer (ShownAs.Told AnswerForm.AllFaults) session.now room.old room.new result }
     ensures one_session { result.kind ≢ SESSION_TEXT → result.kind ≢ NO_MEMORY → SpellsOneSession session.now }
     ensures safe { result.kind ≡ CLEAN → OfSpelled session.now IsSafe }
     ensures exactly { result.kind ≢ NO_MEMORY → OfSpelled session.now (IsSafeExactlyIf (result.kind ≡ CLEAN)) }
     ensures faulty { result.kind ≡ FAULTY → OfSpelled session.now IsUnsafe }
 {
-    tell_shown(alloc, session, ShownAs::Told(Form::AllFaults), room)
+    tell_shown(alloc, session, ShownAs::Told(AnswerForm::AllFaults), room)
 }
 
-/// The line that says what a clean session lacks first, and no byte where it tells of a whole migration; of another session the
-/// first line of its report. Handed over in the same way.
+/// Writes the line that says what is missing first from a clean session, or nothing if it tells of a whole migration.
+/// For any other session, writes the first line of its report. Works in the same way as `postcopy_certify`.
 #[unsafe(no_mangle)]
 pub extern "C" fn postcopy_missing(alloc: Global, session: &[u8], room: &mut [u8]) -> PostcopyAnswer
     ensures told { IsMissingAnswer Extent.Whole session.now room.old room.new result }
@@ -119,9 +119,9 @@ pub extern "C" fn postcopy_missing(alloc: Global, session: &[u8], room: &mut [u8
     tell_missing(alloc, session, Extent::Whole, room)
 }
 
-/// The line that says what a clean session lacks first of this: that the guest was halted and resumed, and that each owed page
-/// was placed, or released at the target. No byte where it lacks none of it; of another session the first line of its report.
-/// Handed over in the same way.
+/// Writes the line that says which of these is missing first from a clean session: that the guest was halted and
+/// resumed, and that each owed page was placed, or released at the target. Writes nothing if all of it is there. For
+/// any other session, writes the first line of its report. Works in the same way as `postcopy_certify`.
 #[unsafe(no_mangle)]
 pub extern "C" fn postcopy_missing_pages(
     alloc: Global,
@@ -137,11 +137,10 @@ pub extern "C" fn postcopy_missing_pages(
     tell_missing(alloc, session, Extent::Pages, room)
 }
 
-/// What happened in a session, in words after the first line of its report, as a text that is handed over as that of
-/// `postcopy_certify` is.
+/// Writes the story of a session in words, after the first line of its report, in the same way as `postcopy_certify`.
 #[unsafe(no_mangle)]
 pub extern "C" fn postcopy_explain(alloc: Global, session: &[u8], room: &mut [u8]) -> PostcopyAnswer
-    ensures told { IsShownAnswer (ShownAs.Told (Form.Story (Story.Words Topic.Report))) session.now room.old room.new result }
+    ensures told { IsShownAnswer (ShownAs.Told (AnswerForm.Story (Story.Words Topic.Report))) session.now room.old room.new result }
     ensures one_session { result.kind ≢ SESSION_TEXT → result.kind ≢ NO_MEMORY → SpellsOneSession session.now }
     ensures safe { result.kind ≡ CLEAN → OfSpelled session.now IsSafe }
     ensures exactly { result.kind ≢ NO_MEMORY → OfSpelled session.now (IsSafeExactlyIf (result.kind ≡ CLEAN)) }
@@ -150,13 +149,13 @@ pub extern "C" fn postcopy_explain(alloc: Global, session: &[u8], room: &mut [u8
     tell_shown(
         alloc,
         session,
-        ShownAs::Told(Form::Story(Story::Words(Topic::Report))),
+        ShownAs::Told(AnswerForm::Story(Story::Words(Topic::Report))),
         room,
     )
 }
 
-/// What became of the page of this number, in words after the first line of the report, handed over in the same way. Of a
-/// number that the machine has no page of it says so.
+/// Writes the story of the page with this number in words, after the first line of the report, in the same way as
+/// `postcopy_certify`. If the machine does not have the page, the text says so.
 #[unsafe(no_mangle)]
 pub extern "C" fn postcopy_explain_page(
     alloc: Global,
@@ -164,7 +163,7 @@ pub extern "C" fn postcopy_explain_page(
     page: u32,
     room: &mut [u8],
 ) -> PostcopyAnswer
-    ensures told { IsShownAnswer (ShownAs.Told (Form.Story (Story.Words (Topic.Page page)))) session.now room.old room.new result }
+    ensures told { IsShownAnswer (ShownAs.Told (AnswerForm.Story (Story.Words (Topic.Page page)))) session.now room.old room.new result }
     ensures one_session { result.kind ≢ SESSION_TEXT → result.kind ≢ NO_MEMORY → SpellsOneSession session.now }
     ensures safe { result.kind ≡ CLEAN → OfSpelled session.now IsSafe }
     ensures exactly { result.kind ≢ NO_MEMORY → OfSpelled session.now (IsSafeExactlyIf (result.kind ≡ CLEAN)) }
@@ -173,13 +172,14 @@ pub extern "C" fn postcopy_explain_page(
     tell_shown(
         alloc,
         session,
-        ShownAs::Told(Form::Story(Story::Words(Topic::Page(page)))),
+        ShownAs::Told(AnswerForm::Story(Story::Words(Topic::Page(page)))),
         room,
     )
 }
 
-/// What the record at this line of the session's text is, and what became of its page, in words after the first line of the
-/// report, handed over in the same way. Lines count from 1. Of a line that tells no record it says so.
+/// Writes the story of the record at this line of the session's text, and of its page, in words, after the first line
+/// of the report, in the same way as `postcopy_certify`. Lines are counted from 1. If there is no record at the line,
+/// the text says so.
 #[unsafe(no_mangle)]
 pub extern "C" fn postcopy_explain_line(
     alloc: Global,
@@ -187,7 +187,7 @@ pub extern "C" fn postcopy_explain_line(
     line: u32,
     room: &mut [u8],
 ) -> PostcopyAnswer
-    ensures told { IsShownAnswer (ShownAs.Told (Form.Story (Story.Words (Topic.Line line)))) session.now room.old room.new result }
+    ensures told { IsShownAnswer (ShownAs.Told (AnswerForm.Story (Story.Words (Topic.Line line)))) session.now room.old room.new result }
     ensures one_session { result.kind ≢ SESSION_TEXT → result.kind ≢ NO_MEMORY → SpellsOneSession session.now }
     ensures safe { result.kind ≡ CLEAN → OfSpelled session.now IsSafe }
     ensures exactly { result.kind ≢ NO_MEMORY → OfSpelled session.now (IsSafeExactlyIf (result.kind ≡ CLEAN)) }
@@ -196,13 +196,13 @@ pub extern "C" fn postcopy_explain_line(
     tell_shown(
         alloc,
         session,
-        ShownAs::Told(Form::Story(Story::Words(Topic::Line(line)))),
+        ShownAs::Told(AnswerForm::Story(Story::Words(Topic::Line(line)))),
         room,
     )
 }
 
-/// The picture of a session in the order of its report, as SVG, and of a text that is refused its line; handed over in the
-/// same way.
+/// Writes the picture of a session in the order of its report, as SVG, in the same way as `postcopy_certify`. If the
+/// session's text is refused, writes the line that says so.
 #[unsafe(no_mangle)]
 pub extern "C" fn postcopy_draw(alloc: Global, session: &[u8], room: &mut [u8]) -> PostcopyAnswer
     ensures told { IsShownAnswer (ShownAs.Picture Topic.Report) session.now room.old room.new result }
@@ -214,8 +214,8 @@ pub extern "C" fn postcopy_draw(alloc: Global, session: &[u8], room: &mut [u8]) 
     tell_shown(alloc, session, ShownAs::Picture(Topic::Report), room)
 }
 
-/// The picture about the page of this number, in the order of the report, as SVG, and of a text that is refused its line;
-/// handed over in the same way.
+/// Writes the picture about the page with this number in the order of the report, as SVG, in the same way as
+/// `postcopy_certify`. If the session's text is refused, writes the line that says so.
 #[unsafe(no_mangle)]
 pub extern "C" fn postcopy_draw_page(
     alloc: Global,
@@ -232,10 +232,11 @@ pub extern "C" fn postcopy_draw_page(
     tell_shown(alloc, session, ShownAs::Picture(Topic::Page(page)), room)
 }
 
-/// What several questions ask of one session, which is read once and judged once: for each the text of the call that takes this
-/// question alone, each behind the one before. They stand at the front of the room where all of them fit, and their whole length
-/// is answered; the ends have the place where each text ends, where these fit. What does not fit stays as it was. Where the number
-/// of one is no question's, nothing is read and nothing written.
+/// Answers several questions about one session, which is read once and judged once. For each question it writes the
+/// text of the call for this question alone, one text after another. Returns the length of all texts. They are written
+/// to the front of the room if all of them fit. The ends get the offset at which each text ends, if there is an end for
+/// each question. What does not fit stays as it was. If the number of a question is unknown, nothing is read, and
+/// nothing is written.
 #[unsafe(no_mangle)]
 pub extern "C" fn postcopy_answers(
     alloc: Global,
@@ -253,9 +254,9 @@ pub extern "C" fn postcopy_answers(
     tell_answers(alloc, session, questions, ends, room)
 }
 
-/// Why a text is refused as one of a kind: the line, the column, and words on it in one line, which are handed over as the text
-/// of `postcopy_certify` is. The kind has the number of the answer that refuses such a text: of a session, of a certificate, or
-/// of what tells an order, as `postcopy_replay` takes it.
+/// Writes why a text is refused as one of a kind, in one line of words, in the same way as `postcopy_certify`. Returns
+/// the line and the column. `kind` is the number of the answer that refuses such a text: a session, a certificate, or
+/// an order as `postcopy_replay` takes it.
 #[unsafe(no_mangle)]
 pub extern "C" fn postcopy_why(
     alloc: Global,
@@ -268,7 +269,7 @@ pub extern "C" fn postcopy_why(
     tell_why(alloc, text, kind, room)
 }
 
-/// The version of the library.
+/// Returns the version of the library.
 #[unsafe(no_mangle)]
 pub extern "C" fn postcopy_version() -> u32
     ensures { result ≡ VERSION }

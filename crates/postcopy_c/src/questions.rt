@@ -1,40 +1,40 @@
-//! The numbers of the questions. No question has the number 0.
+//! The numbers for questions. No question has the number 0.
 
-/// The report, as `postcopy_audit` tells it.
+/// The report, as `postcopy_audit` writes it.
 pub const AUDIT: u32 = 1;
 
-/// The certificate, as `postcopy_certify` tells it.
+/// The certificate, as `postcopy_certify` writes it.
 pub const CERTIFY: u32 = 2;
 
-/// Each page that has a fault, as `postcopy_audit_all` tells them.
+/// Each page that has a fault, as `postcopy_audit_all` writes them.
 pub const AUDIT_ALL: u32 = 3;
 
-/// What a clean session lacks, as `postcopy_missing` tells it.
+/// What is missing from a clean session, as `postcopy_missing` writes it.
 pub const MISSING: u32 = 4;
 
-/// What a clean session lacks, as `postcopy_missing_pages` tells it.
+/// What is missing from a clean session, as `postcopy_missing_pages` writes it.
 pub const MISSING_PAGES: u32 = 5;
 
-/// What happened, as `postcopy_explain` tells it.
+/// The story, as `postcopy_explain` writes it.
 pub const EXPLAIN: u32 = 6;
 
-/// What became of a page, as `postcopy_explain_page` tells it.
+/// The story of a page, as `postcopy_explain_page` writes it.
 pub const EXPLAIN_PAGE: u32 = 7;
 
-/// What the record at a line is, as `postcopy_explain_line` tells it.
+/// The story of the record at a line, as `postcopy_explain_line` writes it.
 pub const EXPLAIN_LINE: u32 = 8;
 
-/// The picture, as `postcopy_draw` tells it.
+/// The picture, as `postcopy_draw` writes it.
 pub const DRAW: u32 = 9;
 
-/// The picture about a page, as `postcopy_draw_page` tells it.
+/// The picture about a page, as `postcopy_draw_page` writes it.
 pub const DRAW_PAGE: u32 = 10;
 
-/// The report, as an object of JSON.
+/// The report, as a JSON object.
 pub const AUDIT_OBJECT: u32 = 11;
 
-/// The report with each page that has a fault, as an object of JSON.
+/// The report with each page that has a fault, as a JSON object.
 pub const AUDIT_ALL_OBJECT: u32 = 12;
 
-/// What happened, as an object of JSON.
+/// The story, as a JSON object.
 pub const EXPLAIN_OBJECT: u32 = 13;

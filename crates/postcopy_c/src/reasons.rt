@@ -1,24 +1,24 @@
-//! The numbers of reasons: of the shape from 1 on, of pages from 11 on, in the order of each. 0 is no reason.
+//! The numbers for reasons, in their order: those for shape from 1, and those for pages from 11. 0 is no reason.
 
 ghost use Rattle.std.specs.Prelude.{◌≡◌};
 ghost use Rattle.postcopy_c.specs.Numbers.{shape_number, page_number};
 
 use audit_model::{PageReason, ShapeReason};
 
-/// The number of the first reason of shape.
+/// The number for the first reason for shape.
 const OF_SHAPE: u32 = 1;
 
-/// The number of the first reason of pages.
+/// The number for the first reason for pages.
 const OF_PAGES: u32 = 11;
 
-/// The number of a reason of shape.
+/// Returns the number for a reason for shape.
 pub(crate) fn number_of_shape(reason: ShapeReason) -> u32
     ensures { result ≡ shape_number reason }
 {
     OF_SHAPE + reason as u32
 }
 
-/// The number of a reason of pages.
+/// Returns the number for a reason for pages.
 pub(crate) fn number_of_page(reason: PageReason) -> u32
     ensures { result ≡ page_number reason }
 {

@@ -1,4 +1,4 @@
-//! Why a text is refused, told by numbers and by words in the caller's room.
+//! Why a text is refused, as numbers and as words in the caller's room.
 
 ghost use Rattle.std.specs.Prelude.{◌≡◌, ◌≤◌};
 ghost use Rattle.text_lines.specs.Text.{IsLine};
@@ -17,18 +17,18 @@ use text_lines::{FaultKind, Refusal, Rewind, next_line, read_or_why};
 #[repr(C)]
 #[derive(Clone, Copy)]
 pub struct PostcopyRefusal {
-    /// Of which kind the text was to be, by the numbers of `kinds`, where it is refused. Else whether it is read, or that there
-    /// was no memory. 0 where no kind of text has the number that was asked for.
+    /// If the text is refused, the kind that was asked for: a number of `kinds`. Otherwise `READ` or `NO_MEMORY`, or 0
+    /// if no kind of text has the number that was asked for.
     pub kind: u32,
-    /// The line at which the text is refused, from 1 on, or 0.
+    /// The line at which the text is refused, counted from 1, or 0.
     pub line: u32,
-    /// Where in that line it is wrong, in bytes from 1 on, or 0.
+    /// The place of the error in that line, in bytes counted from 1, or 0.
     pub column: u32,
-    /// How many bytes the words have, whether or not there was room for them.
+    /// The length of the words in bytes, whether or not they fit into the room.
     pub text_len: usize,
 }
 
-/// An answer without words.
+/// Returns an answer without words.
 fn without_words(kind: u32) -> PostcopyRefusal
     ensures { result ≡ no_words kind }
 {
@@ -40,7 +40,7 @@ fn without_words(kind: u32) -> PostcopyRefusal
     }
 }
 
-/// Tells at which line a text is refused, and puts the words on it into the room, where they fit.
+/// Returns the line at which a text is refused, and writes the words about it to the room if they fit.
 fn tell_reason(kind: u32, line: u32, reason: &Reason, room: &mut [u8]) -> PostcopyRefusal
     requires column { 1 ≤ reason.now.column }
     requires words { IsLine reason.now.words.items }
@@ -56,7 +56,7 @@ fn tell_reason(kind: u32, line: u32, reason: &Reason, room: &mut [u8]) -> Postco
     }
 }
 
-/// Whether a line of a text is empty. Lines count from 1.
+/// Returns whether a line of a text is empty. Lines are counted from 1.
 fn is_empty_line(text: &[u8], line: u32) -> bool {
     let mut rest = text;
     for _ in 1..line {
@@ -71,12 +71,12 @@ fn is_empty_line(text: &[u8], line: u32) -> bool {
     }
 }
 
-/// Whether a refusal has the first bytes of its line of a text: there was memory for them.
+/// Returns whether a refusal has the first bytes of its line of the text. It does not if memory ran out for them.
 fn has_line(refusal: &Refusal, text: &[u8]) -> bool {
     !refusal.line.is_empty() || is_empty_line(text, refusal.fault.line)
 }
 
-/// Tells why a text is refused, or that there was no memory to read it or for the words.
+/// Returns why a text is refused. Memory may have run out while it was read, or for the words.
 fn tell_refusal(
     alloc: Global,
     kind: u32,
@@ -95,7 +95,7 @@ fn tell_refusal(
     }
 }
 
-/// Tells why a text is refused as one that this reader reads.
+/// Returns why a text is refused by this reader.
 fn tell_text<R: Rewind>(alloc: Global, kind: u32, text: &[u8], room: &mut [u8]) -> PostcopyRefusal
     ensures { IsWhyOf R.spells kind text.now room.old room.new result }
 {
@@ -105,7 +105,7 @@ fn tell_text<R: Rewind>(alloc: Global, kind: u32, text: &[u8], room: &mut [u8]) 
     }
 }
 
-/// Tells why a text is refused as one of a kind, which has the number of the answer that refuses it.
+/// Returns why a text is refused as one of a kind, given the number of the answer that refuses it.
 pub(crate) fn tell_why(alloc: Global, text: &[u8], kind: u32, room: &mut [u8]) -> PostcopyRefusal
     ensures { IsWhy kind text.now room.old room.new result }
 {

@@ -1,4 +1,4 @@
-//! A session shown in words, as a picture or by all of its faults, told by numbers and by texts in the caller's room.
+//! A session in words, as a picture or with all its faults: as numbers, and as texts in the caller's room.
 
 ghost use Rattle.std.specs.Prelude.{◌≡◌, ◌≢◌, length, IfOk};
 ghost use Rattle.std.specs.List.{AllZip, concat};
@@ -18,33 +18,33 @@ use crate::telling::put;
 use crate::texts::Texts;
 use audit_report::{OwnLines, Report, audit_by, print_first_line, print_refused_session};
 use completeness::Extent;
-use judged_texts::Audited;
+use judged_texts::TextAudit;
 use migration_types::Session;
 use order_picture::print_picture_on;
-use page_facts::Alone;
-use session_answers::{Form, LackForm, print_lack_of, print_refusal, print_told};
+use page_facts::OneThread;
+use session_answers::{AnswerForm, LackForm, print_lack_of, print_refusal, print_told};
 use session_log::{read_session, session_texts_are_unambiguous};
 use session_story::Topic;
 use std::alloc::{AllocError, Global};
 
-/// As what a session is shown.
+/// How a session is shown.
 #[derive(Clone, Copy)]
 pub enum ShownAs {
-    /// The report, told in this form.
-    Told(Form),
-    /// The picture about a topic, in the order of the report.
+    /// As the report, in this form.
+    Told(AnswerForm),
+    /// As the picture about a topic, in the order of the report.
     Picture(Topic),
-    /// What a clean session lacks first, of what this extent asks for, or nothing where it is complete; and the first line of
-    /// another report.
+    /// As the line that says what is missing first for this extent from a clean session, or no text if it is complete.
+    /// For any other session, as the first line of its report.
     Lack(Extent),
 }
 
-/// What is judged of the text of a session.
+/// What was judged about the text of a session.
 #[derive(Clone, Copy)]
-pub enum Judged<'a> {
-    /// It is refused at this line.
+pub enum JudgedText<'a> {
+    /// The text is refused at this line.
     Refused(u32),
-    /// It spells a session, which has this report.
+    /// The text spells a session, which has this report.
     Reported(&'a Session, &'a Report),
 }
 
@@ -52,12 +52,12 @@ pub enum Judged<'a> {
 #[derive(Drop)]
 pub struct Showing {
     /// The audit.
-    pub audited: Audited,
+    pub audited: TextAudit,
     /// The texts.
     pub texts: Texts,
 }
 
-/// The line that says what a session lacks first, of what this extent asks for, or nothing where it is complete.
+/// Returns the line that says what is missing first for this extent from a session, or no text if it is complete.
 fn lack_of(alloc: Global, session: &Session, extent: Extent) -> Result<Vec<u8>, AllocError>
     ensures { IfOk result (λ text. IsLackText extent session.now text.items) }
 {
@@ -67,7 +67,7 @@ fn lack_of(alloc: Global, session: &Session, extent: Extent) -> Result<Vec<u8>, 
     }
 }
 
-/// What a session lacks, where its report is clean, and else the first line of the report.
+/// Returns what is missing from a session, if its report is clean, and otherwise the first line of the report.
 fn lack_by_report(
     alloc: Global,
     session: &Session,
@@ -84,7 +84,7 @@ fn lack_by_report(
     }
 }
 
-/// The text that shows a session by its report.
+/// Returns the text for a session with its report.
 fn text_of_report(
     alloc: Global,
     session: &Session,
@@ -96,13 +96,13 @@ fn text_of_report(
     ensures { IfOk result (λ text. IsShownReport shown_as session.now report.now text.items) }
 {
     match shown_as {
-        ShownAs::Told(form) => print_told(&Alone, alloc, session, report, form),
+        ShownAs::Told(form) => print_told(&OneThread, alloc, session, report, form),
         ShownAs::Picture(topic) => print_picture_on(alloc, session, report, topic),
         ShownAs::Lack(extent) => lack_by_report(alloc, session, extent, report),
     }
 }
 
-/// The text that shows that a text is refused at this line.
+/// Returns the text for a session's text that is refused at this line.
 fn text_of_refusal(alloc: Global, line: u32, shown_as: ShownAs) -> Result<Vec<u8>, AllocError>
     ensures { IfOk result (λ text. IsShownRefusal shown_as line text.items) }
 {
@@ -112,19 +112,19 @@ fn text_of_refusal(alloc: Global, line: u32, shown_as: ShownAs) -> Result<Vec<u8
     }
 }
 
-/// The text that shows what is judged of a session's text.
-fn text_of(alloc: Global, judged: Judged<'_>, shown_as: ShownAs) -> Result<Vec<u8>, AllocError>
+/// Returns the text for what was judged about a session's text.
+fn text_of(alloc: Global, judged: JudgedText<'_>, shown_as: ShownAs) -> Result<Vec<u8>, AllocError>
     requires { IsRightJudged judged }
     ensures { IfOk result (λ text. IsShownJudged shown_as judged.entry text.items) }
 {
     match judged {
-        Judged::Refused(line) => text_of_refusal(alloc, line, shown_as),
-        Judged::Reported(session, report) => text_of_report(alloc, session, report, shown_as),
+        JudgedText::Refused(line) => text_of_refusal(alloc, line, shown_as),
+        JudgedText::Reported(session, report) => text_of_report(alloc, session, report, shown_as),
     }
 }
 
-/// The texts that show what is judged of a session's text, one for each of what is asked.
-fn texts_for(alloc: Global, judged: Judged<'_>, asked: &[ShownAs]) -> Result<Texts, AllocError>
+/// Returns the texts for what was judged about a session's text, one for each thing that is asked.
+fn texts_for(alloc: Global, judged: JudgedText<'_>, asked: &[ShownAs]) -> Result<Texts, AllocError>
     requires { IsRightJudged judged }
     ensures shown { IfOk result (λ held. AllZip (λ shown_as text. IsShownJudged shown_as judged.entry text) asked.now (texts_of held)) }
     ensures measured { IfOk result AreMeasured }
@@ -137,22 +137,22 @@ fn texts_for(alloc: Global, judged: Judged<'_>, asked: &[ShownAs]) -> Result<Tex
     Ok(texts)
 }
 
-/// What is shown of a session that was read. The calling thread alone judges it.
+/// Returns what is shown about a session. Only the calling thread judges it.
 fn show_session(alloc: Global, session: &Session, asked: &[ShownAs]) -> Result<Showing, AllocError>
     ensures shown { IfOk result (IsShowingOf asked.now session.now) }
     ensures safe { IfOk result (λ showing. FindsClean showing.audited → IsSafe session.now) }
     ensures exactly { IfOk result (λ showing. IsSafeExactlyIf (FindsClean showing.audited) session.now) }
     ensures faulty { IfOk result (λ showing. FindsFault showing.audited → IsUnsafe session.now) }
 {
-    let report = audit_by(&Alone, alloc, session)?;
-    let texts = texts_for(alloc, Judged::Reported(session, &report), asked)?;
+    let report = audit_by(&OneThread, alloc, session)?;
+    let texts = texts_for(alloc, JudgedText::Reported(session, &report), asked)?;
     Ok(Showing {
-        audited: Audited::Reported(report),
+        audited: TextAudit::Reported(report),
         texts,
     })
 }
 
-/// What is shown of the session that a text spells.
+/// Returns what is shown about the session that a text spells.
 fn show_text(alloc: Global, session: &[u8], asked: &[ShownAs]) -> Result<Showing, AllocError>
     ensures showing { IfOk result (IsShowing asked.now session.now) }
     ensures one_session { IfOk result (λ showing. HasReport showing.audited → SpellsOneSession session.now) }
@@ -165,17 +165,17 @@ fn show_text(alloc: Global, session: &[u8], asked: &[ShownAs]) -> Result<Showing
         Ok(recorded) => show_session(alloc, &recorded, asked),
         Err(fault) => {
             let line = fault.refused_line()?;
-            let texts = texts_for(alloc, Judged::Refused(line), asked)?;
+            let texts = texts_for(alloc, JudgedText::Refused(line), asked)?;
             Ok(Showing {
-                audited: Audited::Refused(line),
+                audited: TextAudit::Refused(line),
                 texts,
             })
         }
     }
 }
 
-/// Puts the texts that are shown into the room, and their ends beside them, where they fit, and tells the audit with the length
-/// of all texts.
+/// Writes the texts to the room, and their ends, if they fit. Returns the audit in numbers, with the length of all
+/// texts.
 fn put_shown(showing: &Showing, ends: &mut [usize], room: &mut [u8]) -> PostcopyAnswer
     requires { AreMeasured showing.now.texts }
     ensures numbers { result ≡ audited_numbers showing.now.audited (length (concat (texts_of showing.now.texts))) }
@@ -187,7 +187,7 @@ fn put_shown(showing: &Showing, ends: &mut [usize], room: &mut [u8]) -> Postcopy
     audited_answer(&showing.audited, showing.texts.whole)
 }
 
-/// Tells all that is asked to be shown of the session that a text spells, which is read once and judged once.
+/// Shows everything that is asked about the session that a text spells, which is read once and judged once.
 pub(crate) fn tell_all(
     alloc: Global,
     session: &[u8],
@@ -207,7 +207,7 @@ pub(crate) fn tell_all(
     }
 }
 
-/// Tells what is shown of the session that a text spells.
+/// Shows the session that a text spells.
 pub(crate) fn tell_shown(
     alloc: Global,
     session: &[u8],

@@ -1,4 +1,4 @@
-//! The audit of a text, told by numbers and by a text in the caller's room.
+//! The audit of a text, as numbers and as a text in the caller's room.
 
 ghost use Rattle.std.specs.Prelude.{◌≡◌, ◌≢◌, IfOk, IfErr};
 ghost use Rattle.audit_model.specs.World.{IsSafe};
@@ -8,10 +8,10 @@ ghost use Rattle.postcopy_c.specs.Answers.{IsPut, IsTold, IsAuditAnswer};
 
 use crate::answer::{PostcopyAnswer, audited_answer, out_of_memory};
 use crate::kinds::{CLEAN, FAULTY, NO_MEMORY, SESSION_TEXT};
-use judged_texts::{Audited, Wanted, audit_text, print_audited};
+use judged_texts::{AuditPart, TextAudit, audit_text, print_audited};
 use std::alloc::{AllocError, Global};
 
-/// Puts items at the front of the room where they fit; where they do not the room stays as it was.
+/// Writes items to the front of the room if they fit. Otherwise the room stays as it was.
 pub(crate) fn put<T: Copy>(items: &[T], room: &mut [T])
     ensures { IsPut items.now room.old room.new }
 {
@@ -20,11 +20,11 @@ pub(crate) fn put<T: Copy>(items: &[T], room: &mut [T])
     }
 }
 
-/// Tells an audit. After an error the room is as it was.
+/// Returns an audit in numbers, and writes its text to the room. After an error the room is as it was.
 fn told(
     alloc: Global,
-    audited: &Audited,
-    wanted: Wanted,
+    audited: &TextAudit,
+    wanted: AuditPart,
     room: &mut [u8],
 ) -> Result<PostcopyAnswer, AllocError>
     requires { AuditedFits audited.now }
@@ -36,11 +36,11 @@ fn told(
     Ok(audited_answer(audited, text.len()))
 }
 
-/// Tells what is wanted of the audit of a text.
+/// Audits a text, and writes the part of the report that is asked for to the room.
 pub(crate) fn tell_audit(
     alloc: Global,
     session: &[u8],
-    wanted: Wanted,
+    wanted: AuditPart,
     room: &mut [u8],
 ) -> PostcopyAnswer
     ensures told { IsAuditAnswer wanted session.now room.old room.new result }

@@ -1,4 +1,4 @@
-//! Texts, which stand one behind the other in the caller's room.
+//! Texts, one after another in the caller's room.
 
 ghost use Rattle.std.specs.Prelude.{◌≡◌, ◌+◌, ◌≤◌, [], ◌∷◌, ◌++◌, drop, length, take, OnOk};
 ghost use Rattle.std.specs.List.{concat};
@@ -7,18 +7,18 @@ ghost use Rattle.postcopy_c.specs.Texts.{AreMeasured, texts_of};
 
 use std::alloc::{AllocError, Global};
 
-/// Texts, and how long they are.
+/// Texts, and their lengths.
 #[derive(Drop)]
 pub struct Texts {
     /// Each of them.
     pub each: Vec<Vec<u8>>,
-    /// Where each ends, in bytes from the front of the first.
+    /// Where each ends, in bytes from the beginning of the first.
     pub ends: Vec<usize>,
     /// How many bytes they have together.
     pub whole: usize,
 }
 
-/// Puts a text into a room, from a place on.
+/// Writes a text to a room, from an offset on.
 fn put_at(text: &[u8], room: &mut [u8], from: usize)
     requires { from + length text.now ≤ length room.old }
     ensures { room.new ≡ take from room.old ++ (text.now ++ drop (from + length text.now) room.old) }
@@ -27,7 +27,7 @@ fn put_at(text: &[u8], room: &mut [u8], from: usize)
 }
 
 impl Texts {
-    /// No text.
+    /// Returns no texts.
     pub(crate) fn new(alloc: Global) -> Self
         ensures none { texts_of result ≡ [] }
         ensures measured { AreMeasured result }
@@ -39,7 +39,7 @@ impl Texts {
         }
     }
 
-    /// Adds a text behind the others. After an error nothing is said of them.
+    /// Appends a text. After an error nothing is promised about the texts.
     pub(crate) fn push(&mut self, text: Vec<u8>) -> Result<(), AllocError>
         requires { AreMeasured self.old }
         ensures added { OnOk result (texts_of self.new ≡ texts_of self.old ++ text.items ∷ []) }
@@ -52,7 +52,7 @@ impl Texts {
         Ok(())
     }
 
-    /// Puts the texts at the front of a room that has place for them.
+    /// Writes the texts to the front of a room that is long enough for them.
     fn put_all(&self, room: &mut [u8])
         requires { length (concat (texts_of self.now)) ≤ length room.old }
         ensures { room.new ≡ concat (texts_of self.now) ++ drop (length (concat (texts_of self.now))) room.old }
@@ -64,7 +64,7 @@ impl Texts {
         }
     }
 
-    /// Puts the texts at the front of the room where they fit; where they do not the room stays as it was.
+    /// Writes the texts to the front of the room if they fit. Otherwise the room stays as it was.
     pub(crate) fn put(&self, room: &mut [u8])
         requires { AreMeasured self.now }
         ensures { IsPut (concat (texts_of self.now)) room.old room.new }

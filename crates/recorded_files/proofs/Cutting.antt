@@ -4,7 +4,7 @@ use Rattle.std.specs.List.{AllByRecursion}
 use Rattle.std.proofs.lemmas.Bool.Decides.{nat_tests}
 use Rattle.memchr.specs.Find.{IsFirstByte, Passes, is_byte2}
 use Rattle.recorded_files.specs.Said.{longest_line, IsInside}
-use Rattle.recorded_files.specs.declared.pieces.Found.TheVariants.{Line, End, Long}
+use Rattle.recorded_files.specs.declared.pieces.NextLine.TheVariants.{Line, End, Long}
 use Rattle.recorded_files.specs.inner.Finding.{Finds}
 
 inside_of : (b : ℕ) → (is_byte2 10 0 b ≡ true → ⊥) → IsInside b

@@ -14,7 +14,7 @@ use Rattle.recordings.proofs.Pieces.{read_none}
 use Rattle.recorded_files.specs.Said.{IsWritten, Stops}
 use Rattle.recorded_files.specs.declared.files.FileFault.{FileFault}
 use Rattle.recorded_files.specs.declared.files.FileFault.TheVariants.{Line as FaultLine, Order, File, Memory}
-use Rattle.recorded_files.specs.declared.pieces.Found.TheVariants.{Line, End, Long}
+use Rattle.recorded_files.specs.declared.pieces.NextLine.TheVariants.{Line, End, Long}
 use Rattle.recorded_files.specs.inner.Finding.{AreAll, AreRead, Finds, IsLong, IsLongAt, IsReadFault, SameBytes, StopsAt}
 
 -- ---- reading on

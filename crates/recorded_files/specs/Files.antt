@@ -1,11 +1,5 @@
--- What a recorder's file says, by its lines:
---     postcopy-records 1
---     recording NAME           the recording that it is of
---     log PARTY FIRST FILE     whose records they are; from which number on a process tells of them, and in which file it began
---     NUMBER RECORD            for each record
---     end COUNT                at the end of one of the files, where the party's log was closed behind so many records;
---                              `next COUNT`, where another process goes on, and `lost ERRNO`, where a record was not written
--- A byte 0, or a line that has no end, stands where the process died, and nothing from there on was written.
+-- The lines of a recorder's file. A line without an end, or a byte 0, is where the process died: from there on nothing
+-- was written.
 use Rattle.std.specs.Prelude.{◌≡◌, ℕ, ◌≤◌, Bool, true, ◌&&◌, ◌||◌, ◌==◌, nat_le, List, ◌∷◌, ◌++◌, codes, length}
 use Rattle.std.specs.List.{list_all}
 use Rattle.std.specs.Fmt.{decimal}
@@ -14,6 +8,16 @@ use Rattle.recorded_files.specs.declared.lines.Party.{Party}
 use Rattle.recorded_files.specs.declared.lines.Party.TheVariants.{Machine, Of}
 use Rattle.recorded_files.specs.declared.lines.Last.{Last}
 use Rattle.recorded_files.specs.declared.lines.Last.TheVariants.{End, Next, Lost}
+
+-- The lines, in order:
+--     postcopy-records 1       the header
+--     recording NAME           the recording to which the file belongs
+--     log PARTY FIRST FILE     the party whose log it is, the number of the process's first record, and the number of
+--                              the file in which the process began
+--     NUMBER RECORD            for each record
+--     end COUNT                in one of the files: the party closed its log after this many records
+-- In place of `end COUNT`, `next COUNT` says that another process goes on, and `lost ERRNO` that a record was not
+-- written.
 
 -- the greatest number of a record, and the greatest count
 abbrev pub last_number : ℕ

@@ -1,4 +1,4 @@
--- Fronts of logs: the first records of each, none of which names a record that is not among them.
+-- Fronts of logs: the first records of each log, none of which names a record outside them.
 use Rattle.std.specs.Prelude.{◌≡◌, ℕ, ◌<◌, ◌≤◌, List, Some, Option, take}
 use Rattle.std.specs.List.{AllByRecursion}
 use Rattle.std.specs.Option.{IfSome}
@@ -13,7 +13,7 @@ use Rattle.text_lines.specs.Text.{IsSpelling}
 use Rattle.recordings.specs.Recordings.{SpellsRecording}
 use Rattle.recorded_files.specs.declared.fronts.Front.{Front}
 
--- how many records of each log there are
+-- how many records each log has in the front
 abbrev pub cursors_of : Front → Cursors
 cursors_of f Guest = f.guest
 cursors_of f Source = f.source
@@ -21,11 +21,11 @@ cursors_of f Link = f.link
 cursors_of f Lane = f.lane
 cursors_of f Pager = f.pager
 
--- what a field names, if it names a record, is there
+-- if the field names a record, that record is in the front
 abbrev pub NamesThere : Cursors → Field → Type 0
 NamesThere c field = IfSome (field_name field) (λ named. named.1 < c named.0)
 
--- the first records of each log, each of which names only such as are there
+-- the first records of each log, each of which names only records that are among them
 pub record IsFront (s : Recorded) (c : Cursors) : Type 0 where
   pub within : (log : LogName) → c log ≤ log_length s log
   pub there : (name : Name) (row : Consists) → row_of s name ≡ Some row → name.1 < c name.0 → AllByRecursion (NamesThere c) row.fields
@@ -35,7 +35,7 @@ pub record IsGreatestFront (s : Recorded) (c : Cursors) : Type 0 where
   pub front : IsFront s c
   pub greatest : (d : Cursors) → IsFront s d → (log : LogName) → d log ≤ c log
 
--- the records of a session up to a front
+-- the records of a session in a front
 abbrev pub cut_to : Cursors → Recorded → Recorded
 cut_to c s = record {
   version = s.version;
@@ -48,16 +48,16 @@ cut_to c s = record {
   pager = take (c Pager) s.pager;
 }
 
--- each record names only such as are there
+-- each record names only records that exist
 abbrev pub IsWhole : Recorded → Type 0
 IsWhole s = IsFront s (log_length s)
 
--- each session has one greatest front
+-- the session has a greatest front
 pub record HasGreatestFront (s : Recorded) : Type 0 where
   pub cursors : Cursors
   pub greatest : IsGreatestFront s cursors
 
--- a text, which is what was there where that is known, spells a recording, and this is the greatest front of its logs
+-- the text is that of a recording, and it is the known one, if that is known; this is the greatest front of its logs
 pub record HasFront (known : Option (List ℕ)) (front : Front) : Type 0 where
   pub text : List ℕ
   pub is_known : IfSome known (λ xs. text ≡ xs)

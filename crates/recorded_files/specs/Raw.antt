@@ -1,5 +1,6 @@
--- Records as a recorder writes them: those of a session, and three that stand in the place of a receipt, where nobody writes a
--- log of the link or of the lane. They have the number that came with the message: of the source's log, or, of an ask, the pager's.
+-- Records as a recorder writes them: the records of a session, and three that replace receipts if nobody writes a log
+-- of the link or of the lane. Those three have the number that came with the message: for an ask it is a number of the
+-- pager's log, and otherwise of the source's log.
 use Rattle.std.specs.Prelude.{ℕ, ◌≤◌, List, ◌++◌, codes}
 use Rattle.std.specs.Fmt.{decimal}
 use Rattle.migration_types.specs.declared.version.Version.{Version}
@@ -12,11 +13,11 @@ use Rattle.recorded_files.specs.declared.raw.RawSource.TheVariants.{Own as OwnSo
 use Rattle.recorded_files.specs.declared.raw.RawPager.{RawPager}
 use Rattle.recorded_files.specs.declared.raw.RawPager.TheVariants.{Own as OwnPager, GotSent, PullSent}
 
--- what a recorder answers in the place of a number, where a record was not written
+-- the number that a recorder returns if a record was not written
 abbrev pub lost_number : ℕ
 lost_number = 4294967295
 
--- their lines
+-- the lines of these records
 abbrev pub raw_source_line : RawSource → List ℕ
 raw_source_line (OwnSource rec) = source_line (source_of rec)
 raw_source_line (AskSent asking) = codes "ask-sent " ++ decimal asking
@@ -26,7 +27,7 @@ raw_pager_line (OwnPager rec) = pager_line (pager_of rec)
 raw_pager_line (GotSent sending) = codes "got-sent " ++ decimal sending
 raw_pager_line (PullSent sending) = codes "pull-sent " ++ decimal sending
 
--- their numbers are those of a machine of this extent
+-- their numbers are within a machine of this extent
 abbrev pub IsRawSourceOf : Extent → RawSource → Type 0
 IsRawSourceOf e (OwnSource rec) = IsSourceRecOf e (source_of rec)
 IsRawSourceOf e (AskSent asking) = asking ≤ lost_number

@@ -14,15 +14,15 @@ use Rattle.recorded_files.specs.Gathered.{Numbered}
 
 -- ---- lines that were written
 
--- no line of a file has more bytes
+-- the most bytes of a line
 abbrev pub longest_line : ℕ
 longest_line = 8459
 
--- neither a line feed nor a 0
+-- neither a line feed nor a byte 0
 abbrev pub IsInside : ℕ → Type 0
 IsInside b = (b ≢ 10) × (b ≢ 0)
 
--- a line as it may be written
+-- a line that can be written
 pub record IsWritten (line : List ℕ) : Type 0 where
   pub inside : AllByRecursion IsInside line
   pub short : length line ≤ longest_line
@@ -32,7 +32,7 @@ abbrev pub Stops : List ℕ → Type 0
 Stops [] = Unit {0}
 Stops (b ∷ more) = b ≡ 0
 
--- What stands behind the last line: one that was not written to its end, if any, up to the end or to a byte 0.
+-- What follows the last line: at most one line that was not written to its end, up to the end of the file or a byte 0.
 pub record IsUnwritten (bytes : List ℕ) : Type 0 where
   pub line : List ℕ
   pub more : List ℕ
@@ -40,7 +40,7 @@ pub record IsUnwritten (bytes : List ℕ) : Type 0 where
   pub written : IsWritten line
   pub stops : Stops more
 
--- these lines were written, and no more
+-- these lines were written, and no others
 pub record HasLines (bytes : List ℕ) (lines : List (List ℕ)) : Type 0 where
   pub rest : List ℕ
   pub parts : bytes ≡ ended lines ++ rest
@@ -49,19 +49,19 @@ pub record HasLines (bytes : List ℕ) (lines : List (List ℕ)) : Type 0 where
 
 -- ---- what they say
 
--- what a file with a head says: its records with their numbers, and how its process left the log, where this file tells
+-- what a file with a head says: its records with their numbers, and how its process left the log, if the file says that
 pub record Said : Type 0 where
   pub name : List ℕ
   pub opening : Opening
   pub records : Numbered (List ℕ)
   pub last : Option Last
 
--- the numbers rise, from one on, to this least number that a next record may have
+-- the numbers rise, from the first one on, and the next record may have this number or a greater one
 abbrev pub RiseTo : ℕ → Numbered (List ℕ) → ℕ → Type 0
 RiseTo low [] next = next ≡ low
 RiseTo low (r ∷ records) next = (low ≤ r.0) × (r.0 ≤ last_number) × RiseTo (suc r.0) records next
 
--- a count is behind all records of the file
+-- the count is above the numbers of all records in the file
 abbrev pub IsBehind : ℕ → Last → Type 0
 IsBehind next (End count) = next ≤ count
 IsBehind next (Next count) = next ≤ count
@@ -71,12 +71,12 @@ abbrev pub last_lines : Option Last → List (List ℕ)
 last_lines None = []
 last_lines (Some last) = last_line last ∷ []
 
--- the lines of records, and then more
+-- the lines of records, followed by more
 abbrev pub records_onto : Numbered (List ℕ) → List (List ℕ) → List (List ℕ)
 records_onto [] more = more
 records_onto (r ∷ records) more = record_line r.0 r.1 ∷ records_onto records more
 
--- the lines of a head, and then more
+-- the lines of a head, followed by more
 abbrev pub head_onto : List ℕ → Opening → List (List ℕ) → List (List ℕ)
 head_onto name o more = header ∷ recording_line name ∷ opening_line o.party o.first o.file ∷ more
 
@@ -94,19 +94,19 @@ pub record LinesSay (party : Party) (lines : List (List ℕ)) (s : Said) : Type 
   pub rise : RiseTo s.opening.first s.records next
   pub last : IfSome s.last (λ last. IsLast last × IsBehind next last)
 
--- a file that its process did not live to begin: fewer than the three lines of a head
+-- a file whose process died before it wrote the head: fewer than the three lines of a head
 abbrev pub IsUnbegun : List (List ℕ) → Type 0
 IsUnbegun [] = Unit {0}
 IsUnbegun (a ∷ []) = a ≡ header
 IsUnbegun (a ∷ b ∷ []) = (a ≡ header) × ((name : List ℕ) × IsName name × (b ≡ recording_line name))
 IsUnbegun (a ∷ b ∷ c ∷ lines) = ⊥
 
--- the bytes of a party's file say this, or nothing where it was not begun
+-- the bytes of a party's file say this, or nothing if its head was not written
 abbrev pub FileSays : Party → List ℕ → Option Said → Type 0
 FileSays party bytes None = (lines : List (List ℕ)) × HasLines bytes lines × IsUnbegun lines
 FileSays party bytes (Some s) = (lines : List (List ℕ)) × HasLines bytes lines × LinesSay party lines s
 
--- bytes, which are what was there where that is known, say this
+-- the bytes say this, and they are the known ones, if those are known
 pub record Says (party : Party) (known : Option (List ℕ)) (said : Option Said) : Type 0 where
   pub bytes : List ℕ
   pub is_known : IfSome known (λ xs. bytes ≡ xs)
@@ -114,13 +114,14 @@ pub record Says (party : Party) (known : Option (List ℕ)) (said : Option Said)
 
 -- ---- where they say nothing
 
--- the end of a line, or nothing of it
+-- the end of a line, or nothing
 abbrev pub IsLineEnd : List ℕ → Type 0
 IsLineEnd [] = Unit {0}
 IsLineEnd (b ∷ more) = (b ≡ 10) × (more ≡ [])
 
--- Bytes, which are what was there where that is known, say nothing from this line on: had the file ended in front of it, it
--- would say something; and whatever follows it, it says nothing. Of the line as much is told as decides it.
+-- The bytes say nothing from this line on, and they are the known ones, if those are known. If the file ended before
+-- the line, it would say something. Whatever follows the line, the file says nothing. The line is given only as far as
+-- that is decided.
 pub record IsRefusedAt (party : Party) (known : Option (List ℕ)) (number : ℕ) (Is : List ℕ → Type 0) : Type 0 where
   pub lines : List (List ℕ)
   pub line : List ℕ
@@ -135,11 +136,11 @@ pub record IsRefusedAt (party : Party) (known : Option (List ℕ)) (number : ℕ
   pub before : FileSays party (ended lines) said
   pub refused : (other : List ℕ) (x : Option Said) → FileSays party (ended lines ++ (line ++ (end ++ other))) x → ⊥
 
--- a record
+-- the line of a record
 abbrev pub IsRecord : List ℕ → Type 0
 IsRecord line = (n : ℕ) × (text : List ℕ) × (n ≤ last_number) × (line ≡ record_line n text)
 
--- Of what is not read whole for another reason nothing is told.
+-- Nothing is said if the file could not be read to its end for another reason.
 abbrev pub IsFault : Party → Option (List ℕ) → FileFault → Type 0
 IsFault party known (Line number) = IsRefusedAt party known number (λ _. Unit {0})
 IsFault party known (Order number) = IsRefusedAt party known number IsRecord
@@ -148,8 +149,8 @@ IsFault party known Memory = Unit {0}
 
 -- ---- reading it
 
--- where a reader of a file stands: what its head said, the least number that the next record may have, which line is next, the
--- text of the record that came last, how the log was left, and the bytes that are left
+-- the state of a reader of a file: what its head said, the least number that the next record may have, the number of
+-- the next line, the text of the last record, how the log was left, and the bytes that are left
 pub record Standing : Type 0 where
   pub name : List ℕ
   pub opening : Opening
@@ -159,7 +160,7 @@ pub record Standing : Type 0 where
   pub last : Option Last
   pub left : Option (List ℕ)
 
--- of a file with these bytes, where they are known, the head and these records came
+-- of a file with these bytes, if they are known, the head and these records were read
 pub record CameTo (party : Party) (known : Option (List ℕ)) (s : Standing) (came : Numbered (List ℕ)) : Type 0 where
   pub head : IsHead party s.name s.opening
   pub rise : RiseTo s.opening.first came s.low
@@ -168,7 +169,7 @@ pub record CameTo (party : Party) (known : Option (List ℕ)) (s : Standing) (ca
   pub written : AllByRecursion IsWritten (head_onto s.name s.opening (records_onto came []))
   pub consumed : Consumes known s.left (ended (head_onto s.name s.opening (records_onto came [])))
 
--- what the next record comes to, or what a file says that has no more
+-- the next record is this one, or there are no more records, and the file says this
 abbrev pub Goes : Party → Option (List ℕ) → Standing → Numbered (List ℕ) → Option ℕ → Type 0
 Goes party known s came None = Says party known (Some (record { name = s.name; opening = s.opening; records = came; last = s.last }))
 Goes party known s came (Some number) = CameTo party known s (came ++ (number, s.text) ∷ [])

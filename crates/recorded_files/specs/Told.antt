@@ -1,5 +1,5 @@
--- The messages over the link and the lane that the records of the pager and of the source tell of, where those who receive a message
--- write down which it is.
+-- The messages over the link and the lane in the records of the pager and of the source, if the receiver of a message
+-- records which one it is.
 use Rattle.std.specs.Prelude.{◌≡◌, ℕ, suc, List, [], ◌∷◌, ◌++◌, Option, Some, None}
 use Rattle.std.specs.Option.{option_to_list}
 use Rattle.migration_types.specs.declared.records.SourceRec.{SourceRec}
@@ -16,7 +16,7 @@ use Rattle.recorded_files.specs.declared.raw.RawSource.TheVariants.{Own as OwnSo
 use Rattle.recorded_files.specs.declared.raw.RawPager.{RawPager}
 use Rattle.recorded_files.specs.declared.raw.RawPager.TheVariants.{Own as OwnPager, GotSent, PullSent}
 
--- the packet of the link that a record of the pager takes, which has this number in its log
+-- the packet of the link that a record of the pager takes, given the record's number in its log
 abbrev pub link_packet : ℕ → RawPager → Option Message
 link_packet n (OwnPager rec) = None
 link_packet n (GotSent sending) = Some (Down sending n)
@@ -28,12 +28,12 @@ lane_packet n (OwnPager rec) = None
 lane_packet n (GotSent sending) = None
 lane_packet n (PullSent sending) = Some (Down sending n)
 
--- what a record of the source takes
+-- the message that a record of the source takes
 abbrev pub request : ℕ → RawSource → Option Message
 request n (OwnSource rec) = None
 request n (AskSent asking) = Some (Up asking n)
 
--- what the records of a log tell of, from a number on
+-- the messages in the records of a log, which are numbered from here on
 abbrev pub told_from : {R : Type 0} → (ℕ → R → Option Message) → ℕ → List R → List Message
 told_from tell n [] = []
 told_from tell n (rec ∷ log) = option_to_list (tell n rec) ++ told_from tell (suc n) log
@@ -44,12 +44,12 @@ link_messages pager source = told_from link_packet 0 pager ++ told_from request 
 abbrev pub lane_messages : List RawPager → List Message
 lane_messages pager = told_from lane_packet 0 pager
 
--- what is delivered of these messages while the pager writes so many records
+-- the deliveries of these messages while the pager writes this many records
 pub record AreDelivered (messages : List Message) (count : ℕ) (d : Deliveries) : Type 0 where
   pub log : d.log.items ≡ delivered messages count
   pub numbers : AreNumbers messages count d.log.items d.numbers.items
 
--- a record with the number of the message that it takes, where it takes one
+-- a record with the number of the message that it takes, if it takes one
 abbrev pub numbered_pager : ℕ → RawPager → PagerRec
 numbered_pager number (OwnPager rec) = pager_of rec
 numbered_pager number (GotSent sending) = Got number

@@ -1,4 +1,4 @@
--- What serves proofs alone.
+-- Definitions that only proofs use.
 pub mod Finding
 pub mod Heads
 pub mod Reaches

@@ -1,4 +1,4 @@
-//! A file of a recorder, read record by record.
+//! A recorder's file, read record by record.
 
 ghost use Rattle.std.specs.Prelude.{◌≡◌, ◌≤◌, ℕ, List, [], ◌∷◌, ◌++◌, Option, Some, None, IfOk, IfErr, MatchOption};
 ghost use Rattle.recorded_files.specs.Gathered.{Numbered};
@@ -13,27 +13,28 @@ use std::io::Read;
 use std::marker::Model;
 use thiserror::Error;
 
-/// Why a file of a recorder is none, or is not read.
+/// Why a file is not that of a recorder, or could not be read.
 #[derive(Clone, Copy, Debug, PartialEq, Eq, Error)]
 pub enum FileFault {
     /// The line, counted from 1, at which the bytes stop being those of a recorder's file.
     #[error("line {0}: not the line of a recorder's file")]
     Line(u64),
-    /// The line of a record whose number is not above those of the records before it, or is below that of the file's first.
+    /// The line of a record whose number is not above the numbers of the records before it, or is below the file's
+    /// first number.
     #[error("line {0}: a record out of order")]
     Order(u64),
-    /// What was read gave an error.
+    /// A read failed.
     #[error("the file was not read")]
     File,
-    /// Memory was refused.
+    /// Memory ran out.
     #[error("out of memory")]
     Memory,
 }
 
-/// How many bytes are read at a time, at most.
+/// The most bytes of one read.
 const PIECE: usize = 65_536;
 
-/// Reads a file record by record. Contracts see where it stands.
+/// Reads a file record by record. Contracts see the state of the reader.
 #[derive(Drop)]
 pub struct FileReader<R: Read + Drop> {
     reader: R,
@@ -62,11 +63,12 @@ impl<R: Read + Drop> Model for FileReader<R> {
 }
 
 impl<R: Read + Drop> FileReader<R> {
-    /// Reads the head of a party's file. None where it ends in its head, whose process did not live to begin it.
+    /// Reads the head of a party's file. Returns `None` if the file ends within its head, because its process died
+    /// before it wrote that.
     ///
     /// # Errors
     ///
-    /// The line at which it stops being a recorder's file, or that a read failed, or that memory was refused.
+    /// The line at which the file stops being that of a recorder, or a read failed, or memory ran out.
     pub fn open(alloc: Global, party: Party, reader: R) -> Result<Option<Self>, FileFault>
         ensures opened { IfOk result (λ found. MatchOption found (Says party (R.remaining reader) None) (λ file. CameTo party (R.remaining reader) file [])) }
         ensures refused { IfErr result (λ fault. IsFault party (R.remaining reader) fault) }
@@ -94,12 +96,13 @@ impl<R: Read + Drop> FileReader<R> {
         }
     }
 
-    /// Takes the next record, and answers its number. None where no more was written: the file was read to its end.
+    /// Takes the next record, and returns its number. Returns `None` if there are no more records: the file was read to
+    /// its end.
     ///
     /// # Errors
     ///
-    /// The line at which the file stops being a recorder's, or that a read failed. After an error, or the end, there is no
-    /// next record to be asked for.
+    /// The line at which the file stops being that of a recorder, or a read failed. Do not call it again after an error
+    /// or after `None`.
     pub fn next(&mut self) -> Result<Option<u64>, FileFault>
         ensures taken { IfOk result (λ found. (party : Writer) (known : Option (List ℕ)) (came : Numbered (List ℕ)) → CameTo party known self.old came → Goes party known self.new came found) }
         ensures refused { IfErr result (λ fault. (party : Writer) (known : Option (List ℕ)) (came : Numbered (List ℕ)) → CameTo party known self.old came → IsFault party known fault) }
@@ -139,28 +142,28 @@ impl<R: Read + Drop> FileReader<R> {
         }
     }
 
-    /// The name of the recording that it is of.
+    /// Returns the name of the recording to which the file belongs.
     pub fn name(&self) -> &[u8]
         ensures { result.now ≡ self.now.name }
     {
         &self.name
     }
 
-    /// Whose log it has, and from which record on.
+    /// Returns the party whose log it is, and the number of its first record.
     pub fn opening(&self) -> Opening
         ensures { result ≡ self.now.opening }
     {
         self.opening
     }
 
-    /// The text of the record that came last.
+    /// Returns the text of the record that was taken last.
     pub fn text(&self) -> &[u8]
         ensures { result.now ≡ self.now.text }
     {
         &self.buffer[self.text..self.text_end]
     }
 
-    /// How its process left the log, where its end told.
+    /// Returns how the file's process left the log, if the end of the file says that.
     pub fn last(&self) -> Option<Last>
         ensures { result ≡ self.now.last }
     {

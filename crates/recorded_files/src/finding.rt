@@ -1,4 +1,4 @@
-//! How far the logs of a recording go.
+//! How far the logs of a recording reach.
 
 ghost use Rattle.std.specs.Prelude.{IfOk, IfErr};
 ghost use Rattle.recordings.specs.Walking.{IsRefusedBy};
@@ -10,12 +10,12 @@ use recordings::{RecordingFault, walk};
 use std::alloc::Global;
 use std::io::Read;
 
-/// The greatest front of the logs of the recording that a reader has left: the first records of each log, none of which names
-/// a record that is not among them.
+/// Returns the greatest front of the logs of the recording that a reader has left: the first records of each log, none
+/// of which names a record outside them.
 ///
 /// # Errors
 ///
-/// As `walk` has them.
+/// Those of `walk`.
 pub fn greatest_front<R: Read>(alloc: Global, reader: &mut R) -> Result<Front, RecordingFault>
     ensures found { IfOk result (HasFront (R.remaining reader.old)) }
     ensures refused { IfErr result (IsRefusedBy (R.remaining reader.old)) }

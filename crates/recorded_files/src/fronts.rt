@@ -5,7 +5,7 @@ ghost use Rattle.recorded_files.specs.Fronts.{cursors_of};
 
 use migration_types::LogName;
 
-/// How many records of each log there are.
+/// How many records of each log are in a front.
 #[derive(Clone, Copy, Debug, PartialEq, Eq)]
 pub struct Front {
     pub guest: u64,
@@ -16,7 +16,7 @@ pub struct Front {
 }
 
 impl Front {
-    /// How many records of a log there are.
+    /// Returns how many records of a log are in it.
     pub fn of(self, log: LogName) -> u64
         ensures { result ≡ cursors_of self log }
     {

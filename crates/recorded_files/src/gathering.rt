@@ -1,23 +1,23 @@
-//! Whose turn it is, where the records of a log stand in several files.
+//! The file whose turn it is, if the records of a log are in several files.
 
 ghost use Rattle.std.specs.Prelude.{◌≡◌, ◌≤◌, ◌<◌, ℕ, List, length, MatchOption};
 ghost use Rattle.recorded_files.specs.Gathered.{Gives, Has, IsGathered, IsTurn, Numbered};
 ghost use Rattle.recorded_files.specs.inner.Heads.{IsLeastOf, lower_of};
 
-/// Whose turn it is.
+/// The file whose turn it is.
 #[derive(Clone, Copy, Debug, PartialEq, Eq)]
 pub enum Turn {
-    /// This file's alone.
+    /// This file alone.
     Of(usize),
-    /// Two files have a record of the number that is wanted.
+    /// Two files have a record with the number that is wanted.
     Twice(usize, usize),
-    /// No file has one, and this is the least number that one has.
+    /// No file has that number. This is the least number that a file has.
     Missing(u64),
-    /// No file has a record any more.
+    /// No file has more records.
     End,
 }
 
-/// The first file from one on whose next record has this number.
+/// Returns the first file, from one on, whose next record has this number.
 fn holder(heads: &[Option<u64>], wanted: u64, first: usize) -> Option<usize>
     ensures { MatchOption result ((j : ℕ) → first ≤ j → Has heads.now j wanted → ⊥) (λ i. (first ≤ i) × (i < length heads.now) × Has heads.now i wanted × ((j : ℕ) → first ≤ j → j < i → Has heads.now j wanted → ⊥)) }
 {
@@ -29,7 +29,7 @@ fn holder(heads: &[Option<u64>], wanted: u64, first: usize) -> Option<usize>
     None
 }
 
-/// The lower of two numbers, of which any may be missing.
+/// Returns the lower of two numbers. Any of them may be missing.
 fn lower(one: Option<u64>, other: Option<u64>) -> Option<u64>
     ensures { result ≡ lower_of one other }
 {
@@ -42,7 +42,7 @@ fn lower(one: Option<u64>, other: Option<u64>) -> Option<u64>
     }
 }
 
-/// The least number that a file's next record has.
+/// Returns the least number of a file's next record.
 fn least(heads: &[Option<u64>]) -> Option<u64>
     ensures { IsLeastOf heads.now (length heads.now) result }
 {
@@ -54,7 +54,8 @@ fn least(heads: &[Option<u64>]) -> Option<u64>
     least
 }
 
-/// Whose turn it is, where a number is wanted and these are the numbers of the files' next records. Takes no memory.
+/// Returns the file whose turn it is, given the number that is wanted and the numbers of the files' next records.
+/// Allocates no memory.
 pub fn next_turn(heads: &[Option<u64>], wanted: u64) -> Turn
     ensures { IsTurn heads.now wanted result }
 {
@@ -70,8 +71,8 @@ pub fn next_turn(heads: &[Option<u64>], wanted: u64) -> Turn
     }
 }
 
-/// Where files give a log in turn, to the end of each, no number is missing, and none is there twice; and there is no other log
-/// that they give. Runs nothing.
+/// A law: if files take turns and give a log to the end of each file, no number is missing, and none occurs twice. They
+/// give no other log. Runs nothing.
 pub fn turns_gather<X>()
     ensures gathered { (files : List (Numbered X)) (log : List X) → Gives 0 files log → IsGathered files log }
     ensures one { (n : ℕ) (files : List (Numbered X)) (a b : List X) → Gives n files a → Gives n files b → a ≡ b }

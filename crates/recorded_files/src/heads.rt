@@ -17,7 +17,7 @@ use text_lines::{after_key, is_line};
 /// The most bytes of a recording's name.
 const LONGEST_NAME: usize = 64;
 
-/// Whether a name of a recording may have this byte.
+/// Returns whether the name of a recording may contain this byte.
 fn is_of_name(byte: u8) -> bool
     ensures { result ≡ is_of_name byte }
 {
@@ -29,14 +29,14 @@ fn is_of_name(byte: u8) -> bool
         || byte == b'_'
 }
 
-/// Whether a name of a recording may have all these bytes.
+/// Returns whether the name of a recording may contain all these bytes.
 fn are_of_name(bytes: &[u8]) -> bool
     ensures { result ≡ list_all is_of_name bytes.now }
 {
     bytes.iter().all(|&byte| is_of_name(byte))
 }
 
-/// Whether a recording may have this name.
+/// Returns whether a recording may have this name.
 fn is_name(name: &[u8]) -> bool
     ensures { result ≡ is_name name.now }
 {
@@ -49,7 +49,7 @@ fn is_name(name: &[u8]) -> bool
     are_of_name(name)
 }
 
-/// The name of the recording that a file's second line tells.
+/// Returns the name of the recording in a file's second line.
 pub fn read_name(line: &[u8]) -> Option<&[u8]>
     ensures found { IfSome result (λ name. IsName name.now × (line.now ≡ recording_line name.now)) }
     ensures none { IfNone result ((name : List ℕ) → IsName name → line.now ≢ recording_line name) }
@@ -58,16 +58,16 @@ pub fn read_name(line: &[u8]) -> Option<&[u8]>
     if is_name(name) { Some(name) } else { None }
 }
 
-/// What the head of a file says, and where in a buffer what was read behind it stands.
+/// What the head of a file says, and which part of a buffer has the bytes that were read after it.
 #[derive(Drop)]
-pub(crate) struct Head {
+pub(crate) struct FileHead {
     pub(crate) name: Vec<u8>,
     pub(crate) opening: Opening,
     pub(crate) start: usize,
     pub(crate) end: usize,
 }
 
-/// Takes the first line of a file, which has to be the header.
+/// Takes the first line of a file, which must be the header.
 fn take_header<R: Read>(reader: &mut R, buffer: &mut [u8]) -> Result<Option<Cut>, FileFault>
     requires room { longest_line < length buffer.old }
     ensures order { IfOk result (λ found. IfSome found (λ cut. cut.end < cut.held)) }
@@ -85,7 +85,7 @@ fn take_header<R: Read>(reader: &mut R, buffer: &mut [u8]) -> Result<Option<Cut>
     Ok(Some(cut))
 }
 
-/// Takes the second line of a file, which has to tell the recording's name.
+/// Takes the second line of a file, which must have the recording's name.
 fn take_name<R: Read>(
     alloc: Global,
     reader: &mut R,
@@ -113,7 +113,7 @@ fn take_name<R: Read>(
     }
 }
 
-/// A copy of some bytes.
+/// Returns a copy of the bytes.
 fn copied(alloc: Global, bytes: &[u8]) -> Result<Vec<u8>, AllocError>
     ensures { IfOk result (λ copy. copy.items ≡ bytes.now) }
 {
@@ -122,7 +122,7 @@ fn copied(alloc: Global, bytes: &[u8]) -> Result<Vec<u8>, AllocError>
     Ok(copy)
 }
 
-/// Takes the third line of a file, which has to tell the party's log and from which record on.
+/// Takes the third line of a file, which must have the party's log and its first record.
 fn take_opening<R: Read>(
     party: Party,
     reader: &mut R,
@@ -147,13 +147,13 @@ fn take_opening<R: Read>(
     }
 }
 
-/// Takes the head of a party's file. None where the file ends in it.
+/// Takes the head of a party's file. Returns `None` if the file ends within it.
 pub(crate) fn take_head<R: Read>(
     alloc: Global,
     party: Party,
     reader: &mut R,
     buffer: &mut [u8],
-) -> Result<Option<Head>, FileFault>
+) -> Result<Option<FileHead>, FileFault>
     requires room { longest_line < length buffer.old }
     ensures order { IfOk result (λ found. IfSome found (λ head. head.start ≤ head.end)) }
     ensures within { IfOk result (λ found. IfSome found (λ head. head.end ≤ length buffer.new)) }
@@ -168,7 +168,7 @@ pub(crate) fn take_head<R: Read>(
         return Ok(None);
     };
     match take_opening(party, reader, buffer, second)? {
-        Some((opening, third)) => Ok(Some(Head {
+        Some((opening, third)) => Ok(Some(FileHead {
             name,
             opening,
             start: third.end + 1,

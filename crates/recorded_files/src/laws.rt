@@ -1,4 +1,4 @@
-//! The laws on the definitions.
+//! Laws about the definitions.
 
 ghost use Rattle.std.specs.Prelude.{◌≡◌, ℕ, List, Option};
 ghost use Rattle.migration_types.specs.declared.records.LogName.{LogName};
@@ -8,8 +8,8 @@ ghost use Rattle.recorded_files.specs.declared.lines.Party.{Party};
 ghost use Rattle.recorded_files.specs.Fronts.{IsFront, IsGreatestFront, HasGreatestFront, IsWhole, cut_to};
 ghost use Rattle.recorded_files.specs.Said.{FileSays, Said};
 
-/// The logs of each session have one greatest front. What is cut to a front is whole: each of its records names only such as
-/// are there. Of logs that are whole nothing is cut. Runs nothing.
+/// A law: the logs of a session have one greatest front. Logs that are cut to a front are whole: each of their records
+/// names only records that exist. Nothing is cut from logs that are whole. Runs nothing.
 pub fn fronts_have_a_greatest()
     ensures greatest { (s : Recorded) → HasGreatestFront s }
     ensures unique { (s : Recorded) (c d : Cursors) → IsGreatestFront s c → IsGreatestFront s d → (log : LogName) → c log ≡ d log }
@@ -17,7 +17,7 @@ pub fn fronts_have_a_greatest()
     ensures whole { (s : Recorded) (c : Cursors) → IsWhole s → IsGreatestFront s c → cut_to c s ≡ s }
 {}
 
-/// The bytes of a party's file say one thing at most. Runs nothing.
+/// A law: the bytes of a party's file say at most one thing. Runs nothing.
 pub fn files_say_one_thing()
     ensures { (party : Party) (bytes : List ℕ) (x y : Option Said) → FileSays party bytes x → FileSays party bytes y → x ≡ y }
 {}

@@ -1,4 +1,4 @@
-//! What a recorder's files say, and what is left of logs that are not whole.
+//! What a recorder's files say, and what can be kept of logs that are not whole.
 #![tactic(auto)]
 
 mod files;

@@ -12,17 +12,18 @@ use text_lines::{after_key, number_then, read_keyed};
 /// The first line of each file.
 pub const HEADER: &[u8] = b"postcopy-records 1";
 
-/// The greatest number that a record has: the next is what a recorder answers where a record was not written.
+/// The greatest number of a record. A recorder returns the number after it if a record was not written.
 const LAST_NUMBER: u32 = 4_294_967_294;
 
-/// Who writes a log: the party of one of a session's logs, or the one that tells what the machine is.
+/// Who writes a log: the party of one of a session's logs, or the one that describes the machine.
 #[derive(Clone, Copy, Debug, PartialEq, Eq)]
 pub enum Party {
     Machine,
     Of(LogName),
 }
 
-/// Of whose log a process tells from which record on, and the number of the file in which it began.
+/// The party whose log a process writes, the number of the process's first record, and the number of the file in which
+/// it began.
 #[derive(Clone, Copy, Debug, PartialEq, Eq)]
 pub struct Opening {
     pub party: Party,
@@ -33,15 +34,15 @@ pub struct Opening {
 /// How a process left a log.
 #[derive(Clone, Copy, Debug, PartialEq, Eq)]
 pub enum Last {
-    /// It closed it behind so many records.
+    /// It closed the log after this many records.
     End(u32),
-    /// Another process goes on behind so many.
+    /// Another process goes on after this many records.
     Next(u32),
-    /// A record was not written, by this error of the system.
+    /// A record was not written, because of this system error.
     Lost(u32),
 }
 
-/// The two numbers that stand behind a key, with a space between them.
+/// Returns the two numbers after a key, if a space separates them.
 fn two_behind(line: &[u8], key: &[u8]) -> Option<(u32, u32)>
     ensures found { IfSome result (λ two. (two.0 ≤ last_number) × (two.1 ≤ last_number) × (line.now ≡ key.now ++ (decimal two.0 ++ 32 ∷ decimal two.1))) }
     ensures none { IfNone result ((m n : ℕ) → m ≤ last_number → n ≤ last_number → line.now ≢ key.now ++ (decimal m ++ 32 ∷ decimal n)) }
@@ -59,7 +60,7 @@ fn two_behind(line: &[u8], key: &[u8]) -> Option<(u32, u32)>
 }
 
 impl Party {
-    /// What the third line of its files begins with.
+    /// Returns the beginning of the third line of its files.
     fn key(self) -> &'static [u8]
         ensures { (first file : ℕ) → opening_line self first file ≡ result.now ++ (decimal first ++ 32 ∷ decimal file) }
     {
@@ -75,7 +76,7 @@ impl Party {
 }
 
 impl Opening {
-    /// The opening of a party's log that a file's third line spells: of the party that the file's name tells.
+    /// Returns the opening that a file's third line spells, for the party in the file's name.
     pub fn read(party: Party, line: &[u8]) -> Option<Opening>
         ensures found { IfSome result (λ o. (o.party ≡ party) × (o.first ≤ last_number) × (o.file ≤ last_number) × (line.now ≡ opening_line party o.first o.file)) }
         ensures none { IfNone result ((first file : ℕ) → first ≤ last_number → file ≤ last_number → line.now ≢ opening_line party first file) }
@@ -87,7 +88,7 @@ impl Opening {
     }
 }
 
-/// The number of a record and its text, which a line behind a file's head spells.
+/// Returns the number and the text of a record, if a line after a file's head spells one.
 pub fn read_numbered(line: &[u8]) -> Option<(u64, &[u8])>
     ensures found { IfSome result (λ found. (found.0 ≤ last_number) × (line.now ≡ record_line found.0 found.1.now)) }
     ensures none { IfNone result ((n : ℕ) (text : List ℕ) → n ≤ last_number → line.now ≢ record_line n text) }
@@ -98,7 +99,7 @@ pub fn read_numbered(line: &[u8]) -> Option<(u64, &[u8])>
 impl Last {
     ghost use Rattle.recorded_files.specs.declared.lines.Last.{Last};
 
-    /// How a log was left, by the last line of a file.
+    /// Returns how a log was left, if that is the last line of a file.
     pub fn read(line: &[u8]) -> Option<Last>
         ensures found { IfSome result (λ last. IsLast last × (line.now ≡ last_line last)) }
         ensures none { IfNone result ((last : Last) → IsLast last → line.now ≢ last_line last) }
@@ -116,7 +117,7 @@ impl Last {
     }
 }
 
-/// How a log was left, by the last line of a file whose records have numbers below this one.
+/// Returns how a log was left, if that is the last line of a file whose records have numbers below this one.
 pub(crate) fn last_behind(line: &[u8], next: u64) -> Option<Last>
     ensures found { IfSome result (λ last. IsLast last × IsBehind next last × (line.now ≡ last_line last)) }
     ensures none { IfNone result ((last : Left) → IsLast last → IsBehind next last → line.now ≢ last_line last) }
@@ -133,7 +134,7 @@ pub(crate) fn last_behind(line: &[u8], next: u64) -> Option<Last>
     }
 }
 
-/// Whether a count is behind all records of a file, whose numbers are below this one.
+/// Returns whether a count is above the numbers of all records in a file, which are below this one.
 fn is_behind(last: Last, next: u64) -> bool
     ensures { IsTrue result ↔ IsBehind next last }
 {

@@ -1,4 +1,4 @@
-//! The messages over the link and the lane that the records of the pager and of the source tell of.
+//! The messages over the link and the lane in the records of the pager and of the source.
 
 ghost use Rattle.std.specs.Prelude.{◌≡◌, [], ◌∷◌, ◌++◌, List, IfOk, OnOk, length};
 ghost use Rattle.std.specs.Option.{option_to_list};
@@ -13,7 +13,7 @@ use deliveries::{Deliveries, Message, deliver};
 use recordings::{WidePager, WideSource};
 use std::alloc::{AllocError, Global};
 
-/// The messages that records tell of, as these come.
+/// The messages in records, which are taken one by one.
 #[derive(Drop)]
 pub struct Told {
     pub(crate) packets: Vec<Message>,
@@ -23,17 +23,17 @@ pub struct Told {
     pub(crate) source: u64,
 }
 
-/// What the link and the lane deliver.
+/// The deliveries of the link and of the lane.
 #[derive(Drop)]
 pub struct Delivered {
-    /// Over the link: the numbers are those of the pager's packets, in the order of its records, and then of what the source's
-    /// records take, in the order of these.
+    /// Those of the link. The first numbers are those of the pager's packets, in the order of its records. Those of the
+    /// messages that the source's records take follow, in the order of these records.
     pub link: Deliveries,
-    /// Over the lane, in the order of the pager's records.
+    /// Those of the lane, in the order of the pager's records.
     pub lane: Deliveries,
 }
 
-/// Adds a message, if there is one.
+/// Keeps a message, if there is one.
 fn keep(messages: &mut Vec<Message>, message: Option<Message>) -> Result<(), AllocError>
     ensures { OnOk result (messages.new.items ≡ messages.old.items ++ option_to_list message) }
 {
@@ -45,7 +45,7 @@ fn keep(messages: &mut Vec<Message>, message: Option<Message>) -> Result<(), All
 }
 
 impl RawPager {
-    /// The packet of the link that it takes.
+    /// Returns the packet of the link that it takes.
     fn link_packet(&self, number: u64) -> Option<Message>
         ensures { result ≡ link_packet number self.now }
     {
@@ -58,7 +58,7 @@ impl RawPager {
         }
     }
 
-    /// The packet of the lane that it takes.
+    /// Returns the packet of the lane that it takes.
     fn lane_packet(&self, number: u64) -> Option<Message>
         ensures { result ≡ lane_packet number self.now }
     {
@@ -71,7 +71,7 @@ impl RawPager {
         }
     }
 
-    /// The record with the number of the message that it takes, where it takes one.
+    /// Returns the record with the number of the message that it takes, if it takes one.
     pub fn numbered(self, number: u64) -> WidePager
         ensures { pager_of result ≡ numbered_pager number self }
     {
@@ -84,7 +84,7 @@ impl RawPager {
 }
 
 impl RawSource {
-    /// What it takes.
+    /// Returns the message that it takes.
     fn request(&self, number: u64) -> Option<Message>
         ensures { result ≡ request number self.now }
     {
@@ -97,7 +97,7 @@ impl RawSource {
         }
     }
 
-    /// The record with the number of the message that it takes, where it takes one.
+    /// Returns the record with the number of the message that it takes, if it takes one.
     pub fn numbered(self, number: u64) -> WideSource
         ensures { source_of result ≡ numbered_source number self }
     {
@@ -109,7 +109,7 @@ impl RawSource {
 }
 
 impl Told {
-    /// Of no records.
+    /// Returns the messages of no records.
     pub fn new(alloc: Global) -> Told
         ensures { Tells result [] [] }
     {
@@ -126,7 +126,7 @@ impl Told {
     ///
     /// # Errors
     ///
-    /// Memory was refused. After that, what is kept is of no use.
+    /// Memory ran out. Nothing is promised about the messages afterwards.
     pub fn note_pager(&mut self, rec: &RawPager) -> Result<(), AllocError>
         ensures { (pager : List Received) (source : List Taken) → Tells self.old pager source → OnOk result (Tells self.new (pager ++ rec.now ∷ []) source) }
     {
@@ -142,7 +142,7 @@ impl Told {
     ///
     /// # Errors
     ///
-    /// Memory was refused. After that, what is kept is of no use.
+    /// Memory ran out. Nothing is promised about the messages afterwards.
     pub fn note_source(&mut self, rec: &RawSource) -> Result<(), AllocError>
         ensures { (pager : List Received) (source : List Taken) → Tells self.old pager source → OnOk result (Tells self.new pager (source ++ rec.now ∷ [])) }
     {
@@ -153,11 +153,11 @@ impl Told {
         Ok(())
     }
 
-    /// What the link and the lane deliver, where these are all records.
+    /// Returns the deliveries of the link and of the lane, if these are all records.
     ///
     /// # Errors
     ///
-    /// Memory was refused.
+    /// Memory ran out.
     pub fn deliver(self, alloc: Global) -> Result<Delivered, AllocError>
         ensures link { IfOk result (λ d. (pager : List Received) (source : List Taken) → Tells self pager source → AreDelivered (link_messages pager source) (length pager) d.link) }
         ensures lane { IfOk result (λ d. (pager : List Received) (source : List Taken) → Tells self pager source → AreDelivered (lane_messages pager) (length pager) d.lane) }

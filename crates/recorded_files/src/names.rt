@@ -1,4 +1,4 @@
-//! What a record names: the record of some log that a field of it has the number of. No record names two.
+//! The record that a record names: one of its fields has the number of a record of some log. No record names two.
 
 ghost use Rattle.std.specs.Prelude.{◌≡◌};
 ghost use Rattle.migration_types.specs.Rows.{guest_row, source_row, link_row, lane_row, pager_row};
@@ -8,7 +8,7 @@ ghost use Rattle.recorded_files.specs.inner.Reaches.{named_first};
 use migration_types::LogName;
 use recordings::{WideGuest, WideLane, WideLink, WidePager, WideSource};
 
-/// What a record of the guest names.
+/// Returns what a record of the guest names.
 pub(crate) fn named_by_guest(rec: &WideGuest) -> Option<(LogName, u64)>
     ensures { result ≡ named_first (guest_row (guest_of rec.now)).fields }
 {
@@ -19,7 +19,7 @@ pub(crate) fn named_by_guest(rec: &WideGuest) -> Option<(LogName, u64)>
     }
 }
 
-/// What a record of the source names.
+/// Returns what a record of the source names.
 pub(crate) fn named_by_source(rec: &WideSource) -> Option<(LogName, u64)>
     ensures { result ≡ named_first (source_row (source_of rec.now)).fields }
 {
@@ -31,7 +31,7 @@ pub(crate) fn named_by_source(rec: &WideSource) -> Option<(LogName, u64)>
     }
 }
 
-/// What a record of the link names.
+/// Returns what a record of the link names.
 pub(crate) fn named_by_link(rec: &WideLink) -> Option<(LogName, u64)>
     ensures { result ≡ named_first (link_row (link_of rec.now)).fields }
 {
@@ -41,7 +41,7 @@ pub(crate) fn named_by_link(rec: &WideLink) -> Option<(LogName, u64)>
     }
 }
 
-/// What a record of the lane names.
+/// Returns what a record of the lane names.
 pub(crate) fn named_by_lane(rec: &WideLane) -> Option<(LogName, u64)>
     ensures { result ≡ named_first (lane_row (lane_of rec.now)).fields }
 {
@@ -50,7 +50,7 @@ pub(crate) fn named_by_lane(rec: &WideLane) -> Option<(LogName, u64)>
     }
 }
 
-/// What a record of the pager names.
+/// Returns what a record of the pager names.
 pub(crate) fn named_by_pager(rec: &WidePager) -> Option<(LogName, u64)>
     ensures { result ≡ named_first (pager_row (pager_of rec.now)).fields }
 {

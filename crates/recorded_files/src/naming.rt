@@ -1,4 +1,4 @@
-//! What the records of all logs name, and how far that lets the logs go.
+//! What the records of all logs name, and how far the logs reach because of it.
 
 ghost use Rattle.std.specs.Prelude.{◌≡◌, ◌≤◌, List, [], ◌∷◌, ◌++◌, Option, IsTrue, ◌↔◌, min, OnOk};
 ghost use Rattle.migration_types.specs.declared.records.LogName.{LogName};
@@ -11,7 +11,8 @@ use crate::fronts::Front;
 use crate::reach::Reach;
 use std::alloc::Global;
 
-/// What the records of each log name. Memory is taken for those that name a later record of a log than each before them.
+/// What the records of each log name. Takes memory only for records that name a later record of a log than all before
+/// them.
 #[derive(Drop)]
 pub(crate) struct Naming {
     pub(crate) guest: Reach,
@@ -22,7 +23,7 @@ pub(crate) struct Naming {
 }
 
 impl Naming {
-    /// Of no records.
+    /// Returns the names of no records.
     pub(crate) fn new(alloc: Global) -> Self
         ensures { IsBlank result }
     {
@@ -35,7 +36,7 @@ impl Naming {
         }
     }
 
-    /// How many records of each log there are.
+    /// Returns how many records each log has.
     fn counts(&self) -> Front
         ensures { (s : Recorded) → IsNaming self.now s → (log : LogName) → cursors_of result log ≡ log_length s log }
     {
@@ -48,7 +49,7 @@ impl Naming {
         }
     }
 
-    /// Each log up to its first record that names one which is not there.
+    /// Cuts each log before its first record that names a record outside the front.
     fn narrow(&self, there: Front) -> Front
         ensures within { (log : LogName) → cursors_of result log ≤ cursors_of there log }
         ensures reach { (s : Recorded) → IsNaming self.now s → (log : LogName) → cursors_of result log ≡ min (cursors_of there log) (reach (cursors_of there) (names_in s log)) }
@@ -67,7 +68,7 @@ impl Naming {
         }
     }
 
-    /// The greatest front of the logs that it is of. Takes no memory.
+    /// Returns the greatest front of the logs. Allocates no memory.
     pub(crate) fn greatest_front(&self) -> Front
         ensures { (s : Recorded) → IsNaming self.now s → IsGreatestFront s (cursors_of result) }
     {

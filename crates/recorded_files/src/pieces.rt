@@ -1,4 +1,4 @@
-//! The lines of a file that comes in pieces.
+//! The lines of a file that is read in pieces.
 
 ghost use Rattle.std.specs.Prelude.{◌≡◌, Some, ◌≤◌, ◌<◌, length, slice_range, List, ℕ, Option, IfOk, IfErr, OnOk, IfSome, MatchOption};
 ghost use Rattle.memchr.specs.Find.{IsFirstByte, is_byte2};
@@ -10,13 +10,13 @@ use memchr::memchr2;
 use recordings::{RecordingFault, move_front, read_behind};
 use std::io::Read;
 
-/// No line of a file has more bytes than these.
+/// The most bytes of a line.
 const LONGEST_LINE: usize = 8_459;
 
 /// What comes next.
 #[derive(Clone, Copy)]
-pub(crate) enum Found {
-    /// A line of so many bytes, with a line feed behind them.
+pub(crate) enum NextLine {
+    /// A line of this many bytes, followed by a line feed.
     Line(usize),
     /// No line that was written to its end.
     End,
@@ -24,15 +24,15 @@ pub(crate) enum Found {
     Long,
 }
 
-/// What some bytes begin with, where they tell.
-fn look(bytes: &[u8]) -> Option<Found>
+/// Returns what some bytes begin with, if they are enough to know.
+fn look(bytes: &[u8]) -> Option<NextLine>
     ensures { MatchOption result (IsWritten bytes.now) (λ found. (rest : Option (List ℕ)) → Finds rest bytes.now found) }
 {
     match memchr2(b'\n', 0, bytes) {
         Some(at) => Some(found_at(bytes, at)),
         None => {
             if bytes.len() > LONGEST_LINE {
-                Some(Found::Long)
+                Some(NextLine::Long)
             } else {
                 None
             }
@@ -40,28 +40,28 @@ fn look(bytes: &[u8]) -> Option<Found>
     }
 }
 
-/// What bytes begin with, where this is the first line feed or 0.
-fn found_at(bytes: &[u8], at: usize) -> Found
+/// Returns what bytes begin with, given the place of their first line feed or byte 0.
+fn found_at(bytes: &[u8], at: usize) -> NextLine
     requires { IsFirstByte (is_byte2 10 0) bytes.now (Some at) }
     ensures { (rest : Option (List ℕ)) → Finds rest bytes.now result }
 {
     if at > LONGEST_LINE {
-        return Found::Long;
+        return NextLine::Long;
     }
     if bytes[at] == 0 {
-        return Found::End;
+        return NextLine::End;
     }
-    Found::Line(at)
+    NextLine::Line(at)
 }
 
-/// Finds what comes next in what a buffer holds from one place to another, and behind that in a reader, of which as much is
-/// read as that takes. Answers from where to where the buffer holds what was read, and what that begins with.
+/// Finds what comes next in a buffer, between two places, and after that in a reader. Reads only as much as it needs.
+/// Returns the two places between which the buffer holds what was read, and what that begins with.
 pub(crate) fn find<R: Read>(
     reader: &mut R,
     buffer: &mut [u8],
     start: usize,
     end: usize,
-) -> Result<(usize, usize, Found), FileFault>
+) -> Result<(usize, usize, NextLine), FileFault>
     requires order { start ≤ end }
     requires within { end ≤ length buffer.old }
     requires room { longest_line < length buffer.old }
@@ -83,7 +83,7 @@ pub(crate) fn find<R: Read>(
             Err(fault) => return Err(fault_of(fault)),
         };
         if filled == kept {
-            return Ok((0, filled, Found::End));
+            return Ok((0, filled, NextLine::End));
         }
         if let Some(found) = look(&buffer[..filled]) {
             return Ok((0, filled, found));
@@ -93,7 +93,7 @@ pub(crate) fn find<R: Read>(
     Err(FileFault::File)
 }
 
-/// Where in a buffer a line stands, and where what was read behind it ends. Its line feed stands at its end.
+/// The part of a buffer that holds a line, and the end of what was read after it. A line feed follows the line.
 #[derive(Clone, Copy)]
 pub(crate) struct Cut {
     pub(crate) start: usize,
@@ -101,8 +101,8 @@ pub(crate) struct Cut {
     pub(crate) held: usize,
 }
 
-/// Takes the next line of a file, of this number. None where no more was written to its end. An error: it is too long, or was
-/// not read.
+/// Takes the next line of a file, which has this number. Returns `None` if no more lines were written to their ends.
+/// Fails if the line is too long, or a read failed.
 pub(crate) fn take_line<R: Read>(
     reader: &mut R,
     buffer: &mut [u8],
@@ -122,17 +122,18 @@ pub(crate) fn take_line<R: Read>(
 {
     let (start, end, found) = find(reader, buffer, start, end)?;
     match found {
-        Found::Line(len) => Ok(Some(Cut {
+        NextLine::Line(len) => Ok(Some(Cut {
             start,
             end: start + len,
             held: end,
         })),
-        Found::End => Ok(None),
-        Found::Long => Err(FileFault::Line(number)),
+        NextLine::End => Ok(None),
+        NextLine::Long => Err(FileFault::Line(number)),
     }
 }
 
-/// Sees that no more lines of a file were written, in front of a line of this number. An error: one was, or it was not read.
+/// Checks that the file has no more lines. `number` is that of the next line. Fails if there is one, or if a read
+/// failed.
 pub(crate) fn take_end<R: Read>(
     reader: &mut R,
     buffer: &mut [u8],
@@ -154,7 +155,7 @@ pub(crate) fn take_end<R: Read>(
     }
 }
 
-/// The fault of a read.
+/// Returns the fault for a read.
 fn fault_of(fault: RecordingFault) -> FileFault
     ensures { IsReadFault result }
 {

@@ -21,24 +21,24 @@ const PULL_SENT_KEY: &[u8] = b"pull-sent ";
 /// A record of the source as a recorder writes it.
 #[derive(Drop)]
 pub enum RawSource {
-    /// One of a session.
+    /// A record of a session.
     Own(WideSource),
-    /// An `ask` that names the pager's record that was sent.
+    /// An `ask` that names the record with which the pager sent it.
     AskSent { asking: u64 },
 }
 
 /// A record of the pager as a recorder writes it.
 #[derive(Drop)]
 pub enum RawPager {
-    /// One of a session.
+    /// A record of a session.
     Own(WidePager),
-    /// A `got` that names the source's record that was sent.
+    /// A `got` that names the record with which the source sent the packet.
     GotSent { sending: u64 },
-    /// A `pull` that names the source's record that was sent.
+    /// A `pull` that names the record with which the source sent the packet.
     PullSent { sending: u64 },
 }
 
-/// The number that stands behind a key, where a line is the two.
+/// Returns the number after a key, if the line is these two.
 fn sent(line: &[u8], key: &[u8]) -> Option<u64>
     ensures found { IfSome result (λ n. (n ≤ lost_number) × (line.now ≡ key.now ++ decimal n)) }
     ensures none { IfNone result ((n : ℕ) → n ≤ lost_number → line.now ≢ key.now ++ decimal n) }
@@ -50,11 +50,11 @@ fn sent(line: &[u8], key: &[u8]) -> Option<u64>
 }
 
 impl RawSource {
-    /// The record of the source that a line spells.
+    /// Returns the record of the source that a line spells.
     ///
     /// # Errors
     ///
-    /// It spells none, or there is no memory for the contents.
+    /// The line spells none, or memory ran out for the contents.
     pub fn read(alloc: Global, machine: &Machine, line: &[u8]) -> Result<RawSource, FaultKind>
         requires { IsMachine (extent_of machine.now) }
         ensures found { IfOk result (λ r. IsRawSourceOf (extent_of machine.now) r × (line.now ≡ raw_source_line r)) }
@@ -69,7 +69,7 @@ impl RawSource {
         }
     }
 
-    /// Adds its line, with the line feed. An error: there is no memory for it.
+    /// Appends its line, with the line feed. Fails only if memory runs out.
     pub fn push(&self, out: &mut Vec<u8>) -> Result<(), AllocError>
         ensures { OnOk result (out.new.items ≡ out.old.items ++ (raw_source_line self.now ++ 10 ∷ [])) }
     {
@@ -81,11 +81,11 @@ impl RawSource {
 }
 
 impl RawPager {
-    /// The record of the pager that a line spells.
+    /// Returns the record of the pager that a line spells.
     ///
     /// # Errors
     ///
-    /// It spells none, or there is no memory for the contents.
+    /// The line spells none, or memory ran out for the contents.
     pub fn read(alloc: Global, machine: &Machine, line: &[u8]) -> Result<RawPager, FaultKind>
         requires { IsMachine (extent_of machine.now) }
         ensures found { IfOk result (λ r. IsRawPagerOf machine.now.version (extent_of machine.now) r × (line.now ≡ raw_pager_line r)) }
@@ -103,7 +103,7 @@ impl RawPager {
         }
     }
 
-    /// Adds its line, with the line feed. An error: there is no memory for it.
+    /// Appends its line, with the line feed. Fails only if memory runs out.
     pub fn push(&self, out: &mut Vec<u8>) -> Result<(), AllocError>
         ensures { OnOk result (out.new.items ≡ out.old.items ++ (raw_pager_line self.now ++ 10 ∷ [])) }
     {

@@ -1,4 +1,4 @@
-//! How far a log goes, by what its records name.
+//! How far a log reaches, given what its records name.
 
 ghost use Rattle.std.specs.Prelude.{◌≡◌, ℕ, ◌<◌, ◌^◌, [], ◌∷◌, ◌++◌, List, length, Option, OnOk, IfOk};
 ghost use Rattle.migration_types.specs.Receipts.{Name};
@@ -10,7 +10,7 @@ use crate::steps::Steps;
 use migration_types::LogName;
 use std::alloc::{AllocError, Global};
 
-/// What the records of a log need of each.
+/// What the records of a log need of each log.
 #[derive(Drop)]
 pub(crate) struct Reach {
     pub(crate) count: u64,
@@ -21,7 +21,7 @@ pub(crate) struct Reach {
     pub(crate) pager: Steps,
 }
 
-/// How many records of a log one needs, by what it names.
+/// Returns how many records of a log a record needs, given what it names.
 fn need(log: LogName, named: Option<(LogName, u64)>) -> Result<u64, AllocError>
     ensures { IfOk result (λ count. count ≡ need log named) }
 {
@@ -32,7 +32,7 @@ fn need(log: LogName, named: Option<(LogName, u64)>) -> Result<u64, AllocError>
 }
 
 impl Reach {
-    /// Of no records.
+    /// Returns the reach of no records.
     pub(crate) fn new(alloc: Global) -> Self
         ensures { IsReach result [] }
     {
@@ -46,7 +46,7 @@ impl Reach {
         }
     }
 
-    /// Takes the next record, by what it names.
+    /// Takes the next record, given what it names.
     pub(crate) fn note(&mut self, named: Option<(LogName, u64)>) -> Result<(), AllocError>
         ensures { (names : List (Option Name)) → IsReach self.old names → OnOk result (IsReach self.new (names ++ named ∷ [])) }
     {
@@ -61,7 +61,7 @@ impl Reach {
         Ok(())
     }
 
-    /// How many records stand in front of the first that names one which is not there.
+    /// Returns how many records come before the first one that names a record outside the front.
     pub(crate) fn end(&self, there: Front) -> u64
         ensures { (names : List (Option Name)) → IsReach self.now names → result ≡ reach (cursors_of there) names }
     {

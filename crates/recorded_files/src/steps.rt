@@ -1,4 +1,4 @@
-//! Which records of a log need more of another than those before them.
+//! The records of a log that need more records of another log than those before them.
 
 ghost use Rattle.std.specs.Prelude.{◌≡◌, ℕ, ◌<◌, ◌^◌, [], ◌∷◌, ◌++◌, List, length, Option, OnOk};
 ghost use Rattle.migration_types.specs.declared.records.LogName.{LogName};
@@ -7,14 +7,14 @@ ghost use Rattle.recorded_files.specs.inner.Reaches.{need, before_need, AreSteps
 
 use std::alloc::{AllocError, Global};
 
-/// A record that needs more records of another log than each before it: how many, and its place.
+/// A record that needs more records of another log than all before it: how many, and its place.
 #[derive(Clone, Copy)]
 pub(crate) struct Step {
     pub(crate) needed: u64,
     pub(crate) place: u64,
 }
 
-/// The records of a log that need more of another than those before them, and how many are needed in all.
+/// The records of a log that need more of another log than those before them, and how many are needed in all.
 #[derive(Drop)]
 pub(crate) struct Steps {
     pub(crate) needed: u64,
@@ -22,7 +22,7 @@ pub(crate) struct Steps {
 }
 
 impl Steps {
-    /// Of no records.
+    /// Returns the steps of no records.
     pub(crate) fn new(alloc: Global) -> Self
         ensures { (other : LogName) → AreSteps result other [] }
     {
@@ -32,7 +32,7 @@ impl Steps {
         }
     }
 
-    /// Takes the next record, which needs so many.
+    /// Takes the next record, which needs this many.
     pub(crate) fn note(&mut self, place: u64, needed: u64) -> Result<(), AllocError>
         ensures { (other : LogName) (names : List (Option Name)) (named : Option Name) → AreSteps self.old other names → place ≡ length names → needed ≡ need other named → OnOk result (AreSteps self.new other (names ++ named ∷ [])) }
     {
@@ -43,7 +43,7 @@ impl Steps {
         Ok(())
     }
 
-    /// How many of so many records stand in front of the first that needs more than there are.
+    /// Returns how many of this many records come before the first one that needs more than there are.
     pub(crate) fn end(&self, there: u64, count: u64) -> u64
         ensures { (other : LogName) (names : List (Option Name)) → AreSteps self.now other names → count ≡ length names → result ≡ before_need other there names }
     {

@@ -1,4 +1,4 @@
-//! What goes through a recording, to learn what its records name.
+//! The visitor of a recording that collects what its records name.
 
 ghost use Rattle.std.specs.Prelude.{◌≡◌, OnOk};
 

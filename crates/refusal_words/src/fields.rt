@@ -27,7 +27,7 @@ const FATES: [&[u8]; 4] = [b"deliver", b"lose", b"repeat", b"back"];
 
 /// The field that a word of capital letters in a form is.
 #[derive(Clone, Copy)]
-pub(crate) enum Field {
+pub(crate) enum FieldKind {
     Processor,
     Page,
     Cell,
@@ -44,7 +44,7 @@ pub(crate) enum Field {
 
 /// The least and the greatest number that a field allows.
 #[derive(Clone, Copy)]
-pub(crate) struct Range {
+pub(crate) struct Bounds {
     pub(crate) least: u64,
     pub(crate) most: u64,
 }
@@ -59,18 +59,18 @@ pub(crate) enum Misfit {
 }
 
 /// Returns the field that a word of a form is, if it is one.
-pub(crate) fn field_of(slot: &str) -> Option<Field> {
+pub(crate) fn field_of(slot: &str) -> Option<FieldKind> {
     match slot.as_bytes() {
-        b"V" => Some(Field::Processor),
-        b"P" => Some(Field::Page),
-        b"C" => Some(Field::Cell),
-        b"X" => Some(Field::Value),
-        b"I" => Some(Field::Record),
-        b"N" => Some(Field::Number),
-        b"Q" => Some(Field::Exact),
-        b"HEX" => Some(Field::Contents),
-        b"FATES" => Some(Field::Fates),
-        b"FATE" => Some(Field::Fate),
+        b"V" => Some(FieldKind::Processor),
+        b"P" => Some(FieldKind::Page),
+        b"C" => Some(FieldKind::Cell),
+        b"X" => Some(FieldKind::Value),
+        b"I" => Some(FieldKind::Record),
+        b"N" => Some(FieldKind::Number),
+        b"Q" => Some(FieldKind::Exact),
+        b"HEX" => Some(FieldKind::Contents),
+        b"FATES" => Some(FieldKind::Fates),
+        b"FATE" => Some(FieldKind::Fate),
         _ => None,
     }
 }
@@ -86,35 +86,35 @@ pub(crate) fn has_field(form: &str) -> bool {
 }
 
 /// Returns the range from 0 to one less than `count`, or than `most` if the count is not known.
-fn below(count: u32, most: u32) -> Range {
+fn below(count: u32, most: u32) -> Bounds {
     let count = if count == 0 { most } else { count };
-    Range {
+    Bounds {
         least: 0,
         most: u64::from(count.saturating_sub(1)),
     }
 }
 
-fn up_to(most: u64) -> Range {
-    Range { least: 0, most }
+fn up_to(most: u64) -> Bounds {
+    Bounds { least: 0, most }
 }
 
 /// Returns the numbers that a field allows, if it is a field of numbers.
-pub(crate) fn range_of(field: Field, wanted: &Wanted) -> Option<Range> {
+pub(crate) fn range_of(field: FieldKind, wanted: &Wanted) -> Option<Bounds> {
     match field {
-        Field::Processor => Some(up_to(LAST_PROCESSOR)),
-        Field::Page => Some(below(wanted.pages, MOST_PAGES)),
-        Field::Cell => Some(below(wanted.cells, MOST_CELLS)),
-        Field::Value => Some(up_to(u64::MAX)),
-        Field::Record => Some(below(wanted.records, MOST_RECORDS)),
-        Field::Number => Some(Range {
+        FieldKind::Processor => Some(up_to(LAST_PROCESSOR)),
+        FieldKind::Page => Some(below(wanted.pages, MOST_PAGES)),
+        FieldKind::Cell => Some(below(wanted.cells, MOST_CELLS)),
+        FieldKind::Value => Some(up_to(u64::MAX)),
+        FieldKind::Record => Some(below(wanted.records, MOST_RECORDS)),
+        FieldKind::Number => Some(Bounds {
             least: u64::from(wanted.least),
             most: u64::from(wanted.most),
         }),
-        Field::Exact => Some(Range {
+        FieldKind::Exact => Some(Bounds {
             least: u64::from(wanted.most),
             most: u64::from(wanted.most),
         }),
-        Field::Contents | Field::Fates | Field::Fate => None,
+        FieldKind::Contents | FieldKind::Fates | FieldKind::Fate => None,
     }
 }
 
@@ -174,7 +174,7 @@ fn misfit_of_fate(word: &[u8]) -> Option<Misfit> {
     Some(Misfit::Whole)
 }
 
-fn misfit_of_number(word: &[u8], range: Range) -> Option<Misfit> {
+fn misfit_of_number(word: &[u8], range: Bounds) -> Option<Misfit> {
     match read_decimal(word) {
         Some(number) if range.least <= number && number <= range.most => None,
         _ => Some(Misfit::Whole),
@@ -182,13 +182,13 @@ fn misfit_of_number(word: &[u8], range: Range) -> Option<Misfit> {
 }
 
 /// Returns where a word stops being allowed in a field, or `None` if it is allowed.
-pub(crate) fn misfit_of(field: Field, word: &[u8], wanted: &Wanted) -> Option<Misfit> {
+pub(crate) fn misfit_of(field: FieldKind, word: &[u8], wanted: &Wanted) -> Option<Misfit> {
     if let Some(range) = range_of(field, wanted) {
         return misfit_of_number(word, range);
     }
     match field {
-        Field::Contents => misfit_of_contents(word, wanted),
-        Field::Fates => misfit_of_fates(word),
+        FieldKind::Contents => misfit_of_contents(word, wanted),
+        FieldKind::Fates => misfit_of_fates(word),
         _ => misfit_of_fate(word),
     }
 }
@@ -202,10 +202,10 @@ fn may_go_on_as_contents(word: &[u8], wanted: &Wanted) -> bool {
 }
 
 /// Returns whether a word that does not fit a field may be the beginning of one that does.
-pub(crate) fn may_go_on(field: Field, word: &[u8], wanted: &Wanted) -> bool {
+pub(crate) fn may_go_on(field: FieldKind, word: &[u8], wanted: &Wanted) -> bool {
     match field {
-        Field::Contents => may_go_on_as_contents(word, wanted),
-        Field::Fate => FATES.iter().any(|fate| fate.starts_with(word)),
+        FieldKind::Contents => may_go_on_as_contents(word, wanted),
+        FieldKind::Fate => FATES.iter().any(|fate| fate.starts_with(word)),
         _ => false,
     }
 }

@@ -5,16 +5,16 @@ ghost use Rattle.std.specs.Prelude.{◌≤◌, IfOk, OnOk};
 ghost use Rattle.text_lines.specs.Text.{IsLine};
 ghost use Rattle.refusal_words.specs.Placed.{AddsPlaced, AddsPlacedFirst};
 
-use crate::cause::{cause_of, column_of};
+use crate::line_fault::{column_of, line_fault_of};
 use crate::marking::push_marked;
 use crate::placing::{first_line, push_placed};
 use crate::words::push_sentence;
 use std::alloc::{AllocError, Global};
 use text_lines::Refusal;
 
-mod cause;
 mod fields;
 mod fitting;
+mod line_fault;
 mod marking;
 mod placing;
 mod quoting;
@@ -38,13 +38,13 @@ pub struct Reason {
 pub fn reason_of(alloc: Global, refusal: &Refusal) -> Result<Reason, AllocError>
     ensures { IfOk result (λ reason. (1 ≤ reason.column) × IsLine reason.words.items) }
 {
-    let cause = cause_of(refusal);
+    let fault = line_fault_of(refusal);
     let mut sentence = String::new(alloc);
-    push_sentence(&mut sentence, refusal, &cause)?;
+    push_sentence(&mut sentence, refusal, &fault)?;
     let mut words = Vec::new(alloc);
     words.extend_from_slice(first_line(sentence.as_bytes()))?;
     Ok(Reason {
-        column: column_of(refusal, &cause),
+        column: column_of(refusal, &fault),
         words,
     })
 }
@@ -65,6 +65,6 @@ pub fn push_why_in_full(out: &mut Vec<u8>, name: &[u8], refusal: &Refusal) -> Re
 {
     push_why(out, name, refusal)?;
     let mut below = String::new(*out.allocator());
-    push_marked(&mut below, refusal, &cause_of(refusal))?;
+    push_marked(&mut below, refusal, &line_fault_of(refusal))?;
     out.extend_from_slice(below.as_bytes())
 }

@@ -1,7 +1,7 @@
 //! A refused line with a mark under the place, and the forms that are allowed there.
 
-use crate::cause::{Cause, place_of};
 use crate::fields::field_of;
+use crate::line_fault::{LineFault, place_of};
 use crate::quoting::{CUT, push_shown, width};
 use crate::words::{push_meaning, push_new};
 use std::alloc::AllocError;
@@ -116,14 +116,14 @@ fn push_fields(out: &mut String, wanted: &Wanted) -> Result<(), AllocError> {
 pub(crate) fn push_marked(
     out: &mut String,
     refusal: &Refusal,
-    cause: &Cause<'_>,
+    fault: &LineFault<'_>,
 ) -> Result<(), AllocError> {
     let line = refusal.line.as_slice();
     if !line.is_empty() {
-        push_line_marked(out, line, place_of(refusal, cause))?;
+        push_line_marked(out, line, place_of(refusal, fault))?;
     }
-    match cause {
-        Cause::Memory | Cause::Special(_) => Ok(()),
+    match fault {
+        LineFault::Memory | LineFault::Special(_) => Ok(()),
         _ if refusal.wanted.forms.is_empty() => Ok(()),
         _ => {
             push_forms(out, refusal.wanted.forms)?;

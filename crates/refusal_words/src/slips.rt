@@ -1,6 +1,6 @@
 //! Frequent slips in the writing of a word.
 
-use crate::fields::{Field, begins_as_hexadecimal, range_of};
+use crate::fields::{FieldKind, begins_as_hexadecimal, range_of};
 use text_lines::{Wanted, read_decimal};
 
 /// What is unusual about a word that does not fit.
@@ -69,7 +69,7 @@ pub(crate) fn slip_between(word: &[u8]) -> Option<Slip> {
 }
 
 /// Returns what is unusual about a word that does not fit a field of a form.
-pub(crate) fn slip_of(form: &str, field: Field, word: &[u8], wanted: &Wanted) -> Option<Slip> {
+pub(crate) fn slip_of(form: &str, field: FieldKind, word: &[u8], wanted: &Wanted) -> Option<Slip> {
     if let Some(slip) = slip_between(word) {
         return Some(slip);
     }
@@ -79,7 +79,7 @@ pub(crate) fn slip_of(form: &str, field: Field, word: &[u8], wanted: &Wanted) ->
         }
         Some(_) => slip_of_number(word),
         None => match field {
-            Field::Contents => slip_of_contents(word),
+            FieldKind::Contents => slip_of_contents(word),
             _ => None,
         },
     }

@@ -5,7 +5,7 @@ mod found;
 mod meanings;
 mod specials;
 
-use crate::cause::Cause;
+use crate::line_fault::LineFault;
 use crate::words::expected::push_expected;
 use crate::words::found::push_found;
 use crate::words::specials::push_special;
@@ -17,19 +17,19 @@ use text_lines::Refusal;
 pub(crate) fn push_sentence(
     out: &mut String,
     refusal: &Refusal,
-    cause: &Cause<'_>,
+    fault: &LineFault<'_>,
 ) -> Result<(), AllocError> {
-    match cause {
-        Cause::Memory => out.push_str("out of memory"),
-        Cause::Special(special) => push_special(out, *special),
-        Cause::Ends
-        | Cause::Unended
-        | Cause::Empty
-        | Cause::Rule
-        | Cause::Other
-        | Cause::Stops(_) => {
-            push_found(out, refusal, cause)?;
-            push_expected(out, refusal, cause)
+    match fault {
+        LineFault::Memory => out.push_str("out of memory"),
+        LineFault::Special(special) => push_special(out, *special),
+        LineFault::Ends
+        | LineFault::Unended
+        | LineFault::Empty
+        | LineFault::Rule
+        | LineFault::Other
+        | LineFault::Stops(_) => {
+            push_found(out, refusal, fault)?;
+            push_expected(out, refusal, fault)
         }
     }
 }

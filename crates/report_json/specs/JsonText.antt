@@ -15,8 +15,8 @@ use Rattle.faulty_pages.specs.declared.FaultyPage.{FaultyPage}
 use Rattle.cert_check.specs.declared.verdict.ShapeFault.{ShapeFault}
 use Rattle.cert_check.specs.declared.verdict.Verdict.{Verdict}
 use Rattle.cert_check.specs.declared.verdict.Verdict.TheVariants as verdict
-use Rattle.completeness.specs.declared.missing.Missing.{Missing}
-use Rattle.completeness.specs.declared.missing.Missing.TheVariants as missing
+use Rattle.completeness.specs.declared.lack.Lack.{Lack}
+use Rattle.completeness.specs.declared.lack.Lack.TheVariants as missing
 use Rattle.audit_report.specs.declared.report.Report.{Report}
 use Rattle.audit_report.specs.declared.report.Report.TheVariants as report
 use Rattle.audit_report.specs.ToldLines.{own}
@@ -124,7 +124,7 @@ verdict_object (verdict.Page line) = at_line (codes "page") line
 verdict_object verdict.Yes = object (codes "yes") []
 
 -- the fields of what is missing from a session, with a line number mapped
-unfoldable pub missing_told : (ℕ → ℕ) → Recorded → Missing → List ℕ
+unfoldable pub missing_told : (ℕ → ℕ) → Recorded → Lack → List ℕ
 missing_told tell s missing.Halt = word (codes "missing") (codes "halt")
 missing_told tell s missing.Returned = word (codes "missing") (codes "returned")
 missing_told tell s missing.Resume = word (codes "missing") (codes "resume")
@@ -134,5 +134,5 @@ missing_told tell s missing.Done = word (codes "missing") (codes "done")
 missing_told tell s (missing.Taken n) = word (codes "missing") (codes "placement") ++ record_at (tell (line_of s (Pager, n))) Pager n
 
 -- the object that says that this is missing from a session
-abbrev pub missing_object : (ℕ → ℕ) → Recorded → Missing → List ℕ
+abbrev pub missing_object : (ℕ → ℕ) → Recorded → Lack → List ℕ
 missing_object tell s m = object (codes "incomplete") (missing_told tell s m)

@@ -12,7 +12,7 @@ use crate::lists::{push_list_under, push_runs};
 use crate::records::records_of;
 use audit_report::{Lines, OwnLines, Report, line_of_taken};
 use cert_check::{ShapeFault, Verdict};
-use completeness::Missing;
+use completeness::Lack;
 use faulty_pages::FaultyPage;
 use migration_types::{LogName, PageNo, Run, Session};
 use page_facts::PageFault;
@@ -194,19 +194,19 @@ fn push_lack<L: Lines>(
     out: &mut Vec<u8>,
     lines: &L,
     session: &Session,
-    missing: Missing,
+    missing: Lack,
 ) -> Result<(), AllocError>
     requires { IsFirstMissing session.now missing }
     ensures { OnOk result (out.new.items ≡ out.old.items ++ missing_told (L.tell lines.now) session.now missing) }
 {
     match missing {
-        Missing::Halt => push_word_under(out, b"missing", b"halt"),
-        Missing::Returned => push_word_under(out, b"missing", b"returned"),
-        Missing::Resume => push_word_under(out, b"missing", b"resume"),
-        Missing::Page(page) => push_missing_page(out, page),
-        Missing::All => push_word_under(out, b"missing", b"all"),
-        Missing::Done => push_word_under(out, b"missing", b"done"),
-        Missing::Taken(n) => {
+        Lack::Halt => push_word_under(out, b"missing", b"halt"),
+        Lack::Returned => push_word_under(out, b"missing", b"returned"),
+        Lack::Resume => push_word_under(out, b"missing", b"resume"),
+        Lack::Page(page) => push_missing_page(out, page),
+        Lack::All => push_word_under(out, b"missing", b"all"),
+        Lack::Done => push_word_under(out, b"missing", b"done"),
+        Lack::Taken(n) => {
             let line = line_of_taken(session, n);
             push_missing_placement(out, lines.line(line), n)
         }
@@ -219,7 +219,7 @@ pub fn push_missing<L: Lines>(
     out: &mut Vec<u8>,
     lines: &L,
     session: &Session,
-    missing: Missing,
+    missing: Lack,
 ) -> Result<(), AllocError>
     requires { IsFirstMissing session.now missing }
     ensures { OnOk result (out.new.items ≡ out.old.items ++ missing_object (L.tell lines.now) session.now missing) }

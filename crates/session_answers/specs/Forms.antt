@@ -9,20 +9,20 @@ use Rattle.audit_report.specs.RefusalText.{refusal_text}
 use Rattle.audit_report.specs.ToldLines.{own}
 use Rattle.report_json.specs.JsonText.{all_faults_object, at_line, report_object}
 use Rattle.judged_texts.specs.AuditedText.{wanted_text}
-use Rattle.judged_texts.specs.declared.wanted.Wanted.{Wanted}
+use Rattle.judged_texts.specs.declared.audit_part.AuditPart.{AuditPart}
 use Rattle.report_json.specs.RecordsText.{explained_object}
 use Rattle.session_story.specs.Explained.{IsExplanation}
 use Rattle.session_story.specs.Told.{IsRefusedText, IsToldText}
 use Rattle.session_story.specs.declared.explaining.Explanation.{Explanation}
 use Rattle.session_answers.specs.Judged.{Judged, Refused, Reported}
-use Rattle.session_answers.specs.declared.forms.Form.{Form}
-use Rattle.session_answers.specs.declared.forms.Form.TheVariants.{Lines, AllFaults, Object, AllFaultsObject}
-use Rattle.session_answers.specs.declared.forms.Form.TheVariants as form
+use Rattle.session_answers.specs.declared.forms.AnswerForm.{AnswerForm}
+use Rattle.session_answers.specs.declared.forms.AnswerForm.TheVariants.{Lines, AllFaults, Object, AllFaultsObject}
+use Rattle.session_answers.specs.declared.forms.AnswerForm.TheVariants as form
 use Rattle.session_answers.specs.declared.forms.Story.{Story}
 use Rattle.session_answers.specs.declared.forms.Story.TheVariants as story
 
 -- lines: the wanted part of the report
-abbrev pub TellsWanted : Wanted → Judged → List ℕ → Type 0
+abbrev pub TellsWanted : AuditPart → Judged → List ℕ → Type 0
 TellsWanted wanted (Refused line) text = text ≡ refusal_text line
 TellsWanted wanted (Reported s report) text = text ≡ wanted_text wanted report
 
@@ -64,7 +64,7 @@ TellsAllFaultsObject (Refused line) text = TellsRefusalObject line text
 TellsAllFaultsObject (Reported s report) text = TellsPages (all_faults_object s report) s report text
 
 -- the text in this form, with the line numbers of the session's own text
-abbrev pub Tells : Form → Judged → List ℕ → Type 0
+abbrev pub Tells : AnswerForm → Judged → List ℕ → Type 0
 Tells (Lines wanted) = TellsWanted wanted
 Tells AllFaults = TellsAllFaults
 Tells Object = TellsObject

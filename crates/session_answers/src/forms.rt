@@ -4,7 +4,7 @@ ghost use Rattle.std.specs.Prelude.{◌≡◌};
 ghost use Rattle.session_answers.specs.Lacks.{lack_form, story_lack};
 
 use completeness::Extent;
-use judged_texts::Wanted;
+use judged_texts::AuditPart;
 use session_story::Topic;
 
 /// The form in which the story of a session is written.
@@ -18,9 +18,9 @@ pub enum Story {
 
 /// The form in which the report on a session is written.
 #[derive(Clone, Copy)]
-pub enum Form {
+pub enum AnswerForm {
     /// Lines: the wanted part of the report.
-    Lines(Wanted),
+    Lines(AuditPart),
     /// Lines, with each page that has a fault.
     AllFaults,
     /// A JSON object.
@@ -54,15 +54,15 @@ impl Story {
     }
 }
 
-impl Form {
+impl AnswerForm {
     /// Returns the form of a lack that goes with this form.
     pub fn of_lack(self) -> LackForm
         ensures { result ≡ lack_form self }
     {
         match self {
-            Form::Lines(_) | Form::AllFaults => LackForm::Line,
-            Form::Object | Form::AllFaultsObject => LackForm::Object,
-            Form::Story(story) => story.of_lack(),
+            AnswerForm::Lines(_) | AnswerForm::AllFaults => LackForm::Line,
+            AnswerForm::Object | AnswerForm::AllFaultsObject => LackForm::Object,
+            AnswerForm::Story(story) => story.of_lack(),
         }
     }
 }
@@ -71,7 +71,7 @@ impl Form {
 #[derive(Clone, Copy)]
 pub struct Ask {
     /// The form of its report.
-    pub form: Form,
+    pub form: AnswerForm,
     /// How much of a migration it must tell, if that is asked.
     pub complete: Option<Extent>,
 }

@@ -6,7 +6,7 @@ ghost use Rattle.session_answers.specs.Lacks.{IsLack, TellsLack, object_of, line
 
 use crate::forms::LackForm;
 use audit_report::{Lines, push_missing};
-use completeness::{Extent, Missing, first_missing};
+use completeness::{Extent, Lack, first_missing};
 use migration_types::Session;
 use report_json::push_missing as push_missing_object;
 use session_story::print_missing;
@@ -18,7 +18,7 @@ fn line_of<L: Lines>(
     alloc: Global,
     lines: &L,
     session: &Session,
-    missing: Missing,
+    missing: Lack,
 ) -> Result<Vec<u8>, AllocError>
     requires { IsFirstMissing session.now missing }
     ensures { IfOk result (λ text. text.items ≡ line_of (L.tell lines.now) session.now missing) }
@@ -34,7 +34,7 @@ fn object_of<L: Lines>(
     alloc: Global,
     lines: &L,
     session: &Session,
-    missing: Missing,
+    missing: Lack,
 ) -> Result<Vec<u8>, AllocError>
     requires { IsFirstMissing session.now missing }
     ensures { IfOk result (λ text. text.items ≡ object_of (L.tell lines.now) session.now missing) }
@@ -50,7 +50,7 @@ pub fn print_lack<L: Lines>(
     alloc: Global,
     lines: &L,
     session: &Session,
-    missing: Missing,
+    missing: Lack,
     form: LackForm,
 ) -> Result<Vec<u8>, AllocError>
     requires { IsFirstMissing session.now missing }

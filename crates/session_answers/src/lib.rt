@@ -6,7 +6,7 @@ mod lacks;
 mod reports;
 mod stories;
 
-pub use forms::{Ask, Form, LackForm, Story};
+pub use forms::{AnswerForm, Ask, LackForm, Story};
 pub use lacks::{print_lack, print_lack_of};
 pub use reports::{print_refusal, print_told};
 pub use stories::{print_story, print_story_refusal};

@@ -7,7 +7,7 @@ ghost use Rattle.audit_report.specs.FaultyPagesText.{JudgesPages};
 ghost use Rattle.session_answers.specs.Judged.{Refused, Reported};
 ghost use Rattle.session_answers.specs.Forms.{Tells, TellsAllFaults, TellsAllFaultsObject, TellsObject};
 
-use crate::forms::Form;
+use crate::forms::AnswerForm;
 use crate::stories::{object_of_refusal, print_story, print_story_refusal};
 use audit_report::{OwnLines, Report, print_all_faults, print_refused_session};
 use faulty_pages::{Faults, FaultyPage, clean_sessions_have_no_faulty_page, faulty_pages};
@@ -92,7 +92,7 @@ pub fn print_told<J: Judges<Faults>>(
     alloc: Global,
     session: &Session,
     report: &Report,
-    form: Form,
+    form: AnswerForm,
 ) -> Result<Vec<u8>, AllocError>
     requires ready { J.ready }
     requires report { IsReport session.now report.now }
@@ -100,22 +100,24 @@ pub fn print_told<J: Judges<Faults>>(
     ensures { IfOk result (λ text. Tells form (Reported session.now report.now) text.items) }
 {
     match form {
-        Form::Lines(wanted) => print_wanted(alloc, report, wanted),
-        Form::AllFaults => all_faults(judges, alloc, session, report),
-        Form::Object => object_of(alloc, session, report),
-        Form::AllFaultsObject => all_faults_object(judges, alloc, session, report),
-        Form::Story(story) => print_story(alloc, &OwnLines, session, report, story),
+        AnswerForm::Lines(wanted) => print_wanted(alloc, report, wanted),
+        AnswerForm::AllFaults => all_faults(judges, alloc, session, report),
+        AnswerForm::Object => object_of(alloc, session, report),
+        AnswerForm::AllFaultsObject => all_faults_object(judges, alloc, session, report),
+        AnswerForm::Story(story) => print_story(alloc, &OwnLines, session, report, story),
     }
 }
 
 /// Returns the text that says in this form that a session's text is refused at this line. Fails only if memory runs
 /// out.
-pub fn print_refusal(alloc: Global, line: u32, form: Form) -> Result<Vec<u8>, AllocError>
+pub fn print_refusal(alloc: Global, line: u32, form: AnswerForm) -> Result<Vec<u8>, AllocError>
     ensures { IfOk result (λ text. Tells form (Refused line) text.items) }
 {
     match form {
-        Form::Lines(_) | Form::AllFaults => print_refused_session(alloc, line),
-        Form::Object | Form::AllFaultsObject => object_of_refusal(alloc, &OwnLines, line),
-        Form::Story(story) => print_story_refusal(alloc, &OwnLines, line, story),
+        AnswerForm::Lines(_) | AnswerForm::AllFaults => print_refused_session(alloc, line),
+        AnswerForm::Object | AnswerForm::AllFaultsObject => object_of_refusal(
+            alloc, &OwnLines, line,
+        ),
+        AnswerForm::Story(story) => print_story_refusal(alloc, &OwnLines, line, story),
     }
 }

@@ -8,10 +8,10 @@ ghost use Rattle.migration_model.specs.Orderly.{IsOrderly};
 ghost use Rattle.session_core.specs.States.{away_of, IsAfter};
 
 use crate::CoreFault;
-use crate::left::Left;
+use crate::remaining::Remaining;
 use active_push::SourceBook;
 use book_events::logs::{LentLogs, logs_of};
-use book_events::{Came, paging, sending};
+use book_events::{Effect, paging, sending};
 use guest_script::Script;
 use link_book::LinkBook;
 use migration_events::Event;
@@ -27,7 +27,7 @@ use target_side::{Access, PagerBook, TargetBook};
 pub struct AfterHalt<'a> {
     pub(crate) alloc: Global,
     pub(crate) script: &'a Script,
-    pub(crate) vcpus: Vec<Left<'a>>,
+    pub(crate) vcpus: Vec<Remaining<'a>>,
     pub(crate) source: SourceBook,
     pub(crate) link: LinkBook,
     pub(crate) pager: PagerBook,
@@ -60,7 +60,7 @@ impl<'a> AfterHalt<'a> {
     {
         let _came = match event {
             Event::GuestStep { vcpu } => return self.guest_step(vcpu),
-            Event::Halt => Came::Nothing,
+            Event::Halt => Effect::Nothing,
             Event::Push => {
                 let has_lane = self.script.lane().is_some();
                 let window = self.script.window();
@@ -70,7 +70,7 @@ impl<'a> AfterHalt<'a> {
             Event::SourceTick => sending::source_tick(&mut self.source, &mut self.link)?,
             Event::LinkTurn { direction, fate } => {
                 self.link.turn(direction, fate)?;
-                Came::Made
+                Effect::Made
             }
             Event::PagerPop => paging::pager_pop(&mut self.link, &mut self.pager)?,
             Event::PagerPull => paging::pager_pull(&mut self.link, &mut self.pager)?,

@@ -11,7 +11,7 @@ ghost use Rattle.session_core.specs.States.{home_of, away_of, scripted_of, IsBef
 
 use crate::CoreFault;
 use crate::after::AfterHalt;
-use crate::left::{Left, all_left};
+use crate::remaining::{Remaining, all_left};
 use book_events::halting::halt;
 use book_events::logs::{LentLogs, logs_of_guest};
 use guest_script::Script;
@@ -28,7 +28,7 @@ use target_side::{GuestBook, PagerBook};
 pub struct BeforeHalt<'a> {
     alloc: Global,
     script: &'a Script,
-    vcpus: Vec<Left<'a>>,
+    vcpus: Vec<Remaining<'a>>,
     guest: GuestBook,
 }
 

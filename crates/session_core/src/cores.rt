@@ -10,7 +10,7 @@ ghost use Rattle.session_core.specs.Promised.{IsPromised};
 
 use crate::CoreFault;
 use crate::before::BeforeHalt;
-use crate::state::State;
+use crate::phase::Phase;
 use crate::stepping::step_books;
 use guest_script::Script;
 use migration_events::Event;
@@ -26,7 +26,7 @@ use std::marker::Model;
 /// it.
 #[derive(Drop)]
 pub struct Core<'a> {
-    state: State<'a>,
+    phase: Phase<'a>,
     order: Vec<(LogName, u32)>,
 }
 
@@ -36,9 +36,9 @@ impl<'a> Model for Core<'a> {
 
     ghost Value = { Cored };
 
-    ghost view = { λ core. record { state = core.state; order = core.order.items } };
+    ghost view = { λ core. record { phase = core.phase; order = core.order.items } };
 
-    ghost invariant = { λ core. IsHeld core.state × IsReached (machine core.state core.order.items) };
+    ghost invariant = { λ core. IsHeld core.phase × IsReached (machine core.phase core.order.items) };
 }
 
 impl<'a> Core<'a> {
@@ -48,7 +48,7 @@ impl<'a> Core<'a> {
     {
         let before = BeforeHalt::start(alloc, script)?;
         Ok(Core {
-            state: State::Before(before),
+            phase: Phase::Before(before),
             order: Vec::new(alloc),
         })
     }
@@ -62,7 +62,7 @@ impl<'a> Core<'a> {
         ensures memory { IsErrOf result CoreFault.Memory → is_some (step event (machine_of self.old)) ≡ true }
         ensures err { OnErr result (machine_of self.new ≡ machine_of self.old) }
     {
-        step_books(&mut self.state, &mut self.order, event)
+        step_books(&mut self.phase, &mut self.order, event)
     }
 
     /// Returns what was recorded so far, copied. Fails only if memory runs out.
@@ -71,7 +71,7 @@ impl<'a> Core<'a> {
         ensures promised { IfOk result (λ s. IsPromised s (machine_of self.now).order) }
     {
         self.keeps_promise();
-        self.state.session()
+        self.phase.session()
     }
 
     /// Returns what was recorded. Copies nothing but the initial pages. Fails only if memory runs out.
@@ -80,7 +80,7 @@ impl<'a> Core<'a> {
         ensures promised { IfOk result (λ s. IsPromised s (machine_of self.entry).order) }
     {
         self.keeps_promise();
-        self.state.into_session()
+        self.phase.into_session()
     }
 
     /// States the invariant of every core: some events reach it from a script's start, so what it has recorded is

@@ -5,10 +5,10 @@
 mod after;
 mod before;
 mod cores;
-mod left;
 mod names;
+mod phase;
+mod remaining;
 mod running;
-mod state;
 mod stepping;
 
 pub use book_events::EventFault as CoreFault;

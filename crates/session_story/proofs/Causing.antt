@@ -22,10 +22,10 @@ use Rattle.session_story.specs.Explained.{IsCause, IsOtherIn, IsPlacedRight, IsS
 use Rattle.session_story.specs.inner.Contents.{AreNotWrong, IsOtherAt, IsWrongAt}
 use Rattle.session_story.specs.Pages.{IsPageStory}
 use Rattle.session_story.specs.declared.contents.Wrong.{Wrong}
-use Rattle.session_story.specs.declared.faults.Cause.{Cause}
+use Rattle.session_story.specs.declared.faults.PageCause.{PageCause}
 use Rattle.session_story.specs.declared.pages.PageStory.{PageStory}
 use Rattle.audit_model.specs.declared.reasons.PageReason.{PageReason}
-use Rattle.session_story.specs.declared.values.Held.{Held}
+use Rattle.session_story.specs.declared.values.CellValue.{CellValue}
 
 -- ---- contents of records
 
@@ -59,10 +59,10 @@ pager_fit v e [] fits = tt
 pager_fit v e (r ∷ log) fits = (placed_fit v e r fits.0, pager_fit v e log fits.1)
 
 module _ (s : Recorded) (page : ℕ) where
-  pub other_sent : (n : ℕ) (held : Option Held) → IsOtherAt s page (if_there source_contents (slice_get s.source n)) held → (content : List ℕ) → slice_get s.source n ≡ Some (Send page content) → IsOtherIn s page content held
+  pub other_sent : (n : ℕ) (held : Option CellValue) → IsOtherAt s page (if_there source_contents (slice_get s.source n)) held → (content : List ℕ) → slice_get s.source n ≡ Some (Send page content) → IsOtherIn s page content held
   other_sent n held is content there = subst (λ (o : Option (List ℕ)). IsOtherAt s page o held) (ap (λ (o : Option SourceRec). if_there source_contents o) there) is
 
-  pub other_placed : (n : ℕ) (held : Option Held) → IsOtherAt s page (if_there pager_contents (slice_get s.pager n)) held → (got : ℕ) (content : List ℕ) → slice_get s.pager n ≡ Some (Place page got content) → IsOtherIn s page content held
+  pub other_placed : (n : ℕ) (held : Option CellValue) → IsOtherAt s page (if_there pager_contents (slice_get s.pager n)) held → (got : ℕ) (content : List ℕ) → slice_get s.pager n ≡ Some (Place page got content) → IsOtherIn s page content held
   other_placed n held is got content there = subst (λ (o : Option (List ℕ)). IsOtherAt s page o held) (ap (λ (o : Option PagerRec). if_there pager_contents o) there) is
 
   -- ---- the first `send` of the page
@@ -150,7 +150,7 @@ not_placed s page f is needs =
     cc
 
 -- what went wrong with the page of a wrong read at the target
-pub is_cause : (s : Recorded) (reason : PageReason) (n : ℕ) (t : PageStory) (c : Cause) → IsPageStory s t.page t → is_read reason ≡ true → is_used_by t.found.touch n ≡ true → IsWrong s t.page c → IsCause s reason n t.page c
+pub is_cause : (s : Recorded) (reason : PageReason) (n : ℕ) (t : PageStory) (c : PageCause) → IsPageStory s t.page t → is_read reason ≡ true → is_used_by t.found.touch n ≡ true → IsWrong s t.page c → IsCause s reason n t.page c
 is_cause s reason n t c story reads late wrong = record {
   reads = reads;
   is_late = ap (λ (o : Option ℕ). is_used_by o n) (sym story.found.touch) ∙ late;

@@ -29,7 +29,7 @@ use Rattle.audit_model.proofs.Cuts.{same_from_test}
 use Rattle.audit_model.proofs.Knots.{none_is_stuck}
 use Rattle.merge_runs.specs.Taken.{cursors_of, with_cursor}
 use Rattle.cert_maker.specs.declared.order.FoundRuns.{FoundRuns}
-use Rattle.cert_maker.specs.declared.order.Left.{Left}
+use Rattle.cert_maker.specs.declared.order.FirstLeft.{FirstLeft}
 use Rattle.cert_maker.specs.Orders.{IsTied}
 use Rattle.merge_runs.proofs.Logs.{some_left}
 use Rattle.session_story.specs.Waits.{IsCircle}
@@ -218,7 +218,7 @@ goes_round s c first line k is_knot is_line at = record {
     waits_for w other le next log = let same = next.place_is ∙ ap c log in omega (arith, same, le)
 
 -- behind the found order of a knot
-module _ (s : Recorded) (left : Left) (found : FoundRuns) (tied : IsTied s left found) where
+module _ (s : Recorded) (left : FirstLeft) (found : FoundRuns) (tied : IsTied s left found) where
   pub is_stuck : first_ready s (cursors_of found.taken) ≡ None
   is_stuck = ap (λ (c : Cursors). first_ready s c) (sym tied.front.at) ∙ tied.front.is_found_order.is_complete
 

@@ -14,7 +14,7 @@ use Rattle.page_facts.proofs.LeastReason.{least_is, least_rank}
 use Rattle.faulty_pages.specs.declared.FaultyPage.{FaultyPage}
 use Rattle.faulty_pages.specs.FaultyPages.{AreFaultyPages}
 use Rattle.session_story.specs.declared.faults.FaultStory.{FaultStory}
-use Rattle.session_story.specs.declared.topics.PageTold.{PageTold}
+use Rattle.session_story.specs.declared.topics.FullPageStory.{FullPageStory}
 use Rattle.session_story.specs.Explained.{IsFaultStory}
 use Rattle.session_story.proofs.Paged.{fault_paged, page_below}
 use Rattle.session_story.specs.Topics.{IsFirstFaultStory, IsPageTold, IsToldOfItsPage}
@@ -34,7 +34,7 @@ module _ (s : Recorded) where
   first_story page f story first same is = record { is_first = subst (λ (g : PageFault). IsFirstFault s page g) (sym same) first; story = is }
 
   -- what is told of the page that a record is of
-  pub told_of_its : (at own : Option ℕ) (page : ℕ) (t : PageTold) → at ≡ own → at ≡ Some page → IsPageTold s page t → IsToldOfItsPage s own (Some t)
+  pub told_of_its : (at own : Option ℕ) (page : ℕ) (t : FullPageStory) → at ≡ own → at ≡ Some page → IsPageTold s page t → IsToldOfItsPage s own (Some t)
   told_of_its at own page t same is told = subst (λ (o : Option ℕ). IsToldOfItsPage s o (Some t)) (sym is ∙ same) told
 
 -- a session with a fault of a page has a page with a fault

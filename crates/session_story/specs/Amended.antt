@@ -9,16 +9,16 @@ use Rattle.migration_types.specs.Rows.{source_contents, pager_contents}
 use Rattle.migration_types.specs.Sessions.{Recorded}
 use Rattle.audit_model.specs.Names.{if_there, same_log}
 use Rattle.session_story.specs.declared.amends.Amended.{Amended}
-use Rattle.session_story.specs.declared.values.Held.{Held}
-use Rattle.session_story.specs.declared.faults.Cause.{Cause}
-use Rattle.session_story.specs.declared.faults.Cause.TheVariants.{Sent, Placed}
+use Rattle.session_story.specs.declared.values.CellValue.{CellValue}
+use Rattle.session_story.specs.declared.faults.PageCause.{PageCause}
+use Rattle.session_story.specs.declared.faults.PageCause.TheVariants.{Sent, Placed}
 use Rattle.session_story.specs.declared.faults.Detail.{Detail}
 use Rattle.session_story.specs.declared.faults.Detail.TheVariants.{Instead, Other}
 use Rattle.session_story.specs.declared.faults.FaultStory.{FaultStory}
 use Rattle.session_story.specs.declared.explaining.Explanation.{Explanation}
 use Rattle.session_story.specs.declared.explaining.Explanation.TheVariants as told
-use Rattle.session_story.specs.declared.topics.PageTold.{PageTold}
-use Rattle.session_story.specs.declared.topics.Told.{Told}
+use Rattle.session_story.specs.declared.topics.FullPageStory.{FullPageStory}
+use Rattle.session_story.specs.declared.topics.TopicStory.{TopicStory}
 use Rattle.session_story.specs.Concerned.{given_in}
 use Rattle.session_story.specs.Topics.{fault_in, page_in}
 
@@ -39,16 +39,16 @@ value_at s (Pager, n) cell = cell_in (if_there pager_contents (slice_get s.pager
 value_at s name cell = None
 
 -- what the story says about a cell, if anything
-abbrev pub held_in : Detail → Option Held
+abbrev pub held_in : Detail → Option CellValue
 held_in (Instead held) = held
 held_in (Other held) = held
 held_in detail = None
 
-abbrev pub amended_with : ℕ → Held → Option ℕ → Option Amended
+abbrev pub amended_with : ℕ → CellValue → Option ℕ → Option Amended
 amended_with page held None = None
 amended_with page held (Some wrong) = Some (record { page = page; cell = held.cell; wrong = wrong; right = held.value })
 
-abbrev pub amended_in : Recorded → FaultStory → Option Held → Option Amended
+abbrev pub amended_in : Recorded → FaultStory → Option CellValue → Option Amended
 amended_in s story None = None
 amended_in s story (Some held) = amended_with story.page.page held (value_at s (story.fault.log, story.fault.place) held.cell)
 
@@ -57,10 +57,10 @@ amended_for s None = None
 amended_for s (Some story) = amended_in s story (held_in story.detail)
 
 -- the wrong value in the faulty record, and the right one
-abbrev pub amended_by : Recorded → Told → Option Amended
+abbrev pub amended_by : Recorded → TopicStory → Option Amended
 amended_by s told = amended_for s (fault_in told)
 
-abbrev pub cause_in : Option Cause → Option ℕ
+abbrev pub cause_in : Option PageCause → Option ℕ
 cause_in (Some (Sent wrong)) = wrong.held.by
 cause_in (Some (Placed wrong)) = wrong.held.by
 cause_in cause = None
@@ -84,11 +84,11 @@ tells_for None n = false
 tells_for (Some story) n = tells_in story n
 
 -- whether the story of a page tells the guest's record of this number
-abbrev pub tells_on : Option PageTold → ℕ → Bool
+abbrev pub tells_on : Option FullPageStory → ℕ → Bool
 tells_on None n = false
 tells_on (Some t) n = is_number t.story.changed n || is_number t.story.found.touch n
 
-abbrev pub tells_of : Told → ℕ → Bool
+abbrev pub tells_of : TopicStory → ℕ → Bool
 tells_of told n = tells_for (fault_in told) n || tells_on (page_in told) n
 
 -- whether every order of the records shows the fault of the story

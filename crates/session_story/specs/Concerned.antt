@@ -19,8 +19,8 @@ use Rattle.session_story.specs.declared.faults.Detail.TheVariants.{Instead, Othe
 use Rattle.session_story.specs.declared.faults.FaultStory.{FaultStory}
 use Rattle.session_story.specs.declared.faults.ShapeStory.{ShapeStory}
 use Rattle.session_story.specs.declared.explaining.Explanation.TheVariants as explained
-use Rattle.session_story.specs.declared.topics.Told.{Told}
-use Rattle.session_story.specs.declared.topics.Told.TheVariants as told
+use Rattle.session_story.specs.declared.topics.TopicStory.{TopicStory}
+use Rattle.session_story.specs.declared.topics.TopicStory.TheVariants as told
 use Rattle.session_story.specs.Topics.{fault_in}
 
 -- the record of this number in a log, if there is a number
@@ -109,6 +109,6 @@ concerned_in None = None
 concerned_in (Some story) = concerned_by story
 
 -- the record that the story tells besides the faulty one, because the fault concerns it
-abbrev pub concerned_of : Recorded → Told → Option Name
+abbrev pub concerned_of : Recorded → TopicStory → Option Name
 concerned_of s (told.Report (explained.Shape story)) = shape_concerned_by s story
 concerned_of s t = concerned_in (fault_in t)

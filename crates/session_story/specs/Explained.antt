@@ -28,12 +28,12 @@ use Rattle.session_story.specs.Looks.{IsFurthestLook}
 use Rattle.session_story.specs.Counted.{IsCounts}
 use Rattle.session_story.specs.Waits.{IsCircle}
 use Rattle.session_story.specs.declared.looks.Look.{Look}
-use Rattle.session_story.specs.declared.values.Held.{Held}
+use Rattle.session_story.specs.declared.values.CellValue.{CellValue}
 use Rattle.session_story.specs.declared.faults.Detail.{Detail}
 use Rattle.session_story.specs.declared.faults.Detail.TheVariants.{Instead, Seen, Other, Plain}
 use Rattle.session_story.specs.declared.contents.Wrong.{Wrong}
-use Rattle.session_story.specs.declared.faults.Cause.{Cause}
-use Rattle.session_story.specs.declared.faults.Cause.TheVariants.{Sent, Placed, Unplaced}
+use Rattle.session_story.specs.declared.faults.PageCause.{PageCause}
+use Rattle.session_story.specs.declared.faults.PageCause.TheVariants.{Sent, Placed, Unplaced}
 use Rattle.session_story.specs.declared.faults.FaultStory.{FaultStory}
 use Rattle.session_story.specs.declared.faults.ShapeStory.{ShapeStory}
 use Rattle.session_story.specs.declared.explaining.Explanation.{Explanation}
@@ -41,7 +41,7 @@ use Rattle.session_story.specs.declared.explaining.Explanation.TheVariants as to
 use Rattle.cert_check.specs.declared.verdict.ShapeFault.{ShapeFault}
 
 -- if these contents differ from the page's at the halt, the first cell that differs
-abbrev pub IsOtherIn : Recorded → ℕ → List ℕ → Option Held → Type 0
+abbrev pub IsOtherIn : Recorded → ℕ → List ℕ → Option CellValue → Type 0
 IsOtherIn s page content held =
     MatchOption held ((c : ℕ) → c < s.geometry.cells → slice_index content c ≡ flat s (at_halt s) page c) (IsOther s page content)
 
@@ -101,7 +101,7 @@ IsUnplaced s page = unplaced (first_before (λ m. is_placement_of page) s.pager 
 
 -- What first went wrong with a page: its sending; or, if that is right, its placement, whose contents then differ from
 -- those that were sent; or that it has no placement.
-abbrev pub IsWrong : Recorded → ℕ → Cause → Type 0
+abbrev pub IsWrong : Recorded → ℕ → PageCause → Type 0
 IsWrong s page (Sent w) = IsWrongSend s page w
 IsWrong s page (Placed w) = IsSentRight s page × IsWrongPlacement s page w
 IsWrong s page Unplaced = IsSentRight s page × IsUnplaced s page
@@ -116,14 +116,14 @@ is_read WrongRead = true
 is_read _ = false
 
 -- this is a wrong read at the target, and this first went wrong with its page
-pub record IsCause (s : Recorded) (reason : PageReason) (n page : ℕ) (c : Cause) : Type 0 where
+pub record IsCause (s : Recorded) (reason : PageReason) (n page : ℕ) (c : PageCause) : Type 0 where
   pub reads : is_read reason ≡ true
   pub is_late : is_used_by (first_touch s page) n ≡ true
   pub wrong : IsWrong s page c
 
 -- the cause in the story, or there is none
-abbrev pub IsToldCause : Recorded → PageReason → ℕ → ℕ → Option Cause → Type 0
-IsToldCause s reason n page cause = MatchOption cause ((c : Cause) → IsCause s reason n page c → ⊥) (IsCause s reason n page)
+abbrev pub IsToldCause : Recorded → PageReason → ℕ → ℕ → Option PageCause → Type 0
+IsToldCause s reason n page cause = MatchOption cause ((c : PageCause) → IsCause s reason n page c → ⊥) (IsCause s reason n page)
 
 -- Whether each order shows a fault. An early use: if no order has a placement of its page before it. A placement over a
 -- release: if no order has a placement of the page before this release. Any other fault: always.

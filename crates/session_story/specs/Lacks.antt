@@ -6,8 +6,8 @@ use Rattle.migration_types.specs.Receipts.{Name}
 use Rattle.migration_types.specs.Sessions.{Recorded}
 use Rattle.audit_model.specs.Shape.{delivers, is_halt, is_send_of}
 use Rattle.completeness.specs.Complete.{is_all, is_back}
-use Rattle.completeness.specs.declared.missing.Missing.{Missing}
-use Rattle.completeness.specs.declared.missing.Missing.TheVariants as missing
+use Rattle.completeness.specs.declared.lack.Lack.{Lack}
+use Rattle.completeness.specs.declared.lack.Lack.TheVariants as missing
 use Rattle.page_facts.specs.Tables.{first_before}
 use Rattle.session_story.specs.Concerned.{named_in}
 use Rattle.session_story.specs.Pages.{carries, lane_carries}
@@ -43,7 +43,7 @@ abbrev pub said_of : Option ℕ → Option Sentence
 said_of said = option_map (λ n. say.SaidAt n) said
 
 -- the sentences about what a session lacks
-unfoldable pub lack_told : Recorded → Missing → List Sentence
+unfoldable pub lack_told : Recorded → Lack → List Sentence
 lack_told s missing.Halt = say.NeverHalted ∷ []
 lack_told s missing.Returned = say.Returned ∷ [] ++ listed (started_of (first_before (λ m. is_back) s.source (length s.source)))
 lack_told s missing.Resume = say.NeverResumed ∷ [] ++ listed (halted_of (first_before (λ m. is_halt) s.guest (length s.guest)))
@@ -52,5 +52,5 @@ lack_told s missing.All = say.NeverSaid ∷ []
 lack_told s missing.Done = say.NeverLearned ∷ [] ++ listed (said_of (last_before (λ m. is_all) s.pager (length s.pager)))
 lack_told s (missing.Taken n) = say.Untaken n ∷ []
 
-unfoldable pub missing_told : Recorded → Missing → List Sentence
+unfoldable pub missing_told : Recorded → Lack → List Sentence
 missing_told s m = say.NotWhole ∷ [] ++ lack_told s m

@@ -27,8 +27,8 @@ use Rattle.session_story.specs.Waits.{next_in}
 use Rattle.session_story.specs.declared.counting.Counts.{Counts}
 use Rattle.session_story.specs.declared.explaining.Explanation.{Explanation}
 use Rattle.session_story.specs.declared.explaining.Explanation.TheVariants as explained
-use Rattle.session_story.specs.declared.faults.Cause.{Cause}
-use Rattle.session_story.specs.declared.faults.Cause.TheVariants.{Sent, Placed, Unplaced}
+use Rattle.session_story.specs.declared.faults.PageCause.{PageCause}
+use Rattle.session_story.specs.declared.faults.PageCause.TheVariants.{Sent, Placed, Unplaced}
 use Rattle.session_story.specs.declared.faults.Detail.{Detail}
 use Rattle.session_story.specs.declared.faults.Detail.TheVariants.{Instead, Seen, Other, Plain}
 use Rattle.session_story.specs.declared.faults.FaultStory.{FaultStory}
@@ -38,11 +38,11 @@ use Rattle.session_story.specs.declared.pages.Handover.{Handover}
 use Rattle.session_story.specs.declared.pages.PageStory.{PageStory}
 use Rattle.session_story.specs.declared.sentences.Sentence.{Sentence}
 use Rattle.session_story.specs.declared.sentences.Sentence.TheVariants as say
-use Rattle.session_story.specs.declared.topics.LineTold.{LineTold}
-use Rattle.session_story.specs.declared.topics.PageTold.{PageTold}
-use Rattle.session_story.specs.declared.topics.Told.{Told}
-use Rattle.session_story.specs.declared.topics.Told.TheVariants as told
-use Rattle.session_story.specs.declared.values.Held.{Held}
+use Rattle.session_story.specs.declared.topics.LineStory.{LineStory}
+use Rattle.session_story.specs.declared.topics.FullPageStory.{FullPageStory}
+use Rattle.session_story.specs.declared.topics.TopicStory.{TopicStory}
+use Rattle.session_story.specs.declared.topics.TopicStory.TheVariants as told
+use Rattle.session_story.specs.declared.values.CellValue.{CellValue}
 use Rattle.session_story.specs.declared.waits.Knot.{Knot}
 use Rattle.session_story.specs.declared.waits.Waiting.{Waiting}
 
@@ -53,7 +53,7 @@ listed (Some sentence) = sentence ∷ []
 -- ---- contents that are not the page's
 
 -- what a record has in a cell whose value in the page is another at the halt, if it has contents
-abbrev pub contents_of : Recorded → Name → Held → Option Sentence
+abbrev pub contents_of : Recorded → Name → CellValue → Option Sentence
 contents_of s name at_halt = option_map (λ value. say.Contents name value at_halt) (value_at s name at_halt.cell)
 
 -- the first sending of the page that this record of the source sends
@@ -76,7 +76,7 @@ abbrev pub origin_of : Recorded → Name → ℕ → Option Sentence
 origin_of s (Pager, n) cell = if_there (origin_by s cell) (slice_get s.pager n)
 origin_of s _ cell = None
 
-unfoldable pub contents_told : Recorded → Name → Held → List Sentence
+unfoldable pub contents_told : Recorded → Name → CellValue → List Sentence
 contents_told s name at_halt = listed (contents_of s name at_halt) ++ listed (origin_of s name at_halt.cell)
 
 -- ---- a fault
@@ -120,10 +120,10 @@ unfoldable pub faulty_told : Recorded → FaultStory → List Sentence
 faulty_told s f = say.Wrong (f.fault.log, f.fault.place) ∷ [] ++ wrong_told s f f.detail
 
 -- what went wrong before with the page of a wrong read, if the story has that
-unfoldable pub first_told : Recorded → Name → Held → List Sentence
+unfoldable pub first_told : Recorded → Name → CellValue → List Sentence
 first_told s name at_halt = say.WrongFirst name ∷ [] ++ contents_told s name at_halt
 
-unfoldable pub cause_told : Recorded → Option Cause → List Sentence
+unfoldable pub cause_told : Recorded → Option PageCause → List Sentence
 cause_told s None = []
 cause_told s (Some (Sent wrong)) = first_told s (Source, wrong.place) wrong.held
 cause_told s (Some (Placed wrong)) = first_told s (Pager, wrong.place) wrong.held
@@ -250,14 +250,14 @@ unfoldable pub first_fault_told : Recorded → Report → Option FaultStory → 
 first_fault_told s r None = []
 first_fault_told s r (Some f) = fault_told s f ++ listed (shown_of r f)
 
-abbrev pub verdict_of : PageTold → Sentence
+abbrev pub verdict_of : FullPageStory → Sentence
 verdict_of t = say.Verdict t.story.page (is_some t.fault)
 
 -- the story of a page
-unfoldable pub page_told : Recorded → Report → PageTold → List Sentence
+unfoldable pub page_told : Recorded → Report → FullPageStory → List Sentence
 page_told s r t = verdict_of t ∷ [] ++ first_fault_told s r t.fault ++ story_told s t.story t.handover
 
-unfoldable pub page_topic : Recorded → Report → ℕ → Option PageTold → List Sentence
+unfoldable pub page_topic : Recorded → Report → ℕ → Option FullPageStory → List Sentence
 page_topic s r number None = say.NoPage number s.geometry.pages ∷ []
 page_topic s r number (Some t) = page_told s r t
 
@@ -267,16 +267,16 @@ record_told s name None = say.Stands name ∷ []
 record_told s name (Some t) = shape_told s t
 
 -- the story of the page that a record is about, if it is about one
-unfoldable pub its_page_told : Recorded → Report → Option PageTold → List Sentence
+unfoldable pub its_page_told : Recorded → Report → Option FullPageStory → List Sentence
 its_page_told s r None = []
 its_page_told s r (Some t) = page_told s r t
 
-unfoldable pub line_topic : Recorded → Report → ℕ → Option LineTold → List Sentence
+unfoldable pub line_topic : Recorded → Report → ℕ → Option LineStory → List Sentence
 line_topic s r line None = say.NoRecord line ∷ []
 line_topic s r line (Some t) = record_told s (t.log, t.place) t.shape ++ its_page_told s r t.page
 
 -- the story of a session with this report
-unfoldable pub told_in_full : Recorded → Report → Told → List Sentence
+unfoldable pub told_in_full : Recorded → Report → TopicStory → List Sentence
 told_in_full s r (told.Report e) = explained_told s e
 told_in_full s r (told.Page number t) = page_topic s r number t
 told_in_full s r (told.Line line t) = line_topic s r line t
@@ -293,15 +293,15 @@ unfoldable pub fault_first : Recorded → Option FaultStory → List Sentence
 fault_first s None = []
 fault_first s (Some f) = faulty_told s f
 
-unfoldable pub page_first : Recorded → ℕ → Option PageTold → List Sentence
+unfoldable pub page_first : Recorded → ℕ → Option FullPageStory → List Sentence
 page_first s number None = say.NoPage number s.geometry.pages ∷ []
 page_first s number (Some t) = verdict_of t ∷ [] ++ fault_first s t.fault
 
-unfoldable pub line_first : Recorded → ℕ → Option LineTold → List Sentence
+unfoldable pub line_first : Recorded → ℕ → Option LineStory → List Sentence
 line_first s line None = say.NoRecord line ∷ []
 line_first s line (Some t) = record_told s (t.log, t.place) t.shape
 
-unfoldable pub told_first : Recorded → Told → List Sentence
+unfoldable pub told_first : Recorded → TopicStory → List Sentence
 told_first s (told.Report e) = explained_first s e
 told_first s (told.Page number t) = page_first s number t
 told_first s (told.Line line t) = line_first s line t

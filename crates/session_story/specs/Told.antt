@@ -7,9 +7,9 @@ use Rattle.audit_report.specs.ReportText.{first_line_by}
 use Rattle.audit_report.specs.ToldLines.{own}
 use Rattle.audit_report.specs.MissingText.{missing_text}
 use Rattle.audit_report.specs.RefusalText.{refusal_text}
-use Rattle.completeness.specs.declared.missing.Missing.{Missing}
+use Rattle.completeness.specs.declared.lack.Lack.{Lack}
 use Rattle.session_story.specs.declared.sentences.Sentence.{Sentence}
-use Rattle.session_story.specs.declared.topics.Told.{Told}
+use Rattle.session_story.specs.declared.topics.TopicStory.{TopicStory}
 use Rattle.session_story.specs.declared.topics.Topic.{Topic}
 use Rattle.session_story.specs.declared.topics.Topic.TheVariants as topic
 use Rattle.session_story.specs.Lacks.{missing_told}
@@ -19,7 +19,7 @@ use Rattle.session_story.specs.Writing.{AreWritten, IsLine}
 
 -- these are the words of exactly the sentences of the story on this topic
 pub record AreWordsOn (IsWritten : Sentence → List ℕ → Type 0) (s : Recorded) (r : Report) (topic : Topic) (words : List ℕ) : Type 0 where
-  pub told : Told
+  pub told : TopicStory
   pub is_told : IsTold s r topic told
   pub written : AreWritten IsWritten (told_in_full s r told) words
 
@@ -35,7 +35,7 @@ abbrev pub IsExplainedText : Recorded → Report → List ℕ → Type 0
 IsExplainedText s r text = IsToldText own s r topic.Report text
 
 -- the line that says what is missing, with its line number mapped, and then the words about what the session lacks
-pub record IsLackingText (tell : ℕ → ℕ) (s : Recorded) (m : Missing) (text : List ℕ) : Type 0 where
+pub record IsLackingText (tell : ℕ → ℕ) (s : Recorded) (m : Lack) (text : List ℕ) : Type 0 where
   pub words : List ℕ
   pub written : AreWritten (λ _. IsLine) (missing_told s m) words
   pub text_is : text ≡ missing_text tell s m ++ words

@@ -7,10 +7,10 @@ ghost use Rattle.session_story.specs.Amended.{amended_by, amended_for, amended_w
 
 use crate::concerns::Name;
 use crate::explaining::Explanation;
-use crate::faults::{Cause, Detail, FaultStory};
+use crate::faults::{Detail, FaultStory, PageCause};
 use crate::reasons::given_in;
-use crate::topics::{PageTold, Told};
-use crate::values::Held;
+use crate::topics::{FullPageStory, TopicStory};
+use crate::values::CellValue;
 use migration_types::{GuestRec, LogName, PageNo, Record, Session};
 
 /// A wrong value of a cell, and the right one.
@@ -60,7 +60,7 @@ pub(crate) fn value_at(session: &Session, name: Name, cell: u16) -> Option<u64>
 }
 
 /// Returns what the story says about a cell, if anything.
-fn held_in(detail: &Detail) -> Option<Held>
+fn held_in(detail: &Detail) -> Option<CellValue>
     ensures { result ≡ held_in detail.now }
 {
     match detail {
@@ -87,14 +87,14 @@ fn amended_for(session: &Session, fault: &Option<FaultStory>) -> Option<Amended>
 
 /// Returns the wrong value in the faulty record of the story, and the right one, or `None` if its fault is not a wrong
 /// value. Allocates no memory.
-pub fn amended_by(session: &Session, told: &Told) -> Option<Amended>
+pub fn amended_by(session: &Session, told: &TopicStory) -> Option<Amended>
     ensures { result ≡ amended_by session.now told.now }
 {
     amended_for(session, &told.fault())
 }
 
 /// Returns a wrong value, if there is one, with what the cell should have.
-fn amended_with(page: PageNo, held: Held, wrong: Option<u64>) -> Option<Amended>
+fn amended_with(page: PageNo, held: CellValue, wrong: Option<u64>) -> Option<Amended>
     ensures { result ≡ amended_with page held wrong }
 {
     match wrong {
@@ -109,12 +109,12 @@ fn amended_with(page: PageNo, held: Held, wrong: Option<u64>) -> Option<Amended>
 }
 
 /// Returns the guest's record that gave the page what first went wrong with it.
-fn cause_in(cause: &Option<Cause>) -> Option<u32>
+fn cause_in(cause: &Option<PageCause>) -> Option<u32>
     ensures { result ≡ cause_in cause.now }
 {
     match cause {
-        Some(Cause::Sent(wrong) | Cause::Placed(wrong)) => wrong.held.by,
-        Some(Cause::Unplaced) | None => None,
+        Some(PageCause::Sent(wrong) | PageCause::Placed(wrong)) => wrong.held.by,
+        Some(PageCause::Unplaced) | None => None,
     }
 }
 
@@ -150,7 +150,7 @@ fn tells_for(fault: &Option<FaultStory>, place: u32) -> bool
 }
 
 /// Returns whether the story of a page, if there is one, tells the guest's record of this number.
-fn tells_on(page: &Option<PageTold>, place: u32) -> bool
+fn tells_on(page: &Option<FullPageStory>, place: u32) -> bool
     ensures { result ≡ tells_on page.now place }
 {
     match page {
@@ -163,7 +163,7 @@ fn tells_on(page: &Option<PageTold>, place: u32) -> bool
 
 /// Returns whether the story tells the guest's record of this number: as the page's last change before the halt, its
 /// first use at the target, the record that gave a cell its value, or the faulty record itself. Allocates no memory.
-pub fn tells_of(told: &Told, place: u32) -> bool
+pub fn tells_of(told: &TopicStory, place: u32) -> bool
     ensures { result ≡ tells_of told.now place }
 {
     tells_for(&told.fault(), place) || tells_on(&told.page(), place)

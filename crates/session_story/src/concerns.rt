@@ -7,7 +7,7 @@ use crate::explaining::Explanation;
 use crate::faults::{FaultStory, ShapeStory};
 use crate::pages::Handover;
 use crate::reasons::concerned_by;
-use crate::topics::Told;
+use crate::topics::TopicStory;
 use audit_model::ShapeReason;
 use migration_types::{Field, GuestRec, LogName, Session};
 
@@ -110,10 +110,10 @@ fn concerned_in(fault: &Option<FaultStory>) -> Option<Name>
 
 /// Returns the record that the story tells besides the faulty one, because the fault concerns it, by log and number.
 /// Returns `None` if there is no fault, or no such record. Allocates no memory.
-pub fn concerned_of(session: &Session, told: &Told) -> Option<(LogName, u32)>
+pub fn concerned_of(session: &Session, told: &TopicStory) -> Option<(LogName, u32)>
     ensures { result ≡ concerned_of session.now told.now }
 {
-    if let Told::Report(Explanation::Shape(story)) = told {
+    if let TopicStory::Report(Explanation::Shape(story)) = told {
         return shape_concerned_by(session, story);
     }
     concerned_in(&told.fault())

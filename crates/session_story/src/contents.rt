@@ -6,7 +6,7 @@ ghost use Rattle.migration_types.specs.Follow.{ContentFits};
 ghost use Rattle.audit_model.specs.Names.{if_there};
 ghost use Rattle.session_story.specs.inner.Contents.{AreNotWrong, IsOtherAt, IsWrongAt};
 
-use crate::values::{Held, other_of};
+use crate::values::{CellValue, other_of};
 use migration_types::{PageNo, Record, Session};
 use std::alloc::{AllocError, Global};
 
@@ -16,7 +16,7 @@ pub struct Wrong {
     /// The number of the record that has them.
     pub place: u32,
     /// The first cell that differs, with what the page has there at the halt.
-    pub held: Held,
+    pub held: CellValue,
 }
 
 /// Returns the first cell in which the contents of a record, if it has any, differ from the page's at the halt.
@@ -26,7 +26,7 @@ pub(crate) fn other_at<R: Record>(
     page: PageNo,
     log: &[R],
     place: usize,
-) -> Result<Option<Held>, AllocError>
+) -> Result<Option<CellValue>, AllocError>
     requires page { page < session.now.geometry.pages }
     requires fits { AllByRecursion (λ rec. ContentFits session.now.geometry (R.contents rec)) log.now }
     ensures { IfOk result (IsOtherAt session.now page (if_there R.contents (slice_get log.now place))) }

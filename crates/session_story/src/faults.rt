@@ -15,7 +15,7 @@ use crate::looks::{Look, greatest_look};
 use crate::orders::in_every_order;
 use crate::pages::{Handover, PageStory, handover_of, send_of, story_of};
 use crate::reasons::{detail_of, is_read};
-use crate::values::Held;
+use crate::values::CellValue;
 use audit_model::PageReason;
 use audit_report::Report;
 use cert_check::ShapeFault;
@@ -27,19 +27,19 @@ use std::alloc::{AllocError, Global};
 #[derive(Clone, Copy, Debug, PartialEq, Eq)]
 pub enum Detail {
     /// For a wrong read: what one machine that never moved gives.
-    Instead(Option<Held>),
+    Instead(Option<CellValue>),
     /// For an early access, and for a placement over a release: the look that reached furthest before that access, or
     /// before that release, if there is one.
     Seen(Option<Look>),
     /// For contents that are not the page's: the first cell that differs, with what the page has there at the halt.
-    Other(Option<Held>),
+    Other(Option<CellValue>),
     /// For other faults: nothing.
     Plain,
 }
 
 /// What went wrong with a page before the guest read it at the target.
 #[derive(Clone, Copy, Debug, PartialEq, Eq)]
-pub enum Cause {
+pub enum PageCause {
     /// The source sent it with other contents than it had at the halt.
     Sent(Wrong),
     /// It was sent with the contents that it had at the halt, and the pager placed it with others.
@@ -57,7 +57,7 @@ pub struct FaultStory {
     pub handover: Handover,
     pub detail: Detail,
     /// For a wrong read at the target: what went wrong with its page before, if anything did.
-    pub cause: Option<Cause>,
+    pub cause: Option<PageCause>,
     /// Whether every order of the records shows it. If the session does not have the right shape, this means nothing.
     pub in_every_order: bool,
 }
@@ -112,7 +112,7 @@ fn cause_of(
     reason: PageReason,
     place: u32,
     page: &PageStory,
-) -> Result<Option<Cause>, AllocError>
+) -> Result<Option<PageCause>, AllocError>
     requires page { page.now.page < session.now.geometry.pages }
     requires story { IsPageStory session.now page.now.page page.now }
     ensures { IfOk result (IsToldCause session.now reason place page.now.page) }
@@ -123,7 +123,7 @@ fn cause_of(
     }
     let sent = wrong_at(alloc, session, page.page, session.source(), page.sent)?;
     if let Some(wrong) = sent {
-        return Ok(Some(Cause::Sent(wrong)));
+        return Ok(Some(PageCause::Sent(wrong)));
     }
     let placed = wrong_at(
         alloc,
@@ -133,10 +133,10 @@ fn cause_of(
         page.found.placement,
     )?;
     if let Some(wrong) = placed {
-        return Ok(Some(Cause::Placed(wrong)));
+        return Ok(Some(PageCause::Placed(wrong)));
     }
     if is_unplaced(page) {
-        Ok(Some(Cause::Unplaced))
+        Ok(Some(PageCause::Unplaced))
     } else {
         Ok(None)
     }

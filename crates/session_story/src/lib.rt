@@ -31,7 +31,7 @@ pub use contents::Wrong;
 pub use counting::Counts;
 pub use english::{English, log_word, push_place, push_record, push_wait};
 pub use explaining::{Explanation, explain};
-pub use faults::{Cause, Detail, FaultStory, ShapeStory, page_at};
+pub use faults::{Detail, FaultStory, PageCause, ShapeStory, page_at};
 pub use lines::{line_at, record_on};
 pub use looks::Look;
 pub use pages::{Handover, PageStory};
@@ -41,7 +41,7 @@ pub use subjects::page_of;
 pub use telling::{
     print_explained, print_missing, print_refused, print_topic, push_summary, words_on,
 };
-pub use topics::{LineTold, PageTold, Told, Topic, tell};
-pub use values::Held;
+pub use topics::{FullPageStory, LineStory, Topic, TopicStory, tell};
+pub use values::CellValue;
 pub use waits::{Knot, Waiting};
 pub use writing::Writer;

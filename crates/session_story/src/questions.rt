@@ -5,7 +5,7 @@ ghost use Rattle.session_story.specs.Values.{sets};
 ghost use Rattle.session_story.specs.Pages.{changes, carries, lane_carries, is_access_after};
 ghost use Rattle.session_story.specs.inner.Questions.{asks_guest, asks_source, asks_link, asks_lane, asks_pager, asks_entry};
 
-use crate::scans::Question;
+use crate::scans::RecordQuestion;
 use audit_model::{delivers_send, is_halt, is_miss, is_resume, is_send_of, sends};
 use migration_types::{Entry, GuestRec, LaneRec, LinkRec, PageNo, PagerRec, Session, SourceRec};
 
@@ -122,7 +122,7 @@ fn lane_carries(session: &Session, rec: &LaneRec, page: PageNo) -> bool
     }
 }
 
-impl Question for GuestQuestion {
+impl RecordQuestion for GuestQuestion {
     type Record = GuestRec;
 
     ghost holds = { asks_guest };
@@ -139,7 +139,7 @@ impl Question for GuestQuestion {
     }
 }
 
-impl Question for SourceQuestion {
+impl RecordQuestion for SourceQuestion {
     type Record = SourceRec;
 
     ghost holds = { asks_source };
@@ -154,7 +154,7 @@ impl Question for SourceQuestion {
     }
 }
 
-impl Question for LinkQuestion {
+impl RecordQuestion for LinkQuestion {
     type Record = LinkRec;
 
     ghost holds = { asks_link };
@@ -166,7 +166,7 @@ impl Question for LinkQuestion {
     }
 }
 
-impl Question for LaneQuestion {
+impl RecordQuestion for LaneQuestion {
     type Record = LaneRec;
 
     ghost holds = { asks_lane };
@@ -178,7 +178,7 @@ impl Question for LaneQuestion {
     }
 }
 
-impl Question for PagerQuestion {
+impl RecordQuestion for PagerQuestion {
     type Record = PagerRec;
 
     ghost holds = { asks_pager };
@@ -193,7 +193,7 @@ impl Question for PagerQuestion {
     }
 }
 
-impl Question for EntryQuestion {
+impl RecordQuestion for EntryQuestion {
     type Record = Entry;
 
     ghost holds = { asks_entry };

@@ -9,7 +9,7 @@ ghost use Rattle.session_story.specs.Scans.{last_before, how_many};
 use migration_types::Session;
 
 /// A question about a record at its place in a log.
-pub(crate) trait Question {
+pub(crate) trait RecordQuestion {
     type Record;
 
     /// Whether the answer for the record of this number is yes.
@@ -22,7 +22,7 @@ pub(crate) trait Question {
 }
 
 /// Returns the place of the first record for which the answer is yes.
-pub(crate) fn first_of<Q: Question>(
+pub(crate) fn first_of<Q: RecordQuestion>(
     session: &Session,
     question: &Q,
     log: &[Q::Record],
@@ -39,7 +39,7 @@ pub(crate) fn first_of<Q: Question>(
 }
 
 /// Returns the place of the last record before this one for which the answer is yes. Searches backwards.
-pub(crate) fn last_of<Q: Question>(
+pub(crate) fn last_of<Q: RecordQuestion>(
     session: &Session,
     question: &Q,
     log: &[Q::Record],
@@ -60,7 +60,7 @@ pub(crate) fn last_of<Q: Question>(
 }
 
 /// Returns for how many records the answer is yes.
-pub(crate) fn count_of<Q: Question>(session: &Session, question: &Q, log: &[Q::Record]) -> u32
+pub(crate) fn count_of<Q: RecordQuestion>(session: &Session, question: &Q, log: &[Q::Record]) -> u32
     requires { length log.now ≤ longest_log }
     ensures { result ≡ how_many (Q.holds question.now session.now) log.now (length log.now) }
 {

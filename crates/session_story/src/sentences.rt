@@ -13,7 +13,7 @@ pub(crate) mod topics;
 
 use crate::concerns::Name;
 use crate::pages::Handover;
-use crate::values::Held;
+use crate::values::CellValue;
 use crate::waits::Waiting;
 use audit_model::PageReason;
 use migration_types::{LogName, PageNo};
@@ -31,7 +31,7 @@ pub enum Sentence {
     /// The page of a wrong read is never placed.
     NeverPlaced,
     /// What one machine that never moved has instead of what a read gives.
-    OneMachine(Held),
+    OneMachine(CellValue),
     /// The page of an early use is never placed.
     NotThere,
     /// No look before an early use of its page reaches this placement.
@@ -52,7 +52,7 @@ pub enum Sentence {
     Contents {
         name: Name,
         value: u64,
-        at_halt: Held,
+        at_halt: CellValue,
     },
     /// What this record of the pager took was sent with this value, by this record of the source.
     SentWith {

@@ -10,12 +10,12 @@ ghost use Rattle.session_story.specs.Writing.{Adds, AreWritten, IsLine};
 use crate::english::{BY_OWN_LINES, English, NO_TEXT};
 use crate::sentences::lacks::missing_told;
 use crate::sentences::topics::{told_first, told_in_full};
-use crate::topics::{Told, Topic, tell};
+use crate::topics::{Topic, TopicStory, tell};
 use crate::writing::{Writer, push_sentences};
 use audit_report::{
     Lines, OwnLines, Report, push_first_line_by, push_missing, push_refused_session_by,
 };
-use completeness::Missing;
+use completeness::Lack;
 use migration_types::Session;
 use std::alloc::{AllocError, Global};
 
@@ -78,7 +78,7 @@ pub fn print_missing<L: Lines>(
     alloc: Global,
     lines: &L,
     session: &Session,
-    missing: Missing,
+    missing: Lack,
 ) -> Result<Vec<u8>, AllocError>
     requires { IsFirstMissing session.now missing }
     ensures { IfOk result (λ text. IsLackingText (L.tell lines.now) session.now missing text.items) }
@@ -106,7 +106,11 @@ pub fn print_refused<L: Lines>(alloc: Global, lines: &L, line: u32) -> Result<Ve
 
 /// Appends the first sentences of a story, each on a line of its own: what is wrong, or that nothing is. Fails only if
 /// memory runs out.
-pub fn push_summary(out: &mut String, session: &Session, told: &Told) -> Result<(), AllocError>
+pub fn push_summary(
+    out: &mut String,
+    session: &Session,
+    told: &TopicStory,
+) -> Result<(), AllocError>
     ensures { OnOk result (Adds (AreWritten (λ _. IsLine) (told_first session.now told.now)) (string_bytes out.old) (string_bytes out.new)) }
 {
     let sentences = told_first(*out.allocator(), session, told)?;

@@ -30,7 +30,7 @@ pub enum Topic {
 
 /// The story of a page, with its fault.
 #[derive(Clone, Copy, Debug, PartialEq, Eq)]
-pub struct PageTold {
+pub struct FullPageStory {
     pub story: PageStory,
     pub handover: Handover,
     /// Its first fault, if it has one.
@@ -39,36 +39,36 @@ pub struct PageTold {
 
 /// A record, and the story of its page.
 #[derive(Clone, Copy, Debug, PartialEq, Eq)]
-pub struct LineTold {
+pub struct LineStory {
     pub log: LogName,
     /// The record's number in its log.
     pub place: u32,
     /// What is wrong with its shape, if the report names it for that.
     pub shape: Option<ShapeStory>,
     /// The story of the page that it is about, directly or through the records that it names, if it is about one.
-    pub page: Option<PageTold>,
+    pub page: Option<FullPageStory>,
 }
 
 /// The story of a session on a topic.
 #[derive(Debug, Drop)]
-pub enum Told {
+pub enum TopicStory {
     /// The story of the report.
     Report(Explanation),
     /// The story of the page of this number, or `None` if the machine has no such page.
-    Page(u32, Option<PageTold>),
+    Page(u32, Option<FullPageStory>),
     /// The story of the record at this line, or `None` if there is no record at the line.
-    Line(u32, Option<LineTold>),
+    Line(u32, Option<LineStory>),
 }
 
-impl Told {
+impl TopicStory {
     /// Returns the story of a page, if this is one. Allocates no memory.
-    pub fn page(&self) -> Option<PageTold>
+    pub fn page(&self) -> Option<FullPageStory>
         ensures { result ≡ page_in self.now }
     {
         match self {
-            Told::Report(_) => None,
-            Told::Page(_, told) => *told,
-            Told::Line(_, told) => match told {
+            TopicStory::Report(_) => None,
+            TopicStory::Page(_, told) => *told,
+            TopicStory::Line(_, told) => match told {
                 Some(line) => line.page,
                 None => None,
             },
@@ -79,7 +79,7 @@ impl Told {
     pub fn fault(&self) -> Option<FaultStory>
         ensures { result ≡ fault_in self.now }
     {
-        if let Told::Report(explanation) = self {
+        if let TopicStory::Report(explanation) = self {
             return fault_reported(explanation);
         }
         match self.page() {
@@ -122,14 +122,14 @@ fn page_told(
     session: &Session,
     report: &Report,
     page: PageNo,
-) -> Result<PageTold, AllocError>
+) -> Result<FullPageStory, AllocError>
     requires report { IsReport session.now report.now }
     requires page { page < session.now.geometry.pages }
     ensures { IfOk result (IsPageTold session.now page) }
 {
     let story = story_of(alloc, session, page)?;
     let fault = first_fault_of(alloc, session, report, &story)?;
-    Ok(PageTold {
+    Ok(FullPageStory {
         story,
         handover: handover_of(session),
         fault,
@@ -143,7 +143,7 @@ pub(crate) fn told_of_page(
     session: &Session,
     report: &Report,
     number: u32,
-) -> Result<Option<PageTold>, AllocError>
+) -> Result<Option<FullPageStory>, AllocError>
     requires { IsReport session.now report.now }
     ensures { IfOk result (IsToldOfPage session.now number) }
 {
@@ -162,7 +162,7 @@ fn told_of_its_page(
     report: &Report,
     log: LogName,
     place: u32,
-) -> Result<Option<PageTold>, AllocError>
+) -> Result<Option<FullPageStory>, AllocError>
     requires { IsReport session.now report.now }
     ensures { IfOk result (IsToldOfItsPage session.now (page_of session.now (log, place))) }
 {
@@ -197,7 +197,7 @@ pub(crate) fn told_of_line(
     session: &Session,
     report: &Report,
     line: u32,
-) -> Result<Option<LineTold>, AllocError>
+) -> Result<Option<LineStory>, AllocError>
     requires { IsReport session.now report.now }
     ensures { IfOk result (IsToldOfLine session.now report.now line) }
 {
@@ -205,7 +205,7 @@ pub(crate) fn told_of_line(
         return Ok(None);
     };
     let page = told_of_its_page(alloc, session, report, log, place)?;
-    Ok(Some(LineTold {
+    Ok(Some(LineStory {
         log,
         place,
         shape: shape_told(session, report, line),
@@ -220,16 +220,19 @@ pub fn tell(
     session: &Session,
     report: &Report,
     topic: Topic,
-) -> Result<Told, AllocError>
+) -> Result<TopicStory, AllocError>
     requires { IsReport session.now report.now }
     ensures { IfOk result (IsTold session.now report.now topic) }
 {
     match topic {
-        Topic::Report => Ok(Told::Report(explain(alloc, session, report)?)),
-        Topic::Page(number) => Ok(Told::Page(
+        Topic::Report => Ok(TopicStory::Report(explain(alloc, session, report)?)),
+        Topic::Page(number) => Ok(TopicStory::Page(
             number,
             told_of_page(alloc, session, report, number)?,
         )),
-        Topic::Line(line) => Ok(Told::Line(line, told_of_line(alloc, session, report, line)?)),
+        Topic::Line(line) => Ok(TopicStory::Line(
+            line,
+            told_of_line(alloc, session, report, line)?,
+        )),
     }
 }

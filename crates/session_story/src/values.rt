@@ -15,7 +15,7 @@ use std::alloc::{AllocError, Global};
 
 /// The value of a cell on one machine that never moved.
 #[derive(Clone, Copy, Debug, PartialEq, Eq)]
-pub struct Held {
+pub struct CellValue {
     pub cell: u16,
     pub value: u64,
     /// The guest's last record before that wrote the cell or released its page, or `None` if the cell is as at the
@@ -92,7 +92,7 @@ fn cells_before(
 }
 
 /// Returns what the page with these values has in a cell, before this record of the guest.
-fn held_in(session: &Session, cells: &[u64], page: PageNo, cell: u16, to: usize) -> Held
+fn held_in(session: &Session, cells: &[u64], page: PageNo, cell: u16, to: usize) -> CellValue
     requires cell { cell < session.now.geometry.cells }
     requires within { to ≤ length session.now.guest }
     requires cells { IsPage cells.now (flat session.now to page) session.now.geometry.cells }
@@ -100,7 +100,7 @@ fn held_in(session: &Session, cells: &[u64], page: PageNo, cell: u16, to: usize)
     ensures held { IsHeld session.now to page result }
 {
     session.keeps_limits();
-    Held {
+    CellValue {
         cell,
         value: cells[cell as usize],
         by: last_of(
@@ -119,7 +119,7 @@ pub(crate) fn instead_of(
     alloc: Global,
     session: &Session,
     n: usize,
-) -> Result<Option<Held>, AllocError>
+) -> Result<Option<CellValue>, AllocError>
     requires { n < length session.now.guest }
     ensures { IfOk result (λ held. (vcpu page cell value : ℕ) → slice_get session.now.guest n ≡ Some (Read vcpu page cell value) → MatchOption held ⊥ (IsInstead session.now n page cell)) }
 {
@@ -155,7 +155,7 @@ pub(crate) fn other_of(
     session: &Session,
     page: PageNo,
     contents: &[u64],
-) -> Result<Option<Held>, AllocError>
+) -> Result<Option<CellValue>, AllocError>
     requires page { page < session.now.geometry.pages }
     requires contents { length contents.now ≡ session.now.geometry.cells }
     ensures { IfOk result (λ held. MatchOption held ((c : ℕ) → c < session.now.geometry.cells → slice_index contents.now c ≡ flat session.now (at_halt session.now) page c) (IsOther session.now page contents.now)) }

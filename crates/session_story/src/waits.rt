@@ -10,8 +10,8 @@ ghost use Rattle.cert_maker.specs.Orders.{IsTied};
 ghost use Rattle.session_story.specs.Waits.{IsCircle, next_in};
 ghost use Rattle.session_story.specs.inner.Waits.{IsNext, IsCircleAt};
 
-use cert_maker::{FoundRuns, Left};
-use merge_runs::Taken;
+use cert_maker::{FirstLeft, FoundRuns};
+use merge_runs::TakenCounts;
 use migration_types::{LogName, Session};
 use std::alloc::{AllocError, Global};
 
@@ -54,7 +54,7 @@ impl Knot {
 }
 
 /// Returns the next record of a log, if it is a receipt.
-fn next_of(session: &Session, taken: &Taken, log: LogName) -> Option<Waiting>
+fn next_of(session: &Session, taken: &TakenCounts, log: LogName) -> Option<Waiting>
     requires limits { IsSession session.now }
     requires left { cursors_of taken.now log < log_length session.now log }
     ensures { MatchOption result (receipt session.now (log, cursors_of taken.now log) ≡ None) (IsNext session.now (cursors_of taken.now) log) }
@@ -75,7 +75,7 @@ fn next_of(session: &Session, taken: &Taken, log: LogName) -> Option<Waiting>
 fn circle_from(
     alloc: Global,
     session: &Session,
-    taken: &Taken,
+    taken: &TakenCounts,
     first: LogName,
 ) -> Result<Knot, AllocError>
     requires limits { IsSession session.now }
@@ -85,7 +85,7 @@ fn circle_from(
     ensures { IfOk result (IsCircleAt session.now (cursors_of taken.now) first) }
 {
     let mut waits = Vec::new(alloc);
-    let mut found = Taken::nothing();
+    let mut found = TakenCounts::nothing();
     let mut log = first;
     while found.of(log) == 0 {
         let Some(waiting) = next_of(session, taken, log) else {
@@ -104,7 +104,7 @@ fn circle_from(
 pub(crate) fn circle_of(
     alloc: Global,
     session: &Session,
-    left: &Left,
+    left: &FirstLeft,
     found: &FoundRuns,
 ) -> Result<Knot, AllocError>
     requires shape { IsRightShape session.now }

@@ -4,7 +4,7 @@ use Rattle.std.specs.List.{AllByRecursion}
 use Rattle.std.proofs.lemmas.Option.{slice_get_within}
 use Rattle.migration_types.specs.declared.records.GuestRec.{GuestRec}
 use Rattle.migration_types.specs.declared.records.GuestRec.TheVariants.{Miss}
-use Rattle.target_side.specs.declared.Missing.{Missing}
+use Rattle.target_side.specs.declared.UntakenMiss.{UntakenMiss}
 use Rattle.target_side.specs.TargetPart.{TargetPart}
 use Rattle.target_side.specs.History.{Happening, Did, Placed, guest_part, Target, untouched, target_after, target_at, Meets, IsHistory, IsRecorded, Holds, IsHistoryOf}
 use Rattle.target_side.proofs.Logs.{get_old, before_push, before_end, all_push}
@@ -23,7 +23,7 @@ demands_push h x all here =
     (subst (λ (t : Target). Meets x t) (sym (before_push target_after untouched h (x ∷ []) (length h) (omega arith))) here)
 
 -- misses are recorded in a longer log
-pub recorded_more : (log records : List GuestRec) (misses : List Missing) → AllByRecursion (IsRecorded log) misses → AllByRecursion (IsRecorded (log ++ records)) misses
+pub recorded_more : (log records : List GuestRec) (misses : List UntakenMiss) → AllByRecursion (IsRecorded log) misses → AllByRecursion (IsRecorded (log ++ records)) misses
 recorded_more log records [] all = tt
 recorded_more log records (m ∷ misses) all = (get_old log records m.number (Miss m.vcpu m.page) all.0, recorded_more log records misses all.1)
 

@@ -8,7 +8,7 @@ use Rattle.page_store.specs.Tables.{Values, pages_of, values}
 use Rattle.residency.specs.Placements.{is_resident}
 use Rattle.fault_queue.specs.Waiting.{Waiting, is_asked, is_waiting, without, without_all}
 use Rattle.target_side.specs.TargetPart.{TargetPart, settled as with_settled, resumes, with_misses}
-use Rattle.target_side.specs.declared.Missing.{Missing}
+use Rattle.target_side.specs.declared.UntakenMiss.{UntakenMiss}
 use Rattle.target_side.specs.declared.Incoming.{Incoming}
 use Rattle.target_side.specs.PagerPart.{PagerPart, Paged, settles, is_listed, is_released, fault_new, fault_join, faults, faults_by, zeroes, next_fault, places, delivers_by, deliver}
 use Rattle.target_side.specs.PagerLists.{PagerLists, part_of, IsWanted, IsKept}
@@ -64,23 +64,23 @@ branches_still false false false true None p v b t = (refl, refl)
 branches_still false false false true (Some want) p v b t = (refl, refl)
 branches_still false false false false o p v b t = (refl, refl)
 
-faults_over : (xs : List Missing) (b : PagerPart) (t : TargetPart) (s : Pages) → faults xs (record b { settled = s }) (with_settled t) ≡ over s (faults xs b t)
+faults_over : (xs : List UntakenMiss) (b : PagerPart) (t : TargetPart) (s : Pages) → faults xs (record b { settled = s }) (with_settled t) ≡ over s (faults xs b t)
 faults_over [] b t s = refl
 faults_over (x ∷ rest) b t s =
     branches_over (is_resident (t.placed x.page) (t.freed x.page)) (is_waiting x.vcpu b.waiting) (is_released b.released x.page) (is_asked x.page b.waiting) (b.wants x.page) x.page x.vcpu
     (record b { log = b.log ++ Fault x.number ∷ [] }) (with_misses rest t) s
 
-faults_still : (xs : List Missing) (b : PagerPart) (t : TargetPart) → Unsettled b t (faults xs b t)
+faults_still : (xs : List UntakenMiss) (b : PagerPart) (t : TargetPart) → Unsettled b t (faults xs b t)
 faults_still [] b t = (refl, refl)
 faults_still (x ∷ rest) b t =
     branches_still (is_resident (t.placed x.page) (t.freed x.page)) (is_waiting x.vcpu b.waiting) (is_released b.released x.page) (is_asked x.page b.waiting) (b.wants x.page) x.page x.vcpu
     (record b { log = b.log ++ Fault x.number ∷ [] }) (with_misses rest t)
 
-faults_by_over : (o : Option (List ℕ)) (xs : List Missing) (b : PagerPart) (t : TargetPart) (s : Pages) → faults_by o xs (record b { settled = s }) (with_settled t) ≡ over s (faults_by o xs b t)
+faults_by_over : (o : Option (List ℕ)) (xs : List UntakenMiss) (b : PagerPart) (t : TargetPart) (s : Pages) → faults_by o xs (record b { settled = s }) (with_settled t) ≡ over s (faults_by o xs b t)
 faults_by_over None xs b t s = refl
 faults_by_over (Some released) xs b t s = faults_over xs b t s
 
-faults_by_still : (o : Option (List ℕ)) (xs : List Missing) (b : PagerPart) (t : TargetPart) → Unsettled b t (faults_by o xs b t)
+faults_by_still : (o : Option (List ℕ)) (xs : List UntakenMiss) (b : PagerPart) (t : TargetPart) → Unsettled b t (faults_by o xs b t)
 faults_by_still None xs b t = (refl, refl)
 faults_by_still (Some released) xs b t = faults_still xs b t
 

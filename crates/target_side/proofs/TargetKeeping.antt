@@ -14,7 +14,7 @@ use Rattle.migration_events.specs.declared.ops.Op.{Op}
 use Rattle.migration_events.specs.declared.ops.Op.TheVariants.{Read as ReadCell, Write as WriteCell, Release as ReleasePage}
 use Rattle.residency.specs.Placements.{Placements, no_placement, with_placement, is_resident, raised, is_covered}
 use Rattle.target_side.specs.declared.Access.TheVariants.{Waiting, Missed}
-use Rattle.target_side.specs.declared.Missing.{Missing}
+use Rattle.target_side.specs.declared.UntakenMiss.{UntakenMiss}
 use Rattle.target_side.specs.TargetPart.{TargetPart, Accessed, halted_target, does, looks, frees, done_over, lacks, misses_page, accesses, target_access, resumes, with_placed, with_zeroed, settled}
 use Rattle.target_side.specs.History.{Happening, Did, Placed, Target, freed_by, released_at, recorded_after, target_at, IsRecorded, Holds, IsHistoryOf, IsBeforeHalt}
 use Rattle.target_side.proofs.Logs.{get_new, each_push}
@@ -218,7 +218,7 @@ keeps_same old new log kept h was = ([], log ∙ sym (append-nil old.log), subst
 miss_keeps : (v p : ℕ) (b : TargetPart) → Keeps b (misses_page v p b).book
 miss_keeps v p b = go (b.standing v)
   where
-    missing : Missing
+    missing : UntakenMiss
     missing = record { number = length b.log; vcpu = v; page = p }
 
     missed : TargetPart

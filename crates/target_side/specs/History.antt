@@ -8,7 +8,7 @@ use Rattle.migration_types.specs.Memory.{Memory, zeros, with_cell, with_content,
 use Rattle.migration_types.specs.PageSets.{Pages, no_page, with_page}
 use Rattle.residency.specs.Placements.{Placements, no_placement, with_placement, is_resident, raised, is_covered}
 use Rattle.audit_model.specs.Flat.{before}
-use Rattle.target_side.specs.declared.Missing.{Missing}
+use Rattle.target_side.specs.declared.UntakenMiss.{UntakenMiss}
 use Rattle.target_side.specs.TargetPart.{TargetPart}
 
 -- A happening: the guest recorded something, or the pager placed a page by its record of this number, with these cells
@@ -85,7 +85,7 @@ abbrev pub IsHistory : List Happening → Type 0
 IsHistory history = (n : ℕ) (x : Happening) → slice_get history n ≡ Some x → Meets x (target_at history n)
 
 -- a miss that the pager has not taken is a record of the log
-abbrev pub IsRecorded : List GuestRec → Missing → Type 0
+abbrev pub IsRecorded : List GuestRec → UntakenMiss → Type 0
 IsRecorded log missing = slice_get log missing.number ≡ Some (Miss missing.vcpu missing.page)
 
 -- a book's state is this target's, with its frames on the resident pages

@@ -7,7 +7,7 @@ use Rattle.migration_types.specs.Limits.{most_records}
 use Rattle.migration_types.specs.PageSets.{Pages}
 use Rattle.page_store.specs.Frames.{Frames, memory_of}
 use Rattle.residency.specs.Placements.{Places, placements, freed}
-use Rattle.target_side.specs.declared.Missing.{Missing}
+use Rattle.target_side.specs.declared.UntakenMiss.{UntakenMiss}
 use Rattle.target_side.specs.TargetPart.{TargetPart}
 use Rattle.target_side.specs.History.{Happening, Did}
 
@@ -17,7 +17,7 @@ pub record Held : Type 0 where
   pub is_resumed : Bool
   pub frames : Frames
   pub places : Places
-  pub misses : List Missing
+  pub misses : List UntakenMiss
   pub standing : List Bool
   pub unsettled : List ℕ
 

@@ -11,7 +11,7 @@ use Rattle.page_stream.specs.declared.Packet.{Packet}
 use Rattle.page_stream.specs.declared.Packet.TheVariants.{State as StatePacket, Page as PagePacket, Want as WantPacket, All as AllPacket}
 use Rattle.residency.specs.Placements.{is_resident}
 use Rattle.target_side.specs.TargetPart.{TargetPart, settled as with_settled, resumes, with_placed, with_zeroed, with_misses}
-use Rattle.target_side.specs.declared.Missing.{Missing}
+use Rattle.target_side.specs.declared.UntakenMiss.{UntakenMiss}
 use Rattle.target_side.specs.declared.Incoming.{Incoming}
 
 -- The pager's log, the pages that the source released once the state has come, the placed pages, those that the guest
@@ -128,12 +128,12 @@ fault_absent p v b t =
 abbrev pub fault_at : ℕ → ℕ → PagerPart → TargetPart → Paged
 fault_at p v b t = if is_resident (t.placed p) (t.freed p) then record { pager = b; target = t; woken = [] } else fault_absent p v b t
 
-abbrev pub faults : List Missing → PagerPart → TargetPart → Paged
+abbrev pub faults : List UntakenMiss → PagerPart → TargetPart → Paged
 faults [] b t = record { pager = b; target = t; woken = [] }
 faults (x ∷ rest) b t = fault_at x.page x.vcpu (record b { log = b.log ++ Fault x.number ∷ [] }) (with_misses rest t)
 
 -- before the state has come, no miss is taken
-abbrev pub faults_by : Option (List ℕ) → List Missing → PagerPart → TargetPart → Paged
+abbrev pub faults_by : Option (List ℕ) → List UntakenMiss → PagerPart → TargetPart → Paged
 faults_by None misses b t = record { pager = b; target = t; woken = [] }
 faults_by (Some released) misses b t = faults misses b t
 

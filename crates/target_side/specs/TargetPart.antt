@@ -8,7 +8,7 @@ use Rattle.residency.specs.Placements.{Placements, no_placement, with_placement,
 use Rattle.migration_events.specs.Ops.{page_in, answer_of}
 use Rattle.migration_events.specs.declared.ops.Op.{Op}
 use Rattle.migration_events.specs.declared.ops.Op.TheVariants.{Read as ReadCell, Write as WriteCell, Release as ReleasePage}
-use Rattle.target_side.specs.declared.Missing.{Missing}
+use Rattle.target_side.specs.declared.UntakenMiss.{UntakenMiss}
 use Rattle.target_side.specs.declared.Access.{Access}
 use Rattle.target_side.specs.declared.Access.TheVariants.{Done, Missed, Waiting}
 
@@ -22,7 +22,7 @@ pub record TargetPart : Type 0 where
   pub placed : Placements
   pub freed : Pages
   pub frontier : Option ℕ
-  pub misses : List Missing
+  pub misses : List UntakenMiss
   pub standing : Pages
   pub unsettled : List ℕ
 
@@ -107,7 +107,7 @@ abbrev pub with_zeroed : ℕ → ℕ → TargetPart → TargetPart
 with_zeroed page number b = record b { memory = with_zeros page b.memory; placed = with_placement page number b.placed }
 
 -- these misses are still to be taken
-abbrev pub with_misses : List Missing → TargetPart → TargetPart
+abbrev pub with_misses : List UntakenMiss → TargetPart → TargetPart
 with_misses misses b = record b { misses = misses }
 
 -- the pager has cancelled all pages that were absent when they were released

@@ -29,7 +29,7 @@ pub enum Access {
 
 /// A miss that the pager has not taken.
 #[derive(Clone, Copy, Debug, PartialEq, Eq)]
-pub struct Missing {
+pub struct UntakenMiss {
     /// The number of its record in the guest's log.
     pub number: u32,
     /// The virtual processor that missed.

@@ -12,7 +12,7 @@ ghost use Rattle.target_side.specs.TargetPart.{halted_target, target_access, acc
 ghost use Rattle.target_side.specs.Kept.{IsSized, part_held, marked};
 ghost use Rattle.target_side.specs.inner.States.{held};
 
-use crate::{Access, Missing, TargetFault};
+use crate::{Access, TargetFault, UntakenMiss};
 use migration_events::{Op, make_room};
 use migration_types::{Geometry, GuestRec, PageNo};
 use page_store::Store;
@@ -25,7 +25,7 @@ const MARKS: usize = 256;
 
 /// The state of the target.
 #[derive(Drop)]
-pub(crate) struct State {
+pub(crate) struct TargetState {
     /// The guest's log.
     pub(crate) log: Vec<GuestRec>,
     /// Whether the guest runs at the target.
@@ -33,21 +33,21 @@ pub(crate) struct State {
     pub(crate) frames: Store,
     pub(crate) places: Residency,
     /// The misses that the pager has not taken, the oldest first.
-    pub(crate) misses: VecDeque<Missing>,
+    pub(crate) misses: VecDeque<UntakenMiss>,
     /// A mark for each virtual processor that has a pending miss.
     pub(crate) standing: Vec<bool>,
     /// The pages that were absent when the guest released them and that the pager has not cancelled, the oldest first.
     pub(crate) unsettled: Vec<PageNo>,
 }
 
-impl State {
+impl TargetState {
     /// Returns the state at the halt, whose record the guest's log gains. It has no page. On an error, the log comes
     /// back as it was: it has no room for the record, or memory runs out.
     pub(crate) fn halted(
         alloc: Global,
         geometry: Geometry,
         log: Vec<GuestRec>,
-    ) -> Result<State, (Vec<GuestRec>, TargetFault)>
+    ) -> Result<TargetState, (Vec<GuestRec>, TargetFault)>
         requires { length log.items ≤ most_records }
         ensures part { IfOk result (λ s. part_held (held s) ≡ halted_target log.items) }
         ensures sized { IfOk result (λ s. IsSized geometry (held s)) }
@@ -66,7 +66,7 @@ impl State {
             return Err((log, TargetFault::Memory));
         };
         log.push_reserved(GuestRec::Halt);
-        Ok(State {
+        Ok(TargetState {
             log,
             is_resumed: false,
             frames,
@@ -194,7 +194,7 @@ impl State {
         let number = self.log.len() as u32;
         self.log.push_reserved(GuestRec::Miss { vcpu, page });
         self.misses
-            .push_back_reserved(Missing { number, vcpu, page });
+            .push_back_reserved(UntakenMiss { number, vcpu, page });
         self.standing[usize::from(vcpu)] = true;
         Ok(Access::Missed)
     }

@@ -11,8 +11,8 @@ ghost use Rattle.residency.specs.Placements.{is_resident};
 ghost use Rattle.migration_events.specs.Ops.{OpFits};
 ghost use Rattle.target_side.specs.Kept.{part_of, geometry_of, HaveGrown};
 
-use crate::state::State;
-use crate::{Access, Missing, TargetFault};
+use crate::state::TargetState;
+use crate::{Access, TargetFault, UntakenMiss};
 use migration_events::{Op, look_for_room};
 use migration_types::{Contents, Geometry, GuestRec, PageNo};
 use page_store::Store;
@@ -35,7 +35,7 @@ struct Placement {
 /// second time: it is the guest's log with the placements between its records.
 #[derive(Drop)]
 pub struct TargetBook {
-    state: State,
+    state: TargetState,
     placements: Vec<Placement>,
     alloc: Global,
 }
@@ -72,7 +72,7 @@ impl TargetBook {
         ensures memory { IfErr result (λ e. e.1 ≡ TargetFault.Memory → length (halted_target log.items).log ≤ most_records) }
         ensures err { IfErr result (λ e. e.0.items ≡ log.items) }
     {
-        let state = State::halted(alloc, geometry, log)?;
+        let state = TargetState::halted(alloc, geometry, log)?;
         Ok(TargetBook {
             state,
             placements: Vec::new(alloc),
@@ -179,7 +179,7 @@ impl TargetBook {
     }
 
     /// Returns the oldest miss that was not taken, of a page of the machine, or `None` if all were taken.
-    pub fn next_miss(&self) -> Option<Missing>
+    pub fn next_miss(&self) -> Option<UntakenMiss>
         ensures oldest { result ≡ slice_get (part_of self.now).misses 0 }
         ensures page { IfSome result (λ m. m.page < (geometry_of self.now).pages) }
     {
@@ -272,7 +272,7 @@ impl TargetBook {
         ensures frames { result.1 ≡ self.held.frames }
     {
         let TargetBook { state, .. } = self;
-        let State { log, frames, .. } = state;
+        let TargetState { log, frames, .. } = state;
         (log, frames)
     }
 }

@@ -1,11 +1,11 @@
--- What is found of the text of a recording.
+-- What is found in the text of a recording.
 use Rattle.std.specs.Prelude.{ℕ, List, Result, Ok, Err}
 use Rattle.window_cut.specs.declared.faults.CutFault.{CutFault}
 use Rattle.window_cut.specs.declared.pages.Window.{Window}
 use Rattle.window_cut.specs.declared.session.WindowText.{WindowText}
 use Rattle.window_cut.specs.Cuts.{IsCutOf, IsTold}
 
--- these pages are cut out of it, or that is why they are not
+-- these pages were cut out of it, or this is why they were not
 abbrev pub IsFound : Window → List ℕ → Result WindowText CutFault → Type 0
 IsFound w recording (Ok cut) = IsCutOf w recording cut
 IsFound w recording (Err fault) = IsTold w recording fault

@@ -1,12 +1,12 @@
--- The text of a table of lines: for each line of a text the number of another line, on a line of its own.
+-- The text of a table of lines. Each line of the table has the number of a line of another text.
 use Rattle.std.specs.Prelude.{◌≡◌, ℕ, ◌+◌, ◌*◌, ◌<◌, ◌≤◌, ◌^◌, List, length, map}
 use Rattle.std.specs.List.{AllByRecursion}
 use Rattle.std.specs.Fmt.{decimal}
 use Rattle.text_lines.specs.Text.{ended}
 use Rattle.migration_types.specs.Limits.{most_pages, longest_log}
 
--- A table has at most so many lines: as many as the text of a session. Ten of them are no initial page and no record: four before
--- the initial pages, one before each of the five logs, and the last.
+-- The most lines of a table: as many as the text of a session can have. Ten of those are no initial page and no record:
+-- four before the initial pages, one before each of the five logs, and the last.
 abbrev pub most_lines : ℕ
 most_lines = 10 + most_pages + 5 * longest_log
 

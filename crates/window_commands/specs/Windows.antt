@@ -1,4 +1,4 @@
--- What becomes of a recording of which a window is asked for.
+-- The result of cutting a window out of a recording.
 use Rattle.std.specs.Prelude.{◌≡◌, ℕ, List, Option, Result, IfSome, codes}
 use Rattle.std.specs.Io.KnownBytes.{Appends, Keeps}
 use Rattle.text_lines.specs.Text.{IsRefusalLine}
@@ -12,14 +12,14 @@ use Rattle.command_texts.specs.Answers.{IsAnswer, IsTextFault, numbered}
 use Rattle.command_texts.specs.Told.{Ends}
 use Rattle.command_texts.specs.Written.{Streams}
 
--- a text is refused at this line, its machine has not these pages, or this is their session, with the lines of the recording
--- that its lines are
+-- the text is refused at this line; or its machine does not have these pages; or this is their session, and each of its
+-- lines is this line of the recording
 pub data Windowed : Type 0 where
   RecordingText : ℕ → Windowed
   NoSuchPages : Windowed
   Seen : WindowText → Windowed
 
--- what becomes of the text of a recording
+-- the result for the text of a recording
 abbrev pub IsWindowed : Window → List ℕ → Windowed → Type 0
 IsWindowed w recording (RecordingText line) = IsRefusalLine SpellsRecording recording line
 IsWindowed w recording NoSuchPages = IsOutside w recording
@@ -39,19 +39,20 @@ windowed_status (Seen cut) = 0
 abbrev pub IsWindowAnswer : Window → List ℕ → List ℕ → ℕ → Type 0
 IsWindowAnswer w recording = IsAnswer (IsWindowed w recording) windowed_text windowed_status
 
--- nothing is told beside it
+-- nothing is written beside it
 abbrev pub TellsNothing : List ℕ → ℕ → Option (List ℕ) → Option (List ℕ) → Type 0
 TellsNothing recording status old new = Keeps old new
 
--- a text that was read under a name, of any length: where it is known what stands there, it is that
+-- a text of any length was read under a name: it is the known one, if that is known
 abbrev pub IsReadUnder : List ℕ → (List ℕ → Option (List ℕ)) → List ℕ → Type 0
 IsReadUnder name files text = IfSome (files name) (λ xs. text ≡ xs)
 
--- the answer of `window` to what stands under a name was told, or it came to a fault
+-- the answer of `window` to the text under a name was written, or it failed with a fault
 abbrev pub EndsWindow : Window → List ℕ → (List ℕ → Option (List ℕ)) → Streams → Streams → Result ℕ Fault → Type 0
 EndsWindow w name files = Ends (IsTextFault (λ n. n ≡ name)) (IsReadUnder name files) (IsWindowAnswer w) TellsNothing
 
--- the output gained the session of a window, and this is the table of the lines of the recording that its lines are
+-- the session of a window was appended to the output, and each of its lines is the line of the recording that this
+-- table has for it
 pub record HasWindowLines (w : Window) (name : List ℕ) (files : List ℕ → Option (List ℕ)) (old new : Option (List ℕ)) (table : List ℕ) : Type 0 where
   pub recording : List ℕ
   pub is_read : IsReadUnder name files recording

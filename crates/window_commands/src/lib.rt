@@ -1,5 +1,5 @@
-//! Windows of recordings: the command that writes one, and tables of lines, which say of each line of a text which line of
-//! another text it was.
+//! Windows of recordings: the command that writes one, and tables of lines. A table says, for each line of a text,
+//! which line of another text it was.
 #![tactic(auto)]
 
 mod tables;

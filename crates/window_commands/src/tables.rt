@@ -9,8 +9,8 @@ use std::alloc::{AllocError, Global};
 use std::marker::Model;
 use text_lines::{FaultKind, Stages, Wanted, end_line, push_number, read_decimal};
 
-/// A table has at most so many lines: as many as the text of a session of the large size. Ten of them are no initial page and no
-/// record.
+/// Returns the most lines of a table: as many as the text of a session of the large size can have. Ten of those are no
+/// initial page and no record.
 fn most_lines() -> usize
     ensures { result ≡ most_lines }
 {
@@ -18,7 +18,7 @@ fn most_lines() -> usize
     10 + limits.pages as usize + LOG_COUNT * limits.records as usize
 }
 
-/// Adds the number of a line, on a line of its own.
+/// Appends the number of a line, on a line of its own.
 fn push_row(out: &mut Vec<u8>, line: &u64) -> Result<(), AllocError>
     ensures { OnOk result (out.new.items ≡ out.old.items ++ (decimal line.now ++ 10 ∷ [])) }
 {
@@ -26,7 +26,7 @@ fn push_row(out: &mut Vec<u8>, line: &u64) -> Result<(), AllocError>
     end_line(out)
 }
 
-/// Adds the text of a table. An error: there is no memory for it.
+/// Appends the text of a table. Fails only if memory runs out.
 pub fn push_table(out: &mut Vec<u8>, table: &[u64]) -> Result<(), AllocError>
     ensures { OnOk result (out.new.items ≡ out.old.items ++ table_text table.now) }
 {
@@ -36,7 +36,7 @@ pub fn push_table(out: &mut Vec<u8>, table: &[u64]) -> Result<(), AllocError>
     Ok(())
 }
 
-/// What came of a table.
+/// The part of a table that has been read.
 #[derive(Drop)]
 pub struct TableParts {
     lines: Vec<u64>,

@@ -20,7 +20,7 @@ use std::io::Write;
 use text_lines::push_keyed;
 use window_cut::{CutFault, Window, WindowText, cut};
 
-/// The text of the table of these lines, where it is asked for.
+/// Returns the text of the table of these lines, if it is asked for.
 fn table_of(alloc: Global, lined: bool, lines: &[u64]) -> Result<Option<Vec<u8>>, AllocError>
     ensures { IfOk result (λ table. HasTable lined lines.now table) }
 {
@@ -32,7 +32,7 @@ fn table_of(alloc: Global, lined: bool, lines: &[u64]) -> Result<Option<Vec<u8>>
     Ok(Some(text))
 }
 
-/// The answer that a window is, and the table of its lines, where it is asked for.
+/// Returns the answer for a window, and the table of its lines, if it is asked for.
 fn seen(
     alloc: Global,
     cut: WindowText,
@@ -50,7 +50,7 @@ fn seen(
     Ok((answer, table))
 }
 
-/// The answer to a recording that is refused at this line.
+/// Returns the answer for a recording that is refused at this line.
 fn refused_at(alloc: Global, line: u64) -> Result<Answer, AllocError>
     ensures { IfOk result (λ answer. Says answer (numbered (codes "recording-text line ") line) 1) }
 {
@@ -62,7 +62,7 @@ fn refused_at(alloc: Global, line: u64) -> Result<Answer, AllocError>
     })
 }
 
-/// The answer where there is no recording under a name.
+/// Returns the answer if the text under a name is no recording.
 fn unread<'a>(alloc: Global, name: &'a str, fault: RecordingFault) -> Result<Answer, Fault<'a>>
     ensures other { IfOk result (λ answer. answer.status ≡ 1) }
     ensures told { (window : Pages) (recording : List ℕ) → IsTold window recording (CutFault.Recording fault) → IfOk result (λ answer. IsWindowAnswer window recording answer.text.items answer.status) }
@@ -75,7 +75,7 @@ fn unread<'a>(alloc: Global, name: &'a str, fault: RecordingFault) -> Result<Ans
     }
 }
 
-/// The answer where nothing is cut out of the text under a name.
+/// Returns the answer if nothing can be cut out of the text under a name.
 fn uncut<'a>(alloc: Global, name: &'a str, fault: CutFault) -> Result<Answer, Fault<'a>>
     ensures other { IfOk result (λ answer. answer.status ≡ 1) }
     ensures told { (window : Pages) (recording : List ℕ) → IsTold window recording fault → IfOk result (λ answer. IsWindowAnswer window recording answer.text.items answer.status) }
@@ -88,7 +88,7 @@ fn uncut<'a>(alloc: Global, name: &'a str, fault: CutFault) -> Result<Answer, Fa
     }
 }
 
-/// What is cut out of the text under a name, which is read four times.
+/// Returns what is cut out of the text under a name. Reads the text four times.
 fn cut_named<'a, S: TextSource>(
     alloc: Global,
     window: Window,
@@ -105,7 +105,7 @@ fn cut_named<'a, S: TextSource>(
     Ok(cut(alloc, window, &mut one, &mut two, &mut three, &mut four))
 }
 
-/// The answer where nothing is cut out of the text under a name, without a table.
+/// Returns the answer if nothing can be cut out of the text under a name. It has no table.
 fn untabled<'a>(
     alloc: Global,
     name: &'a str,
@@ -120,7 +120,7 @@ fn untabled<'a>(
     }
 }
 
-/// The answer to the text under a name, and the table of its lines, where it is asked for.
+/// Returns the answer to the text under a name, and the table of its lines, if it is asked for.
 fn answer_to<'a, S: TextSource>(
     alloc: Global,
     window: Window,
@@ -140,7 +140,7 @@ fn answer_to<'a, S: TextSource>(
     }
 }
 
-// Puts a table into its place, where there is one.
+// Puts a table into its place, if there is one.
 fn put(lines: &mut Option<Vec<u8>>, table: Option<Vec<u8>>)
     ensures { MatchOption table (lines.new ≡ lines.old) (λ text. lines.new ≡ Some text) }
 {
@@ -149,9 +149,9 @@ fn put(lines: &mut Option<Vec<u8>>, table: Option<Vec<u8>>)
     }
 }
 
-/// `window`: the session of these pages of the recording under a name. Where the table of its lines is asked for, and the session
-/// is written, the table is put into `lines`. Otherwise this stays. The recording is read four times, so that its name cannot be
-/// the input's.
+/// `window`: writes the session of these pages of the recording under a name. Puts the table of its lines into `lines`
+/// if it is asked for and the session was written. Otherwise `lines` stays as it was. Reads the recording four times,
+/// so the name must not be that of the input.
 pub fn perform_window<'a, R, S: TextSource, I, O: Write, E: Write>(
     console: &mut Console<'_, R, S, I, O, E>,
     window: Window,

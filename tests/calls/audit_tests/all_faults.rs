@@ -4,7 +4,7 @@ use crate::texts::{HANDOVER, changed};
 use audit_report::{Report, audit, print_all_faults};
 use faulty_pages::{FaultyPage, faulty_pages};
 use migration_types::Session;
-use page_facts::Alone;
+use page_facts::OneThread;
 use report_json::push_all_faults;
 use session_log::read_session;
 use std::alloc::{AllocError, Global};
@@ -73,7 +73,7 @@ fn is_reported<R: Threads + Sync>(rt: &R, alloc: Global, case: &Case) -> Result<
         return Ok(false);
     };
     let report = audit(rt, alloc, &session)?;
-    let pages = faulty_pages(&Alone, alloc, &session)?;
+    let pages = faulty_pages(&OneThread, alloc, &session)?;
     is_told(alloc, &session, &report, &pages, case)
 }
 

@@ -2,7 +2,7 @@
 //! right shape.
 
 use crate::texts::{Logs, session_of};
-use completeness::{Extent, Missing, first_missing};
+use completeness::{Extent, Lack, first_missing};
 use session_log::read_session;
 use std::alloc::Global;
 
@@ -187,15 +187,15 @@ static CASES: [Case; 16] = [
 ];
 
 /// The kind of what is missing, and its number.
-fn said(missing: Option<Missing>) -> (&'static str, u32) {
+fn said(missing: Option<Lack>) -> (&'static str, u32) {
     match missing {
-        Some(Missing::Halt) => ("halt", 0),
-        Some(Missing::Returned) => ("returned", 0),
-        Some(Missing::Resume) => ("resume", 0),
-        Some(Missing::Page(page)) => ("page", page.number()),
-        Some(Missing::All) => ("all", 0),
-        Some(Missing::Done) => ("done", 0),
-        Some(Missing::Taken(n)) => ("taken", n),
+        Some(Lack::Halt) => ("halt", 0),
+        Some(Lack::Returned) => ("returned", 0),
+        Some(Lack::Resume) => ("resume", 0),
+        Some(Lack::Page(page)) => ("page", page.number()),
+        Some(Lack::All) => ("all", 0),
+        Some(Lack::Done) => ("done", 0),
+        Some(Lack::Taken(n)) => ("taken", n),
         None => ("nothing", 0),
     }
 }
@@ -236,10 +236,12 @@ fn tells_what_is_missing_first(rt: HostRuntime) {
 }
 
 /// A guest that was halted, and that the source started again.
-const RETURNED: &str = "postcopy-session 3\npages 2\ncells 1\ninit 0\nguest 1\nhalt\nsource 3\nhalted 0\nstate\nback\nlink 0\nlane 0\npager 0\nend\n";
+const RETURNED: &str =
+    "postcopy-session 3\npages 2\ncells 1\ninit 0\nguest 1\nhalt\nsource 3\nhalted 0\nstate\nback\nlink 0\nlane 0\npager 0\nend\n";
 
 /// The same, where the guest was resumed at the target: of such a session the shape says what is wrong.
-const AT_BOTH: &str = "postcopy-session 3\npages 2\ncells 1\ninit 0\nguest 2\nhalt\nresume 1\nsource 3\nhalted 0\nstate\nback\nlink 0\nlane 0\npager 0\nend\n";
+const AT_BOTH: &str =
+    "postcopy-session 3\npages 2\ncells 1\ninit 0\nguest 2\nhalt\nresume 1\nsource 3\nhalted 0\nstate\nback\nlink 0\nlane 0\npager 0\nend\n";
 
 /// What is missing first from the session of a text, to an extent.
 fn missing_of(alloc: Global, text: &str, extent: Extent) -> Option<(&'static str, u32)> {

@@ -2,11 +2,11 @@
 
 use crate::texts::{EARLY_ACCESS, HANDOVER, STALE_PAGE, WRONG_SHAPE};
 use audit_report::Report;
-use judged_texts::{Audited, Outcome, Wanted, audit_text, print_audited, replay_texts};
+use judged_texts::{AuditPart, Outcome, TextAudit, audit_text, print_audited, replay_texts};
 use std::alloc::{AllocError, Global};
 
 /// What becomes of a session along what its audit wrote.
-fn along(alloc: Global, session: &str, wanted: Wanted) -> Result<Outcome, AllocError> {
+fn along(alloc: Global, session: &str, wanted: AuditPart) -> Result<Outcome, AllocError> {
     let audited = audit_text(alloc, session.as_bytes())?;
     let text = print_audited(alloc, &audited, wanted)?;
     replay_texts(alloc, session.as_bytes(), &text)
@@ -15,14 +15,14 @@ fn along(alloc: Global, session: &str, wanted: Wanted) -> Result<Outcome, AllocE
 /// The line of the fault that the report on a session tells, where it tells one.
 fn faulty_line(alloc: Global, session: &str) -> Option<u32> {
     match audit_text(alloc, session.as_bytes()) {
-        Ok(Audited::Reported(Report::Faulty { line, .. })) => Some(line),
+        Ok(TextAudit::Reported(Report::Faulty { line, .. })) => Some(line),
         _ => None,
     }
 }
 
 /// Whether the report on a session is replayed to the record that it names.
 fn is_broken_along_its_report(alloc: Global, session: &str) -> bool {
-    match along(alloc, session, Wanted::Report) {
+    match along(alloc, session, AuditPart::Report) {
         Ok(Outcome::Broken(line)) => faulty_line(alloc, session) == Some(line),
         _ => false,
     }
@@ -34,18 +34,18 @@ fn replays_along_reports(rt: HostRuntime) {
     assert!(rt; is_broken_along_its_report(alloc, STALE_PAGE));
     assert!(rt;
         matches!(
-            along(alloc, EARLY_ACCESS, Wanted::Report),
+            along(alloc, EARLY_ACCESS, AuditPart::Report),
             Ok(Outcome::Broken(_))
         )
     );
-    assert!(rt; matches!(along(alloc, HANDOVER, Wanted::Report), Ok(Outcome::Safe)));
+    assert!(rt; matches!(along(alloc, HANDOVER, AuditPart::Report), Ok(Outcome::Safe)));
 }
 
 #[test]
 fn replays_along_certificates(rt: HostRuntime) {
     assert!(rt;
         matches!(
-            along(rt.alloc(), HANDOVER, Wanted::Certificate),
+            along(rt.alloc(), HANDOVER, AuditPart::Certificate),
             Ok(Outcome::Safe)
         )
     );
@@ -56,13 +56,13 @@ fn other_reports_tell_no_order(rt: HostRuntime) {
     let alloc = rt.alloc();
     assert!(rt;
         matches!(
-            along(alloc, WRONG_SHAPE, Wanted::Report),
+            along(alloc, WRONG_SHAPE, AuditPart::Report),
             Ok(Outcome::RunsText(1))
         )
     );
     assert!(rt;
         matches!(
-            along(alloc, STALE_PAGE, Wanted::FirstLine),
+            along(alloc, STALE_PAGE, AuditPart::FirstLine),
             Ok(Outcome::RunsText(2))
         )
     );

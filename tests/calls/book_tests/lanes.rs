@@ -4,7 +4,7 @@
 use crate::pagers::begins;
 use crate::sources::after_halt;
 use crate::want;
-use book_events::Came;
+use book_events::Effect;
 use book_events::paging::pager_pull;
 use book_events::sending::push;
 use link_book::{LinkBook, LinkFault};
@@ -100,11 +100,11 @@ fn pushes_within_the_window_of_the_line_that_it_takes(rt: HostRuntime) -> Result
     let mut link = LinkBook::new(rt.alloc());
     link.room()?;
     link.offer_down(state, false);
-    assert!(rt; push(&mut source, &mut link, 1, false) == Ok(Came::Nothing));
-    assert!(rt; push(&mut source, &mut link, 1, true) == Ok(Came::Offered(PageNo::new(0))));
+    assert!(rt; push(&mut source, &mut link, 1, false) == Ok(Effect::Nothing));
+    assert!(rt; push(&mut source, &mut link, 1, true) == Ok(Effect::Offered(PageNo::new(0))));
     assert!(rt; link.lane_len() == 1 && link.down_len() == 1);
-    assert!(rt; push(&mut source, &mut link, 1, true) == Ok(Came::Nothing));
-    assert!(rt; push(&mut source, &mut link, 2, false) == Ok(Came::Offered(PageNo::new(1))));
+    assert!(rt; push(&mut source, &mut link, 1, true) == Ok(Effect::Nothing));
+    assert!(rt; push(&mut source, &mut link, 2, false) == Ok(Effect::Offered(PageNo::new(1))));
     assert!(rt; link.lane_len() == 1 && link.down_len() == 2);
     Ok(())
 }
@@ -131,12 +131,12 @@ fn pulls(link: &mut LinkBook, pager: &mut PagerBook, packet: Packet) -> bool {
     if !is_of(pager.geometry(), packet) {
         return false;
     }
-    pager_pull(link, pager) == Ok(Came::Made) && link.quiet()
+    pager_pull(link, pager) == Ok(Effect::Made) && link.quiet()
 }
 
 /// A pull finds nothing to do.
 fn pulls_nothing(link: &mut LinkBook, pager: &mut PagerBook) -> bool {
-    link.peek_lane().is_none() && pager_pull(link, pager) == Ok(Came::Nothing)
+    link.peek_lane().is_none() && pager_pull(link, pager) == Ok(Effect::Nothing)
 }
 
 /// What is recorded of a page and then a state that were pulled once the state had come.

@@ -2,7 +2,7 @@
 //! there is neither a miss to learn of nor a page to place.
 
 use crate::pagers::begins;
-use book_events::Came;
+use book_events::Effect;
 use book_events::paging::{pager_deliver, pager_fault};
 use migration_events::Op;
 use migration_types::{Geometry, PageNo};
@@ -11,7 +11,7 @@ use std::test::Fail;
 use target_side::{Access, PagerBook, TargetBook};
 
 /// A fault of the pager's comes to this.
-fn fault_is(pager: &mut PagerBook, target: &mut TargetBook, came: Came) -> bool {
+fn fault_is(pager: &mut PagerBook, target: &mut TargetBook, came: Effect) -> bool {
     if pager.geometry() != target.geometry() || !pager.is_ready() {
         return false;
     }
@@ -19,7 +19,7 @@ fn fault_is(pager: &mut PagerBook, target: &mut TargetBook, came: Came) -> bool 
 }
 
 /// A delivery of the pager's comes to this.
-fn delivery_is(pager: &mut PagerBook, target: &mut TargetBook, came: Came) -> bool {
+fn delivery_is(pager: &mut PagerBook, target: &mut TargetBook, came: Effect) -> bool {
     if pager.geometry() != target.geometry() {
         return false;
     }
@@ -52,11 +52,11 @@ fn a_fault_settles_without_a_miss(rt: HostRuntime) -> Result<(), Fail> {
     let halted = TargetBook::halted(rt.alloc(), geometry, Vec::new(rt.alloc())).ok();
     let mut target = halted.expect(&rt, "memory for the target");
     assert!(rt; begins(rt.alloc(), &mut pager, &mut target));
-    assert!(rt; fault_is(&mut pager, &mut target, Came::Nothing));
+    assert!(rt; fault_is(&mut pager, &mut target, Effect::Nothing));
     assert!(rt; releases(&mut target) && wants_page(&mut pager));
-    assert!(rt; fault_is(&mut pager, &mut target, Came::Made));
+    assert!(rt; fault_is(&mut pager, &mut target, Effect::Made));
     assert!(rt; says_all(&mut pager));
-    assert!(rt; fault_is(&mut pager, &mut target, Came::Nothing));
+    assert!(rt; fault_is(&mut pager, &mut target, Effect::Nothing));
     Ok(())
 }
 
@@ -67,10 +67,10 @@ fn a_delivery_settles_without_a_page(rt: HostRuntime) -> Result<(), Fail> {
     let halted = TargetBook::halted(rt.alloc(), geometry, Vec::new(rt.alloc())).ok();
     let mut target = halted.expect(&rt, "memory for the target");
     assert!(rt; begins(rt.alloc(), &mut pager, &mut target));
-    assert!(rt; delivery_is(&mut pager, &mut target, Came::Nothing));
+    assert!(rt; delivery_is(&mut pager, &mut target, Effect::Nothing));
     assert!(rt; releases(&mut target) && wants_page(&mut pager));
-    assert!(rt; delivery_is(&mut pager, &mut target, Came::Made));
+    assert!(rt; delivery_is(&mut pager, &mut target, Effect::Made));
     assert!(rt; says_all(&mut pager));
-    assert!(rt; delivery_is(&mut pager, &mut target, Came::Nothing));
+    assert!(rt; delivery_is(&mut pager, &mut target, Effect::Nothing));
     Ok(())
 }

@@ -5,7 +5,7 @@ use migration_types::{Geometry, GuestRec, PageNo};
 use page_store::Store;
 use std::alloc::Global;
 use std::test::Fail;
-use target_side::{Access, Missing, TargetBook, TargetFault};
+use target_side::{Access, TargetBook, TargetFault, UntakenMiss};
 
 /// A book over a log of so many releases.
 fn halted(alloc: Global, geometry: Geometry, releases: usize) -> Result<TargetBook, TargetFault> {
@@ -109,7 +109,7 @@ fn misses_once(book: &mut TargetBook) -> bool {
         && first == Some(Access::Missed)
         && second == Some(Access::Waiting)
         && miss
-            == Some(Missing {
+            == Some(UntakenMiss {
                 number: 2,
                 vcpu: 0,
                 page: PageNo::new(1),

@@ -3,8 +3,8 @@ use Rattle.std.specs.Prelude.{◌≡◌, ℕ, ◌⊎◌, Bool, true, false, List
 use Rattle.page_stream.specs.declared.Packet.{Packet}
 use Rattle.page_stream.specs.declared.Packet.TheVariants.{State as StatePacket, Page as PagePacket, Want as WantPacket, All as AllPacket}
 use Rattle.link_book.specs.LinkPart.{LinkPart}
-use Rattle.book_events.specs.declared.came.Came.{Came}
-use Rattle.book_events.specs.declared.came.Came.TheVariants.{Nothing, Made, Offered}
+use Rattle.book_events.specs.declared.effect.Effect.{Effect}
+use Rattle.book_events.specs.declared.effect.Effect.TheVariants.{Nothing, Made, Offered}
 
 -- a packet of this page
 pub record IsOfPage (page : ℕ) (packet : Packet) : Type 0 where
@@ -18,7 +18,7 @@ is_page (PagePacket number page contents) = true
 is_page (WantPacket number page) = false
 is_page (AllPacket number) = false
 
-abbrev pub Carries : Came → Packet → Type 0
+abbrev pub Carries : Effect → Packet → Type 0
 Carries Nothing packet = ⊥
 Carries Made packet = is_page packet ≡ false
 Carries (Offered page) packet = IsOfPage page packet
@@ -28,7 +28,7 @@ abbrev pub HasMore : Packet → List Packet → List Packet → Type 0
 HasMore packet old new = (new ≡ old ++ packet ∷ []) ⊎ (new ≡ packet ∷ old)
 
 -- one of the lines to the target has gained the packet that the result names, and the other has gained none
-pub record IsOffer (came : Came) (old new : LinkPart) : Type 0 where
+pub record IsOffer (effect : Effect) (old new : LinkPart) : Type 0 where
   pub packet : Packet
-  pub carries : Carries came packet
+  pub carries : Carries effect packet
   pub line : (HasMore packet old.down new.down × (new.lane ≡ old.lane)) ⊎ ((new.down ≡ old.down) × HasMore packet old.lane new.lane)

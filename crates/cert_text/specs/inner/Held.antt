@@ -16,8 +16,8 @@ use Rattle.migration_types.specs.Limits.{HasSize, limits, most_pages, most_runs}
 use Rattle.migration_types.specs.Certs.{RunFits, EntryFits, Alternate}
 use Rattle.cert_text.specs.declared.run_lines.RunStage.{RunStage}
 use Rattle.cert_text.specs.declared.run_lines.RunStage.TheVariants.{Count, Runs, Done}
-use Rattle.cert_text.specs.declared.cert_lines.Stage.{Stage}
-use Rattle.cert_text.specs.declared.cert_lines.Stage.TheVariants.{Header, Pages, Entries}
+use Rattle.cert_text.specs.declared.cert_lines.CertStage.{CertStage}
+use Rattle.cert_text.specs.declared.cert_lines.CertStage.TheVariants.{Header, Pages, Entries}
 use Rattle.cert_text.specs.Runs.{runs_text_header, runs_key, closing, run_line}
 use Rattle.cert_text.specs.Grammar.{header, pages_key, entry_lines}
 
@@ -96,7 +96,7 @@ abbrev pub entries_onto : Version → Size → ℕ → List Entry → List (List
 entries_onto version size pages entries more = header version size ∷ (pages_key ++ decimal pages) ∷ (entry_lines 0 entries ++ more)
 
 -- the lines so far
-abbrev pub held_by : Stage → CertDraft → List (List ℕ)
+abbrev pub held_by : CertStage → CertDraft → List (List ℕ)
 held_by Header d = []
 held_by Pages d = header d.version d.size ∷ []
 held_by Entries d = entries_onto d.version d.size d.pages d.entries d.runs
@@ -117,7 +117,7 @@ pub record EntriesFit (d : CertDraft) : Type 0 where
   pub each : AllByRecursion (EntryFits d.version d.size) d.entries
   pub runs : length d.entries < d.pages → d.runs ≡ []
 
-abbrev pub Live : Stage → CertDraft → Type 0
+abbrev pub Live : CertStage → CertDraft → Type 0
 Live Header d = IsEmpty d
 Live Pages d = IsEmpty d
 Live Entries d = EntriesFit d

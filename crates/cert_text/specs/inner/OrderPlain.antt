@@ -10,8 +10,8 @@ use Rattle.audit_model.specs.declared.reasons.PageReason.TheVariants.{Read, Earl
 use Rattle.audit_model.specs.Reasons.{page_word}
 use Rattle.migration_types.specs.declared.cert.Run.{Run}
 use Rattle.cert_text.specs.inner.Plain.{plain_runs_text, plain_cert_runs}
-use Rattle.cert_text.specs.declared.forms.Form.{Form}
-use Rattle.cert_text.specs.declared.forms.Form.TheVariants.{Runs, Faulty, Cert, Clean}
+use Rattle.cert_text.specs.declared.forms.OrderForm.{OrderForm}
+use Rattle.cert_text.specs.declared.forms.OrderForm.TheVariants.{Runs, Faulty, Cert, Clean}
 use Rattle.cert_text.specs.Order.{clean_line, faulty_key, faulty_line, IsLineNumber, SpellsAs, SpellsOrder}
 
 plain_word : (reason : PageReason) → IsLine (page_word reason)
@@ -30,7 +30,7 @@ plain_faulty line reason fits =
     plain_append faulty_key (decimal line ++ 32 ∷ page_word reason) (plain_codes faulty_key refl)
     (plain_append (decimal line) (32 ∷ page_word reason) (plain_decimal line (omega arith)) ((λ e. absurd (omega arith)), plain_word reason))
 
-plain_as : (form : Form) (order : List Run) (lines : List (List ℕ)) → SpellsAs form order lines → AllByRecursion IsLine lines
+plain_as : (form : OrderForm) (order : List Run) (lines : List (List ℕ)) → SpellsAs form order lines → AllByRecursion IsLine lines
 plain_as Runs order lines s = plain_runs_text order lines s
 plain_as (Faulty line reason) order lines s = subst (AllByRecursion IsLine) (sym s.1.2) (plain_faulty line reason s.0, plain_runs_text order s.1.0 s.1.1)
 plain_as Cert order lines s = plain_cert_runs order lines s

@@ -12,7 +12,7 @@ use Rattle.balloon_ledger.specs.Released.{Marks, released}
 use Rattle.page_store.specs.Tables.{Values}
 use Rattle.page_facts.specs.Tables.{IsTable}
 use Rattle.completeness.specs.Complete.{settles}
-use Rattle.completeness.specs.declared.pages.Seen.{Seen}
+use Rattle.completeness.specs.declared.pages.LogFacts.{LogFacts}
 
 -- the page that a record writes or releases is below this many
 abbrev pub GuestPage : ℕ → GuestRec → Type 0
@@ -43,7 +43,7 @@ abbrev pub placed_by : PagerRec → (ℕ → Bool) → ℕ → Bool
 placed_by r at page = is_placement_of page r || at page
 
 -- what the whole logs say about the pages
-pub record AreSeen (s : Recorded) (seen : Seen) : Type 0 where
+pub record AreSeen (s : Recorded) (seen : LogFacts) : Type 0 where
   pub ledger : IsLedger s (at_halt s) seen.ledger
   pub placed : IsTable s.geometry.pages seen.placed (λ page. list_any (is_placement_of page) s.pager)
   pub freed : IsTable s.geometry.pages seen.freed (freed s (length s.guest))

@@ -1,4 +1,4 @@
--- An answer that tells the report on a session, or the line at which a session's text is refused.
+-- Answers that give the report on a session, or the line at which a session's text is refused.
 use Rattle.std.specs.Prelude.{◌≡◌, ℕ, List}
 use Rattle.migration_types.specs.Sessions.{Recorded}
 use Rattle.audit_report.specs.Reports.{IsReport}

@@ -6,13 +6,13 @@ use Rattle.audit_model.specs.Mergings.{at_start}
 use Rattle.audit_model.specs.Walks.{cursors_from}
 use Rattle.merge_runs.specs.Taken.{cursors_of}
 use Rattle.order_picture.specs.declared.focus.Mark.{Mark}
-use Rattle.order_picture.specs.declared.picture.Row.{Row}
-use Rattle.order_picture.specs.declared.picture.Row.TheVariants.{Fold}
+use Rattle.order_picture.specs.declared.picture.PictureRow.{PictureRow}
+use Rattle.order_picture.specs.declared.picture.PictureRow.TheVariants.{Fold}
 use Rattle.order_picture.specs.declared.rows.Building.{Building}
 use Rattle.order_picture.specs.Rows.{Covers, has_row, is_certain, is_faulty, shows_fault}
 
 -- the rows, with the records that came after the last one folded into a row of their own, if there are any
-abbrev pub closed_rows : Building → List Row
+abbrev pub closed_rows : Building → List PictureRow
 closed_rows b = if nat_lt 0 b.folded then b.rows.items ++ Fold b.since ∷ [] else b.rows.items
 
 -- these names have come: the rows cover the first of them, and the others are folded
@@ -27,11 +27,11 @@ pub record IsBuilt (mark : Name → Mark) (b : Building) (names : List Name) : T
   pub spent : b.fault_left ≡ 0 → shows_fault b.rows.items ≡ true
 
 -- rows, and more after them
-abbrev pub Extends : List Row → List Row → Type 0
-Extends before after = (more : List Row) × (after ≡ before ++ more)
+abbrev pub Extends : List PictureRow → List PictureRow → Type 0
+Extends before after = (more : List PictureRow) × (after ≡ before ++ more)
 
 -- of the first places of an order, this many, those that are certain have rows
-abbrev pub HasCertainBelow : (fault concerned : Option ℕ) → List Row → List Name → ℕ → Type 0
+abbrev pub HasCertainBelow : (fault concerned : Option ℕ) → List PictureRow → List Name → ℕ → Type 0
 HasCertainBelow fault concerned rows order k = (n : ℕ) → n < k → (name : Name) → is_certain fault concerned n ≡ true → slice_get order n ≡ Some name → has_row rows name ≡ true
 
 abbrev pub next_left : Option ℕ → ℕ → ℕ

@@ -1,4 +1,4 @@
--- How far a log goes, by what its records name.
+-- How far a log reaches, given what its records name.
 use Rattle.std.specs.Prelude.{◌≡◌, ℕ, suc, nat_lt, nat_le, List, [], ◌∷◌, length, map, Option, Some, None, if◌then◌else◌}
 use Rattle.migration_types.specs.declared.records.LogName.{LogName}
 use Rattle.migration_types.specs.declared.records.LogName.TheVariants.{Guest, Source, Link, Lane, Pager}
@@ -19,7 +19,7 @@ abbrev pub or_next : Option Name → Option Name → Option Name
 or_next None next = next
 or_next (Some name) next = Some name
 
--- the first record that some fields name
+-- the first record that the fields name
 abbrev pub named_first : List Field → Option Name
 named_first [] = None
 named_first (f ∷ fields) = or_next (field_name f) (named_first fields)
@@ -32,34 +32,34 @@ names_in s Link = map (λ r. named_first (link_row r).fields) s.link
 names_in s Lane = map (λ r. named_first (lane_row r).fields) s.lane
 names_in s Pager = map (λ r. named_first (pager_row r).fields) s.pager
 
--- how many records stand in front of the first that names one which is not there
+-- how many records come before the first one that names a record outside the front
 abbrev pub reach : Cursors → List (Option Name) → ℕ
 reach c [] = 0
 reach c (named ∷ names) = if is_received c named then suc (reach c names) else 0
 
--- how many records of one log a record needs, if it names one of that log
+-- how many records of a log a record needs, if it names one of that log
 abbrev pub need : LogName → Option Name → ℕ
 need other None = 0
 need other (Some (log, n)) = if same_log log other then suc n else 0
 
--- how many stand in front of the first that needs more records of a log than there are
+-- how many records come before the first one that needs more records of a log than this many
 abbrev pub before_need : LogName → ℕ → List (Option Name) → ℕ
 before_need other count [] = 0
 before_need other count (named ∷ names) = if nat_le (need other named) count then suc (before_need other count names) else 0
 
--- how many records of a log are needed in all, where so many were needed before
+-- how many records of a log are needed in all, if this many were needed before
 abbrev pub needed_on : LogName → ℕ → List (Option Name) → ℕ
 needed_on other so_far [] = so_far
 needed_on other so_far (named ∷ names) = needed_on other (if nat_lt so_far (need other named) then need other named else so_far) names
 
--- those that need more than all before them, from a place on
+-- the records that need more than all before them, from a place on
 abbrev pub steps_on : LogName → ℕ → ℕ → List (Option Name) → List Step
 steps_on other so_far place [] = []
 steps_on other so_far place (named ∷ names) =
     if nat_lt so_far (need other named) then record { needed = need other named; place = place } ∷ steps_on other (need other named) (suc place) names
     else steps_on other so_far (suc place) names
 
--- the steps of what these records need of a log
+-- the steps of these records for another log
 pub record AreSteps (steps : Steps) (other : LogName) (names : List (Option Name)) : Type 0 where
   pub needed : steps.needed ≡ needed_on other 0 names
   pub items : steps.steps.items ≡ steps_on other 0 0 names
@@ -73,7 +73,7 @@ pub record IsReach (reach : Reach) (names : List (Option Name)) : Type 0 where
   pub lane : AreSteps reach.lane Lane names
   pub pager : AreSteps reach.pager Pager names
 
--- what these logs name
+-- what the records of all logs name
 pub record IsNaming (naming : Naming) (s : Recorded) : Type 0 where
   pub guest : IsReach naming.guest (names_in s Guest)
   pub source : IsReach naming.source (names_in s Source)

@@ -1,9 +1,9 @@
 //! What is allowed at a line, in words.
 
 use super::meanings::{push_meaning, push_new};
-use crate::cause::Cause;
 use crate::fields::{field_of, has_field};
 use crate::fitting::{Fit, Stop, fit_of};
+use crate::line_fault::LineFault;
 use crate::quoting::push_quote;
 use crate::slips::{Slip, slip_between, slip_of, slip_of_line};
 use std::alloc::AllocError;
@@ -197,19 +197,23 @@ fn push_stop(out: &mut String, refusal: &Refusal, fit: &Fit<'_>) -> Result<(), A
 pub(crate) fn push_expected(
     out: &mut String,
     refusal: &Refusal,
-    cause: &Cause<'_>,
+    fault: &LineFault<'_>,
 ) -> Result<(), AllocError> {
     let line = refusal.line.as_slice();
     let wanted = &refusal.wanted;
     out.push_str("; expected ")?;
-    match cause {
-        Cause::Unended => {
+    match fault {
+        LineFault::Unended => {
             out.push_str("a line feed after ")?;
             push_quote(out, line)
         }
-        Cause::Rule => push_rule(out, wanted),
-        Cause::Stops(fit) => push_stop(out, refusal, fit),
-        Cause::Memory | Cause::Special(_) | Cause::Ends | Cause::Empty | Cause::Other => {
+        LineFault::Rule => push_rule(out, wanted),
+        LineFault::Stops(fit) => push_stop(out, refusal, fit),
+        LineFault::Memory
+        | LineFault::Special(_)
+        | LineFault::Ends
+        | LineFault::Empty
+        | LineFault::Other => {
             push_wanted(out, wanted)?;
             push_slip(out, slip_of_line(line), wanted)
         }

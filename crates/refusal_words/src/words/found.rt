@@ -1,8 +1,8 @@
 //! What was found at a line, in words.
 
-use crate::cause::Cause;
 use crate::fields::Misfit;
 use crate::fitting::{Fit, Stop};
+use crate::line_fault::LineFault;
 use crate::quoting::push_quote;
 use std::alloc::AllocError;
 use text_lines::Refusal;
@@ -83,16 +83,16 @@ fn push_stop(
 pub(crate) fn push_found(
     out: &mut String,
     refusal: &Refusal,
-    cause: &Cause<'_>,
+    fault: &LineFault<'_>,
 ) -> Result<(), AllocError> {
     let line = refusal.line.as_slice();
-    match cause {
-        Cause::Ends if refusal.fault.line == 1 => out.push_str("the text is empty"),
-        Cause::Ends => out.push_str("the text ends here"),
-        Cause::Unended => out.push_str("the text ends in the middle of a line"),
-        Cause::Empty => out.push_str("found an empty line"),
-        Cause::Stops(fit) => push_stop(out, line, refusal.is_last, fit),
-        Cause::Memory | Cause::Special(_) | Cause::Rule | Cause::Other => {
+    match fault {
+        LineFault::Ends if refusal.fault.line == 1 => out.push_str("the text is empty"),
+        LineFault::Ends => out.push_str("the text ends here"),
+        LineFault::Unended => out.push_str("the text ends in the middle of a line"),
+        LineFault::Empty => out.push_str("found an empty line"),
+        LineFault::Stops(fit) => push_stop(out, line, refusal.is_last, fit),
+        LineFault::Memory | LineFault::Special(_) | LineFault::Rule | LineFault::Other => {
             push_found_quote(out, line)
         }
     }

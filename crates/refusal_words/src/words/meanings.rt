@@ -1,22 +1,22 @@
 //! The meaning of the fields of a form, in words.
 
-use crate::fields::{Field, MOST_FATES, digits_of, range_of};
+use crate::fields::{FieldKind, MOST_FATES, digits_of, range_of};
 use std::alloc::AllocError;
 use text_lines::Wanted;
 
 /// Returns the noun for what a field holds.
-fn noun(field: Field) -> &'static str {
+fn noun(field: FieldKind) -> &'static str {
     match field {
-        Field::Processor => "a virtual processor",
-        Field::Page => "a page",
-        Field::Cell => "a cell",
-        Field::Value => "a value",
-        Field::Record => "the number of a record",
-        Field::Number => "a number",
-        Field::Exact => "the number",
-        Field::Contents => "contents",
-        Field::Fates => "the fates of packets",
-        Field::Fate => "the fate of a packet",
+        FieldKind::Processor => "a virtual processor",
+        FieldKind::Page => "a page",
+        FieldKind::Cell => "a cell",
+        FieldKind::Value => "a value",
+        FieldKind::Record => "the number of a record",
+        FieldKind::Number => "a number",
+        FieldKind::Exact => "the number",
+        FieldKind::Contents => "contents",
+        FieldKind::Fates => "the fates of packets",
+        FieldKind::Fate => "the fate of a packet",
     }
 }
 
@@ -35,7 +35,7 @@ fn push_contents(out: &mut String, wanted: &Wanted) -> Result<(), AllocError> {
 /// Appends the meaning of a field.
 pub(crate) fn push_meaning(
     out: &mut String,
-    field: Field,
+    field: FieldKind,
     wanted: &Wanted,
 ) -> Result<(), AllocError> {
     let noun = noun(field);
@@ -43,14 +43,14 @@ pub(crate) fn push_meaning(
         let least = range.least;
         let most = range.most;
         return match field {
-            Field::Exact => write!(out, "{noun} {most}"),
+            FieldKind::Exact => write!(out, "{noun} {most}"),
             _ if least == most => write!(out, "{noun}, here only {most}"),
             _ => write!(out, "{noun} from {least} to {most}"),
         };
     }
     match field {
-        Field::Contents => push_contents(out, wanted),
-        Field::Fates => write!(
+        FieldKind::Contents => push_contents(out, wanted),
+        FieldKind::Fates => write!(
             out,
             "{noun}, - or 1 to {MOST_FATES} letters of d, l, r and b"
         ),

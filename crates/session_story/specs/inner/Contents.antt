@@ -4,10 +4,10 @@ use Rattle.migration_types.specs.Sessions.{Recorded}
 use Rattle.session_story.specs.Explained.{IsOtherIn}
 use Rattle.session_story.specs.Values.{IsOther}
 use Rattle.session_story.specs.declared.contents.Wrong.{Wrong}
-use Rattle.session_story.specs.declared.values.Held.{Held}
+use Rattle.session_story.specs.declared.values.CellValue.{CellValue}
 
 -- the first cell in which the contents, if there are any, differ from the page's, if there is one
-abbrev pub IsOtherAt : Recorded → ℕ → Option (List ℕ) → Option Held → Type 0
+abbrev pub IsOtherAt : Recorded → ℕ → Option (List ℕ) → Option CellValue → Type 0
 IsOtherAt s page None held = held ≡ None
 IsOtherAt s page (Some content) held = IsOtherIn s page content held
 

@@ -2,7 +2,7 @@
 
 use super::Teller;
 use crate::concerns::Name;
-use crate::values::Held;
+use crate::values::CellValue;
 use audit_report::Lines;
 use migration_types::LogName;
 use std::alloc::AllocError;
@@ -19,7 +19,11 @@ impl<L: Lines> Teller<'_, L> {
     }
 
     /// Appends what one machine that never moved has instead of what a read gives.
-    pub(super) fn push_one_machine(&self, out: &mut String, held: Held) -> Result<(), AllocError> {
+    pub(super) fn push_one_machine(
+        &self,
+        out: &mut String,
+        held: CellValue,
+    ) -> Result<(), AllocError> {
         let value = held.value;
         match held.by {
             Some(_) => write!(out, "One machine that never moved has {value} there, ")?,
@@ -37,7 +41,7 @@ impl<L: Lines> Teller<'_, L> {
         out: &mut String,
         name: Name,
         value: u64,
-        at_halt: Held,
+        at_halt: CellValue,
     ) -> Result<(), AllocError> {
         let cell = at_halt.cell;
         match name.0 {

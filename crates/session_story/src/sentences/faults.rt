@@ -6,16 +6,16 @@ ghost use Rattle.session_story.specs.Sentences.{cause_told, contents_of, content
 use super::{Sentence, push_if};
 use crate::amends::value_at;
 use crate::concerns::Name;
-use crate::faults::{Cause, Detail, FaultStory};
+use crate::faults::{Detail, FaultStory, PageCause};
 use crate::looks::Look;
-use crate::values::Held;
+use crate::values::CellValue;
 use audit_model::{PageReason, delivery};
 use migration_types::{LogName, PagerRec, Session, SourceRec};
 use std::alloc::AllocError;
 
 /// Returns what the contents of a record have in a cell whose value in the page is another at the halt, if the record
 /// has contents.
-fn contents_of(session: &Session, name: Name, at_halt: Held) -> Option<Sentence>
+fn contents_of(session: &Session, name: Name, at_halt: CellValue) -> Option<Sentence>
     ensures { result ≡ contents_of session.now name at_halt }
 {
     let value = value_at(session, name, at_halt.cell)?;
@@ -77,7 +77,7 @@ fn push_contents(
     out: &mut Vec<Sentence>,
     session: &Session,
     name: Name,
-    at_halt: Held,
+    at_halt: CellValue,
 ) -> Result<(), AllocError>
     ensures { OnOk result (out.new.items ≡ out.old.items ++ contents_told session.now name at_halt) }
 {
@@ -231,7 +231,7 @@ fn push_first(
     out: &mut Vec<Sentence>,
     session: &Session,
     name: Name,
-    at_halt: Held,
+    at_halt: CellValue,
 ) -> Result<(), AllocError>
     ensures { OnOk result (out.new.items ≡ out.old.items ++ first_told session.now name at_halt) }
 {
@@ -244,18 +244,18 @@ fn push_first(
 fn push_cause(
     out: &mut Vec<Sentence>,
     session: &Session,
-    cause: Option<Cause>,
+    cause: Option<PageCause>,
 ) -> Result<(), AllocError>
     ensures { OnOk result (out.new.items ≡ out.old.items ++ cause_told session.now cause) }
 {
     match cause {
-        Some(Cause::Sent(wrong)) => {
+        Some(PageCause::Sent(wrong)) => {
             push_first(out, session, (LogName::Source, wrong.place), wrong.held)
         }
-        Some(Cause::Placed(wrong)) => {
+        Some(PageCause::Placed(wrong)) => {
             push_first(out, session, (LogName::Pager, wrong.place), wrong.held)
         }
-        Some(Cause::Unplaced) => out.extend_from_slice(&[Sentence::NeverPlaced]),
+        Some(PageCause::Unplaced) => out.extend_from_slice(&[Sentence::NeverPlaced]),
         None => Ok(()),
     }
 }

@@ -11,7 +11,7 @@ use crate::concerns::{Name, named_in};
 use crate::pages::{handover_of, story_of};
 use crate::questions::{PagerQuestion, SourceQuestion};
 use crate::scans::{first_of, last_of};
-use completeness::Missing;
+use completeness::Lack;
 use migration_types::{LogName, PageNo, Session};
 use std::alloc::{AllocError, Global};
 
@@ -103,31 +103,31 @@ fn push_lack(
     alloc: Global,
     out: &mut Vec<Sentence>,
     session: &Session,
-    missing: &Missing,
+    missing: &Lack,
 ) -> Result<(), AllocError>
     requires { IsFirstMissing session.now missing.now }
     ensures { OnOk result (out.new.items ≡ out.old.items ++ lack_told session.now missing.now) }
 {
     match missing {
-        Missing::Halt => out.extend_from_slice(&[Sentence::NeverHalted]),
-        Missing::Returned => {
+        Lack::Halt => out.extend_from_slice(&[Sentence::NeverHalted]),
+        Lack::Returned => {
             out.extend_from_slice(&[Sentence::Returned])?;
             push_if(out, started_of(first_back(session)))
         }
-        Missing::Resume => {
+        Lack::Resume => {
             out.extend_from_slice(&[Sentence::NeverResumed])?;
             push_if(out, halted_of(handover_of(session).halt))
         }
-        Missing::Page(page) => {
+        Lack::Page(page) => {
             let name = came_to(alloc, session, *page)?;
             out.extend_from_slice(&[Sentence::Owed(*page), Sentence::CameTo(name)])
         }
-        Missing::All => out.extend_from_slice(&[Sentence::NeverSaid]),
-        Missing::Done => {
+        Lack::All => out.extend_from_slice(&[Sentence::NeverSaid]),
+        Lack::Done => {
             out.extend_from_slice(&[Sentence::NeverLearned])?;
             push_if(out, said_of(last_all(session)))
         }
-        Missing::Taken(n) => out.extend_from_slice(&[Sentence::Untaken(*n)]),
+        Lack::Taken(n) => out.extend_from_slice(&[Sentence::Untaken(*n)]),
     }
 }
 
@@ -136,7 +136,7 @@ fn push_lack(
 pub(crate) fn missing_told(
     alloc: Global,
     session: &Session,
-    missing: &Missing,
+    missing: &Lack,
 ) -> Result<Vec<Sentence>, AllocError>
     requires { IsFirstMissing session.now missing.now }
     ensures { IfOk result (λ sentences. sentences.items ≡ missing_told session.now missing.now) }

@@ -12,7 +12,7 @@ use super::{Sentence, push_if};
 use crate::concerns::Name;
 use crate::explaining::Explanation;
 use crate::faults::{FaultStory, ShapeStory};
-use crate::topics::{LineTold, PageTold, Told};
+use crate::topics::{FullPageStory, LineStory, TopicStory};
 use audit_report::Report;
 use migration_types::Session;
 use std::alloc::{AllocError, Global};
@@ -106,7 +106,7 @@ fn push_first_fault(
 }
 
 /// Returns whether a page has a fault.
-fn verdict_of(page: &PageTold) -> Sentence
+fn verdict_of(page: &FullPageStory) -> Sentence
     ensures { result ≡ verdict_of page.now }
 {
     Sentence::Verdict {
@@ -121,7 +121,7 @@ fn push_page(
     out: &mut Vec<Sentence>,
     session: &Session,
     report: &Report,
-    page: &PageTold,
+    page: &FullPageStory,
 ) -> Result<(), AllocError>
     ensures { OnOk result (out.new.items ≡ out.old.items ++ page_told session.now report.now page.now) }
 {
@@ -137,7 +137,7 @@ fn push_page_topic(
     session: &Session,
     report: &Report,
     number: u32,
-    told: &Option<PageTold>,
+    told: &Option<FullPageStory>,
 ) -> Result<(), AllocError>
     ensures { OnOk result (out.new.items ≡ out.old.items ++ page_topic session.now report.now number told.now) }
 {
@@ -172,7 +172,7 @@ fn push_its_page(
     out: &mut Vec<Sentence>,
     session: &Session,
     report: &Report,
-    told: &Option<PageTold>,
+    told: &Option<FullPageStory>,
 ) -> Result<(), AllocError>
     ensures { OnOk result (out.new.items ≡ out.old.items ++ its_page_told session.now report.now told.now) }
 {
@@ -189,7 +189,7 @@ fn push_line_topic(
     session: &Session,
     report: &Report,
     number: u32,
-    told: &Option<LineTold>,
+    told: &Option<LineStory>,
 ) -> Result<(), AllocError>
     ensures { OnOk result (out.new.items ≡ out.old.items ++ line_topic session.now report.now number told.now) }
 {
@@ -208,14 +208,14 @@ fn push_told(
     out: &mut Vec<Sentence>,
     session: &Session,
     report: &Report,
-    told: &Told,
+    told: &TopicStory,
 ) -> Result<(), AllocError>
     ensures { OnOk result (out.new.items ≡ out.old.items ++ told_in_full session.now report.now told.now) }
 {
     match told {
-        Told::Report(explanation) => push_explanation(out, session, explanation),
-        Told::Page(number, page) => push_page_topic(out, session, report, *number, page),
-        Told::Line(number, line) => push_line_topic(out, session, report, *number, line),
+        TopicStory::Report(explanation) => push_explanation(out, session, explanation),
+        TopicStory::Page(number, page) => push_page_topic(out, session, report, *number, page),
+        TopicStory::Line(number, line) => push_line_topic(out, session, report, *number, line),
     }
 }
 
@@ -224,7 +224,7 @@ pub fn told_in_full(
     alloc: Global,
     session: &Session,
     report: &Report,
-    told: &Told,
+    told: &TopicStory,
 ) -> Result<Vec<Sentence>, AllocError>
     ensures { IfOk result (λ sentences. sentences.items ≡ told_in_full session.now report.now told.now) }
 {
@@ -271,7 +271,7 @@ fn push_page_first(
     out: &mut Vec<Sentence>,
     session: &Session,
     number: u32,
-    told: &Option<PageTold>,
+    told: &Option<FullPageStory>,
 ) -> Result<(), AllocError>
     ensures { OnOk result (out.new.items ≡ out.old.items ++ page_first session.now number told.now) }
 {
@@ -293,7 +293,7 @@ fn push_line_first(
     out: &mut Vec<Sentence>,
     session: &Session,
     number: u32,
-    told: &Option<LineTold>,
+    told: &Option<LineStory>,
 ) -> Result<(), AllocError>
     ensures { OnOk result (out.new.items ≡ out.old.items ++ line_first session.now number told.now) }
 {
@@ -305,13 +305,17 @@ fn push_line_first(
 
 /// Appends the first sentences about a session.
 #[tactic(auto, unfolding(crate::specs::Sentences::told_first))]
-fn push_first(out: &mut Vec<Sentence>, session: &Session, told: &Told) -> Result<(), AllocError>
+fn push_first(
+    out: &mut Vec<Sentence>,
+    session: &Session,
+    told: &TopicStory,
+) -> Result<(), AllocError>
     ensures { OnOk result (out.new.items ≡ out.old.items ++ told_first session.now told.now) }
 {
     match told {
-        Told::Report(explanation) => push_explained_first(out, session, explanation),
-        Told::Page(number, page) => push_page_first(out, session, *number, page),
-        Told::Line(number, line) => push_line_first(out, session, *number, line),
+        TopicStory::Report(explanation) => push_explained_first(out, session, explanation),
+        TopicStory::Page(number, page) => push_page_first(out, session, *number, page),
+        TopicStory::Line(number, line) => push_line_first(out, session, *number, line),
     }
 }
 
@@ -319,7 +323,7 @@ fn push_first(out: &mut Vec<Sentence>, session: &Session, told: &Told) -> Result
 pub fn told_first(
     alloc: Global,
     session: &Session,
-    told: &Told,
+    told: &TopicStory,
 ) -> Result<Vec<Sentence>, AllocError>
     ensures { IfOk result (λ sentences. sentences.items ≡ told_first session.now told.now) }
 {

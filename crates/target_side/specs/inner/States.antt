@@ -1,8 +1,8 @@
 -- The state of the code.
 use Rattle.target_side.specs.Kept.{Held}
-use Rattle.target_side.specs.declared.state.State.{State}
+use Rattle.target_side.specs.declared.state.TargetState.{TargetState}
 
-abbrev pub held : State → Held
+abbrev pub held : TargetState → Held
 held s = record {
   log = s.log.items;
   is_resumed = s.is_resumed;

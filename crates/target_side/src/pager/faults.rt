@@ -11,8 +11,8 @@ ghost use Rattle.target_side.specs.inner.Steps.{learned, asks};
 
 use super::{PagerBook, want_page};
 use crate::log::append;
-use crate::{Missing, TargetBook, TargetFault};
-use fault_queue::Asked;
+use crate::{TargetBook, TargetFault, UntakenMiss};
+use fault_queue::QueueChange;
 use migration_events::{look_for_room, make_room};
 use migration_types::PagerRec;
 use page_stream::Packet;
@@ -77,7 +77,7 @@ impl PagerBook {
 
     /// Returns whether nothing follows from a miss once pages are cancelled: its page is resident, or its virtual
     /// processor waits.
-    fn is_only_learned(&self, missing: Missing, target: &TargetBook) -> bool
+    fn is_only_learned(&self, missing: UntakenMiss, target: &TargetBook) -> bool
         requires machine { geometry_of target.now ≡ self.now.geometry }
         requires page { missing.page < self.now.geometry.pages }
         ensures { result ≡ is_resident ((target_of target.now).placed missing.page) ((target_of target.now).freed missing.page) || is_waiting missing.vcpu (without_all (target_of target.now).unsettled self.now.waiting) }
@@ -106,7 +106,7 @@ impl PagerBook {
     }
 
     /// Learns of a miss.
-    fn learn_of(&mut self, missing: Missing, target: &mut TargetBook) -> Result<(), TargetFault>
+    fn learn_of(&mut self, missing: UntakenMiss, target: &mut TargetBook) -> Result<(), TargetFault>
         requires machine { geometry_of target.old ≡ self.old.geometry }
         requires ready { is_some self.old.released ≡ true }
         requires page { missing.page < self.old.geometry.pages }
@@ -139,7 +139,7 @@ impl PagerBook {
     }
 
     /// Records a miss of a released page, and places the page as zeros.
-    fn zero(&mut self, missing: Missing, target: &mut TargetBook) -> Result<(), TargetFault>
+    fn zero(&mut self, missing: UntakenMiss, target: &mut TargetBook) -> Result<(), TargetFault>
         requires machine { geometry_of target.old ≡ self.old.geometry }
         requires ready { is_some self.old.released ≡ true }
         requires page { missing.page < self.old.geometry.pages }
@@ -168,7 +168,7 @@ impl PagerBook {
 
     /// Records a miss of an absent page, and asks for the page, or lets the virtual processor wait with the page's
     /// other waiters.
-    fn ask(&mut self, missing: Missing) -> Result<(), TargetFault>
+    fn ask(&mut self, missing: UntakenMiss) -> Result<(), TargetFault>
         requires ready { is_some self.old.released ≡ true }
         requires page { missing.page < self.old.geometry.pages }
         requires away { is_waiting missing.vcpu self.old.waiting ≡ false }
@@ -191,13 +191,13 @@ impl PagerBook {
             },
         );
         match asked {
-            Asked::Joined => {
+            QueueChange::Joined => {
                 if let Some(want) = self.wants.at(missing.page) {
                     append(&mut self.log, PagerRec::Join { want });
                 }
                 Ok(())
             }
-            Asked::New => {
+            QueueChange::New => {
                 let number = want_page(&mut self.log, &mut self.wants, missing.page);
                 self.outbox.push_back_reserved(Packet::Want {
                     number,

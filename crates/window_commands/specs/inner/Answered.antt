@@ -8,13 +8,13 @@ use Rattle.window_cut.specs.Cuts.{IsCutOf}
 use Rattle.window_commands.specs.Tables.{table_text}
 use Rattle.window_commands.specs.Windows.{IsWindowAnswer}
 
--- there is a table where it is asked for, and it is that of these lines
+-- there is a table if it is asked for, and it is that of these lines
 abbrev pub HasTable : Bool → List ℕ → Option (Vec ℕ) → Type 0
 HasTable false lines table = table ≡ None
 HasTable true lines None = ⊥
 HasTable true lines (Some table) = table.items ≡ table_text lines
 
--- this is a window, with the table of its lines, where it is asked for
+-- the answer is a window, with the table of its lines if it is asked for
 pub record IsSeen (w : Window) (lined : Bool) (recording : List ℕ) (answer : Answer) (table : Option (Vec ℕ)) : Type 0 where
   pub cut : WindowText
   pub is_cut : IsCutOf w recording cut
@@ -22,7 +22,7 @@ pub record IsSeen (w : Window) (lined : Bool) (recording : List ℕ) (answer : A
   pub is_status : answer.status ≡ 0
   pub has_table : HasTable lined cut.lines.items table
 
--- or it is another answer, without a table
+-- the answer is another one, without a table
 pub record IsUnseen (w : Window) (recording : List ℕ) (answer : Answer) (table : Option (Vec ℕ)) : Type 0 where
   pub is_answer : IsWindowAnswer w recording answer.text.items answer.status
   pub is_status : answer.status ≡ 1

@@ -1,4 +1,4 @@
--- No line of a table has a line feed.
+-- No line of a table contains a line feed.
 use Rattle.std.specs.Prelude.{◌≡◌, ℕ, ◌<◌, ◌^◌, List, [], ◌∷◌, map}
 use Rattle.std.proofs.Common.{subst, sym}
 use Rattle.std.specs.List.{AllByRecursion}

@@ -4,10 +4,10 @@ use Rattle.bubbling.proofs.jumps.first_marked.Given as goal
 
 abbrev pub invariant-loop-at : goal.invariant-loop-at
 invariant-loop-at l = record {
-  jumps : AreJumps l.way l.marks l.jumps.items;
+  jumps : AreJumps l.sweep l.marks l.jumps.items;
   onward : l.from ≤ l.at;
   end : l.at ≤ length l.marks;
-  none : IsGone l.way l.marks l.from l.at;
+  none : IsGone l.sweep l.marks l.from l.at;
 }
 
 abbrev pub decreases-loop-at : goal.decreases-loop-at

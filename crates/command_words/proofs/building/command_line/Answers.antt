@@ -2,16 +2,16 @@ use Rattle.std.proofs.Common.{◌∙◌, sym, ap, ap₂, [], fold}
 use Rattle.std.proofs.lemmas.List.{take_all}
 use Rattle.std.proofs.lemmas.List.Sums.{fold_more}
 use Rattle.clap.specs.Words.{App, with_subcommand}
-use Rattle.command_words.specs.declared.asked.Asked.TheVariants.{One}
-use Rattle.command_words.specs.declared.asked.OneText.TheVariants.{Certify}
-use Rattle.command_words.specs.declared.table.Row.{Row}
+use Rattle.command_words.specs.declared.requests.Request.TheVariants.{One}
+use Rattle.command_words.specs.declared.requests.OneText.TheVariants.{Certify}
+use Rattle.command_words.specs.declared.table.CommandRow.{CommandRow}
 use Rattle.command_words.specs.Table.{row_of}
 use Rattle.command_words.specs.Words.{program_words, with_command}
 use Rattle.command_words.proofs.Rows.{fold_rows}
 use Rattle.command_words.proofs.building.command_line.Goals as goal
 
 -- what stands in the table's place past its end
-abbrev no_row : Row
+abbrev no_row : CommandRow
 no_row = record {
   name = record { ref_ptr = (0, 0); now = [] };
   about = record { ref_ptr = (0, 0); now = [] };

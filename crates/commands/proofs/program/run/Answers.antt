@@ -1,9 +1,9 @@
 use Rattle.std.proofs.Common.{◌≡◌, ◌∙◌, ◌<◌, ℕ, Bool, List, Some, None, inl, sym, ap, subst, arith, option_and_then}
 use Rattle.clap.specs.Words.{Text, kind_of}
-use Rattle.command_words.specs.declared.asked.Asked.{Asked}
-use Rattle.command_words.specs.declared.asked.Asked.TheVariants.{Two}
-use Rattle.command_words.specs.declared.asked.TwoTexts.TheVariants.{Check}
-use Rattle.command_words.specs.declared.asked.Lists.{Lists}
+use Rattle.command_words.specs.declared.requests.Request.{Request}
+use Rattle.command_words.specs.declared.requests.Request.TheVariants.{Two}
+use Rattle.command_words.specs.declared.requests.TwoTexts.TheVariants.{Check}
+use Rattle.command_words.specs.declared.requests.Lists.{Lists}
 use Rattle.command_words.specs.Table.{job_of, plain, several_of}
 use Rattle.command_words.specs.Words.{asked, asked_by, clashing, several_asked}
 use Rattle.command_words.proofs.Clashes.{asked_alike, several_asked_alike}
@@ -14,24 +14,24 @@ use Rattle.commands.proofs.Settled.{if_some, refusal_fault, refusal_gains, refus
 use Rattle.commands.proofs.program.run.Goals as goal
 
 pub returns-in-Ok-Some-clause-told : goal.returns-in-Ok-Some-clause-told
-returns-in-Ok-Some-clause-told g c = λ taken. some_told (job_of c.in-Ok-Some.wish) (asked c.args.reading) (λ (job : Asked Text). IsSettled (EndsAsked job (g.S.TextSource.bytes_of c.args.console.now.texts.now) (g.I.Read.remaining c.args.console.now.input) (g.O.Write.contents c.args.console.now.output, g.E.Write.contents c.args.console.now.errors)) (g.O.Write.contents c.grant.new.console.output, g.E.Write.contents c.grant.new.console.errors) c.grant.result)
+returns-in-Ok-Some-clause-told g c = λ taken. some_told (job_of c.in-Ok-Some.intent) (asked c.args.reading) (λ (job : Request Text). IsSettled (EndsAsked job (g.S.TextSource.bytes_of c.args.console.now.texts.now) (g.I.Read.remaining c.args.console.now.input) (g.O.Write.contents c.args.console.now.output, g.E.Write.contents c.args.console.now.errors)) (g.O.Write.contents c.grant.new.console.output, g.E.Write.contents c.grant.new.console.errors) c.grant.result)
     (ap (option_and_then job_of) (sym c.in-Ok-Some.field-0-is) ∙ c.in-Ok-Some.ensures.job) c.grant.ensures.job
 
 pub returns-in-Ok-Some-clause-several : goal.returns-in-Ok-Some-clause-several
-returns-in-Ok-Some-clause-several g c = λ taken. some_told (several_of c.in-Ok-Some.wish) (several_asked c.args.reading) (λ (several : Lists × List Text). IsSettledList (EndsSeveral several (g.S.TextSource.bytes_of c.args.console.now.texts.now) (g.O.Write.contents c.args.console.now.output, g.E.Write.contents c.args.console.now.errors)) (g.O.Write.contents c.grant.new.console.output, g.E.Write.contents c.grant.new.console.errors) c.grant.result)
+returns-in-Ok-Some-clause-several g c = λ taken. some_told (several_of c.in-Ok-Some.intent) (several_asked c.args.reading) (λ (several : Lists × List Text). IsSettledList (EndsSeveral several (g.S.TextSource.bytes_of c.args.console.now.texts.now) (g.O.Write.contents c.args.console.now.output, g.E.Write.contents c.args.console.now.errors)) (g.O.Write.contents c.grant.new.console.output, g.E.Write.contents c.grant.new.console.errors) c.grant.result)
     (ap (option_and_then several_of) (sym c.in-Ok-Some.field-0-is) ∙ c.in-Ok-Some.ensures.several) c.grant.ensures.several
 
 pub returns-in-Ok-Some-clause-plain : goal.returns-in-Ok-Some-clause-plain
 returns-in-Ok-Some-clause-plain g c = λ name names plain. if_some (asked_by name names) _ (λ job e. (
   c.grant.ensures.known.0,
-  some_given (job_of c.in-Ok-Some.wish) job (λ (job : Asked Text). IsSettled (EndsAsked job (g.S.TextSource.bytes_of c.args.console.now.texts.now) (g.I.Read.remaining c.args.console.now.input) (g.O.Write.contents c.args.console.now.output, g.E.Write.contents c.args.console.now.errors)) (g.O.Write.contents c.grant.new.console.output, g.E.Write.contents c.grant.new.console.errors) c.grant.result)
+  some_given (job_of c.in-Ok-Some.intent) job (λ (job : Request Text). IsSettled (EndsAsked job (g.S.TextSource.bytes_of c.args.console.now.texts.now) (g.I.Read.remaining c.args.console.now.input) (g.O.Write.contents c.args.console.now.output, g.E.Write.contents c.args.console.now.errors)) (g.O.Write.contents c.grant.new.console.output, g.E.Write.contents c.grant.new.console.errors) c.grant.result)
       (ap (option_and_then job_of) (sym c.in-Ok-Some.field-0-is) ∙ c.in-Ok-Some.ensures.job ∙ (taken_plain c.args.reading name names job plain e).given) c.grant.ensures.job,
 ))
 
 pub returns-in-Ok-Some-clause-headline : goal.returns-in-Ok-Some-clause-headline
 returns-in-Ok-Some-clause-headline g c = λ first second asks zero.
     let is = taken_check c.args.reading first second asks in
-    shown is.checks _ _ _ _ _ c.grant.result c.headline_holds_at_yes.ensures (some_given (job_of c.in-Ok-Some.wish) (Two (Check is.checks) first second) (λ (job : Asked Text). IsSettled (EndsAsked job (g.S.TextSource.bytes_of c.args.console.now.texts.now) (g.I.Read.remaining c.args.console.now.input) (g.O.Write.contents c.args.console.now.output, g.E.Write.contents c.args.console.now.errors)) (g.O.Write.contents c.grant.new.console.output, g.E.Write.contents c.grant.new.console.errors) c.grant.result)
+    shown is.checks _ _ _ _ _ c.grant.result c.headline_holds_at_yes.ensures (some_given (job_of c.in-Ok-Some.intent) (Two (Check is.checks) first second) (λ (job : Request Text). IsSettled (EndsAsked job (g.S.TextSource.bytes_of c.args.console.now.texts.now) (g.I.Read.remaining c.args.console.now.input) (g.O.Write.contents c.args.console.now.output, g.E.Write.contents c.args.console.now.errors)) (g.O.Write.contents c.grant.new.console.output, g.E.Write.contents c.grant.new.console.errors) c.grant.result)
     (ap (option_and_then job_of) (sym c.in-Ok-Some.field-0-is) ∙ c.in-Ok-Some.ensures.job ∙ is.asks) c.grant.ensures.job) zero
 
 pub returns-in-Ok-None-clause-headline : goal.returns-in-Ok-None-clause-headline
@@ -46,7 +46,7 @@ returns-in-Ok-None-clause-plain g c = λ name names plain. if_some (asked_by nam
     absurd cc)
 
 pub returns-in-Ok-Some-clause-lines : goal.returns-in-Ok-Some-clause-lines
-returns-in-Ok-Some-clause-lines g c = λ taken zero. some_told (job_of c.in-Ok-Some.wish) (asked c.args.reading) (λ (job : Asked Text). HasLines job (g.S.TextSource.bytes_of c.args.console.now.texts.now) (g.O.Write.contents c.args.console.now.output) (g.O.Write.contents c.grant.new.console.output) c.args.lines.now c.grant.new.lines)
+returns-in-Ok-Some-clause-lines g c = λ taken zero. some_told (job_of c.in-Ok-Some.intent) (asked c.args.reading) (λ (job : Request Text). HasLines job (g.S.TextSource.bytes_of c.args.console.now.texts.now) (g.O.Write.contents c.args.console.now.output) (g.O.Write.contents c.grant.new.console.output) c.args.lines.now c.grant.new.lines)
     (ap (option_and_then job_of) (sym c.in-Ok-Some.field-0-is) ∙ c.in-Ok-Some.ensures.job) (c.grant.ensures.lines zero)
 
 pub returns-in-Ok-Some-clause-unlined : goal.returns-in-Ok-Some-clause-unlined
@@ -58,10 +58,10 @@ returns-in-Ok-None-clause-lines g c = λ taken zero. if_some (asked c.args.readi
     absurd cc)
 
 pub returns-in-Ok-Some-clause-bare : goal.returns-in-Ok-Some-clause-bare
-returns-in-Ok-Some-clause-bare g c = λ few. let none = c.wish.ensures.bare few in absurd cc
+returns-in-Ok-Some-clause-bare g c = λ few. let none = c.intent.ensures.bare few in absurd cc
 
 pub returns-in-Ok-Some-clause-bare_headline : goal.returns-in-Ok-Some-clause-bare_headline
-returns-in-Ok-Some-clause-bare_headline g c = λ few zero. let none = c.wish.ensures.bare few in absurd cc
+returns-in-Ok-Some-clause-bare_headline g c = λ few zero. let none = c.intent.ensures.bare few in absurd cc
 
 pub returns-in-Ok-None-clause-bare_headline : goal.returns-in-Ok-None-clause-bare_headline
 returns-in-Ok-None-clause-bare_headline g c = λ few zero. shown plain _ _ _ _ _ c.check_bare.result c.headline_holds_at_yes.ensures c.check_bare.ensures.told zero
@@ -79,13 +79,13 @@ pub returns-in-Err-clause-misuse : goal.returns-in-Err-clause-misuse
 returns-in-Err-clause-misuse g c = refusal_misuse _ _ _ c.refuse.result c.refuse.ensures
 
 pub returns-in-Err-clause-bare_usage : goal.returns-in-Err-clause-bare_usage
-returns-in-Err-clause-bare_usage g c = λ few two. let none = c.wish.ensures.bare few in absurd cc
+returns-in-Err-clause-bare_usage g c = λ few two. let none = c.intent.ensures.bare few in absurd cc
 
 pub returns-in-Err-clause-bare : goal.returns-in-Err-clause-bare
-returns-in-Err-clause-bare g c = λ few. let none = c.wish.ensures.bare few in absurd cc
+returns-in-Err-clause-bare g c = λ few. let none = c.intent.ensures.bare few in absurd cc
 
 pub returns-in-Err-clause-bare_headline : goal.returns-in-Err-clause-bare_headline
-returns-in-Err-clause-bare_headline g c = λ few zero. let none = c.wish.ensures.bare few in absurd cc
+returns-in-Err-clause-bare_headline g c = λ few zero. let none = c.intent.ensures.bare few in absurd cc
 
 pub returns-in-Err-clause-usage : goal.returns-in-Err-clause-usage
 returns-in-Err-clause-usage g c = λ taken alike two. let clash = (c.in-Err.ensures.err taken).0 in absurd cc

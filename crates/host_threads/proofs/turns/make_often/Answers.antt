@@ -1,5 +1,5 @@
 use Rattle.std.proofs.Common.{◌-◌, suc, refl, arith}
-use Rattle.host_threads.specs.declared.shared.Turn.TheVariants.{Idle, Stops}
+use Rattle.host_threads.specs.declared.shared.TurnReport.TheVariants.{Idle, Stops}
 use Rattle.host_threads.proofs.Making.{ends_with, goes_with, other_goes}
 use Rattle.host_threads.proofs.turns.make_often.Goals as goal
 

@@ -11,22 +11,22 @@ use Rattle.session_core.proofs.stepping.step_books.Goals as goal
 use Rattle.std.proofs.Common.{Some, ap, subst, sym, ◌++◌, ◌∙◌, ◌≡◌}
 
 pub event-requires-clause-orderly : goal.event-requires-clause-orderly
-event-requires-clause-orderly c = reached_orderly (machine c.args.state.now c.args.order.now.items) c.requires.reached
+event-requires-clause-orderly c = reached_orderly (machine c.args.phase.now c.args.order.now.items) c.requires.reached
 
-grows : (c : goal.After-lengths) → GrowsByTwo (session_of (books_of c.args.state.now)) (session_of (books_of c.event.new.self))
+grows : (c : goal.After-lengths) → GrowsByTwo (session_of (books_of c.args.phase.now)) (session_of (books_of c.event.new.self))
 grows c =
-    let old = books_of c.args.state.now in
+    let old = books_of c.args.phase.now in
     subst (λ (new : Books). GrowsByTwo (session_of old) (session_of new)) (sym c.in_ok-event.ensures.ok) (event_grows_by_two c.args.event old)
 
 pub push_names-requires-clause-grows : goal.push_names-requires-clause-grows
-push_names-requires-clause-grows c log = rw (c.lengths-old.ensures, c.lengths.ensures) (each_grows (session_of (books_of c.args.state.now)) (session_of (books_of c.event.new.self)) (grows c) log)
+push_names-requires-clause-grows c log = rw (c.lengths-old.ensures, c.lengths.ensures) (each_grows (session_of (books_of c.args.phase.now)) (session_of (books_of c.event.new.self)) (grows c) log)
 
 pub push_names-requires-clause-few : goal.push_names-requires-clause-few
 push_names-requires-clause-few c log = rw c.lengths.ensures (each_within (session_of (books_of c.event.new.self)) c.keeps_limits.ensures log)
 
-grown : (c : goal.After-push_names) → c.push_names.new.order.items ≡ c.args.order.now.items ++ new_names (session_of (books_of c.args.state.now)) (session_of (books_of c.event.new.self))
+grown : (c : goal.After-push_names) → c.push_names.new.order.items ≡ c.args.order.now.items ++ new_names (session_of (books_of c.args.phase.now)) (session_of (books_of c.event.new.self))
 grown c =
-    let s = session_of (books_of c.args.state.now) in
+    let s = session_of (books_of c.args.phase.now) in
     let t = session_of (books_of c.event.new.self) in
     let order = c.args.order.now.items in
     c.push_names.ensures
@@ -38,5 +38,5 @@ grown c =
 pub returns-clause-ok : goal.returns-clause-ok
 returns-clause-ok c =
     let new = c.event.new.self in
-    stepped c.args.event (books_of c.args.state.now) (books_of new) c.args.order.now.items c.in_ok-event.ensures.ok c.keeps_limits.ensures
+    stepped c.args.event (books_of c.args.phase.now) (books_of new) c.args.order.now.items c.in_ok-event.ensures.ok c.keeps_limits.ensures
     ∙ ap (λ order. Some (machine new order)) (sym (grown c))

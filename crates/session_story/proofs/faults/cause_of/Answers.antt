@@ -9,8 +9,8 @@ use Rattle.migration_types.specs.Rows.{source_contents, pager_contents}
 use Rattle.audit_model.specs.Names.{if_there}
 use Rattle.session_story.specs.Explained.{IsCause}
 use Rattle.session_story.specs.inner.Contents.{AreNotWrong, IsWrongAt}
-use Rattle.session_story.specs.declared.faults.Cause.{Cause}
-use Rattle.session_story.specs.declared.faults.Cause.TheVariants.{Sent, Placed, Unplaced}
+use Rattle.session_story.specs.declared.faults.PageCause.{PageCause}
+use Rattle.session_story.specs.declared.faults.PageCause.TheVariants.{Sent, Placed, Unplaced}
 use Rattle.session_story.proofs.Causing.{none_of, is_placed, not_placed, is_cause, in_log, source_fit, pager_fit, sent_wrong, sent_right, placed_wrong, placed_right}
 use Rattle.session_story.proofs.faults.cause_of.Goals as goal
 
@@ -53,7 +53,7 @@ returns-then-is_unplaced c =
 pub returns-else-is_unplaced : goal.returns-else-is_unplaced
 returns-else-is_unplaced c = λ cause is. go cause is
   where
-    go : (cause : Cause) → IsCause c.args.session.now c.args.reason c.args.place c.args.page.now.page cause → ⊥
+    go : (cause : PageCause) → IsCause c.args.session.now c.args.reason c.args.place c.args.page.now.page cause → ⊥
     go (Sent w) is =
         let s = c.args.session.now in
         let t = c.args.page.now in

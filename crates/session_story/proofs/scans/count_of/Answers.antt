@@ -6,7 +6,7 @@ use Rattle.session_story.proofs.scans.count_of.Goals.{then-holds, else-holds}
 
 pub overflow_add-count : goal.overflow_add-count
 overflow_add-count g c =
-    let test = g.Q.Question.holds c.args.question.now c.args.session.now in
+    let test = g.Q.RecordQuestion.holds c.args.question.now c.args.session.now in
     let few = few_pass test c.args.log.now c.loop-n.n in
     omega (arith, few, c.loop-n.invariant, c.loop-n-test.true, c.requires)
 
@@ -14,7 +14,7 @@ pub loop-n-preserved : goal.loop-n-preserved
 loop-n-preserved g c =
     let log = c.args.log.now in
     let n = c.loop-n.n in
-    let test = g.Q.Question.holds c.args.question.now c.args.session.now in
+    let test = g.Q.RecordQuestion.holds c.args.question.now c.args.session.now in
     let r = c.index-log-n.result in
     let is = read_at log log n r refl c.loop-n-test.true c.index-log-n.is in
     elim c.if-holds.branch [

@@ -20,7 +20,7 @@ pub returns-then-holds : goal.returns-then-holds
 returns-then-holds g c =
     let log = c.args.log.now in
     let n = c.loop-left.left - 1 in
-    let test = g.Q.Question.holds c.args.question.now c.args.session.now in
+    let test = g.Q.RecordQuestion.holds c.args.question.now c.args.session.now in
     let r = c.index-log-left.result in
     let is = read_at log log n r refl (omega (arith, c.loop-left.invariant.within, c.loop-left-test.true, c.requires.within)) c.index-log-left.is in
     let one : n + 1 ≡ c.loop-left.left = omega (arith, c.loop-left-test.true) in
@@ -30,7 +30,7 @@ pub loop-left-preserved : goal.loop-left-preserved
 loop-left-preserved g c =
     let log = c.args.log.now in
     let n = c.loop-left.left - 1 in
-    let test = g.Q.Question.holds c.args.question.now c.args.session.now in
+    let test = g.Q.RecordQuestion.holds c.args.question.now c.args.session.now in
     let r = c.index-log-left.result in
     let is = read_at log log n r refl (omega (arith, c.loop-left.invariant.within, c.loop-left-test.true, c.requires.within)) c.index-log-left.is in
     let one : n + 1 ≡ c.loop-left.left = omega (arith, c.loop-left-test.true) in

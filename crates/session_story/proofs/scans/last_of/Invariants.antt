@@ -5,7 +5,7 @@ use Rattle.session_story.proofs.scans.last_of.Given as goal
 abbrev pub invariant-loop-left : goal.invariant-loop-left
 invariant-loop-left g l = record {
   within : l.left ≤ l.fn.to;
-  same : last_before (g.Q.Question.holds l.question l.session) l.log l.left ≡ last_before (g.Q.Question.holds l.question l.session) l.log l.fn.to;
+  same : last_before (g.Q.RecordQuestion.holds l.question l.session) l.log l.left ≡ last_before (g.Q.RecordQuestion.holds l.question l.session) l.log l.fn.to;
 }
 
 abbrev pub decreases-loop-left : goal.decreases-loop-left

@@ -1,6 +1,6 @@
 use Rattle.std.proofs.Common.{◌≡◌, ◌<◌, true, false, length, get_or, sym, ap, ◌∙◌, arith}
 use Rattle.std.proofs.lemmas.List.{length-set, get_or_read}
-use Rattle.bubbling.specs.declared.jumps.Way.TheVariants.{Up, Down}
+use Rattle.bubbling.specs.declared.jumps.Sweep.TheVariants.{Up, Down}
 use Rattle.bubbling.proofs.Jumping.{jumps_without}
 use Rattle.bubbling.proofs.Sizes.{size_set}
 use Rattle.bubbling.proofs.unsent.Unsent.remove.Goals as goal

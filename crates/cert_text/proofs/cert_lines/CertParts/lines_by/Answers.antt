@@ -5,7 +5,7 @@ use Rattle.cert_text.specs.inner.Taken.{TakesEntries}
 use Rattle.cert_text.specs.inner.CertDraft.{draft_of}
 use Rattle.cert_text.specs.inner.Held.{held_by}
 use Rattle.cert_text.proofs.Laws.{live_at, entries_taken}
-use Rattle.cert_text.specs.declared.cert_lines.Stage.TheVariants.{Entries}
+use Rattle.cert_text.specs.declared.cert_lines.CertStage.TheVariants.{Entries}
 use Rattle.cert_text.proofs.cert_lines.CertParts.lines_by.Goals as goal
 
 pub returns-else-len-self-clause-taken : goal.returns-else-len-self-clause-taken

@@ -1,6 +1,6 @@
 use Rattle.std.proofs.Common.{arith, refl}
 use Rattle.std.proofs.lemmas.Result.{err_from_is_err_and}
-use Rattle.cert_text.specs.declared.cert_lines.Stage.TheVariants.{Entries}
+use Rattle.cert_text.specs.declared.cert_lines.CertStage.TheVariants.{Entries}
 use Rattle.cert_text.specs.inner.CertDraft.{draft_of}
 use Rattle.cert_text.specs.inner.Held.{held_by}
 use Rattle.cert_text.proofs.Laws.{live_at, no_run_line, run_taken, entry_came, no_entry_line}

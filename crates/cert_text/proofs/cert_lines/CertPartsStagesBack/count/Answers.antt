@@ -1,5 +1,5 @@
 use Rattle.std.proofs.Common.{arith, refl}
-use Rattle.cert_text.specs.declared.cert_lines.Stage.TheVariants.{Entries}
+use Rattle.cert_text.specs.declared.cert_lines.CertStage.TheVariants.{Entries}
 use Rattle.cert_text.specs.inner.CertDraft.{draft_of}
 use Rattle.cert_text.specs.inner.Held.{held_by}
 use Rattle.cert_text.proofs.Laws.{live_at}

@@ -19,7 +19,7 @@ use std::mem::{self, drop};
 
 /// A migration before its halt, or from it on.
 #[derive(Drop)]
-pub enum State<'a> {
+pub enum Phase<'a> {
     /// The guest has not halted.
     Before(BeforeHalt<'a>),
     /// The guest has halted at the source.
@@ -28,7 +28,7 @@ pub enum State<'a> {
     Halting,
 }
 
-impl<'a> State<'a> {
+impl<'a> Phase<'a> {
     /// Carries out an event on the books, which changes them as the event's definition says. The error is
     /// `CoreFault::LogFull` if a log has no room for its records. On an error, nothing changes.
     pub fn event(&mut self, event: Event) -> Result<(), CoreFault>
@@ -43,9 +43,9 @@ impl<'a> State<'a> {
             return self.halt();
         }
         match self {
-            State::Before(before) => before.event(event),
-            State::After(after) => after.event(event),
-            State::Halting => Ok(()),
+            Phase::Before(before) => before.event(event),
+            Phase::After(after) => after.event(event),
+            Phase::Halting => Ok(()),
         }
     }
 
@@ -57,9 +57,9 @@ impl<'a> State<'a> {
         ensures memory { IsErrOf result CoreFault.Memory → ⊥ }
     {
         match self {
-            State::Before(before) => before.look(event),
-            State::After(after) => after.look(event),
-            State::Halting => Ok(()),
+            Phase::Before(before) => before.look(event),
+            Phase::After(after) => after.look(event),
+            Phase::Halting => Ok(()),
         }
     }
 
@@ -71,8 +71,8 @@ impl<'a> State<'a> {
         ensures full { IsErrOf result CoreFault.LogFull → has_room (session_of (books_event Event.Halt (books_of self.old))) ≡ false }
         ensures err { OnErr result (books_of self.new ≡ books_of self.old) }
     {
-        let (state, answer) = halted(mem::replace(self, State::Halting));
-        drop(mem::replace(self, state));
+        let (phase, answer) = halted(mem::replace(self, Phase::Halting));
+        drop(mem::replace(self, phase));
         answer
     }
 
@@ -81,9 +81,9 @@ impl<'a> State<'a> {
         ensures { result ≡ lengths_of (logs_in (session_of (books_of self.now))) }
     {
         match self {
-            State::Before(before) => before.logs().lengths(),
-            State::After(after) => after.logs().lengths(),
-            State::Halting => [0; LOG_COUNT],
+            Phase::Before(before) => before.logs().lengths(),
+            Phase::After(after) => after.logs().lengths(),
+            Phase::Halting => [0; LOG_COUNT],
         }
     }
 
@@ -95,9 +95,9 @@ impl<'a> State<'a> {
         ensures { IfOk result (λ s. s ≡ session_of (books_of self.now)) }
     {
         match self {
-            State::Before(before) => before.session(),
-            State::After(after) => after.session(),
-            State::Halting => unreachable!(),
+            Phase::Before(before) => before.session(),
+            Phase::After(after) => after.session(),
+            Phase::Halting => unreachable!(),
         }
     }
 
@@ -109,9 +109,9 @@ impl<'a> State<'a> {
         ensures { IfOk result (λ s. s ≡ session_of (books_of self.entry)) }
     {
         match self {
-            State::Before(before) => before.into_session(),
-            State::After(after) => after.into_session(),
-            State::Halting => unreachable!(),
+            Phase::Before(before) => before.into_session(),
+            Phase::After(after) => after.into_session(),
+            Phase::Halting => unreachable!(),
         }
     }
 
@@ -120,40 +120,40 @@ impl<'a> State<'a> {
         ensures { has_room (session_of (books_of self.now)) ≡ true }
     {
         match self {
-            State::Before(before) => before.keeps_limits(),
-            State::After(after) => after.keeps_limits(),
-            State::Halting => {}
+            Phase::Before(before) => before.keeps_limits(),
+            Phase::After(after) => after.keeps_limits(),
+            Phase::Halting => {}
         }
     }
 }
 
-/// Returns the state after the guest's halt, and whether the halt was refused, which leaves the state as it was.
-fn halted<'a>(state: State<'a>) -> (State<'a>, Result<(), CoreFault>)
-    requires held { IsHeld state }
+/// Returns the phase after the guest's halt, and whether the halt was refused, which leaves the phase as it was.
+fn halted<'a>(phase: Phase<'a>) -> (Phase<'a>, Result<(), CoreFault>)
+    requires held { IsHeld phase }
     ensures held { IsHeld result.0 }
-    ensures ok { OnOk result.1 (books_of result.0 ≡ books_event Event.Halt (books_of state.entry)) }
-    ensures full { IsErrOf result.1 CoreFault.LogFull → has_room (session_of (books_event Event.Halt (books_of state.entry))) ≡ false }
-    ensures err { OnErr result.1 (books_of result.0 ≡ books_of state.entry) }
+    ensures ok { OnOk result.1 (books_of result.0 ≡ books_event Event.Halt (books_of phase.entry)) }
+    ensures full { IsErrOf result.1 CoreFault.LogFull → has_room (session_of (books_event Event.Halt (books_of phase.entry))) ≡ false }
+    ensures err { OnErr result.1 (books_of result.0 ≡ books_of phase.entry) }
 {
-    match state {
-        State::Before(before) => halted_before(before),
-        State::After(after) => (State::After(after), Ok(())),
-        State::Halting => (State::Halting, Ok(())),
+    match phase {
+        Phase::Before(before) => halted_before(before),
+        Phase::After(after) => (Phase::After(after), Ok(())),
+        Phase::Halting => (Phase::Halting, Ok(())),
     }
 }
 
-/// Returns the state after the guest's halt, and whether the halt was refused, for a guest that has not halted.
-fn halted_before<'a>(before: BeforeHalt<'a>) -> (State<'a>, Result<(), CoreFault>)
+/// Returns the phase after the guest's halt, and whether the halt was refused, for a guest that has not halted.
+fn halted_before<'a>(before: BeforeHalt<'a>) -> (Phase<'a>, Result<(), CoreFault>)
     ensures held { IsHeld result.0 }
     ensures ok { OnOk result.1 (books_of result.0 ≡ home_event Event.Halt (home_of before.entry)) }
     ensures full { IsErrOf result.1 CoreFault.LogFull → has_room (session_of (home_event Event.Halt (home_of before.entry))) ≡ false }
     ensures err { OnErr result.1 (books_of result.0 ≡ Before (home_of before.entry)) }
 {
     if !before.all_at_move() {
-        return (State::Before(before), Ok(()));
+        return (Phase::Before(before), Ok(()));
     }
     match before.halt() {
-        Ok(after) => (State::After(after), Ok(())),
-        Err((before, fault)) => (State::Before(before), Err(fault)),
+        Ok(after) => (Phase::After(after), Ok(())),
+        Err((before, fault)) => (Phase::Before(before), Err(fault)),
     }
 }

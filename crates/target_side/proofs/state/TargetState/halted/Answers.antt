@@ -2,7 +2,7 @@ use Rattle.std.proofs.Common.{refl, ap, ◌∙◌, ◌≡◌}
 use Rattle.migration_types.specs.PageSets.{no_page}
 use Rattle.target_side.specs.Kept.{marked}
 use Rattle.target_side.proofs.Parts.{none_marked}
-use Rattle.target_side.proofs.state.State.halted.Goals as goal
+use Rattle.target_side.proofs.state.TargetState.halted.Goals as goal
 
 pub returns-clause-part : goal.returns-clause-part
 returns-clause-part c =

@@ -1,10 +1,10 @@
-//! The results of events.
+//! The effects of events.
 
 use migration_types::PageNo;
 
-/// The result of an event.
+/// The effect of an event.
 #[derive(Clone, Copy, Debug, PartialEq, Eq)]
-pub enum Came {
+pub enum Effect {
     /// There was nothing to do, and nothing has changed.
     Nothing,
     /// The event was carried out.

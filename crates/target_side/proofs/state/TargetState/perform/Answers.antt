@@ -3,8 +3,8 @@ use Rattle.residency.specs.Placements.{presence, number_of}
 use Rattle.target_side.specs.Kept.{part_held}
 use Rattle.target_side.specs.inner.States.{held}
 use Rattle.target_side.proofs.Parts.{placed_cover, seen_length, unseen_length}
-use Rattle.target_side.proofs.state.State.perform.Goals.{then-covers+in_ok-make_room, else-covers+in_ok-make_room-2}
-use Rattle.target_side.proofs.state.State.perform.Goals as goal
+use Rattle.target_side.proofs.state.TargetState.perform.Goals.{then-covers+in_ok-make_room, else-covers+in_ok-make_room-2}
+use Rattle.target_side.proofs.state.TargetState.perform.Goals as goal
 
 pub returns-in_err-make_room-clause-full : goal.returns-in_err-make_room-clause-full
 returns-in_err-make_room-clause-full c =

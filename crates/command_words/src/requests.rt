@@ -1,31 +1,31 @@
-//! What a command is asked with.
+//! What the words of the command line may ask for.
 
 ghost use Rattle.std.specs.Prelude.{◌≡◌, None, if◌then◌else◌};
 ghost use Rattle.command_words.specs.Table.{carrier_name, format_name};
 ghost use Rattle.command_words.specs.Words.{is_due, target_names};
 
-/// What is asked of a session before all is well.
+/// What is required of a session before the answer is that all is well.
 #[derive(Clone, Copy)]
 pub enum Demand {
     /// That it is safe.
     Safety,
-    /// That it tells too of the halt, of the resume, and of how each owed page came.
+    /// That it is also complete as to its pages: it has the halt, the resume, and how each owed page came.
     Pages,
-    /// That it tells too of a whole migration.
+    /// That it is also complete: it tells of a whole migration.
     Whole,
 }
 
-/// The form of an answer, by the name that an option gives it.
+/// The form of an answer, which an option names.
 #[derive(Clone, Copy)]
 pub enum Format {
     /// Lines of text.
     Text,
-    /// An object of JSON, on one line.
+    /// A JSON object, on one line.
     Json,
 }
 
 impl Format {
-    /// The name that the option `--format` gives it.
+    /// Returns the name that the option `--format` has for it.
     pub fn name(self) -> &'static str
         ensures { result.now ≡ format_name self }
     {
@@ -36,81 +36,81 @@ impl Format {
     }
 }
 
-/// How the verdict on a certificate is told.
+/// The form of the verdict on a certificate.
 #[derive(Clone, Copy)]
 pub enum VerdictForm {
     Line,
     Object,
 }
 
-/// What is asked of a session and its certificate.
+/// What is asked about a session and its certificate.
 #[derive(Clone, Copy)]
 pub struct Checks {
     pub demand: Demand,
     pub form: VerdictForm,
 }
 
-/// How the report on a session is told.
+/// The form of the report on a session.
 #[derive(Clone, Copy)]
 pub enum ReportForm {
-    /// In lines, with the order that shows the first fault of all, or the certificate.
+    /// Lines, with the order that shows the first fault, or the certificate.
     Lines,
-    /// By its first line.
+    /// The first line alone.
     FirstLine,
-    /// In lines, with each page that has a fault.
+    /// Lines, with each page that has a fault.
     AllFaults,
-    /// As an object.
+    /// An object.
     Object,
-    /// As an object with each page that has a fault.
+    /// An object with each page that has a fault.
     AllFaultsObject,
 }
 
-/// What is asked of an audit.
+/// What an audit asks.
 #[derive(Clone, Copy)]
 pub struct Audits {
     pub demand: Demand,
     pub form: ReportForm,
 }
 
-/// How the reports on several sessions are told.
+/// The form of the reports on several sessions.
 #[derive(Clone, Copy)]
 pub enum ListForm {
-    /// By the first line of each, and how many are clean.
+    /// The first line of each, and how many are clean.
     FirstLines,
-    /// By an object for each.
+    /// An object for each.
     Objects,
-    /// By an object for each, with each page that has a fault.
+    /// An object for each, with each page that has a fault.
     AllFaultsObjects,
 }
 
-/// What is asked of the audit of several sessions.
+/// What the audit of several sessions asks about each.
 #[derive(Clone, Copy)]
 pub struct Lists {
     pub demand: Demand,
     pub form: ListForm,
 }
 
-/// What of a session is told, or drawn.
+/// What a story or a picture of a session is about.
 #[derive(Clone, Copy)]
-pub enum Topic {
-    /// What the report on it names.
+pub enum NamedTopic {
+    /// What the report is about.
     Report,
-    /// The page of this number.
+    /// The page with this number.
     Page(u32),
     /// The record at this line of the session's text, counted from 1.
     Line(u32),
 }
 
-/// How it is told what happened in a session.
+/// The form of the story of a session.
 #[derive(Clone, Copy)]
 pub enum StoryForm {
-    /// In words, of this topic.
-    Words(Topic),
-    /// As an object, of what the report names.
+    /// Words, about this topic.
+    Words(NamedTopic),
+    /// An object, about what the report is about.
     Object,
 }
 
-/// What is asked of an explanation.
+/// What an explanation asks.
 #[derive(Clone, Copy)]
 pub struct Explains {
     pub demand: Demand,
@@ -120,25 +120,25 @@ pub struct Explains {
 /// A command on one text.
 #[derive(Clone, Copy)]
 pub enum OneText {
-    /// The certificate of a session, or the first line of the report on it.
+    /// Writes the certificate of a session, or the first line of the report on it.
     Certify,
-    /// The report on a session, where this is asked.
+    /// Writes the report on a session.
     Audit(Audits),
-    /// What happened in a session, where this is asked.
+    /// Writes the story of a session.
     Explain(Explains),
 }
 
 /// A command on two texts.
 #[derive(Clone, Copy)]
 pub enum TwoTexts {
-    /// The verdict on a session and its certificate, where this is asked.
+    /// Writes the verdict on a session and its certificate.
     Check(Checks),
-    /// What becomes of a merging of a session along its runs.
+    /// Writes the outcome of a replay of a session along runs.
     Replay,
-    /// The session that events record of a script.
+    /// Writes the session that events record from a script.
     Steps,
-    /// What happened in a session that is a window, where this is asked, told by the lines of its recording. The second text
-    /// has them.
+    /// Writes the story of a session that is a window, with the line numbers of its recording. The second text has
+    /// those.
     Explain(Explains),
 }
 
@@ -147,12 +147,12 @@ pub enum TwoTexts {
 pub enum Carrier {
     /// Queues in memory.
     Memory,
-    /// A connection over the loopback.
+    /// A TCP connection over the loopback interface.
     Tcp,
 }
 
 impl Carrier {
-    /// The name that the option `--link` gives it.
+    /// Returns the name that the option `--link` has for it.
     pub fn name(self) -> &'static str
         ensures { result.now ≡ carrier_name self }
     {
@@ -166,30 +166,30 @@ impl Carrier {
 /// The pages of a window.
 #[derive(Clone, Copy)]
 pub struct Pages {
-    /// The first page.
+    /// The number of the first page.
     pub first: u64,
-    /// How many pages there are.
+    /// How many pages.
     pub count: u64,
 }
 
 /// A command, with a word for each of its texts.
 #[derive(Clone, Copy)]
-pub enum Asked<W> {
+pub enum Request<W> {
     One(OneText, W),
     Two(TwoTexts, W, W),
-    /// The migration of a script's guest, over what carries its packets.
+    /// Migrates a script's guest, with this carrier of the packets.
     Migrate(Carrier, W),
-    /// The picture of a session, of this topic, along runs where these are named.
-    Draw(Topic, W, Option<W>),
-    /// The session of these pages of a recording, and which line of the recording each of its lines was, where a file is named
-    /// for them.
+    /// Draws a session about this topic, along runs if they are named.
+    Draw(NamedTopic, W, Option<W>),
+    /// Cuts the session of these pages out of a recording. If a file is named, it gets the line of the recording for
+    /// each line of the session.
     Window(Pages, W, Option<W>),
 }
 
 /// What the words ask for, with the names of its texts.
-pub type Job<'a> = Asked<&'a str>;
+pub type Job<'a> = Request<&'a str>;
 
-/// Several sessions that are to be audited.
+/// Several sessions to audit.
 #[derive(Drop)]
 pub struct Several<'a> {
     pub lists: Lists,
@@ -199,17 +199,17 @@ pub struct Several<'a> {
 
 /// What the words ask for.
 #[derive(Drop)]
-pub enum Wish<'a> {
+pub enum Intent<'a> {
     /// A command, with a name for each of its texts.
     Job(Job<'a>),
     /// The audit of several sessions.
     Several(Several<'a>),
 }
 
-/// What the answer of a command is.
+/// The kind of a command's answer.
 #[derive(Clone, Copy)]
 pub enum AnswerKind {
-    /// A certificate, a session or a picture. With status 1 there is none, and a line stands in its place.
+    /// A certificate, a session or a picture. With status 1 there is none, and the answer is one line instead.
     Artifact,
     /// A verdict or a report, with status 0 or 1.
     Report,
@@ -218,15 +218,15 @@ pub enum AnswerKind {
 /// The files that the words name for what is written.
 #[derive(Clone, Copy)]
 pub struct Targets<'a> {
-    /// For the lines of a window.
+    /// The file for the lines of a window.
     pub lines: Option<&'a str>,
-    /// For the answer.
+    /// The file for the answer.
     pub output: Option<&'a str>,
-    /// What the answer is.
+    /// The kind of the answer.
     pub answer: AnswerKind,
 }
 
-/// No file, for a report.
+/// No files, and a report as the answer.
 pub const NO_TARGETS: Targets<'static> = Targets {
     lines: None,
     output: None,
@@ -234,8 +234,8 @@ pub const NO_TARGETS: Targets<'static> = Targets {
 };
 
 impl<'a> Targets<'a> {
-    /// The files for an answer with this status, from 0 to 4. At 0 they are all; at 1 a report has its file and an artifact has
-    /// none; above 1 there is none.
+    /// Returns the files to write for an answer with this status, from 0 to 4. With 0 they are all files. With 1 a
+    /// report goes to its file, and an artifact does not. Above 1 there are none.
     pub fn at(self, status: u8) -> Targets<'a>
         ensures { target_names result ≡ (if is_due self.entry.answer status then target_names self.entry else (None, None)) }
     {
@@ -248,8 +248,8 @@ impl<'a> Targets<'a> {
 
 /// What is found in words.
 #[derive(Drop)]
-pub struct Found<'a> {
+pub struct Invocation<'a> {
     /// What they ask for.
-    pub wish: Option<Wish<'a>>,
+    pub intent: Option<Intent<'a>>,
     pub targets: Targets<'a>,
 }

@@ -14,7 +14,7 @@ pub enum Extent {
 
 /// What is missing from a session of a whole migration.
 #[derive(Clone, Copy, Debug, PartialEq, Eq)]
-pub enum Missing {
+pub enum Lack {
     /// The guest's `halt`.
     Halt,
     /// The guest's `resume`, in a session in which the source started the guest again: it returned there.

@@ -1,5 +1,5 @@
 use Rattle.std.proofs.Common.{not, ◌||◌, ap, ap₂, ◌∙◌}
-use Rattle.completeness.proofs.pages.Seen.is_left.Goals as goal
+use Rattle.completeness.proofs.pages.LogFacts.is_left.Goals as goal
 
 pub returns : goal.returns
 returns c =

@@ -8,7 +8,7 @@ use text_lines::{FaultKind, Refusal};
 
 /// What is wrong with a line.
 #[derive(Clone, Copy)]
-pub(crate) enum Cause<'a> {
+pub(crate) enum LineFault<'a> {
     /// Nothing: memory ran out when it was read.
     Memory,
     Special(Special),
@@ -26,56 +26,56 @@ pub(crate) enum Cause<'a> {
 }
 
 /// Returns what is wrong with a line that is not empty.
-fn cause_in(refusal: &Refusal) -> Cause<'_> {
+fn line_fault_in(refusal: &Refusal) -> LineFault<'_> {
     let Some(fit) = best_fit(refusal) else {
-        return Cause::Other;
+        return LineFault::Other;
     };
     match fit.stop {
-        Stop::Nowhere if refusal.is_last => Cause::Unended,
-        Stop::Nowhere => Cause::Rule,
-        Stop::Cut(_) => Cause::Stops(fit),
-        _ if fit.words == 0 => Cause::Other,
-        _ => Cause::Stops(fit),
+        Stop::Nowhere if refusal.is_last => LineFault::Unended,
+        Stop::Nowhere => LineFault::Rule,
+        Stop::Cut(_) => LineFault::Stops(fit),
+        _ if fit.words == 0 => LineFault::Other,
+        _ => LineFault::Stops(fit),
     }
 }
 
 /// Returns what is wrong with the refused line.
-pub(crate) fn cause_of(refusal: &Refusal) -> Cause<'_> {
+pub(crate) fn line_fault_of(refusal: &Refusal) -> LineFault<'_> {
     if refusal.fault.kind == FaultKind::Memory {
-        return Cause::Memory;
+        return LineFault::Memory;
     }
     if let Some(special) = special_of(refusal) {
-        return Cause::Special(special);
+        return LineFault::Special(special);
     }
     if !refusal.line.is_empty() {
-        return cause_in(refusal);
+        return line_fault_in(refusal);
     }
     if refusal.is_last {
-        Cause::Ends
+        LineFault::Ends
     } else {
-        Cause::Empty
+        LineFault::Empty
     }
 }
 
 /// Returns how many bytes of the line come before the place where it is wrong.
-pub(crate) fn place_of(refusal: &Refusal, cause: &Cause<'_>) -> usize {
-    match cause {
-        Cause::Stops(fit) if fit.is_of_line() => 0,
-        Cause::Stops(fit) => fit.at,
-        Cause::Unended => refusal.line.len(),
-        Cause::Special(Special::CarriageReturn) => refusal.line.len().saturating_sub(1),
-        Cause::Memory
-        | Cause::Special(_)
-        | Cause::Ends
-        | Cause::Empty
-        | Cause::Rule
-        | Cause::Other => 0,
+pub(crate) fn place_of(refusal: &Refusal, fault: &LineFault<'_>) -> usize {
+    match fault {
+        LineFault::Stops(fit) if fit.is_of_line() => 0,
+        LineFault::Stops(fit) => fit.at,
+        LineFault::Unended => refusal.line.len(),
+        LineFault::Special(Special::CarriageReturn) => refusal.line.len().saturating_sub(1),
+        LineFault::Memory
+        | LineFault::Special(_)
+        | LineFault::Ends
+        | LineFault::Empty
+        | LineFault::Rule
+        | LineFault::Other => 0,
     }
 }
 
 /// Returns the column at which the line is wrong. Columns count bytes from 1.
-pub(crate) fn column_of(refusal: &Refusal, cause: &Cause<'_>) -> usize
+pub(crate) fn column_of(refusal: &Refusal, fault: &LineFault<'_>) -> usize
     ensures { 1 ≤ result }
 {
-    place_of(refusal, cause).saturating_add(1)
+    place_of(refusal, fault).saturating_add(1)
 }

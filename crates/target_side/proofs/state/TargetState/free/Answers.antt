@@ -1,6 +1,6 @@
 use Rattle.std.proofs.Common.{refl, ◌∙◌}
 use Rattle.target_side.proofs.Parts.{unsettled_more}
-use Rattle.target_side.proofs.state.State.free.Goals as goal
+use Rattle.target_side.proofs.state.TargetState.free.Goals as goal
 
 pub returns-clause-sized : goal.returns-clause-sized
 returns-clause-sized c = λ e sized.

@@ -5,14 +5,14 @@ ghost use Rattle.audit_report.specs.Reports.{ReportFits};
 ghost use Rattle.judged_texts.specs.Audited.{AuditedFits};
 ghost use Rattle.judged_texts.specs.AuditedText.{certificate_text, wanted_text, audited_text};
 
-use crate::auditing::Audited;
+use crate::auditing::TextAudit;
 use audit_report::{Report, print_first_line, print_refused_session, print_report};
 use cert_text::write_cert;
 use std::alloc::{AllocError, Global};
 
 /// The part of an audit that is wanted.
 #[derive(Clone, Copy)]
-pub enum Wanted {
+pub enum AuditPart {
     /// The report.
     Report,
     /// The certificate of a clean session, and for any other session the first line of the report.
@@ -35,14 +35,18 @@ fn certificate(alloc: Global, report: &Report) -> Result<Vec<u8>, AllocError>
 }
 
 /// Returns the wanted part of a report. Each line ends with LF. Fails only if memory runs out.
-pub fn print_wanted(alloc: Global, report: &Report, wanted: Wanted) -> Result<Vec<u8>, AllocError>
+pub fn print_wanted(
+    alloc: Global,
+    report: &Report,
+    wanted: AuditPart,
+) -> Result<Vec<u8>, AllocError>
     requires { ReportFits report.now }
     ensures { IfOk result (λ text. text.items ≡ wanted_text wanted report.now) }
 {
     match wanted {
-        Wanted::Report => print_report(alloc, report),
-        Wanted::Certificate => certificate(alloc, report),
-        Wanted::FirstLine => print_first_line(alloc, report),
+        AuditPart::Report => print_report(alloc, report),
+        AuditPart::Certificate => certificate(alloc, report),
+        AuditPart::FirstLine => print_first_line(alloc, report),
     }
 }
 
@@ -50,14 +54,14 @@ pub fn print_wanted(alloc: Global, report: &Report, wanted: Wanted) -> Result<Ve
 /// LF. Fails only if memory runs out.
 pub fn print_audited(
     alloc: Global,
-    audited: &Audited,
-    wanted: Wanted,
+    audited: &TextAudit,
+    wanted: AuditPart,
 ) -> Result<Vec<u8>, AllocError>
     requires { AuditedFits audited.now }
     ensures { IfOk result (λ text. text.items ≡ audited_text wanted audited.now) }
 {
     match audited {
-        Audited::Refused(line) => print_refused_session(alloc, *line),
-        Audited::Reported(report) => print_wanted(alloc, report, wanted),
+        TextAudit::Refused(line) => print_refused_session(alloc, *line),
+        TextAudit::Reported(report) => print_wanted(alloc, report, wanted),
     }
 }
