@@ -153,7 +153,11 @@ fn count_wanted(wanted: &[bool], place: usize) -> (usize, usize) {
             count = count.saturating_add(1);
         }
     }
-    if place < wanted.len() { (count, before) } else { (count, count) }
+    if place < wanted.len() {
+        (count, before)
+    } else {
+        (count, count)
+    }
 }
 
 /// If there are too many, keeps the first and the last, and those nearest to this place.
