@@ -96,7 +96,7 @@ fn take_and_fill<H: Threads + Sync, R: Read + Send, T: Taker>(
 }
 
 /// Returns how many threads take the parts of a piece: as many as there are processors, if that number is known.
-fn processors<H: Threads>(rt: &H) -> usize {
+pub(crate) fn processors<H: Threads>(rt: &H) -> usize {
     match available_parallelism(rt) {
         Ok(count) => count.get().min(MOST_PARTS),
         Err(_) => 1,

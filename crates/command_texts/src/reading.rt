@@ -5,7 +5,7 @@ ghost use Rattle.command_texts.specs.Reasons.{line_of};
 ghost use Rattle.command_texts.specs.Told.{AreRead};
 ghost use Rattle.command_texts.specs.inner.Takings.{Fills, Takes, TakesAll};
 
-use crate::ahead::read_ahead;
+use crate::ahead::{processors, read_ahead};
 use crate::causes::{Cause, cause_of};
 use crate::limits::{Left, MOST_READS};
 use crate::taking::Taker;
@@ -138,8 +138,8 @@ pub(crate) fn fill<R: Read>(
     Err(ReadFault::File(Cause::TooManyReads))
 }
 
-/// Gives the rest of a reader's text to a taker, within these limits. Uses this buffer at first. Fails if the text
-/// exceeds a limit.
+/// Gives the rest of a reader's text to a taker, within these limits. Uses this buffer at first, and on one processor to
+/// the end: larger pieces are of use to several threads alone. Fails if the text exceeds a limit.
 fn read_within<H: Threads + Sync, R: Read + Send, T: Taker>(
     rt: &H,
     alloc: Global,
@@ -150,25 +150,31 @@ fn read_within<H: Threads + Sync, R: Read + Send, T: Taker>(
 ) -> Result<(), ReadFault>
     ensures { OnOk result (TakesAll T.came most.bytes (R.remaining reader.old) taker.old taker.new) }
 {
-    match read_first(rt, reader, taker, most, buffer)? {
+    let pieces = if processors(rt) < 2 {
+        u32::MAX
+    } else {
+        FIRST_PIECES
+    };
+    match read_first(rt, reader, taker, most, buffer, pieces)? {
         Some(left) => read_ahead(rt, alloc, reader, taker, left),
         None => Ok(()),
     }
 }
 
-/// Gives the next pieces of a reader's text to a taker, with one thread and this buffer. Returns what may still be
-/// read, or `None` if the text has ended.
+/// Gives this many of the next pieces of a reader's text to a taker, with one thread and this buffer. Returns what may
+/// still be read, or `None` if the text has ended.
 fn read_first<H: Threads + Sync, R: Read, T: Taker>(
     rt: &H,
     reader: &mut R,
     taker: &mut T,
     most: Left,
     buffer: &mut [u8],
+    pieces: u32,
 ) -> Result<Option<Left>, ReadFault>
     ensures { IfOk result (λ found. MatchOption found (TakesAll T.came most.bytes (R.remaining reader.old) taker.old taker.new) (λ left. Takes T.came most.bytes left.bytes (R.remaining reader.old) (R.remaining reader.new) taker.old taker.new)) }
 {
     let mut left = most;
-    for _ in 0..FIRST_PIECES {
+    for _ in 0..pieces {
         let filled = fill(reader, buffer, left.reads)?;
         let piece = &buffer[..filled.count];
         let Some(behind) = left.behind(piece, filled.reads) else {
