@@ -141,15 +141,25 @@ def write(room, name, text):
         file.write(text)
 
 
-def replayed(program, room):
+def on_one_processor():
+    """What a child does before the program begins: it may use one processor alone."""
+    os.sched_setaffinity(0, sorted(os.sched_getaffinity(0))[:1])
+
+
+def replayed(program, room, before=None):
     """Replays of long texts: what is tried, what comes of it, and what has to."""
     for what, first, second, wanted, refused, why in cases():
         write(room, "session", first)
         write(room, "runs", second)
         for names, given in ((("session", "runs"), b""), (("-", "runs"), first), (("session", "-"), second)):
-            ran = subprocess.run([program, "replay", *names], cwd=room, input=given, capture_output=True)
+            ran = subprocess.run([program, "replay", *names], cwd=room, input=given, capture_output=True, preexec_fn=before)
             told = b"" if refused is None else f"{names[refused]}:{why}\n".encode()
             yield f"{what}, replay {' '.join(names)}", (ran.stdout, ran.stderr, ran.returncode), (wanted, told, 1)
+
+
+def replayed_by_one_thread(program, room):
+    """The same on one processor, where one thread reads pieces of 128 KiB to the end."""
+    yield from replayed(program, room, on_one_processor)
 
 
 # What is told where the input's other end is closed with something unread in it.
@@ -184,7 +194,7 @@ def told_by_tables(program, room):
 
 
 @pytest.mark.parametrize("tries", (
-    pytest.param(replayed, marks=pytest.mark.cases(63)), pytest.param(broken, marks=pytest.mark.cases(14)),
+    pytest.param(replayed, marks=pytest.mark.cases(63)), pytest.param(replayed_by_one_thread, marks=pytest.mark.cases(63)), pytest.param(broken, marks=pytest.mark.cases(14)),
     pytest.param(told_by_tables, marks=pytest.mark.cases(2))), ids=lambda it: it.__name__)
 def test_long_texts(program, room, tries):
     for case in tries(program, room):
