@@ -3,8 +3,9 @@
 ghost use Rattle.std.specs.Prelude.{◌≤◌};
 
 use crate::fitting::{Fit, Stop, best_fit};
+use crate::refused::Refused;
 use crate::special::{Special, special_of};
-use text_lines::{FaultKind, Refusal};
+use text_lines::FaultKind;
 
 /// What is wrong with a line.
 #[derive(Clone, Copy)]
@@ -26,12 +27,12 @@ pub(crate) enum Cause<'a> {
 }
 
 /// Returns what is wrong with a line that is not empty.
-fn cause_in(refusal: &Refusal) -> Cause<'_> {
-    let Some(fit) = best_fit(refusal) else {
+fn cause_in(refused: &Refused) -> Cause<'_> {
+    let Some(fit) = best_fit(refused) else {
         return Cause::Other;
     };
     match fit.stop {
-        Stop::Nowhere if refusal.is_last => Cause::Unended,
+        Stop::Nowhere if refused.misread.is_last => Cause::Unended,
         Stop::Nowhere => Cause::Rule,
         Stop::Cut(_) => Cause::Stops(fit),
         _ if fit.words == 0 => Cause::Other,
@@ -40,17 +41,17 @@ fn cause_in(refusal: &Refusal) -> Cause<'_> {
 }
 
 /// Returns what is wrong with the refused line.
-pub(crate) fn cause_of(refusal: &Refusal) -> Cause<'_> {
-    if refusal.fault.kind == FaultKind::Memory {
+pub(crate) fn cause_of(refused: &Refused) -> Cause<'_> {
+    if refused.misread.kind == FaultKind::Memory {
         return Cause::Memory;
     }
-    if let Some(special) = special_of(refusal) {
+    if let Some(special) = special_of(refused) {
         return Cause::Special(special);
     }
-    if !refusal.line.is_empty() {
-        return cause_in(refusal);
+    if !refused.misread.text.is_empty() {
+        return cause_in(refused);
     }
-    if refusal.is_last {
+    if refused.misread.is_last {
         Cause::Ends
     } else {
         Cause::Empty
@@ -58,12 +59,12 @@ pub(crate) fn cause_of(refusal: &Refusal) -> Cause<'_> {
 }
 
 /// Returns how many bytes of the line come before the place where it is wrong.
-pub(crate) fn place_of(refusal: &Refusal, cause: &Cause<'_>) -> usize {
+pub(crate) fn place_of(refused: &Refused, cause: &Cause<'_>) -> usize {
     match cause {
         Cause::Stops(fit) if fit.is_of_line() => 0,
         Cause::Stops(fit) => fit.at,
-        Cause::Unended => refusal.line.len(),
-        Cause::Special(Special::CarriageReturn) => refusal.line.len().saturating_sub(1),
+        Cause::Unended => refused.misread.text.len(),
+        Cause::Special(Special::CarriageReturn) => refused.misread.text.len().saturating_sub(1),
         Cause::Memory
         | Cause::Special(_)
         | Cause::Ends
@@ -74,8 +75,8 @@ pub(crate) fn place_of(refusal: &Refusal, cause: &Cause<'_>) -> usize {
 }
 
 /// Returns the column at which the line is wrong. Columns count bytes from 1.
-pub(crate) fn column_of(refusal: &Refusal, cause: &Cause<'_>) -> usize
+pub(crate) fn column_of(refused: &Refused, cause: &Cause<'_>) -> usize
     ensures { 1 ≤ result }
 {
-    place_of(refusal, cause).saturating_add(1)
+    place_of(refused, cause).saturating_add(1)
 }
