@@ -18,4 +18,4 @@ returns-in-Line-clause-told c = λ window recording fault.
 pub returns-in-Line-clause-line : goal.returns-in-Line-clause-line
 returns-in-Line-clause-line c = λ window recording fault.
     let refused = subst (λ f. IsTold window recording (Recording f)) c.in-Line.is fault in
-    of_any c.given.result _ (subst (λ text. IsRefusalLine SpellsRecording text c.in-Line.line) refused.is_known refused.refused)
+    rw c.in-Line.is (of_any c.given.result _ (subst (λ text. IsRefusalLine SpellsRecording text c.in-Line.line) refused.is_known refused.refused))
