@@ -18,6 +18,7 @@ import sys
 
 import pytest
 from cases import leave_out, same
+from expected_words import place_of, texts_of
 from made_recordings import GREATEST, known_texts, machine, pages_of, random_text, recorded_texts, refused_texts, some_windows
 from made_sessions import TOP, files_of, text_of
 from session_text import LOGS, SessionText
@@ -32,6 +33,11 @@ RECORDED, RANDOM, EXPLAINED = 150, 500, 40
 
 # The recording that is larger than the memory that may be used for it: so many bytes of each, about.
 LARGE, LITTLE = 320_000_000, 40_000_000
+
+# What is told of a refused recording, and of a line to which only a line feed is lacking.
+REFUSED = re.compile(r"recording:\d+:\d+: (this is |found |the text )[ -~]+\n")
+LINE_FEED = "expected a line feed after "
+CUT = 'cut:4:6: the text ends in the middle of a line, after "init "; expected N, a number from 0 to 4, as in "init N"\n'
 
 # What is told below `file NAME` of a recording that cannot be read four times.
 NOT_THE_SAME = ": it is read four times and has to be the same each time, as a pipe is not: name a file that stays\n"
@@ -70,14 +76,29 @@ class Tests:
         told, lines = wanted_of(text, first, count)
         return (told, lines) if self.is_cut(what, first, count, told, lines) and lines is not None else None
 
+    def why(self, what, told, errors):
+        """What is told of a refused recording: its line, and as expected what is not refused there. Nothing is told otherwise."""
+        if not told.startswith("recording-text line "):
+            self.same(f"the errors of {what}", errors, "")
+            return
+        self.same(f"the words of {what}", REFUSED.fullmatch(errors) is not None, True)
+        line = int(told.split(" ")[2])
+        self.same(f"the line of the words of {what}", place_of(errors)[0], line)
+        for changed in texts_of(errors.rstrip("\n"), self.has("recording")):
+            self.put("changed", changed)
+            again, more, _ = self.run("window", "changed", 0, 1)
+            is_there = again == told and place_of(more)[1] <= place_of(errors)[1] and LINE_FEED not in more
+            self.same(f"what {errors!r} of {what} expects", is_there, False)
+
     def is_cut(self, what, first, count, told, lines):
         """Whether what is told of a window of the file `recording` is this, with these lines; with none where there is no window."""
         if self.has("lines") is not None:
             os.remove(f"{self.room}/lines")
         self.note(told.split(" ")[0].strip() if lines is None else "cut")
         table = None if lines is None else lines_text(lines)
-        found = self.run("window", "recording", first, count, "--lines", "lines")
-        is_told = self.same(f"the window {first} {count} of {what}", found, (told, "", int(lines is None)))
+        output, errors, status = self.run("window", "recording", first, count, "--lines", "lines")
+        is_told = self.same(f"the window {first} {count} of {what}", (output, status), (told, int(lines is None)))
+        self.why(f"the window {first} {count} of {what}", told, errors)
         return self.same(f"the lines of the window {first} {count} of {what}", self.has("lines"), table) and is_told
 
 
@@ -212,7 +233,7 @@ def wrong_words(tests):
         (("folder", 0, 1), ("", "file folder\nfolder: it is a directory\n", 3)),
         (("recording", 4, 1), ("no-such-pages\n", "", 1)),
         (("recording", 0, 0), ("no-such-pages\n", "", 1)),
-        (("cut", 0, 1), ("recording-text line 4\n", "", 1)),
+        (("cut", 0, 1), ("recording-text line 4\n", CUT, 1)),
     ):
         tests.same(f"window {words}", tests.run("window", *words), wanted)
         tests.same(f"window {words} into files", tests.run("window", *words, *both), wanted)

@@ -40,7 +40,7 @@ abbrev pub first_place : List ℕ → List ℕ → Option ℕ → Option ℕ →
 first_place first second one other = option_or (place_of first one) (place_of second other)
 
 abbrev pub told_place : Why → Place
-told_place why = (why.name.now, why.refusal.fault.line)
+told_place why = (why.name.now, why.refused.line)
 
 -- Words on why a text is refused. Their first line begins with the text's name as shown and the line number. In full,
 -- more lines follow it.

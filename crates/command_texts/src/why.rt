@@ -5,7 +5,7 @@ ghost use Rattle.command_texts.specs.Reasons.{AreReasons, TellsWhy, line_of, pla
 
 use crate::shown::push_shown;
 use crate::writing::write_whole;
-use refusal_words::{push_why, push_why_in_full};
+use refusal_words::{Refused, push_why, push_why_in_full};
 use std::alloc::{AllocError, Global};
 use std::io::Write;
 use text_lines::Refusal;
@@ -14,7 +14,7 @@ use text_lines::Refusal;
 #[derive(Drop)]
 pub struct Why<'a> {
     pub name: &'a str,
-    pub refusal: Refusal,
+    pub refused: Refused,
 }
 
 /// Returns why the text under a name is refused, if it is.
@@ -22,7 +22,10 @@ pub(crate) fn under<'a>(name: &'a str, refusal: Option<Refusal>) -> Option<Why<'
     ensures { option_map told_place result ≡ place_of name.entry.now (line_of refusal) }
 {
     match refusal {
-        Some(refusal) => Some(Why { name, refusal }),
+        Some(refusal) => Some(Why {
+            name,
+            refused: Refused::new(refusal),
+        }),
         None => None,
     }
 }
@@ -44,8 +47,8 @@ fn words(alloc: Global, why: &Why<'_>, telling: Telling) -> Result<Vec<u8>, Allo
     push_shown(&mut name, why.name)?;
     let mut out = Vec::new(alloc);
     match telling {
-        Telling::Short => push_why(&mut out, name.as_slice(), &why.refusal)?,
-        Telling::Full => push_why_in_full(&mut out, name.as_slice(), &why.refusal)?,
+        Telling::Short => push_why(&mut out, name.as_slice(), &why.refused)?,
+        Telling::Full => push_why_in_full(&mut out, name.as_slice(), &why.refused)?,
     }
     Ok(out)
 }

@@ -8,7 +8,7 @@ ghost use Rattle.postcopy_c.specs.Refusals.{no_words, TellsRefusal, IsToldOf, Is
 use crate::kinds::{CERT_TEXT, NO_MEMORY, READ, RUNS_TEXT, SESSION_TEXT};
 use crate::telling::put;
 use cert_text::{CertLines, OrderText};
-use refusal_words::{Reason, reason_of};
+use refusal_words::{Reason, Refused, reason_of};
 use session_log::SessionLines;
 use std::alloc::Global;
 use text_lines::{FaultKind, Refusal, Rewind, next_line, read_or_why};
@@ -81,16 +81,17 @@ fn tell_refusal(
     alloc: Global,
     kind: u32,
     text: &[u8],
-    refusal: &Refusal,
+    refusal: Refusal,
     room: &mut [u8],
 ) -> PostcopyRefusal
-    ensures { IsToldOf kind refusal.now.fault.line refusal.now.fault.kind room.old room.new result }
+    ensures { IsToldOf kind refusal.fault.line refusal.fault.kind room.old room.new result }
 {
-    if refusal.fault.kind == FaultKind::Memory || !has_line(refusal, text) {
+    if refusal.fault.kind == FaultKind::Memory || !has_line(&refusal, text) {
         return without_words(NO_MEMORY);
     }
-    match reason_of(alloc, refusal) {
-        Ok(reason) => tell_reason(kind, refusal.fault.line, &reason, room),
+    let line = refusal.fault.line;
+    match reason_of(alloc, &Refused::new(refusal)) {
+        Ok(reason) => tell_reason(kind, line, &reason, room),
         Err(_) => without_words(NO_MEMORY),
     }
 }
@@ -101,7 +102,7 @@ fn tell_text<R: Rewind>(alloc: Global, kind: u32, text: &[u8], room: &mut [u8]) 
 {
     match read_or_why(R::empty(alloc), alloc, text) {
         Ok(_) => without_words(READ),
-        Err(refusal) => tell_refusal(alloc, kind, text, &refusal, room),
+        Err(refusal) => tell_refusal(alloc, kind, text, refusal, room),
     }
 }
 

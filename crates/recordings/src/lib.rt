@@ -20,6 +20,7 @@ mod reading;
 mod source;
 mod visiting;
 mod walker;
+mod wanting;
 mod wide;
 mod writing;
 
@@ -29,6 +30,7 @@ pub use laws::{
 pub use machine::{BEYOND, Machine};
 pub use reading::read_behind;
 use reading::walk_through;
+use refusal_words::Misread;
 use std::alloc::Global;
 use std::io::Read;
 use thiserror::Error;
@@ -78,9 +80,29 @@ pub fn walk<R: Read, V: Visitor>(
     ensures walked { OnOk result (Walks V.Met (R.remaining reader.old) visitor.new) }
     ensures refused { IfErr result (λ fault. IsRefusedBy (R.remaining reader.old) fault) }
 {
+    let mut why = None;
+    walk_or_why(alloc, reader, visitor, &mut why)
+}
+
+/// Goes through the recording as `walk` does. If a line is refused, `why` becomes what was found there and what is
+/// allowed, for people. It becomes `None` if memory runs out for that.
+///
+/// # Errors
+///
+/// As for `walk`.
+pub fn walk_or_why<R: Read, V: Visitor>(
+    alloc: Global,
+    reader: &mut R,
+    visitor: &mut V,
+    why: &mut Option<Misread>,
+) -> Result<(), RecordingFault>
+    requires { V.IsNew visitor.old }
+    ensures walked { OnOk result (Walks V.Met (R.remaining reader.old) visitor.new) }
+    ensures refused { IfErr result (λ fault. IsRefusedBy (R.remaining reader.old) fault) }
+{
     let mut walker = Walker::new(alloc);
     let Ok(mut buffer) = vec![in alloc; 0u8; PIECE] else {
         return Err(RecordingFault::Memory);
     };
-    walk_through(reader, visitor, &mut walker, buffer.as_mut_slice())
+    walk_through(reader, visitor, &mut walker, buffer.as_mut_slice(), why)
 }

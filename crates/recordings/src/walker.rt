@@ -8,18 +8,19 @@ ghost use Rattle.recordings.specs.inner.Goings.{Came, Goes, Grows, Stops, Refuse
 use crate::place::{Place, Stage};
 use crate::{Machine, RecordingFault, Visitor};
 use migration_types::{Size, Version};
+use refusal_words::Misread;
 use std::alloc::Global;
 use text_lines::{FaultKind, next_line};
 
 /// The greatest number of bytes in a line of a recording's text.
-const LONGEST_LINE: usize = 8_448;
+pub(crate) const LONGEST_LINE: usize = 8_448;
 
 /// A walk through a recording's text: the kind of the next line, what it may be, and its number.
 #[derive(Clone, Copy)]
 pub(crate) struct Walker {
-    stage: Stage,
-    place: Place,
-    number: u64,
+    pub(crate) stage: Stage,
+    pub(crate) place: Place,
+    pub(crate) number: u64,
 }
 
 impl Walker {
@@ -48,8 +49,13 @@ impl Walker {
         }
     }
 
-    /// Takes the next line.
-    fn line<V: Visitor>(&mut self, visitor: &mut V, line: &[u8]) -> Result<(), RecordingFault>
+    /// Takes the next line. If it is refused, `why` becomes what was found there and what is allowed.
+    fn line<V: Visitor>(
+        &mut self,
+        visitor: &mut V,
+        line: &[u8],
+        why: &mut Option<Misread>,
+    ) -> Result<(), RecordingFault>
         requires { Goes V.IsNew V.Met self.old visitor.old }
         ensures taken { OnOk result ((lines : List (List ℕ)) → Came V.IsNew V.Met self.old visitor.old lines → Came V.IsNew V.Met self.new visitor.new (lines ++ line.now ∷ [])) }
         ensures refused { IfErr result (λ fault. (lines : List (List ℕ)) → Came V.IsNew V.Met self.old visitor.old lines → Stops lines line.now fault) }
@@ -63,7 +69,10 @@ impl Walker {
                 self.number += 1;
                 Ok(())
             }
-            Err(kind) => Err(line_fault(self.number, kind)),
+            Err(kind) => {
+                *why = self.misread(kind, line);
+                Err(line_fault(self.number, kind))
+            }
         }
     }
 
@@ -72,6 +81,7 @@ impl Walker {
         &mut self,
         visitor: &mut V,
         bytes: &'a [u8],
+        why: &mut Option<Misread>,
     ) -> Result<&'a [u8], RecordingFault>
         requires { Goes V.IsNew V.Met self.old visitor.old }
         ensures taken { IfOk result (λ rest. (lines : List (List ℕ)) → Came V.IsNew V.Met self.old visitor.old lines → Grows V.IsNew V.Met self.new visitor.new lines bytes.now rest.now) }
@@ -80,7 +90,7 @@ impl Walker {
     {
         let mut rest = bytes;
         while let Some((line, after)) = next_line(rest) {
-            self.line(visitor, line)?;
+            self.line(visitor, line, why)?;
             rest = after;
         }
         Ok(rest)
@@ -93,6 +103,7 @@ impl Walker {
         visitor: &mut V,
         buffer: &mut [u8],
         filled: usize,
+        why: &mut Option<Misread>,
     ) -> Result<usize, RecordingFault>
         requires goes { Goes V.IsNew V.Met self.old visitor.old }
         requires within { filled ≤ length buffer.old }
@@ -102,8 +113,10 @@ impl Walker {
         ensures len { length buffer.new ≡ length buffer.old }
         ensures refused { IfErr result (λ fault. (lines : List (List ℕ)) → Came V.IsNew V.Met self.old visitor.old lines → RefusesAll (ended lines ++ take filled buffer.old) fault) }
     {
-        let kept = self.lines(visitor, &buffer[..filled])?.len();
+        let rest = self.lines(visitor, &buffer[..filled], why)?;
+        let kept = rest.len();
         if kept > LONGEST_LINE {
+            *why = self.misread(FaultKind::Form, rest);
             return Err(RecordingFault::Line(self.number));
         }
         move_front(buffer, filled - kept, filled);

@@ -1,17 +1,18 @@
 //! The fields of a form, and the words that they allow.
 
-use text_lines::{Wanted, read_decimal};
+use crate::refused::WideWanted;
+use text_lines::read_decimal;
 
 /// The greatest number of pages, used if the machine's own is not known.
-const MOST_PAGES: u32 = 65_536;
+const MOST_PAGES: u64 = 65_536;
 
-const MOST_CELLS: u32 = 512;
+const MOST_CELLS: u64 = 512;
 
 /// The greatest number of a virtual processor.
 const LAST_PROCESSOR: u64 = 63;
 
 /// The greatest number of records in a log, used if the log's own limit is not known.
-const MOST_RECORDS: u32 = 1_048_576;
+const MOST_RECORDS: u64 = 1_048_576;
 
 /// The number of digits in the contents of a cell.
 const CELL_DIGITS: u32 = 16;
@@ -86,11 +87,11 @@ pub(crate) fn has_field(form: &str) -> bool {
 }
 
 /// Returns the range from 0 to one less than `count`, or than `most` if the count is not known.
-fn below(count: u32, most: u32) -> Bounds {
+fn below(count: u64, most: u64) -> Bounds {
     let count = if count == 0 { most } else { count };
     Bounds {
         least: 0,
-        most: u64::from(count.saturating_sub(1)),
+        most: count.saturating_sub(1),
     }
 }
 
@@ -99,27 +100,27 @@ fn up_to(most: u64) -> Bounds {
 }
 
 /// Returns the numbers that a field allows, if it is a field of numbers.
-pub(crate) fn range_of(field: FieldKind, wanted: &Wanted) -> Option<Bounds> {
+pub(crate) fn range_of(field: FieldKind, wanted: &WideWanted) -> Option<Bounds> {
     match field {
         FieldKind::Processor => Some(up_to(LAST_PROCESSOR)),
         FieldKind::Page => Some(below(wanted.pages, MOST_PAGES)),
-        FieldKind::Cell => Some(below(wanted.cells, MOST_CELLS)),
+        FieldKind::Cell => Some(below(u64::from(wanted.cells), MOST_CELLS)),
         FieldKind::Value => Some(up_to(u64::MAX)),
         FieldKind::Record => Some(below(wanted.records, MOST_RECORDS)),
         FieldKind::Number => Some(Bounds {
-            least: u64::from(wanted.least),
-            most: u64::from(wanted.most),
+            least: wanted.least,
+            most: wanted.most,
         }),
         FieldKind::Exact => Some(Bounds {
-            least: u64::from(wanted.most),
-            most: u64::from(wanted.most),
+            least: wanted.most,
+            most: wanted.most,
         }),
         FieldKind::Contents | FieldKind::Fates | FieldKind::Fate => None,
     }
 }
 
 /// Returns how many digits the contents of a page have, or `None` if the number of cells is not known.
-pub(crate) fn digits_of(wanted: &Wanted) -> Option<u64> {
+pub(crate) fn digits_of(wanted: &WideWanted) -> Option<u64> {
     if wanted.cells == 0 {
         return None;
     }
@@ -143,7 +144,7 @@ fn stop_at(found: Option<usize>) -> Option<Misfit> {
     }
 }
 
-fn misfit_of_contents(word: &[u8], wanted: &Wanted) -> Option<Misfit> {
+fn misfit_of_contents(word: &[u8], wanted: &WideWanted) -> Option<Misfit> {
     if begins_as_hexadecimal(word) {
         return Some(Misfit::Whole);
     }
@@ -182,7 +183,7 @@ fn misfit_of_number(word: &[u8], range: Bounds) -> Option<Misfit> {
 }
 
 /// Returns where a word stops being allowed in a field, or `None` if it is allowed.
-pub(crate) fn misfit_of(field: FieldKind, word: &[u8], wanted: &Wanted) -> Option<Misfit> {
+pub(crate) fn misfit_of(field: FieldKind, word: &[u8], wanted: &WideWanted) -> Option<Misfit> {
     if let Some(range) = range_of(field, wanted) {
         return misfit_of_number(word, range);
     }
@@ -193,7 +194,7 @@ pub(crate) fn misfit_of(field: FieldKind, word: &[u8], wanted: &Wanted) -> Optio
     }
 }
 
-fn may_go_on_as_contents(word: &[u8], wanted: &Wanted) -> bool {
+fn may_go_on_as_contents(word: &[u8], wanted: &WideWanted) -> bool {
     let has_room = match digits_of(wanted) {
         Some(digits) => (word.len() as u64) < digits,
         None => true,
@@ -202,7 +203,7 @@ fn may_go_on_as_contents(word: &[u8], wanted: &Wanted) -> bool {
 }
 
 /// Returns whether a word that does not fit a field may be the beginning of one that does.
-pub(crate) fn may_go_on(field: FieldKind, word: &[u8], wanted: &Wanted) -> bool {
+pub(crate) fn may_go_on(field: FieldKind, word: &[u8], wanted: &WideWanted) -> bool {
     match field {
         FieldKind::Contents => may_go_on_as_contents(word, wanted),
         FieldKind::Fate => FATES.iter().any(|fate| fate.starts_with(word)),

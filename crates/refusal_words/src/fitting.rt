@@ -1,8 +1,8 @@
 //! The form that a line fits furthest, and where it departs from it.
 
 use crate::fields::{Misfit, field_of, has_field, may_go_on, misfit_of};
+use crate::refused::{Refused, WideWanted};
 use memchr::memchr;
-use text_lines::{Refusal, Wanted};
 
 const SPACE: u8 = b' ';
 
@@ -79,7 +79,7 @@ pub(crate) fn first_word(text: &[u8]) -> (&[u8], Option<&[u8]>) {
 }
 
 /// Returns where a word stops being allowed at `slot` of a form, or `None` if it is allowed.
-fn misfit_at(slot: &str, word: &[u8], wanted: &Wanted) -> Option<Misfit> {
+fn misfit_at(slot: &str, word: &[u8], wanted: &WideWanted) -> Option<Misfit> {
     match field_of(slot) {
         Some(field) => misfit_of(field, word, wanted),
         None if word == slot.as_bytes() => None,
@@ -101,7 +101,7 @@ fn depth(misfit: Misfit) -> usize {
 }
 
 /// Returns whether a word may be the beginning of one that is allowed at `slot` of a form.
-fn is_front(slot: &str, word: &[u8], wanted: &Wanted) -> bool {
+fn is_front(slot: &str, word: &[u8], wanted: &WideWanted) -> bool {
     match field_of(slot) {
         Some(field) => may_go_on(field, word, wanted),
         None => slot.as_bytes().starts_with(word),
@@ -111,7 +111,7 @@ fn is_front(slot: &str, word: &[u8], wanted: &Wanted) -> bool {
 /// Returns where a word stops being allowed at `slot` of a form, after how many of its bytes, or `None` if it is
 /// allowed.
 fn stop_at<'a>(
-    refusal: &Refusal,
+    refused: &Refused,
     slot: &'static str,
     word: &'a [u8],
     is_end: bool,
@@ -119,16 +119,16 @@ fn stop_at<'a>(
     if word.is_empty() && is_end {
         return Some((0, Stop::Missing(slot)));
     }
-    let misfit = misfit_at(slot, word, &refusal.wanted)?;
-    if refusal.is_last && is_end && is_front(slot, word, &refusal.wanted) {
+    let misfit = misfit_at(slot, word, &refused.misread.wanted)?;
+    if refused.misread.is_last && is_end && is_front(slot, word, &refused.misread.wanted) {
         return Some((word.len(), Stop::Cut(slot)));
     }
     Some((depth(misfit), Stop::Word { slot, word, misfit }))
 }
 
 /// Returns how a refused line fits a form.
-pub(crate) fn fit_of<'a>(refusal: &'a Refusal, form: &'static str) -> Fit<'a> {
-    let line = refusal.line.as_slice();
+pub(crate) fn fit_of<'a>(refused: &'a Refused, form: &'static str) -> Fit<'a> {
+    let line = refused.misread.text.as_slice();
     let mut words = 0usize;
     let mut left = Some(line);
     for slot in form.split(' ') {
@@ -141,7 +141,7 @@ pub(crate) fn fit_of<'a>(refusal: &'a Refusal, form: &'static str) -> Fit<'a> {
             };
         };
         let (word, after) = first_word(text);
-        if let Some((depth, stop)) = stop_at(refusal, slot, word, after.is_none()) {
+        if let Some((depth, stop)) = stop_at(refused, slot, word, after.is_none()) {
             return Fit {
                 form,
                 words,
@@ -165,10 +165,10 @@ pub(crate) fn fit_of<'a>(refusal: &'a Refusal, form: &'static str) -> Fit<'a> {
 }
 
 /// Returns the form that a refused line fits furthest, the first if there are several, or `None` if there is no form.
-pub(crate) fn best_fit(refusal: &Refusal) -> Option<Fit<'_>> {
+pub(crate) fn best_fit(refused: &Refused) -> Option<Fit<'_>> {
     let mut best: Option<Fit<'_>> = None;
-    for form in refusal.wanted.forms {
-        let fit = fit_of(refusal, form);
+    for form in refused.misread.wanted.forms {
+        let fit = fit_of(refused, form);
         let is_better = match &best {
             None => true,
             Some(best) => fit.is_further(best),

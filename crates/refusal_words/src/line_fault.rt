@@ -3,8 +3,9 @@
 ghost use Rattle.std.specs.Prelude.{◌≤◌};
 
 use crate::fitting::{Fit, Stop, best_fit};
+use crate::refused::Refused;
 use crate::special::{Special, special_of};
-use text_lines::{FaultKind, Refusal};
+use text_lines::FaultKind;
 
 /// What is wrong with a line.
 #[derive(Clone, Copy)]
@@ -26,12 +27,12 @@ pub(crate) enum LineFault<'a> {
 }
 
 /// Returns what is wrong with a line that is not empty.
-fn line_fault_in(refusal: &Refusal) -> LineFault<'_> {
-    let Some(fit) = best_fit(refusal) else {
+fn line_fault_in(refused: &Refused) -> LineFault<'_> {
+    let Some(fit) = best_fit(refused) else {
         return LineFault::Other;
     };
     match fit.stop {
-        Stop::Nowhere if refusal.is_last => LineFault::Unended,
+        Stop::Nowhere if refused.misread.is_last => LineFault::Unended,
         Stop::Nowhere => LineFault::Rule,
         Stop::Cut(_) => LineFault::Stops(fit),
         _ if fit.words == 0 => LineFault::Other,
@@ -40,17 +41,17 @@ fn line_fault_in(refusal: &Refusal) -> LineFault<'_> {
 }
 
 /// Returns what is wrong with the refused line.
-pub(crate) fn line_fault_of(refusal: &Refusal) -> LineFault<'_> {
-    if refusal.fault.kind == FaultKind::Memory {
+pub(crate) fn line_fault_of(refused: &Refused) -> LineFault<'_> {
+    if refused.misread.kind == FaultKind::Memory {
         return LineFault::Memory;
     }
-    if let Some(special) = special_of(refusal) {
+    if let Some(special) = special_of(refused) {
         return LineFault::Special(special);
     }
-    if !refusal.line.is_empty() {
-        return line_fault_in(refusal);
+    if !refused.misread.text.is_empty() {
+        return line_fault_in(refused);
     }
-    if refusal.is_last {
+    if refused.misread.is_last {
         LineFault::Ends
     } else {
         LineFault::Empty
@@ -58,12 +59,12 @@ pub(crate) fn line_fault_of(refusal: &Refusal) -> LineFault<'_> {
 }
 
 /// Returns how many bytes of the line come before the place where it is wrong.
-pub(crate) fn place_of(refusal: &Refusal, fault: &LineFault<'_>) -> usize {
+pub(crate) fn place_of(refused: &Refused, fault: &LineFault<'_>) -> usize {
     match fault {
         LineFault::Stops(fit) if fit.is_of_line() => 0,
         LineFault::Stops(fit) => fit.at,
-        LineFault::Unended => refusal.line.len(),
-        LineFault::Special(Special::CarriageReturn) => refusal.line.len().saturating_sub(1),
+        LineFault::Unended => refused.misread.text.len(),
+        LineFault::Special(Special::CarriageReturn) => refused.misread.text.len().saturating_sub(1),
         LineFault::Memory
         | LineFault::Special(_)
         | LineFault::Ends
@@ -74,8 +75,8 @@ pub(crate) fn place_of(refusal: &Refusal, fault: &LineFault<'_>) -> usize {
 }
 
 /// Returns the column at which the line is wrong. Columns count bytes from 1.
-pub(crate) fn column_of(refusal: &Refusal, fault: &LineFault<'_>) -> usize
+pub(crate) fn column_of(refused: &Refused, fault: &LineFault<'_>) -> usize
     ensures { 1 ≤ result }
 {
-    place_of(refusal, fault).saturating_add(1)
+    place_of(refused, fault).saturating_add(1)
 }

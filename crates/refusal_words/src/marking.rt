@@ -3,9 +3,9 @@
 use crate::fields::field_of;
 use crate::line_fault::{LineFault, place_of};
 use crate::quoting::{CUT, push_shown, width};
+use crate::refused::{Refused, WideWanted};
 use crate::words::{push_meaning, push_new};
 use std::alloc::AllocError;
-use text_lines::{Refusal, Wanted};
 
 /// The greatest number of columns that a line's bytes take: 100 with what comes before them, and with the mark for what
 /// is left out.
@@ -100,7 +100,7 @@ fn push_forms(out: &mut String, forms: &[&'static str]) -> Result<(), AllocError
 }
 
 /// Appends the meaning of each field of the forms.
-fn push_fields(out: &mut String, wanted: &Wanted) -> Result<(), AllocError> {
+fn push_fields(out: &mut String, wanted: &WideWanted) -> Result<(), AllocError> {
     let fields = fields_in(out, wanted.forms)?;
     for slot in &fields {
         if let Some(field) = field_of(slot) {
@@ -115,19 +115,19 @@ fn push_fields(out: &mut String, wanted: &Wanted) -> Result<(), AllocError> {
 /// Appends a line with a mark under the place where it is wrong, and the forms that are allowed there.
 pub(crate) fn push_marked(
     out: &mut String,
-    refusal: &Refusal,
+    refused: &Refused,
     fault: &LineFault<'_>,
 ) -> Result<(), AllocError> {
-    let line = refusal.line.as_slice();
+    let line = refused.misread.text.as_slice();
     if !line.is_empty() {
-        push_line_marked(out, line, place_of(refusal, fault))?;
+        push_line_marked(out, line, place_of(refused, fault))?;
     }
     match fault {
         LineFault::Memory | LineFault::Special(_) => Ok(()),
-        _ if refusal.wanted.forms.is_empty() => Ok(()),
+        _ if refused.misread.wanted.forms.is_empty() => Ok(()),
         _ => {
-            push_forms(out, refusal.wanted.forms)?;
-            push_fields(out, &refusal.wanted)
+            push_forms(out, refused.misread.wanted.forms)?;
+            push_fields(out, &refused.misread.wanted)
         }
     }
 }

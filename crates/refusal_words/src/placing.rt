@@ -25,7 +25,7 @@ pub(crate) fn first_line(words: &[u8]) -> &[u8]
 }
 
 /// Appends `NAME:LINE`.
-fn push_name_and_line(out: &mut Vec<u8>, name: &[u8], line: u32) -> Result<(), AllocError>
+fn push_name_and_line(out: &mut Vec<u8>, name: &[u8], line: u64) -> Result<(), AllocError>
     ensures { OnOk result (out.new.items ≡ out.old.items ++ (name.now ++ 58 ∷ decimal line)) }
 {
     out.extend_from_slice(name)?;
@@ -37,7 +37,7 @@ fn push_name_and_line(out: &mut Vec<u8>, name: &[u8], line: u32) -> Result<(), A
 pub(crate) fn push_placed(
     out: &mut Vec<u8>,
     name: &[u8],
-    line: u32,
+    line: u64,
     column: usize,
     words: &[u8],
 ) -> Result<(), AllocError>
@@ -51,7 +51,7 @@ pub(crate) fn push_placed(
 }
 
 /// Appends words after `NAME:LINE: `, and a line feed.
-fn push_behind(out: &mut Vec<u8>, name: &[u8], line: u32, words: &[u8]) -> Result<(), AllocError>
+fn push_behind(out: &mut Vec<u8>, name: &[u8], line: u64, words: &[u8]) -> Result<(), AllocError>
     ensures { OnOk result (out.new.items ≡ out.old.items ++ placed_at name.now line words.now) }
 {
     push_name_and_line(out, name, line)?;
@@ -64,5 +64,5 @@ fn push_behind(out: &mut Vec<u8>, name: &[u8], line: u32, words: &[u8]) -> Resul
 pub fn push_at(out: &mut Vec<u8>, name: &[u8], line: u32, words: &[u8]) -> Result<(), AllocError>
     ensures { OnOk result (AddsAt name.now line out.old.items out.new.items) }
 {
-    push_behind(out, name, line, first_line(words))
+    push_behind(out, name, u64::from(line), first_line(words))
 }

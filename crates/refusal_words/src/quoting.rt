@@ -31,14 +31,23 @@ pub(crate) fn push_shown(out: &mut String, bytes: &[u8]) -> Result<(), AllocErro
     Ok(())
 }
 
+/// Appends what follows the first bytes that are shown of some, if there are more.
+fn push_cut(out: &mut String, left_out: &[u8]) -> Result<(), AllocError> {
+    out.push_str(if left_out.is_empty() { "" } else { CUT })
+}
+
+/// Appends bytes as they are shown. If they are many, it shows the first of them.
+pub(crate) fn push_short(out: &mut String, bytes: &[u8]) -> Result<(), AllocError> {
+    let (shown, left_out) = bytes.split_at(bytes.len().min(QUOTED));
+    push_shown(out, shown)?;
+    push_cut(out, left_out)
+}
+
 /// Appends bytes between quotation marks. If they are many, it shows the first of them. Fails only if memory runs out.
 pub fn push_quote(out: &mut String, bytes: &[u8]) -> Result<(), AllocError> {
     let (shown, left_out) = bytes.split_at(bytes.len().min(QUOTED));
     out.push('"')?;
     push_shown(out, shown)?;
     out.push('"')?;
-    if !left_out.is_empty() {
-        out.push_str(CUT)?;
-    }
-    Ok(())
+    push_cut(out, left_out)
 }

@@ -1,7 +1,8 @@
 //! Frequent slips in the writing of a word.
 
 use crate::fields::{FieldKind, begins_as_hexadecimal, range_of};
-use text_lines::{Wanted, read_decimal};
+use crate::refused::WideWanted;
+use text_lines::read_decimal;
 
 /// What is unusual about a word that does not fit.
 #[derive(Clone, Copy)]
@@ -69,7 +70,7 @@ pub(crate) fn slip_between(word: &[u8]) -> Option<Slip> {
 }
 
 /// Returns what is unusual about a word that does not fit a field of a form.
-pub(crate) fn slip_of(form: &str, field: FieldKind, word: &[u8], wanted: &Wanted) -> Option<Slip> {
+pub(crate) fn slip_of(form: &str, field: FieldKind, word: &[u8], wanted: &WideWanted) -> Option<Slip> {
     if let Some(slip) = slip_between(word) {
         return Some(slip);
     }

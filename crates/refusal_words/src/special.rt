@@ -1,7 +1,7 @@
 //! Files that are no text of the wanted kind, and line ends of another kind.
 
 use crate::fitting::first_word;
-use text_lines::{Refusal, Wanted};
+use crate::refused::{Refused, WideWanted};
 
 /// What a file is, or how its lines end, if that is why it is refused.
 #[derive(Clone, Copy)]
@@ -69,7 +69,7 @@ impl Kind {
     }
 
     /// Returns the kind of text whose first line is wanted.
-    fn wanted(wanted: &Wanted) -> Option<Kind> {
+    fn wanted(wanted: &WideWanted) -> Option<Kind> {
         let form = wanted.forms.first()?;
         Kind::of(form.as_bytes())
     }
@@ -135,7 +135,7 @@ fn report(line: &[u8], wanted: Kind) -> Option<Special> {
 }
 
 /// Returns whether a line begins with the first word of a form that is allowed there.
-fn begins_as_wanted(line: &[u8], wanted: &Wanted) -> bool {
+fn begins_as_wanted(line: &[u8], wanted: &WideWanted) -> bool {
     let (word, _) = first_word(line);
     wanted
         .forms
@@ -144,7 +144,7 @@ fn begins_as_wanted(line: &[u8], wanted: &Wanted) -> bool {
 }
 
 /// Returns the text of another kind than every allowed one that begins with this line.
-fn of_another_kind(line: &[u8], wanted: &Wanted) -> Option<Special> {
+fn of_another_kind(line: &[u8], wanted: &WideWanted) -> Option<Special> {
     if begins_as_wanted(line, wanted) {
         return None;
     }
@@ -164,13 +164,13 @@ fn carriage_return(line: &[u8]) -> Option<Special> {
 }
 
 /// Returns what a file is, or how its lines end, if that is why it is refused.
-pub(crate) fn special_of(refusal: &Refusal) -> Option<Special> {
-    let line = refusal.line.as_slice();
-    if refusal.fault.line == 1 {
+pub(crate) fn special_of(refused: &Refused) -> Option<Special> {
+    let line = refused.misread.text.as_slice();
+    if refused.line == 1 {
         if let Some(special) = encoded(line) {
             return Some(special);
         }
-        if let Some(special) = of_another_kind(line, &refusal.wanted) {
+        if let Some(special) = of_another_kind(line, &refused.misread.wanted) {
             return Some(special);
         }
     }

@@ -1,6 +1,6 @@
 -- What is told of a window.
 use Rattle.std.proofs.Common.{◌≡◌, ◌≢◌, ◌∙◌, ℕ, ◌<◌, Bool, true, false, List, Option, Some, None, Result, Ok, Err, IfOk, MatchOption, subst, sym, ap, inl, inr, arith, refl}
-use Rattle.std.specs.Prelude.{IfErr, IfSome}
+use Rattle.std.specs.Prelude.{IfErr, IfSome, option_map}
 use Rattle.std.specs.Global.{Vec}
 use Rattle.std.specs.Io.KnownBytes.{Appends}
 use Rattle.std.proofs.KnownBytes.{Keeps-refl}
@@ -8,7 +8,10 @@ use Rattle.std.specs.declared.alloc.AllocError.{AllocError}
 use Rattle.command_texts.specs.declared.answer.Answer.{Answer}
 use Rattle.command_texts.specs.declared.answer.Fault.{Fault}
 use Rattle.command_texts.specs.Answers.{IsOutputFault, IsReadFault, IsTextFault, Says}
+use Rattle.command_texts.specs.Reasons.{Place, TellsWhy, place_of, told_place}
 use Rattle.command_texts.specs.Written.{AppendsFront}
+use Rattle.command_texts.specs.declared.why.Telling.TheVariants.{Short}
+use Rattle.command_texts.specs.declared.why.Why.{Why}
 use Rattle.command_texts.proofs.Endings.{not_read, not_written, output_fault, text_fault, written_whole}
 use Rattle.command_texts.proofs.Said.{says_right}
 use Rattle.window_cut.specs.declared.faults.CutFault.{CutFault}
@@ -16,28 +19,38 @@ use Rattle.window_cut.specs.declared.pages.Window.{Window}
 use Rattle.window_cut.specs.declared.session.WindowText.{WindowText}
 use Rattle.window_cut.specs.Cuts.{IsCutOf, IsTold, OfRead}
 use Rattle.window_commands.specs.Found.{IsFound}
-use Rattle.window_commands.specs.Windows.{EndsWindow, HasWindowLines, IsReadUnder, IsWindowAnswer, IsWindowed, Seen, TellsNothing, Windowed, windowed_status, windowed_text}
-use Rattle.window_commands.specs.inner.Answered.{HasTable, IsAnswered, IsSeen, IsUnseen}
+use Rattle.window_commands.specs.Windows.{EndsWindow, HasWindowLines, IsReadUnder, IsWindowAnswer, IsWindowed, Seen, TellsRefused, Windowed, windowed_status, windowed_text}
+use Rattle.window_commands.specs.inner.Answered.{HasTable, IsAnswered, IsAnsweredAt, IsSeen, IsUnseen}
+
+-- what holds of itself holds whatever the answer is
+pub of_any : {V E : Type 0} (r : Result V E) (P : Type 0) → P → IfOk r (λ v. P)
+of_any (Ok v) P h = h
+of_any (Err e) P h = tt
 
 -- an answer that says what becomes of a recording is its own
 pub windowed_told : (w : Window) (recording : List ℕ) (v : Windowed) (found : Result Answer AllocError) → IsWindowed w recording v → IfOk found (λ a. Says a (windowed_text v) (windowed_status v)) → IfOk found (λ a. IsWindowAnswer w recording a.text.items a.status)
 windowed_told w recording v found is h = says_right (IsWindowed w recording) windowed_text windowed_status v found is h
 
--- an answer with its table
+-- an answer with its table, and why the recording is refused
 abbrev pub Tabled : Type 0
-Tabled = Answer × Option (Vec ℕ)
+Tabled = Answer × Option (Vec ℕ) × Option Why
 
--- what is told of a recording that was read
-abbrev pub TellsOf : Window → Bool → Option (List ℕ) → Tabled → Type 0
-TellsOf w lined known a = OfRead known (λ recording. IsAnswered w lined recording a.0 a.1)
+-- what is told of a recording that was read under a name
+abbrev pub TellsOf : Window → Bool → List ℕ → Option (List ℕ) → Tabled → Type 0
+TellsOf w lined name known a = OfRead known (λ recording. IsAnsweredAt w lined name recording a.0 a.1 (option_map told_place a.2))
 
-pub seen_told : (w : Window) (lined : Bool) (known : Option (List ℕ)) (cut : WindowText) (found : Result Tabled AllocError) → OfRead known (λ recording. IsFound w recording (Ok cut)) → IfOk found (λ s. Says s.0 cut.text.items 0) → IfOk found (λ s. HasTable lined cut.lines.items s.1) → IfOk found (TellsOf w lined known)
-seen_told w lined known cut (Err e) is h table = tt
-seen_told w lined known cut (Ok a) is h table = record { text = is.text; is_known = is.is_known; holds = inl record { cut = cut; is_cut = is.holds; is_text = h.0; is_status = h.1; has_table = table } }
+pub seen_told : (w : Window) (lined : Bool) (name : List ℕ) (known : Option (List ℕ)) (cut : WindowText) (found : Result Tabled AllocError) → OfRead known (λ recording. IsFound w recording (Ok cut)) → IfOk found (λ s. Says s.0 cut.text.items 0) → IfOk found (λ s. HasTable lined cut.lines.items s.1) → IfOk found (λ s. s.2 ≡ None) → IfOk found (TellsOf w lined name known)
+seen_told w lined name known cut (Err e) is h table clean = tt
+seen_told w lined name known cut (Ok a) is h table clean =
+    record {
+      text = is.text;
+      is_known = is.is_known;
+      holds = record { answered = inl record { cut = cut; is_cut = is.holds; is_text = h.0; is_status = h.1; has_table = table }; line = None; is_line = (is.holds.s, is.holds.spelled); is_place = inl (ap (option_map told_place) clean) };
+    }
 
-pub uncut_told : (w : Window) (lined : Bool) (known : Option (List ℕ)) (fault : CutFault) (found : Result Tabled Fault) → OfRead known (λ recording. IsTold w recording fault) → ((window : Window) (recording : List ℕ) (lines : Bool) → IsTold window recording fault → IfOk found (λ a. IsAnswered window lines recording a.0 a.1)) → IfOk found (TellsOf w lined known)
-uncut_told w lined known fault (Err e) is h = tt
-uncut_told w lined known fault (Ok a) is h = record { text = is.text; is_known = is.is_known; holds = h w is.text lined is.holds }
+pub uncut_told : (w : Window) (lined : Bool) (name : List ℕ) (known : Option (List ℕ)) (fault : CutFault) (found : Result Tabled Fault) → OfRead known (λ recording. IsTold w recording fault) → ((window : Window) (recording : List ℕ) (lines : Bool) → IsTold window recording fault → IfOk found (λ a. IsAnsweredAt window lines name recording a.0 a.1 (option_map told_place a.2))) → IfOk found (TellsOf w lined name known)
+uncut_told w lined name known fault (Err e) is h = tt
+uncut_told w lined name known fault (Ok a) is h = record { text = is.text; is_known = is.is_known; holds = h w is.text lined is.holds }
 
 -- what a reader gives stands under its name
 named_read : (bytes known : Option (List ℕ)) (Holds : List ℕ → Type 0) → IfSome bytes (λ xs. known ≡ Some xs) → OfRead known Holds → OfRead bytes Holds
@@ -58,17 +71,27 @@ few_of : (w : Window) (lined : Bool) (recording : List ℕ) (answer : Answer) (t
 few_of w lined recording answer table (inl seen) = rw seen.is_status (omega arith)
 few_of w lined recording answer table (inr unseen) = rw unseen.is_status (omega arith)
 
-pub few_written : (w : Window) (lined : Bool) (known : Option (List ℕ)) (a : Tabled) (status : ℕ) → TellsOf w lined known a → status ≡ a.0.status → status < 2
-few_written w lined known a status is same = rw same (few_of w lined is.text a.0 a.1 is.holds)
+pub few_written : (w : Window) (lined : Bool) (name : List ℕ) (known : Option (List ℕ)) (a : Tabled) (status : ℕ) → TellsOf w lined name known a → status ≡ a.0.status → status < 2
+few_written w lined name known a status is same = rw same (few_of w lined is.text a.0 a.1 is.holds.answered)
 
--- the answer was written, or the output failed
-pub window_written : (w : Window) (lined : Bool) (name : List ℕ) (files : List ℕ → Option (List ℕ)) (a : Tabled) (old new errors : Option (List ℕ)) (status : ℕ) → TellsOf w lined (files name) a → status ≡ a.0.status → Appends old new a.0.text.items → EndsWindow w name files (old, errors) (new, errors) (Ok status)
-window_written w lined name files a old new errors status is same written =
-    written_whole (IsReadUnder name files) (IsWindowAnswer w) TellsNothing is.text a.0 status (old, errors) (new, errors) same is.is_known (answer_of w lined is.text a.0 a.1 is.holds) written (Keeps-refl errors)
+-- why a recording is refused is told at its place, or nothing is told where memory ran out for it
+told_at : (name : List ℕ) (line : Option ℕ) (place : Option Place) (old new : Option (List ℕ)) → (place ≡ None) ⊎ (place ≡ place_of name line) → TellsWhy Short place old new → TellsWhy Short (place_of name line) old new
+told_at name None place old new (inl none) told = subst (λ (p : Option Place). TellsWhy Short p old new) none told
+told_at name (Some n) place old new (inl none) told = inl (subst (λ (p : Option Place). TellsWhy Short p old new) none told)
+told_at name line place old new (inr same) told = subst (λ (p : Option Place). TellsWhy Short p old new) same told
 
-pub window_unwritten : (w : Window) (lined : Bool) (name : List ℕ) (files : List ℕ → Option (List ℕ)) (a : Tabled) (old new errors : Option (List ℕ)) (f : Fault) → TellsOf w lined (files name) a → IsOutputFault f → AppendsFront old new a.0.text.items → EndsWindow w name files (old, errors) (new, errors) (Err f)
+why_told : (w : Window) (lined : Bool) (name recording : List ℕ) (a : Tabled) (status : ℕ) (old new : Option (List ℕ)) → IsAnsweredAt w lined name recording a.0 a.1 (option_map told_place a.2) → TellsWhy Short (option_map told_place a.2) old new → TellsRefused name recording status old new
+why_told w lined name recording a status old new is told =
+    record { line = is.line; is_line = is.is_line; between = new; told = told_at name is.line (option_map told_place a.2) old new is.is_place told; noted = inl (Keeps-refl new) }
+
+-- the answer was written, and then why the recording is refused, or the output failed
+pub window_written : (w : Window) (lined : Bool) (name : List ℕ) (files : List ℕ → Option (List ℕ)) (a : Tabled) (old new errors told : Option (List ℕ)) (status : ℕ) → TellsOf w lined name (files name) a → status ≡ a.0.status → Appends old new a.0.text.items → TellsWhy Short (option_map told_place a.2) errors told → EndsWindow w name files (old, errors) (new, told) (Ok status)
+window_written w lined name files a old new errors told status is same written why =
+    written_whole (IsReadUnder name files) (IsWindowAnswer w) (TellsRefused name) is.text a.0 status (old, errors) (new, told) same is.is_known (answer_of w lined is.text a.0 a.1 is.holds.answered) written (why_told w lined name is.text a status errors told is.holds why)
+
+pub window_unwritten : (w : Window) (lined : Bool) (name : List ℕ) (files : List ℕ → Option (List ℕ)) (a : Tabled) (old new errors : Option (List ℕ)) (f : Fault) → TellsOf w lined name (files name) a → IsOutputFault f → AppendsFront old new a.0.text.items → EndsWindow w name files (old, errors) (new, errors) (Err f)
 window_unwritten w lined name files a old new errors f is fault front =
-    not_written (IsTextFault (λ n. n ≡ name)) (IsReadUnder name files) (IsWindowAnswer w) is.text a.0.text.items a.0.status old new errors f fault (output_fault (λ n. n ≡ name) f fault) is.is_known (answer_of w lined is.text a.0 a.1 is.holds) front
+    not_written (IsTextFault (λ n. n ≡ name)) (IsReadUnder name files) (IsWindowAnswer w) is.text a.0.text.items a.0.status old new errors f fault (output_fault (λ n. n ≡ name) f fault) is.is_known (answer_of w lined is.text a.0 a.1 is.holds.answered) front
 
 pub window_unread : (w : Window) (name : List ℕ) (files : List ℕ → Option (List ℕ)) (old errors : Option (List ℕ)) (f : Fault) → IsReadFault (λ n. n ≡ name) f → EndsWindow w name files (old, errors) (old, errors) (Err f)
 window_unread w name files old errors f h =
@@ -92,19 +115,19 @@ lines_of : (w : Window) (name : List ℕ) (files : List ℕ → Option (List ℕ
 lines_of w name files recording answer table before after old new is (inl seen) written put well = is_put w name files recording answer table before after old new is seen written put
 lines_of w name files recording answer table before after old new is (inr unseen) written put well = absurd (omega (arith, unseen.is_status, well))
 
-pub lines_told : (w : Window) (name : List ℕ) (files : List ℕ → Option (List ℕ)) (a : Tabled) (before after : Option (Vec ℕ)) (old new : Option (List ℕ)) → TellsOf w true (files name) a → Appends old new a.0.text.items → IsPut a.1 before after → a.0.status ≡ 0 → MatchOption after ⊥ (λ t. HasWindowLines w name files old new t.items)
-lines_told w name files a before after old new is written put well = lines_of w name files is.text a.0 a.1 before after old new is.is_known is.holds written put well
+pub lines_told : (w : Window) (name : List ℕ) (files : List ℕ → Option (List ℕ)) (a : Tabled) (before after : Option (Vec ℕ)) (old new : Option (List ℕ)) → TellsOf w true name (files name) a → Appends old new a.0.text.items → IsPut a.1 before after → a.0.status ≡ 0 → MatchOption after ⊥ (λ t. HasWindowLines w name files old new t.items)
+lines_told w name files a before after old new is written put well = lines_of w name files is.text a.0 a.1 before after old new is.is_known is.holds.answered written put well
 
 unlined_of : (w : Window) (recording : List ℕ) (answer : Answer) (table : Option (Vec ℕ)) → IsAnswered w false recording answer table → table ≡ None
 unlined_of w recording answer table (inl seen) = seen.has_table
 unlined_of w recording answer table (inr unseen) = unseen.no_table
 
-pub lines_unasked : (w : Window) (known : Option (List ℕ)) (a : Tabled) (before after : Option (Vec ℕ)) → TellsOf w false known a → IsPut a.1 before after → after ≡ before
-lines_unasked w known a before after is put = not_put a.1 before after (unlined_of w is.text a.0 a.1 is.holds) put
+pub lines_unasked : (w : Window) (name : List ℕ) (known : Option (List ℕ)) (a : Tabled) (before after : Option (Vec ℕ)) → TellsOf w false name known a → IsPut a.1 before after → after ≡ before
+lines_unasked w name known a before after is put = not_put a.1 before after (unlined_of w is.text a.0 a.1 is.holds.answered) put
 
 unseen_of : (w : Window) (lined : Bool) (recording : List ℕ) (answer : Answer) (table : Option (Vec ℕ)) → IsAnswered w lined recording answer table → answer.status ≢ 0 → table ≡ None
 unseen_of w lined recording answer table (inl seen) other = absurd (other seen.is_status)
 unseen_of w lined recording answer table (inr unseen) other = unseen.no_table
 
-pub lines_kept : (w : Window) (lined : Bool) (known : Option (List ℕ)) (a : Tabled) (before after : Option (Vec ℕ)) → TellsOf w lined known a → IsPut a.1 before after → a.0.status ≢ 0 → after ≡ before
-lines_kept w lined known a before after is put other = not_put a.1 before after (unseen_of w lined is.text a.0 a.1 is.holds other) put
+pub lines_kept : (w : Window) (lined : Bool) (name : List ℕ) (known : Option (List ℕ)) (a : Tabled) (before after : Option (Vec ℕ)) → TellsOf w lined name known a → IsPut a.1 before after → a.0.status ≢ 0 → after ≡ before
+lines_kept w lined name known a before after is put other = not_put a.1 before after (unseen_of w lined is.text a.0 a.1 is.holds.answered other) put

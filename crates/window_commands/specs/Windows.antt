@@ -1,6 +1,6 @@
 -- The result of cutting a window out of a recording.
 use Rattle.std.specs.Prelude.{◌≡◌, ℕ, List, Option, Result, IfSome, codes}
-use Rattle.std.specs.Io.KnownBytes.{Appends, Keeps}
+use Rattle.std.specs.Io.KnownBytes.{Appends}
 use Rattle.text_lines.specs.Text.{IsRefusalLine}
 use Rattle.window_commands.specs.Tables.{table_text}
 use Rattle.recordings.specs.Recordings.{SpellsRecording}
@@ -9,6 +9,8 @@ use Rattle.window_cut.specs.declared.session.WindowText.{WindowText}
 use Rattle.window_cut.specs.Cuts.{IsCutOf, IsOutside}
 use Rattle.command_texts.specs.declared.answer.Fault.{Fault}
 use Rattle.command_texts.specs.Answers.{IsAnswer, IsTextFault, numbered}
+use Rattle.command_texts.specs.Reasons.{IsRefusedAt, TellsWhyOf}
+use Rattle.command_texts.specs.declared.why.Telling.TheVariants.{Short}
 use Rattle.command_texts.specs.Told.{Ends}
 use Rattle.command_texts.specs.Written.{Streams}
 
@@ -39,9 +41,9 @@ windowed_status (Seen cut) = 0
 abbrev pub IsWindowAnswer : Window → List ℕ → List ℕ → ℕ → Type 0
 IsWindowAnswer w recording = IsAnswer (IsWindowed w recording) windowed_text windowed_status
 
--- nothing is written beside it
-abbrev pub TellsNothing : List ℕ → ℕ → Option (List ℕ) → Option (List ℕ) → Type 0
-TellsNothing recording status old new = Keeps old new
+-- beside it, it is told why the recording under this name is refused, if it is
+abbrev pub TellsRefused : List ℕ → List ℕ → ℕ → Option (List ℕ) → Option (List ℕ) → Type 0
+TellsRefused = TellsWhyOf (IsRefusedAt SpellsRecording) (λ recording. ⊥) Short
 
 -- a text of any length was read under a name: it is the known one, if that is known
 abbrev pub IsReadUnder : List ℕ → (List ℕ → Option (List ℕ)) → List ℕ → Type 0
@@ -49,7 +51,7 @@ IsReadUnder name files text = IfSome (files name) (λ xs. text ≡ xs)
 
 -- the answer of `window` to the text under a name was written, or it failed with a fault
 abbrev pub EndsWindow : Window → List ℕ → (List ℕ → Option (List ℕ)) → Streams → Streams → Result ℕ Fault → Type 0
-EndsWindow w name files = Ends (IsTextFault (λ n. n ≡ name)) (IsReadUnder name files) (IsWindowAnswer w) TellsNothing
+EndsWindow w name files = Ends (IsTextFault (λ n. n ≡ name)) (IsReadUnder name files) (IsWindowAnswer w) (TellsRefused name)
 
 -- the session of a window was appended to the output, and each of its lines is the line of the recording that this
 -- table has for it

@@ -1,24 +1,31 @@
 //! The window of a recording, as a text and a status, and the table of its lines.
 
-ghost use Rattle.std.specs.Prelude.{◌≡◌, ◌≢◌, ◌<◌, ℕ, Bool, List, Ok, Some, true, false, IfOk, IfErr, MatchOption, codes};
+ghost use Rattle.std.specs.Prelude.{◌≡◌, ◌≢◌, ◌<◌, ◌⊎◌, ℕ, Bool, List, Ok, Some, None, true, false, IfOk, IfErr, MatchOption, codes, option_map};
 ghost use Rattle.command_texts.specs.Answers.{IsReadFault, Says, numbered};
+ghost use Rattle.command_texts.specs.Reasons.{IsRefusedAt, place_of, told_place};
 ghost use Rattle.command_texts.specs.Written.{BothGain};
+ghost use Rattle.recordings.specs.Recordings.{SpellsRecording};
 ghost use Rattle.window_cut.specs.Cuts.{IsTold, OfRead};
 ghost use Rattle.window_cut.specs.declared.pages.Window.{Window as Pages};
 ghost use Rattle.window_commands.specs.Found.{IsFound};
 ghost use Rattle.window_commands.specs.Windows.{EndsWindow, HasWindowLines, IsWindowAnswer};
-ghost use Rattle.window_commands.specs.inner.Answered.{HasTable, IsAnswered};
+ghost use Rattle.window_commands.specs.inner.Answered.{HasTable, IsAnswered, IsAnsweredAt, refused_line};
 
 use crate::push_table;
 use command_texts::{
-    ACCEPTED, Answer, Console, Fault, NOT_THE_SAME, NOT_WHOLE, REFUSED, TextSource, given, opened,
-    remark, written,
+    ACCEPTED, Answer, Console, Fault, NOT_THE_SAME, NOT_WHOLE, REFUSED, Telling, TextSource, Why,
+    given, opened, remark, tell_why, written,
 };
 use recordings::RecordingFault;
+use refusal_words::{Misread, Refused};
 use std::alloc::{AllocError, Global};
 use std::io::Write;
 use text_lines::push_keyed;
 use window_cut::{CutFault, Window, WindowText, cut};
+
+/// The answer to a recording, the table of the window's lines, if it is asked for and there is a window, and why the
+/// recording is refused, if it is.
+type Told<'a> = (Answer, Option<Vec<u8>>, Option<Why<'a>>);
 
 /// Returns the text of the table of these lines, if it is asked for.
 fn table_of(alloc: Global, lined: bool, lines: &[u64]) -> Result<Option<Vec<u8>>, AllocError>
@@ -33,13 +40,10 @@ fn table_of(alloc: Global, lined: bool, lines: &[u64]) -> Result<Option<Vec<u8>>
 }
 
 /// Returns the answer for a window, and the table of its lines, if it is asked for.
-fn seen(
-    alloc: Global,
-    cut: WindowText,
-    lined: bool,
-) -> Result<(Answer, Option<Vec<u8>>), AllocError>
+fn seen(alloc: Global, cut: WindowText, lined: bool) -> Result<Told<'static>, AllocError>
     ensures answer { IfOk result (λ seen. Says seen.0 cut.text.items 0) }
     ensures table { IfOk result (λ seen. HasTable lined cut.lines.items seen.1) }
+    ensures clean { IfOk result (λ seen. seen.2 ≡ None) }
 {
     let WindowText { text, lines } = cut;
     let table = table_of(alloc, lined, lines.as_slice())?;
@@ -47,7 +51,7 @@ fn seen(
         text,
         status: ACCEPTED,
     };
-    Ok((answer, table))
+    Ok((answer, table, None))
 }
 
 /// Returns the answer for a recording that is refused at this line.
@@ -66,6 +70,7 @@ fn refused_at(alloc: Global, line: u64) -> Result<Answer, AllocError>
 fn unread<'a>(alloc: Global, name: &'a str, fault: RecordingFault) -> Result<Answer, Fault<'a>>
     ensures other { IfOk result (λ answer. answer.status ≡ 1) }
     ensures told { (window : Pages) (recording : List ℕ) → IsTold window recording (CutFault.Recording fault) → IfOk result (λ answer. IsWindowAnswer window recording answer.text.items answer.status) }
+    ensures line { (window : Pages) (recording : List ℕ) → IsTold window recording (CutFault.Recording fault) → IfOk result (λ answer. IsRefusedAt SpellsRecording recording (refused_line (CutFault.Recording fault))) }
     ensures fault { IfErr result (IsReadFault (λ n. n ≡ name.entry.now)) }
 {
     match fault {
@@ -79,6 +84,7 @@ fn unread<'a>(alloc: Global, name: &'a str, fault: RecordingFault) -> Result<Ans
 fn uncut<'a>(alloc: Global, name: &'a str, fault: CutFault) -> Result<Answer, Fault<'a>>
     ensures other { IfOk result (λ answer. answer.status ≡ 1) }
     ensures told { (window : Pages) (recording : List ℕ) → IsTold window recording fault → IfOk result (λ answer. IsWindowAnswer window recording answer.text.items answer.status) }
+    ensures line { (window : Pages) (recording : List ℕ) → IsTold window recording fault → IfOk result (λ answer. IsRefusedAt SpellsRecording recording (refused_line fault)) }
     ensures fault { IfErr result (IsReadFault (λ n. n ≡ name.entry.now)) }
 {
     match fault {
@@ -94,6 +100,7 @@ fn cut_named<'a, S: TextSource>(
     window: Window,
     name: &'a str,
     texts: &S,
+    why: &mut Option<Misread>,
 ) -> Result<Result<WindowText, CutFault>, Fault<'a>>
     ensures cut { IfOk result (λ found. OfRead (S.bytes_of texts.now name.entry.now) (λ recording. IsFound window recording found)) }
     ensures fault { IfErr result (IsReadFault (λ n. n ≡ name.entry.now)) }
@@ -102,7 +109,26 @@ fn cut_named<'a, S: TextSource>(
     let mut two = opened(texts, name)?;
     let mut three = opened(texts, name)?;
     let mut four = opened(texts, name)?;
-    Ok(cut(alloc, window, &mut one, &mut two, &mut three, &mut four))
+    Ok(cut(
+        alloc, window, why, &mut one, &mut two, &mut three, &mut four,
+    ))
+}
+
+/// Returns why the text under a name is refused, if it is, with what was found there and what is allowed. It is `None` if
+/// that is not known.
+fn why_at<'a>(name: &'a str, fault: CutFault, misread: Option<Misread>) -> Option<Why<'a>>
+    ensures { (option_map told_place result ≡ None) ⊎ (option_map told_place result ≡ place_of name.entry.now (refused_line fault)) }
+{
+    let CutFault::Recording(RecordingFault::Line(line)) = fault else {
+        return None;
+    };
+    let Some(misread) = misread else {
+        return None;
+    };
+    Some(Why {
+        name,
+        refused: Refused { line, misread },
+    })
 }
 
 /// Returns the answer if nothing can be cut out of the text under a name. It has no table.
@@ -110,12 +136,13 @@ fn untabled<'a>(
     alloc: Global,
     name: &'a str,
     fault: CutFault,
-) -> Result<(Answer, Option<Vec<u8>>), Fault<'a>>
-    ensures told { (window : Pages) (recording : List ℕ) (lined : Bool) → IsTold window recording fault → IfOk result (λ answered. IsAnswered window lined recording answered.0 answered.1) }
+    misread: Option<Misread>,
+) -> Result<Told<'a>, Fault<'a>>
+    ensures told { (window : Pages) (recording : List ℕ) (lined : Bool) → IsTold window recording fault → IfOk result (λ told. IsAnsweredAt window lined name.entry.now recording told.0 told.1 (option_map told_place told.2)) }
     ensures fault { IfErr result (IsReadFault (λ n. n ≡ name.entry.now)) }
 {
     match uncut(alloc, name, fault) {
-        Ok(answer) => Ok((answer, None)),
+        Ok(answer) => Ok((answer, None, why_at(name, fault, misread))),
         Err(fault) => Err(fault),
     }
 }
@@ -127,16 +154,17 @@ fn answer_to<'a, S: TextSource>(
     lined: bool,
     name: &'a str,
     texts: &S,
-) -> Result<(Answer, Option<Vec<u8>>), Fault<'a>>
-    ensures told { IfOk result (λ answered. OfRead (S.bytes_of texts.now name.entry.now) (λ recording. IsAnswered window lined recording answered.0 answered.1)) }
+) -> Result<Told<'a>, Fault<'a>>
+    ensures told { IfOk result (λ told. OfRead (S.bytes_of texts.now name.entry.now) (λ recording. IsAnsweredAt window lined name.entry.now recording told.0 told.1 (option_map told_place told.2))) }
     ensures fault { IfErr result (IsReadFault (λ n. n ≡ name.entry.now)) }
 {
     if name == "-" || !texts.stays(name) {
         return Err(Fault::File(name, NOT_THE_SAME));
     }
-    match cut_named(alloc, window, name, texts)? {
+    let mut misread = None;
+    match cut_named(alloc, window, name, texts, &mut misread)? {
         Ok(cut) => given(seen(alloc, cut, lined)),
-        Err(fault) => untabled(alloc, name, fault),
+        Err(fault) => untabled(alloc, name, fault, misread),
     }
 }
 
@@ -166,8 +194,9 @@ pub fn perform_window<'a, R, S: TextSource, I, O: Write, E: Write>(
     ensures kept { result ≢ Ok 0 → lines.new ≡ lines.old }
     ensures gains { BothGain (O.contents console.old.output, E.contents console.old.errors) (O.contents console.new.output, E.contents console.new.errors) }
 {
-    let (answer, table) = answer_to(console.alloc, window, lined, name, console.texts)?;
+    let (answer, table, why) = answer_to(console.alloc, window, lined, name, console.texts)?;
     let status = written(&answer, &mut console.output)?;
+    tell_why(console.alloc, &why, Telling::Short, &mut console.errors);
     put(lines, table);
     Ok(status)
 }

@@ -9,7 +9,8 @@ use crate::marking::Marks;
 use crate::pages::Window;
 use crate::session::WindowText;
 use crate::visiting::{Marking, Way, Writing};
-use recordings::{RecordingFault, walk};
+use recordings::{RecordingFault, walk, walk_or_why};
+use refusal_words::Misread;
 use std::alloc::Global;
 use std::io::Read;
 use std::marker::Brand;
@@ -23,9 +24,11 @@ use std::marker::Brand;
 /// If `walk` finds no recording in what the first reader gives, its fault. `Outside` if the window has no page, or a
 /// page that the machine of the first does not have. `Changed` if the readers did not give the same text: another gives
 /// no recording, or one of a machine without these pages, or the last pass keeps other records than the passes before.
+/// If `walk` refuses a line, `why` becomes what was found there and what is allowed.
 pub fn cut<R: Read>(
     alloc: Global,
     window: Window,
+    why: &mut Option<Misread>,
     one: &mut R,
     two: &mut R,
     three: &mut R,
@@ -35,9 +38,10 @@ pub fn cut<R: Read>(
     ensures told { IfErr result (λ fault. OfRead (R.remaining one.old) (λ text. IsTold window text fault)) }
     ensures refused { IfErr result (λ fault. (text : List ℕ) → R.remaining one.old ≡ Some text → R.remaining two.old ≡ Some text → R.remaining three.old ≡ Some text → R.remaining four.old ≡ Some text → IsNotCutBy window text fault) }
 {
-    let first = mark::<R, Brand>(alloc, window, Marks::new(alloc), one)?;
-    let second = again(mark::<R, Brand>(alloc, window, first, two))?;
-    let third = again(mark::<R, Brand>(alloc, window, second, three))?;
+    let mut later = None;
+    let first = mark::<R, Brand>(alloc, window, Marks::new(alloc), why, one)?;
+    let second = again(mark::<R, Brand>(alloc, window, first, &mut later, two))?;
+    let third = again(mark::<R, Brand>(alloc, window, second, &mut later, three))?;
     again(write::<R, Brand>(alloc, window, third, four))
 }
 
@@ -53,12 +57,14 @@ fn again<T: Drop>(found: Result<T, CutFault>) -> Result<T, CutFault>
     }
 }
 
-/// Marks the kept records, going by what the pass before found.
+/// Marks the kept records, going by what the pass before found. If a line is refused, `why` becomes what was found there
+/// and what is allowed.
 #[tactic(auto, using(crate::proofs::Read::marked_told))]
 fn mark<R: Read, W: Way>(
     alloc: Global,
     window: Window,
     known: Marks,
+    why: &mut Option<Misread>,
     reader: &mut R,
 ) -> Result<Marks, CutFault>
     requires { W.guide ≡ record { window = window; known = known } }
@@ -68,7 +74,7 @@ fn mark<R: Read, W: Way>(
     ensures told { IfErr result (λ fault. OfRead (R.remaining reader.old) (λ text. IsTold window text fault)) }
 {
     let mut marking = Marking::<W>::new(alloc, window, known);
-    match walk(alloc, reader, &mut marking) {
+    match walk_or_why(alloc, reader, &mut marking, why) {
         Ok(()) => {}
         Err(fault) => return Err(CutFault::Recording(fault)),
     }

@@ -1,7 +1,7 @@
 //! What is said of a line that is refused: where, what was found there, and what may stand there.
 
 use crate::reason_lines::{BYTES, Case, IN_FULL, LAST, WORDS};
-use refusal_words::{push_why, push_why_in_full};
+use refusal_words::{Refused, push_why, push_why_in_full};
 use std::alloc::{AllocError, Global};
 use std::test::Fail;
 use text_lines::{FaultKind, Refusal, TextFault, Wanted};
@@ -203,23 +203,23 @@ fn sentence(alloc: Global, case: &Case) -> Result<String, AllocError> {
 }
 
 /// What is said of a line.
-fn said(alloc: Global, refusal: &Refusal) -> Result<String, AllocError> {
+fn said(alloc: Global, refusal: Refusal) -> Result<String, AllocError> {
     let mut out = Vec::new(alloc);
-    push_why(&mut out, b"session", refusal)?;
+    push_why(&mut out, b"session", &Refused::new(refusal))?;
     String::from_utf8_lossy(alloc, out.as_slice())
 }
 
 /// What is said of a line in full.
-fn said_in_full(alloc: Global, refusal: &Refusal) -> Result<String, AllocError> {
+fn said_in_full(alloc: Global, refusal: Refusal) -> Result<String, AllocError> {
     let mut out = Vec::new(alloc);
-    push_why_in_full(&mut out, b"session", refusal)?;
+    push_why_in_full(&mut out, b"session", &Refused::new(refusal))?;
     String::from_utf8_lossy(alloc, out.as_slice())
 }
 
 /// What is said of the first line of which something else is said.
 fn other(alloc: Global, cases: &[Case], is_last: bool) -> Result<Option<String>, AllocError> {
     for case in cases {
-        let said = said(alloc, &refusal(alloc, case, is_last)?)?;
+        let said = said(alloc, refusal(alloc, case, is_last)?)?;
         if said.as_str() != sentence(alloc, case)?.as_str() {
             return Ok(Some(said));
         }
@@ -260,7 +260,7 @@ fn each_end_has_its_sentence(rt: HostRuntime) -> Result<(), Fail> {
 fn in_full_the_place_is_marked_and_the_forms_are_listed(rt: HostRuntime) -> Result<(), Fail> {
     for case in &IN_FULL {
         let refusal = refusal(rt.alloc(), case, false)?;
-        assert_eq!(rt; said_in_full(rt.alloc(), &refusal)?.as_str(), case.3);
+        assert_eq!(rt; said_in_full(rt.alloc(), refusal)?.as_str(), case.3);
     }
     Ok(())
 }
@@ -269,7 +269,7 @@ fn in_full_the_place_is_marked_and_the_forms_are_listed(rt: HostRuntime) -> Resu
 fn the_mark_may_stand_behind_the_line(rt: HostRuntime) -> Result<(), Fail> {
     let case = Case(At::Guest, 9, b"w 0 3 0", "");
     let refusal = refusal(rt.alloc(), &case, false)?;
-    let said = said_in_full(rt.alloc(), &refusal)?;
+    let said = said_in_full(rt.alloc(), refusal)?;
     let marked =
         r#"session:9:8: found the end of the line after "w 0 3 0"; expected X, a value from 0 to 18446744073709551615, as in "w V P C X"
   w 0 3 0
@@ -285,7 +285,7 @@ fn as_many_fates_as_there_may_be_fit(rt: HostRuntime) -> Result<(), Fail> {
     let line = format!(in rt.alloc(); "down {letters}")?;
     let mut refusal = refusal(rt.alloc(), &Case(At::Down, 9, b"", ""), true)?;
     refusal.line = line.as_bytes().to_vec(rt.alloc())?;
-    let said = said(rt.alloc(), &refusal)?;
+    let said = said(rt.alloc(), refusal)?;
     let wanted =
         "session:9:4102: the text ends in the middle of a line; expected a line feed after ";
     assert!(rt; said.as_str().starts_with(wanted), "{said}");
@@ -297,7 +297,7 @@ fn promised(alloc: Global, number: u32) -> Result<String, AllocError> {
     let mut refusal = refusal(alloc, &Case(At::Source, 7, b"", ""), true)?;
     refusal.wanted.came = number.saturating_sub(1);
     refusal.wanted.count = 1_000;
-    said(alloc, &refusal)
+    said(alloc, refusal)
 }
 
 #[test]
@@ -333,7 +333,7 @@ fn what_was_there_stays_in_front(rt: HostRuntime) -> Result<(), Fail> {
     let case = Case(At::Closed, 31, b"x", "");
     let refusal = refusal(rt.alloc(), &case, false)?;
     let mut out = b"certificate-text line 31\n".to_vec(rt.alloc())?;
-    push_why(&mut out, b"na\xc3\xafve", &refusal)?;
+    push_why(&mut out, b"na\xc3\xafve", &Refused::new(refusal))?;
     let wanted =
         b"certificate-text line 31\nna\xc3\xafve:31:1: found \"x\"; expected nothing after the closing line\n";
     assert!(rt; out.as_slice() == wanted.as_slice());
@@ -345,7 +345,7 @@ fn want_of_memory_is_no_fault_of_the_text(rt: HostRuntime) -> Result<(), Fail> {
     let mut refusal = refusal(rt.alloc(), &Case(At::Guest, 0, b"", ""), false)?;
     refusal.fault.kind = FaultKind::Memory;
     assert_eq!(rt;
-        said(rt.alloc(), &refusal)?.as_str(),
+        said(rt.alloc(), refusal)?.as_str(),
         "session:0:1: out of memory\n"
     );
     Ok(())

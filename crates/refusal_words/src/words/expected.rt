@@ -5,9 +5,10 @@ use crate::fields::{field_of, has_field};
 use crate::fitting::{Fit, Stop, fit_of};
 use crate::line_fault::LineFault;
 use crate::quoting::push_quote;
+use crate::refused::{Refused, WideWanted};
 use crate::slips::{Slip, slip_between, slip_of, slip_of_line};
-use std::alloc::AllocError;
-use text_lines::{Refusal, Wanted};
+use crate::special::Special;
+use std::alloc::{AllocError, Global};
 
 /// The greatest number of forms that are all written out if none begins as the line does.
 const FEW: usize = 3;
@@ -45,14 +46,14 @@ fn ordinal(number: u64) -> &'static str {
 }
 
 /// Appends which item of a list is wanted, or that the list is complete.
-fn push_promise(out: &mut String, wanted: &Wanted) -> Result<(), AllocError> {
+fn push_promise(out: &mut String, wanted: &WideWanted) -> Result<(), AllocError> {
     let at = wanted.counted_at;
     let count = wanted.count;
     if at == 0 {
         return Ok(());
     }
     if wanted.came < count {
-        let next = u64::from(wanted.came).saturating_add(1);
+        let next = wanted.came.saturating_add(1);
         let end = ordinal(next);
         return write!(out, ", the {next}{end} of {count} that line {at} promises");
     }
@@ -64,7 +65,7 @@ fn push_promise(out: &mut String, wanted: &Wanted) -> Result<(), AllocError> {
 }
 
 /// Appends what is wanted if nothing in the line fits.
-fn push_wanted(out: &mut String, wanted: &Wanted) -> Result<(), AllocError> {
+fn push_wanted(out: &mut String, wanted: &WideWanted) -> Result<(), AllocError> {
     let forms = wanted.forms;
     if forms.is_empty() && wanted.what.is_empty() {
         return out.push_str("another line");
@@ -80,7 +81,7 @@ fn push_wanted(out: &mut String, wanted: &Wanted) -> Result<(), AllocError> {
 }
 
 /// Appends what is wanted of a line that has its form.
-fn push_rule(out: &mut String, wanted: &Wanted) -> Result<(), AllocError> {
+fn push_rule(out: &mut String, wanted: &WideWanted) -> Result<(), AllocError> {
     out.push_str(wanted.what)?;
     push_promise(out, wanted)?;
     if !wanted.rule.is_empty() {
@@ -90,7 +91,7 @@ fn push_rule(out: &mut String, wanted: &Wanted) -> Result<(), AllocError> {
 }
 
 /// Appends what is unusual about what was found.
-fn push_slip(out: &mut String, slip: Option<Slip>, wanted: &Wanted) -> Result<(), AllocError> {
+fn push_slip(out: &mut String, slip: Option<Slip>, wanted: &WideWanted) -> Result<(), AllocError> {
     let Some(slip) = slip else {
         return Ok(());
     };
@@ -118,11 +119,11 @@ struct Choices {
     slots: Vec<&'static str>,
 }
 
-fn choices_of(out: &String, refusal: &Refusal, best: &Fit<'_>) -> Result<Choices, AllocError> {
-    let mut forms = Vec::new(*out.allocator());
-    let mut slots = Vec::new(*out.allocator());
-    for form in refusal.wanted.forms {
-        let fit = fit_of(refusal, form);
+fn choices_of(alloc: Global, refused: &Refused, best: &Fit<'_>) -> Result<Choices, AllocError> {
+    let mut forms = Vec::new(alloc);
+    let mut slots = Vec::new(alloc);
+    for form in refused.misread.wanted.forms {
+        let fit = fit_of(refused, form);
         if fit.is_as_far(best) {
             forms.push(*form)?;
             if let Some(slot) = fit.slot() {
@@ -134,7 +135,7 @@ fn choices_of(out: &String, refusal: &Refusal, best: &Fit<'_>) -> Result<Choices
 }
 
 /// Appends the meaning of a word of a form.
-fn push_slot(out: &mut String, slot: &str, wanted: &Wanted) -> Result<(), AllocError> {
+fn push_slot(out: &mut String, slot: &str, wanted: &WideWanted) -> Result<(), AllocError> {
     match field_of(slot) {
         None => push_quote(out, slot.as_bytes()),
         Some(field) => {
@@ -144,7 +145,11 @@ fn push_slot(out: &mut String, slot: &str, wanted: &Wanted) -> Result<(), AllocE
     }
 }
 
-fn push_slots(out: &mut String, slots: &[&'static str], wanted: &Wanted) -> Result<(), AllocError> {
+fn push_slots(
+    out: &mut String,
+    slots: &[&'static str],
+    wanted: &WideWanted,
+) -> Result<(), AllocError> {
     for (at, slot) in slots.iter().enumerate() {
         push_between(out, at, slots.len())?;
         push_slot(out, slot, wanted)?;
@@ -153,7 +158,7 @@ fn push_slots(out: &mut String, slots: &[&'static str], wanted: &Wanted) -> Resu
 }
 
 /// Returns what is unusual about the word at which a line departs.
-fn slip_at(fit: &Fit<'_>, wanted: &Wanted) -> Option<Slip> {
+fn slip_at(fit: &Fit<'_>, wanted: &WideWanted) -> Option<Slip> {
     let Stop::Word { slot, word, .. } = fit.stop else {
         return None;
     };
@@ -164,7 +169,7 @@ fn slip_at(fit: &Fit<'_>, wanted: &Wanted) -> Option<Slip> {
 }
 
 /// Appends the rule that allows only one word of the form, if the line departs at such a word.
-fn push_kept(out: &mut String, fit: &Fit<'_>, wanted: &Wanted) -> Result<(), AllocError> {
+fn push_kept(out: &mut String, fit: &Fit<'_>, wanted: &WideWanted) -> Result<(), AllocError> {
     let is_chosen = match fit.slot() {
         Some(slot) => fit.words > 0 && field_of(slot).is_none(),
         None => false,
@@ -177,30 +182,59 @@ fn push_kept(out: &mut String, fit: &Fit<'_>, wanted: &Wanted) -> Result<(), All
 }
 
 /// Appends what is allowed where a line departs from a form.
-fn push_stop(out: &mut String, refusal: &Refusal, fit: &Fit<'_>) -> Result<(), AllocError> {
+fn push_stop(out: &mut String, refused: &Refused, fit: &Fit<'_>) -> Result<(), AllocError> {
     if fit.slot().is_none() {
         return out.push_str("the end of the line");
     }
-    let choices = choices_of(out, refusal, fit)?;
+    let choices = choices_of(*out.allocator(), refused, fit)?;
     if has_field(fit.form) {
-        push_slots(out, choices.slots.as_slice(), &refusal.wanted)?;
+        push_slots(out, choices.slots.as_slice(), &refused.misread.wanted)?;
         out.push_str(", as in ")?;
         push_quote(out, fit.form.as_bytes())?;
     } else {
         push_forms(out, choices.forms.as_slice())?;
     }
-    push_kept(out, fit, &refusal.wanted)?;
-    push_slip(out, slip_at(fit, &refusal.wanted), &refusal.wanted)
+    push_kept(out, fit, &refused.misread.wanted)?;
+    push_slip(
+        out,
+        slip_at(fit, &refused.misread.wanted),
+        &refused.misread.wanted,
+    )
+}
+
+/// Returns all forms that are allowed at a line.
+fn all_forms(alloc: Global, refused: &Refused) -> Result<Vec<&'static str>, AllocError> {
+    let mut forms = Vec::new(alloc);
+    forms.extend_from_slice(refused.misread.wanted.forms)?;
+    Ok(forms)
+}
+
+/// Returns the forms that a line may have: those that it fits furthest if it departs from them later than at its first
+/// word, and otherwise all that are allowed there. There are none if the forms are not what is wrong.
+pub(crate) fn expected_forms(
+    alloc: Global,
+    refused: &Refused,
+    fault: &LineFault<'_>,
+) -> Result<Vec<&'static str>, AllocError> {
+    match fault {
+        LineFault::Stops(fit) => Ok(choices_of(alloc, refused, fit)?.forms),
+        LineFault::Special(Special::Swapped { .. } | Special::Report { .. })
+        | LineFault::Ends
+        | LineFault::Empty
+        | LineFault::Rule
+        | LineFault::Other => all_forms(alloc, refused),
+        LineFault::Memory | LineFault::Special(_) | LineFault::Unended => Ok(Vec::new(alloc)),
+    }
 }
 
 /// Appends what is allowed at a line.
 pub(crate) fn push_expected(
     out: &mut String,
-    refusal: &Refusal,
+    refused: &Refused,
     fault: &LineFault<'_>,
 ) -> Result<(), AllocError> {
-    let line = refusal.line.as_slice();
-    let wanted = &refusal.wanted;
+    let line = refused.misread.text.as_slice();
+    let wanted = &refused.misread.wanted;
     out.push_str("; expected ")?;
     match fault {
         LineFault::Unended => {
@@ -208,7 +242,7 @@ pub(crate) fn push_expected(
             push_quote(out, line)
         }
         LineFault::Rule => push_rule(out, wanted),
-        LineFault::Stops(fit) => push_stop(out, refusal, fit),
+        LineFault::Stops(fit) => push_stop(out, refused, fit),
         LineFault::Memory
         | LineFault::Special(_)
         | LineFault::Ends

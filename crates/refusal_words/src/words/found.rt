@@ -4,17 +4,57 @@ use crate::fields::Misfit;
 use crate::fitting::{Fit, Stop};
 use crate::line_fault::LineFault;
 use crate::quoting::push_quote;
+use crate::refused::Refused;
+use crate::special::Special;
 use std::alloc::AllocError;
-use text_lines::Refusal;
+
+/// Returns the part of a word that does not fit, if the word is not empty.
+fn unfit_in(word: &[u8], misfit: Misfit) -> Option<&[u8]> {
+    if word.is_empty() {
+        return None;
+    }
+    match misfit {
+        Misfit::Byte(at) => {
+            let (_, from) = word.split_at(at.min(word.len()));
+            let (byte, _) = from.split_at(from.len().min(1));
+            Some(byte)
+        }
+        Misfit::Whole => Some(word),
+    }
+}
+
+/// Returns what of a line does not fit a form, or `None` if the line ends where it departs from the form.
+fn unfit_at<'a>(line: &'a [u8], fit: &Fit<'a>) -> Option<&'a [u8]> {
+    match fit.stop {
+        Stop::Missing(_) | Stop::Cut(_) => None,
+        _ if fit.is_of_line() => Some(line),
+        Stop::Word { word, misfit, .. } => unfit_in(word, misfit),
+        Stop::Surplus => {
+            let (_, surplus) = line.split_at(fit.at.min(line.len()));
+            Some(surplus)
+        }
+        Stop::Nowhere => Some(line),
+    }
+}
+
+/// Returns the bytes that were found where a line is wrong, or `None` if the line or the text ends there, or if it is
+/// wrong as a whole.
+pub(crate) fn found_in<'a>(refused: &'a Refused, fault: &LineFault<'a>) -> Option<&'a [u8]> {
+    let line = refused.misread.text.as_slice();
+    match fault {
+        LineFault::Rule | LineFault::Other => Some(line),
+        LineFault::Stops(fit) => unfit_at(line, fit),
+        LineFault::Special(Special::CarriageReturn) => {
+            let (_, end) = line.split_at(line.len().saturating_sub(1));
+            Some(end)
+        }
+        LineFault::Memory | LineFault::Special(_) | LineFault::Ends | LineFault::Unended | LineFault::Empty => None,
+    }
+}
 
 /// Returns whether a form is a key and one more word, which can be understood without the rest of the line.
 fn is_keyed(form: &str) -> bool {
     form.split(' ').count() <= 2
-}
-
-fn push_found_quote(out: &mut String, bytes: &[u8]) -> Result<(), AllocError> {
-    out.push_str("found ")?;
-    push_quote(out, bytes)
 }
 
 fn push_in_line(out: &mut String, line: &[u8]) -> Result<(), AllocError> {
@@ -22,37 +62,29 @@ fn push_in_line(out: &mut String, line: &[u8]) -> Result<(), AllocError> {
     push_quote(out, line)
 }
 
-/// Appends a word that was found where the form has another one.
-fn push_word(
-    out: &mut String,
-    line: &[u8],
-    form: &str,
-    word: &[u8],
-    misfit: Misfit,
-) -> Result<(), AllocError> {
-    if word.is_empty() {
-        out.push_str("found a second space")?;
-        return push_in_line(out, line);
-    }
-    match misfit {
-        Misfit::Byte(at) => {
-            let (_, from) = word.split_at(at.min(word.len()));
-            let (byte, _) = from.split_at(from.len().min(1));
-            push_found_quote(out, byte)?;
-            push_in_line(out, line)
+/// Appends the line in which something was found, unless it can be understood without the rest.
+fn push_context(out: &mut String, line: &[u8], fault: &LineFault<'_>) -> Result<(), AllocError> {
+    let LineFault::Stops(fit) = fault else {
+        return Ok(());
+    };
+    match fit.stop {
+        _ if fit.is_of_line() => Ok(()),
+        Stop::Word {
+            misfit: Misfit::Whole,
+            ..
+        } if is_keyed(fit.form) => Ok(()),
+        Stop::Word { .. } => push_in_line(out, line),
+        Stop::Surplus => {
+            let (before, _) = line.split_at(fit.at.min(line.len()));
+            out.push_str(" after ")?;
+            push_quote(out, before)
         }
-        Misfit::Whole => {
-            push_found_quote(out, word)?;
-            if is_keyed(form) {
-                return Ok(());
-            }
-            push_in_line(out, line)
-        }
+        Stop::Missing(_) | Stop::Cut(_) | Stop::Nowhere => Ok(()),
     }
 }
 
-/// Appends what was found where a line departs from a form.
-fn push_stop(
+/// Appends that a line departs from a form at its end, or at a second space.
+fn push_missing(
     out: &mut String,
     line: &[u8],
     is_last: bool,
@@ -67,33 +99,31 @@ fn push_stop(
             })?;
             push_quote(out, line)
         }
-        _ if fit.is_of_line() => push_found_quote(out, line),
-        Stop::Word { word, misfit, .. } => push_word(out, line, fit.form, word, misfit),
-        Stop::Surplus => {
-            let (before, surplus) = line.split_at(fit.at.min(line.len()));
-            push_found_quote(out, surplus)?;
-            out.push_str(" after ")?;
-            push_quote(out, before)
+        Stop::Word { .. } | Stop::Surplus | Stop::Nowhere => {
+            out.push_str("found a second space")?;
+            push_in_line(out, line)
         }
-        Stop::Nowhere => push_found_quote(out, line),
     }
 }
 
 /// Appends what was found at a line.
 pub(crate) fn push_found(
     out: &mut String,
-    refusal: &Refusal,
+    refused: &Refused,
     fault: &LineFault<'_>,
 ) -> Result<(), AllocError> {
-    let line = refusal.line.as_slice();
+    let line = refused.misread.text.as_slice();
+    if let Some(bytes) = found_in(refused, fault) {
+        out.push_str("found ")?;
+        push_quote(out, bytes)?;
+        return push_context(out, line, fault);
+    }
     match fault {
-        LineFault::Ends if refusal.fault.line == 1 => out.push_str("the text is empty"),
+        LineFault::Ends if refused.line == 1 => out.push_str("the text is empty"),
         LineFault::Ends => out.push_str("the text ends here"),
         LineFault::Unended => out.push_str("the text ends in the middle of a line"),
         LineFault::Empty => out.push_str("found an empty line"),
-        LineFault::Stops(fit) => push_stop(out, line, refusal.is_last, fit),
-        LineFault::Memory | LineFault::Special(_) | LineFault::Rule | LineFault::Other => {
-            push_found_quote(out, line)
-        }
+        LineFault::Stops(fit) => push_missing(out, line, refused.misread.is_last, fit),
+        LineFault::Memory | LineFault::Special(_) | LineFault::Rule | LineFault::Other => Ok(()),
     }
 }

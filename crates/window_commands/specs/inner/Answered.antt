@@ -2,6 +2,11 @@
 use Rattle.std.specs.Prelude.{◌≡◌, ◌⊎◌, ℕ, Bool, true, false, List, Option, Some, None}
 use Rattle.std.specs.Global.{Vec}
 use Rattle.command_texts.specs.declared.answer.Answer.{Answer}
+use Rattle.command_texts.specs.Reasons.{IsRefusedAt, Place, place_of}
+use Rattle.recordings.specs.Recordings.{SpellsRecording}
+use Rattle.recordings.specs.declared.RecordingFault.TheVariants.{Line}
+use Rattle.window_cut.specs.declared.faults.CutFault.{CutFault}
+use Rattle.window_cut.specs.declared.faults.CutFault.TheVariants.{Recording}
 use Rattle.window_cut.specs.declared.pages.Window.{Window}
 use Rattle.window_cut.specs.declared.session.WindowText.{WindowText}
 use Rattle.window_cut.specs.Cuts.{IsCutOf}
@@ -30,3 +35,16 @@ pub record IsUnseen (w : Window) (recording : List ℕ) (answer : Answer) (table
 
 abbrev pub IsAnswered : Window → Bool → List ℕ → Answer → Option (Vec ℕ) → Type 0
 IsAnswered w lined recording answer table = IsSeen w lined recording answer table ⊎ IsUnseen w recording answer table
+
+-- the line at which the recording is refused, if that is the fault
+abbrev pub refused_line : CutFault → Option ℕ
+refused_line (Recording (Line line)) = Some line
+refused_line other = None
+
+-- the answer to the recording under a name, and the place at which it is refused, if it is and memory did not run out for
+-- what is told of it
+pub record IsAnsweredAt (w : Window) (lined : Bool) (name recording : List ℕ) (answer : Answer) (table : Option (Vec ℕ)) (place : Option Place) : Type 0 where
+  pub answered : IsAnswered w lined recording answer table
+  pub line : Option ℕ
+  pub is_line : IsRefusedAt SpellsRecording recording line
+  pub is_place : (place ≡ None) ⊎ (place ≡ place_of name line)

@@ -1,5 +1,5 @@
 use Rattle.recordings.proofs.Coming.{nothing_came}
-use Rattle.recordings.proofs.walk.Goals as goal
+use Rattle.recordings.proofs.walk_or_why.Goals as goal
 
 pub walk_through-requires-clause-came : goal.walk_through-requires-clause-came
 walk_through-requires-clause-came g c =
