@@ -70,7 +70,12 @@ pub(crate) fn slip_between(word: &[u8]) -> Option<Slip> {
 }
 
 /// Returns what is unusual about a word that does not fit a field of a form.
-pub(crate) fn slip_of(form: &str, field: FieldKind, word: &[u8], wanted: &WideWanted) -> Option<Slip> {
+pub(crate) fn slip_of(
+    form: &str,
+    field: FieldKind,
+    word: &[u8],
+    wanted: &WideWanted,
+) -> Option<Slip> {
     if let Some(slip) = slip_between(word) {
         return Some(slip);
     }

@@ -48,7 +48,11 @@ pub(crate) fn found_in<'a>(refused: &'a Refused, fault: &LineFault<'a>) -> Optio
             let (_, end) = line.split_at(line.len().saturating_sub(1));
             Some(end)
         }
-        LineFault::Memory | LineFault::Special(_) | LineFault::Ends | LineFault::Unended | LineFault::Empty => None,
+        LineFault::Memory
+        | LineFault::Special(_)
+        | LineFault::Ends
+        | LineFault::Unended
+        | LineFault::Empty => None,
     }
 }
 
