@@ -1,0 +1,5 @@
+pub mod Settled
+pub mod Kept
+pub mod Machine
+pub mod Faults
+pub mod Later
