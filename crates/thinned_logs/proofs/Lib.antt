@@ -3,3 +3,5 @@ pub mod Kept
 pub mod Machine
 pub mod Faults
 pub mod Later
+pub mod Names
+pub mod First

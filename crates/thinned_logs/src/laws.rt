@@ -1,16 +1,21 @@
 //! The laws of thinned logs.
 
-ghost use Rattle.std.specs.Prelude.{List, Bool, ◌↔◌};
+ghost use Rattle.std.specs.Prelude.{List, Bool, ℕ, ◌↔◌};
 ghost use Rattle.migration_types.specs.Sessions.{Recorded};
 ghost use Rattle.audit_model.specs.Faults.{HasNoPageFault};
+ghost use Rattle.page_facts.specs.PageFaults.{IsClean};
 ghost use Rattle.thinned_logs.specs.Thinned.{thinned, IsThinning};
-ghost use Rattle.thinned_logs.specs.ThinLaws.{KeepsFaults, FaultsAreLater};
+ghost use Rattle.thinned_logs.specs.ThinLaws.{KeepsFaults, FaultsAreLater, KeepsFirstFaults, FirstFaultsWere};
 
 /// A record that thinned logs keep has the same faults of its page as in the session, whatever the shape. Where one that
-/// they leave out has a fault, an earlier record of its page that they keep has one too. So thinned logs have no fault
-/// of a page exactly where the session has none.
+/// they leave out has a fault, an earlier record of its page that they keep has one too. So each page's first fault
+/// stays its first, at the same record, which has another number, and no other fault becomes a first one. A page is
+/// clean exactly where it was, and no record has a fault of its page exactly where none had.
 pub fn thinned_logs_keep_faults()
     ensures kept { (s : Recorded) (marks : List Bool) → IsThinning marks s → KeepsFaults marks s }
     ensures later { (s : Recorded) (marks : List Bool) → IsThinning marks s → FaultsAreLater marks s }
+    ensures first { (s : Recorded) (marks : List Bool) → IsThinning marks s → KeepsFirstFaults marks s }
+    ensures was_first { (s : Recorded) (marks : List Bool) → IsThinning marks s → FirstFaultsWere marks s }
+    ensures clean_page { (s : Recorded) (marks : List Bool) (page : ℕ) → IsThinning marks s → IsClean s page ↔ IsClean (thinned marks s) page }
     ensures clean { (s : Recorded) (marks : List Bool) → IsThinning marks s → HasNoPageFault s ↔ HasNoPageFault (thinned marks s) }
 {}
