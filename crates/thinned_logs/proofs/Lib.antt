@@ -5,3 +5,4 @@ pub mod Faults
 pub mod Later
 pub mod Names
 pub mod First
+pub mod Shape

@@ -80,10 +80,10 @@ precedes_from marks (l, m) (k, n) (inr both) =
     let h : log_index l ≡ log_index k = omega (arith, e, f, g) in
     inr (h, order_from marks l m n (subst (λ i. (thin_name marks (l, m)).1 < (thin_name marks (i, n)).1) (sym (same_by_index l k h)) both.1))
 
-same_mapped : {A B : Type 0} (f : A → A) (say : A → Option B) → ((x : A) → say (f x) ≡ say x) → (log : List A) (n : ℕ) → if_there say (slice_get (map f log) n) ≡ if_there say (slice_get log n)
-same_mapped {A} f say same log n = ap (if_there say) (slice_get-map f log n) ∙ go (slice_get log n)
+pub same_mapped : {A B : Type 0} (f : A → A) (say say' : A → Option B) → ((x : A) → say' (f x) ≡ say x) → (log : List A) (n : ℕ) → if_there say' (slice_get (map f log) n) ≡ if_there say (slice_get log n)
+same_mapped {A} f say say' same log n = ap (if_there say') (slice_get-map f log n) ∙ go (slice_get log n)
   where
-    go : (o : Option A) → if_there say (option_map f o) ≡ if_there say o
+    go : (o : Option A) → if_there say' (option_map f o) ≡ if_there say o
     go None = refl
     go (Some x) = same x
 
@@ -101,7 +101,7 @@ module _ (marks : List Bool) (s : Recorded) (thin : IsThinning marks s) where
       go : (o : Option GuestRec) → slice_get s.guest n ≡ o → if_there guest_page (slice_get (thinned marks s).guest (rank marks n)) ≡ if_there guest_page (slice_get s.guest n)
       go None is = absurd (is_there marks s.guest (aligned marks s thin) n mark is)
       go (Some x) is = ap (if_there guest_page) (kept_at marks s.guest n x is mark) ∙ sym (ap (if_there guest_page) is)
-  same_page (Source, n) mark = same_mapped (thin_source marks) source_page same s.source n
+  same_page (Source, n) mark = same_mapped (thin_source marks) source_page source_page same s.source n
     where
       same : (x : SourceRec) → source_page (thin_source marks x) ≡ source_page x
       same (Halted i) = refl
@@ -113,7 +113,7 @@ module _ (marks : List Bool) (s : Recorded) (thin : IsThinning marks s) where
       same Back = refl
   same_page (Link, n) mark = refl
   same_page (Lane, n) mark = refl
-  same_page (Pager, n) mark = same_mapped (thin_pager marks) pager_page same s.pager n
+  same_page (Pager, n) mark = same_mapped (thin_pager marks) pager_page pager_page same s.pager n
     where
       same : (x : PagerRec) → pager_page (thin_pager marks x) ≡ pager_page x
       same (Fault i) = refl

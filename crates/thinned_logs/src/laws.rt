@@ -2,6 +2,7 @@
 
 ghost use Rattle.std.specs.Prelude.{List, Bool, ℕ, ◌↔◌};
 ghost use Rattle.migration_types.specs.Sessions.{Recorded};
+ghost use Rattle.audit_model.specs.Shape.{IsRightShape};
 ghost use Rattle.audit_model.specs.Faults.{HasNoPageFault};
 ghost use Rattle.page_facts.specs.PageFaults.{IsClean};
 ghost use Rattle.thinned_logs.specs.Thinned.{thinned, IsThinning};
@@ -18,4 +19,9 @@ pub fn thinned_logs_keep_faults()
     ensures was_first { (s : Recorded) (marks : List Bool) → IsThinning marks s → FirstFaultsWere marks s }
     ensures clean_page { (s : Recorded) (marks : List Bool) (page : ℕ) → IsThinning marks s → IsClean s page ↔ IsClean (thinned marks s) page }
     ensures clean { (s : Recorded) (marks : List Bool) → IsThinning marks s → HasNoPageFault s ↔ HasNoPageFault (thinned marks s) }
+{}
+
+/// Thinned logs have the right shape exactly where the session has it.
+pub fn thinned_logs_keep_verdicts()
+    ensures right { (s : Recorded) (marks : List Bool) → IsThinning marks s → IsRightShape s ↔ IsRightShape (thinned marks s) }
 {}

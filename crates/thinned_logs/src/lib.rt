@@ -5,4 +5,4 @@
 
 mod laws;
 
-pub use laws::thinned_logs_keep_faults;
+pub use laws::{thinned_logs_keep_faults, thinned_logs_keep_verdicts};
