@@ -6,3 +6,7 @@ pub mod Later
 pub mod Names
 pub mod First
 pub mod Shape
+pub mod Ends
+pub mod Mergings
+pub mod Fits
+pub mod Safe

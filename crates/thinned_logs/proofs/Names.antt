@@ -39,14 +39,14 @@ renamed marks Lane n = refl
 renamed marks Pager n = refl
 
 -- names of kept records keep their order
-order_to : (marks : List Bool) (log : LogName) (m n : ℕ) → IsKept marks (log, m) → m < n → (thin_name marks (log, m)).1 < (thin_name marks (log, n)).1
+pub order_to : (marks : List Bool) (log : LogName) (m n : ℕ) → IsKept marks (log, m) → m < n → (thin_name marks (log, m)).1 < (thin_name marks (log, n)).1
 order_to marks Guest m n mark lt = rank_less marks m n mark lt
 order_to marks Source m n mark lt = lt
 order_to marks Link m n mark lt = lt
 order_to marks Lane m n mark lt = lt
 order_to marks Pager m n mark lt = lt
 
-order_from : (marks : List Bool) (log : LogName) (m n : ℕ) → (thin_name marks (log, m)).1 < (thin_name marks (log, n)).1 → m < n
+pub order_from : (marks : List Bool) (log : LogName) (m n : ℕ) → (thin_name marks (log, m)).1 < (thin_name marks (log, n)).1 → m < n
 order_from marks Guest m n lt = go (cases_lt m n)
   where
     go : (m < n) ⊎ (n ≤ m) → m < n

@@ -1,7 +1,10 @@
 //! The laws of thinned logs.
 
 ghost use Rattle.std.specs.Prelude.{List, Bool, ℕ, ◌↔◌};
-ghost use Rattle.migration_types.specs.Sessions.{Recorded};
+ghost use Rattle.migration_types.specs.Sessions.{Recorded, IsSession};
+ghost use Rattle.audit_model.specs.Fitting.{Fits};
+ghost use Rattle.audit_model.specs.World.{IsSafe};
+ghost use Rattle.audit_model.specs.Mergings.{HasMerging};
 ghost use Rattle.audit_model.specs.Shape.{IsRightShape};
 ghost use Rattle.audit_model.specs.Faults.{HasNoPageFault};
 ghost use Rattle.page_facts.specs.PageFaults.{IsClean};
@@ -21,7 +24,13 @@ pub fn thinned_logs_keep_faults()
     ensures clean { (s : Recorded) (marks : List Bool) → IsThinning marks s → HasNoPageFault s ↔ HasNoPageFault (thinned marks s) }
 {}
 
-/// Thinned logs have the right shape exactly where the session has it.
+/// Thinned logs have the right shape exactly where the session has it, and a merging exactly where it has one. They fit
+/// its machine if it does, and are a session if it is one. So if a session of any size fits its machine, has the right
+/// shape and has a merging, it is safe exactly if thinned logs of it are.
 pub fn thinned_logs_keep_verdicts()
     ensures right { (s : Recorded) (marks : List Bool) → IsThinning marks s → IsRightShape s ↔ IsRightShape (thinned marks s) }
+    ensures merges { (s : Recorded) (marks : List Bool) → IsThinning marks s → HasMerging s ↔ HasMerging (thinned marks s) }
+    ensures fits { (s : Recorded) (marks : List Bool) → IsThinning marks s → Fits s → Fits (thinned marks s) }
+    ensures session { (s : Recorded) (marks : List Bool) → IsThinning marks s → IsSession s → IsSession (thinned marks s) }
+    ensures safe { (s : Recorded) (marks : List Bool) → IsThinning marks s → Fits s → IsRightShape s → HasMerging s → IsSafe s ↔ IsSafe (thinned marks s) }
 {}
