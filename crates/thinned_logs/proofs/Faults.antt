@@ -1,5 +1,5 @@
 -- A page's faults with thinned logs.
-use Rattle.std.proofs.Common.{◌≡◌, ◌≢◌, ◌↔◌, ℕ, ◌≤◌, Bool, true, false, List, map, Option, Some, None, refl, sym, ap, ◌∙◌, subst, arith, eqb-true}
+use Rattle.std.proofs.Common.{◌≡◌, ◌≢◌, ◌↔◌, ℕ, ◌≤◌, Bool, true, false, List, length, map, Option, Some, None, refl, sym, ap, ◌∙◌, subst, arith, eqb-true}
 use Rattle.std.specs.Prelude.{slice_get}
 use Rattle.std.specs.Option.{option_map}
 use Rattle.std.proofs.lemmas.Option.{slice_get-map}
@@ -10,7 +10,9 @@ use Rattle.migration_types.specs.declared.records.SourceRec.{SourceRec}
 use Rattle.migration_types.specs.declared.records.SourceRec.TheVariants.{Send}
 use Rattle.migration_types.specs.declared.records.PagerRec.{PagerRec}
 use Rattle.migration_types.specs.declared.records.PagerRec.TheVariants.{Place, Zero}
+use Rattle.migration_types.specs.Paged.{guest_page, source_page, pager_page}
 use Rattle.migration_types.specs.Sessions.{Recorded}
+use Rattle.audit_model.specs.Names.{if_there}
 use Rattle.audit_model.specs.declared.reasons.PageReason.{PageReason}
 use Rattle.audit_model.specs.declared.reasons.PageReason.TheVariants.{Read as WrongRead, Early, Given, Stale, Twice, Altered, Unfit, Over}
 use Rattle.audit_model.specs.declared.home.Home.TheVariants.{AtTarget}
@@ -25,7 +27,7 @@ use Rattle.audit_model.proofs.Touched.{touched_access}
 use Rattle.audit_model.proofs.FirstTouch.{IsFirstTouch, first_touch_at}
 use Rattle.audit_model.proofs.Ranks.{kept_at, rank_up, rank_down}
 use Rattle.audit_model.proofs.WindowFaults.{is_there}
-use Rattle.thinned_logs.specs.Thinned.{thin_source, thin_pager, thinned, HasUsed, MayGo, IsThinning}
+use Rattle.thinned_logs.specs.Thinned.{thin_source, thin_pager, thinned, HasUsed, IsMisread, MayGo, IsThinning}
 use Rattle.thinned_logs.specs.ThinLaws.{KeepsFaults}
 use Rattle.thinned_logs.proofs.Kept.{aligned, kept_from, must_stay}
 use Rattle.thinned_logs.proofs.Machine.{same_home, same_freed, same_placed, same_looked, same_at_read, same_page_at_halt, same_ledger_at_halt}
@@ -125,49 +127,55 @@ module _ (marks : List Bool) (s : Recorded) (thin : IsThinning marks s) where
     },
   )
 
-  guest_fault : (reason : PageReason) (n : ℕ) (x : GuestRec) → slice_get s.guest n ≡ Some x → GuestFault s reason n x ↔ GuestFault (thinned marks s) reason (rank marks n) x
-  guest_fault WrongRead n (Read v p c value) is = by_same (λ y. value ≢ y) (same_at_read marks s thin n v p c value is)
-  guest_fault Early n x is = (λ h. (h.0, (early_same n h.0 x).0 h.1), λ h. (h.0, (early_same n h.0 x).1 h.1))
-  guest_fault WrongRead n x is = (λ h. absurd h, λ h. absurd h)
-  guest_fault reason n x is = (λ h. absurd h, λ h. absurd h)
+  guest_fault : (reason : PageReason) (n : ℕ) (x : GuestRec) → slice_get s.guest n ≡ Some x → ((page : ℕ) → guest_page x ≡ Some page → IsMisread s n page → ⊥) → GuestFault s reason n x ↔ GuestFault (thinned marks s) reason (rank marks n) x
+  guest_fault WrongRead n (Read v p c value) is free = by_same (λ y. value ≢ y) (same_at_read marks s thin n v p c value (free p refl) is)
+  guest_fault Early n x is free = (λ h. (h.0, (early_same n h.0 x).0 h.1), λ h. (h.0, (early_same n h.0 x).1 h.1))
+  guest_fault WrongRead n x is free = (λ h. absurd h, λ h. absurd h)
+  guest_fault reason n x is free = (λ h. absurd h, λ h. absurd h)
 
-  source_fault : (reason : PageReason) (x : SourceRec) → SourceFault s reason x ↔ SourceFault (thinned marks s) reason (thin_source marks x)
-  source_fault Given (Send p content) = by_same (λ b. b ≡ true) (same_ledger_at_halt marks s thin p)
-  source_fault Stale (Send p content) = by_same (λ ys. content ≢ ys) (same_page_at_halt marks s thin p)
-  source_fault Given x = (λ h. absurd h, λ h. absurd h)
-  source_fault Stale x = (λ h. absurd h, λ h. absurd h)
-  source_fault reason x = (λ h. absurd h, λ h. absurd h)
+  source_fault : (reason : PageReason) (x : SourceRec) → ((page : ℕ) → source_page x ≡ Some page → IsMisread s (length s.guest) page → ⊥) → SourceFault s reason x ↔ SourceFault (thinned marks s) reason (thin_source marks x)
+  source_fault Given (Send p content) free = by_same (λ b. b ≡ true) (same_ledger_at_halt marks s thin p (free p refl))
+  source_fault Stale (Send p content) free = by_same (λ ys. content ≢ ys) (same_page_at_halt marks s thin p (free p refl))
+  source_fault Given x free = (λ h. absurd h, λ h. absurd h)
+  source_fault Stale x free = (λ h. absurd h, λ h. absurd h)
+  source_fault reason x free = (λ h. absurd h, λ h. absurd h)
 
   over_fault : (page n : ℕ) → ((earlier (is_placement_of page) s.pager n ≡ false) × IsOver s page) ↔ ((earlier (is_placement_of page) (thinned marks s).pager n ≡ false) × IsOver (thinned marks s) page)
   over_fault page n = both_ways (by_same (λ b. b ≡ false) (same_placed marks s thin page n)) (over_to page, over_from page)
 
-  pager_fault : (reason : PageReason) (n : ℕ) (x : PagerRec) → PagerFault s reason n x ↔ PagerFault (thinned marks s) reason n (thin_pager marks x)
-  pager_fault Twice n (Place p got content) = by_same (λ b. b ≡ true) (same_placed marks s thin p n)
-  pager_fault Twice n (Zero p) = by_same (λ b. b ≡ true) (same_placed marks s thin p n)
-  pager_fault Altered n (Place p got content) = by_same (λ ys. content ≢ ys) (same_page_at_halt marks s thin p)
-  pager_fault Unfit n (Zero p) = by_same (λ b. b ≡ false) (same_ledger_at_halt marks s thin p)
-  pager_fault Over n (Place p got content) = over_fault p n
-  pager_fault Over n (Zero p) = over_fault p n
-  pager_fault Twice n x = (λ h. absurd h, λ h. absurd h)
-  pager_fault Altered n x = (λ h. absurd h, λ h. absurd h)
-  pager_fault Unfit n x = (λ h. absurd h, λ h. absurd h)
-  pager_fault Over n x = (λ h. absurd h, λ h. absurd h)
-  pager_fault reason n x = (λ h. absurd h, λ h. absurd h)
+  pager_fault : (reason : PageReason) (n : ℕ) (x : PagerRec) → ((page : ℕ) → pager_page x ≡ Some page → IsMisread s (length s.guest) page → ⊥) → PagerFault s reason n x ↔ PagerFault (thinned marks s) reason n (thin_pager marks x)
+  pager_fault Twice n (Place p got content) free = by_same (λ b. b ≡ true) (same_placed marks s thin p n)
+  pager_fault Twice n (Zero p) free = by_same (λ b. b ≡ true) (same_placed marks s thin p n)
+  pager_fault Altered n (Place p got content) free = by_same (λ ys. content ≢ ys) (same_page_at_halt marks s thin p (free p refl))
+  pager_fault Unfit n (Zero p) free = by_same (λ b. b ≡ false) (same_ledger_at_halt marks s thin p (free p refl))
+  pager_fault Over n (Place p got content) free = over_fault p n
+  pager_fault Over n (Zero p) free = over_fault p n
+  pager_fault Twice n x free = (λ h. absurd h, λ h. absurd h)
+  pager_fault Altered n x free = (λ h. absurd h, λ h. absurd h)
+  pager_fault Unfit n x free = (λ h. absurd h, λ h. absurd h)
+  pager_fault Over n x free = (λ h. absurd h, λ h. absurd h)
+  pager_fault reason n x free = (λ h. absurd h, λ h. absurd h)
 
-  mapped : {A : Type 0} (f : A → A) (fault fault' : A → Type 0) → ((x : A) → fault x ↔ fault' (f x)) → (log : List A) (n : ℕ) → if_fault fault (slice_get log n) ↔ if_fault fault' (slice_get (map f log) n)
-  mapped {A} f fault fault' same log n = subst (λ o. if_fault fault (slice_get log n) ↔ if_fault fault' o) (sym (slice_get-map f log n)) (go (slice_get log n))
+  mapped : {A : Type 0} (f : A → A) (fault fault' : A → Type 0) (log : List A) (n : ℕ) → ((x : A) → slice_get log n ≡ Some x → fault x ↔ fault' (f x)) → if_fault fault (slice_get log n) ↔ if_fault fault' (slice_get (map f log) n)
+  mapped {A} f fault fault' log n same = subst (λ o. if_fault fault (slice_get log n) ↔ if_fault fault' o) (sym (slice_get-map f log n)) (go (slice_get log n) refl)
     where
-      go : (o : Option A) → if_fault fault o ↔ if_fault fault' (option_map f o)
-      go None = (λ h. h, λ h. h)
-      go (Some x) = same x
+      go : (o : Option A) → slice_get log n ≡ o → if_fault fault o ↔ if_fault fault' (option_map f o)
+      go None is = (λ h. h, λ h. h)
+      go (Some x) is = same x is
 
   pub keeps_faults : KeepsFaults marks s
-  keeps_faults reason (Guest, n) mark = go (slice_get s.guest n) refl
+  keeps_faults reason (Guest, n) mark free = go (slice_get s.guest n) refl
     where
       go : (o : Option GuestRec) → slice_get s.guest n ≡ o → if_fault (GuestFault s reason n) o ↔ if_fault (GuestFault (thinned marks s) reason (rank marks n)) (slice_get (thinned marks s).guest (rank marks n))
       go None is = absurd (is_there marks s.guest (aligned marks s thin) n mark is)
-      go (Some x) is = subst (λ o. GuestFault s reason n x ↔ if_fault (GuestFault (thinned marks s) reason (rank marks n)) o) (sym (kept_at marks s.guest n x is mark)) (guest_fault reason n x is)
-  keeps_faults reason (Source, n) mark = mapped (thin_source marks) (SourceFault s reason) (SourceFault (thinned marks s) reason) (source_fault reason) s.source n
-  keeps_faults reason (Link, n) mark = (λ h. h, λ h. h)
-  keeps_faults reason (Lane, n) mark = (λ h. h, λ h. h)
-  keeps_faults reason (Pager, n) mark = mapped (thin_pager marks) (PagerFault s reason n) (PagerFault (thinned marks s) reason n) (pager_fault reason n) s.pager n
+      go (Some x) is =
+          let unread : (page : ℕ) → guest_page x ≡ Some page → IsMisread s n page → ⊥ = λ page mine bad. free (record { page = page; is_of = ap (if_there guest_page) is ∙ mine; is_misread = bad }) in
+          subst (λ o. GuestFault s reason n x ↔ if_fault (GuestFault (thinned marks s) reason (rank marks n)) o) (sym (kept_at marks s.guest n x is mark)) (guest_fault reason n x is unread)
+  keeps_faults reason (Source, n) mark free =
+      mapped (thin_source marks) (SourceFault s reason) (SourceFault (thinned marks s) reason) s.source n
+      (λ x is. source_fault reason x (λ page mine bad. free (record { page = page; is_of = ap (if_there source_page) is ∙ mine; is_misread = bad })))
+  keeps_faults reason (Link, n) mark free = (λ h. h, λ h. h)
+  keeps_faults reason (Lane, n) mark free = (λ h. h, λ h. h)
+  keeps_faults reason (Pager, n) mark free =
+      mapped (thin_pager marks) (PagerFault s reason n) (PagerFault (thinned marks s) reason n) s.pager n
+      (λ x is. pager_fault reason n x (λ page mine bad. free (record { page = page; is_of = ap (if_there pager_page) is ∙ mine; is_misread = bad })))

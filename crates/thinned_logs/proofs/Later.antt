@@ -1,5 +1,5 @@
 -- A fault that is left out comes after one of its page that is kept; and what is clean.
-use Rattle.std.proofs.Common.{◌≡◌, ◌↔◌, ℕ, zero, suc, ◌<◌, ◌≤◌, ◌⊎◌, inl, inr, Bool, true, false, List, Option, Some, None, refl, sym, ap, ◌∙◌, subst, arith, eqb-true, eq-eqb}
+use Rattle.std.proofs.Common.{◌≡◌, ◌↔◌, ℕ, ◌<◌, ◌⊎◌, inl, inr, Bool, true, false, List, Option, Some, None, refl, sym, ap, ◌∙◌, subst, arith, eqb-true, eq-eqb}
 use Rattle.std.specs.Prelude.{slice_get}
 use Rattle.migration_types.specs.declared.records.LogName.TheVariants.{Guest, Source, Link, Lane, Pager}
 use Rattle.migration_types.specs.declared.records.GuestRec.{GuestRec}
@@ -16,10 +16,11 @@ use Rattle.audit_model.specs.Faults.{IsEarly, GuestFault, if_fault, IsPageFault,
 use Rattle.audit_model.specs.Windows.{rank}
 use Rattle.audit_model.proofs.Touched.{access_touches, touched_access, freed_by, freed_true}
 use Rattle.audit_model.proofs.FirstTouch.{IsFirstTouch, first_touch_at}
-use Rattle.page_facts.specs.PageFaults.{page_at}
+use Rattle.page_facts.specs.PageFaults.{page_at, Precedes}
 use Rattle.thinned_logs.specs.Thinned.{thinned, thin_name, IsKept, IsMisread, MayGo, IsThinning}
-use Rattle.thinned_logs.specs.ThinLaws.{HasKeptFault, FaultsAreLater}
+use Rattle.thinned_logs.specs.ThinLaws.{WasMisread, HasKeptFault, FaultsAreLater}
 use Rattle.thinned_logs.proofs.Kept.{kept_from, kept_or_gone}
+use Rattle.thinned_logs.proofs.Misread.{Shows, misread_shows}
 use Rattle.thinned_logs.proofs.Faults.{false_unless, not_looked_before, used_before, first_is_kept, keeps_faults}
 
 access_page : (q : ℕ) (x : GuestRec) → is_access_of q x ≡ true → guest_page x ≡ Some q
@@ -39,41 +40,19 @@ guest_fault_page s reason n h = go reason (slice_get s.guest n) h
     go reason (Some x) h = absurd h
 
 module _ (marks : List Bool) (s : Recorded) (thin : IsThinning marks s) where
-  -- a fault before a place is one before each later place
-  farther : (m n page : ℕ) → m ≤ n → HasKeptFault marks s m page → HasKeptFault marks s n page
-  farther m n page le f = record {
-    place = f.place;
-    reason = f.reason;
-    is_earlier = omega (arith, le, f.is_earlier);
-    is_kept = f.is_kept;
-    is_of = f.is_of;
-    is_fault = f.is_fault;
-  }
-
-  misread_is_kept : (bound n page : ℕ) → n ≤ bound → IsMisread s n page → HasKeptFault marks s n page
-  misread_is_kept zero n page le m = absurd (omega (arith, le, m.is_earlier))
-  misread_is_kept (suc bound) n page le m = go (λ k lt before. misread_is_kept bound k page lt before) (kept_or_gone marks s thin m.place (Read m.vcpu page m.cell m.value) m.stands)
+  misread_is_kept : (n page : ℕ) → IsMisread s n page → HasKeptFault marks s n page
+  misread_is_kept n page bad = let f = misread_shows marks s thin (Guest, n) page bad in at f f.is_before
     where
-      earlier_one : MayGo marks s m.place (Read m.vcpu page m.cell m.value) → IsMisread s m.place page
-      earlier_one h = at h.1
-        where
-          at : (m.value ≡ flat s m.place page m.cell) ⊎ IsMisread s m.place page → IsMisread s m.place page
-          at (inl e) = absurd (m.is_wrong e)
-          at (inr before) = before
-
-      go : ((k : ℕ) → k ≤ bound → IsMisread s k page → HasKeptFault marks s k page) → (slice_get marks m.place ≡ Some true) ⊎ (slice_get marks m.place ≡ Some false) → HasKeptFault marks s n page
-      go rec (inl mark) = record {
-        place = m.place;
+      at : (f : Shows marks s (Guest, n) page) → Precedes (Guest, f.place) (Guest, n) → HasKeptFault marks s n page
+      at f (inl lt) = absurd (omega (arith, lt))
+      at f (inr before) = record {
+        place = f.place;
         reason = WrongRead;
-        is_earlier = m.is_earlier;
-        is_kept = mark;
-        is_of = ap (if_there guest_page) m.stands;
-        is_fault = subst (λ o. if_fault (GuestFault s WrongRead m.place) o) (sym m.stands) m.is_wrong;
+        is_earlier = before.1;
+        is_kept = f.is_kept;
+        is_of = f.is_of;
+        is_fault = f.is_fault;
       }
-      go rec (inr gone) =
-          let before = earlier_one (thin.may_go m.place (Read m.vcpu page m.cell m.value) m.stands gone) in
-          let lt = m.is_earlier in
-          farther m.place n page (omega (arith, lt)) (rec m.place (omega (arith, le, lt)) before)
 
   -- an early use that goes comes after its page's first use, which is early too
   early_is_kept : (n page : ℕ) (x : GuestRec) → MayGo marks s n x → IsEarly s n x page → HasKeptFault marks s n page
@@ -127,7 +106,7 @@ module _ (marks : List Bool) (s : Recorded) (thin : IsThinning marks s) where
         where
           at : (y ≡ flat s n p c) ⊎ IsMisread s n p → HasKeptFault marks s n page
           at (inl e) = absurd (differs e)
-          at (inr before) = let same : p ≡ page = cc in subst (λ q. HasKeptFault marks s n q) same (misread_is_kept n n p (omega arith) before)
+          at (inr before) = let same : p ≡ page = cc in subst (λ q. HasKeptFault marks s n q) same (misread_is_kept n p before)
 
       go : (reason : PageReason) (o : Option GuestRec) → slice_get s.guest n ≡ o → if_there guest_page o ≡ Some page → if_fault (GuestFault s reason n) o → HasKeptFault marks s n page
       go reason None is mine h = absurd h
@@ -151,13 +130,18 @@ module _ (marks : List Bool) (s : Recorded) (thin : IsThinning marks s) where
   clean_to : HasNoPageFault s → HasNoPageFault (thinned marks s)
   clean_to clean reason name fault =
       let old = fault_from reason name fault in
-      clean reason old.0 ((keeps_faults marks s thin reason old.0 old.1).1 (subst (λ k. IsPageFault (thinned marks s) reason k) (sym old.2) fault))
+      let free : WasMisread s old.0 → ⊥ = λ was. let f = misread_shows marks s thin old.0 was.page was.is_misread in clean WrongRead (Guest, f.place) f.is_fault in
+      clean reason old.0 ((keeps_faults marks s thin reason old.0 old.1 free).1 (subst (λ k. IsPageFault (thinned marks s) reason k) (sym old.2) fault))
+
+  -- where thinned logs are clean, no page was misread
+  none_misread : HasNoPageFault (thinned marks s) → (name : Name) → WasMisread s name → ⊥
+  none_misread clean name was = let f = misread_shows marks s thin name was.page was.is_misread in clean WrongRead (Guest, rank marks f.place) f.is_thin_fault
 
   clean_from : HasNoPageFault (thinned marks s) → HasNoPageFault s
   clean_from clean reason (Guest, n) fault = go (slice_get s.guest n) refl
     where
       by_kept : (r : PageReason) (k : ℕ) → slice_get marks k ≡ Some true → IsPageFault s r (Guest, k) → ⊥
-      by_kept r k mark f = clean r (Guest, rank marks k) ((keeps_faults marks s thin r (Guest, k) mark).0 f)
+      by_kept r k mark f = clean r (Guest, rank marks k) ((keeps_faults marks s thin r (Guest, k) mark (none_misread clean (Guest, k))).0 f)
 
       by_mark : (slice_get marks n ≡ Some true) ⊎ (slice_get marks n ≡ Some false) → ⊥
       by_mark (inl mark) = by_kept reason n mark fault
@@ -169,10 +153,10 @@ module _ (marks : List Bool) (s : Recorded) (thin : IsThinning marks s) where
       go : (o : Option GuestRec) → slice_get s.guest n ≡ o → ⊥
       go None is = subst (λ o. if_fault (GuestFault s reason n) o) is fault
       go (Some x) is = by_mark (kept_or_gone marks s thin n x is)
-  clean_from clean reason (Source, n) fault = clean reason (Source, n) ((keeps_faults marks s thin reason (Source, n) tt).0 fault)
+  clean_from clean reason (Source, n) fault = clean reason (Source, n) ((keeps_faults marks s thin reason (Source, n) tt (none_misread clean (Source, n))).0 fault)
   clean_from clean reason (Link, n) fault = fault
   clean_from clean reason (Lane, n) fault = fault
-  clean_from clean reason (Pager, n) fault = clean reason (Pager, n) ((keeps_faults marks s thin reason (Pager, n) tt).0 fault)
+  clean_from clean reason (Pager, n) fault = clean reason (Pager, n) ((keeps_faults marks s thin reason (Pager, n) tt (none_misread clean (Pager, n))).0 fault)
 
   pub same_clean : HasNoPageFault s ↔ HasNoPageFault (thinned marks s)
   same_clean = (clean_to, clean_from)

@@ -2,6 +2,7 @@ pub mod Settled
 pub mod Kept
 pub mod Machine
 pub mod Faults
+pub mod Misread
 pub mod Later
 pub mod Names
 pub mod First

@@ -2,6 +2,7 @@
 use Rattle.std.proofs.Common.{◌≡◌, ℕ, zero, suc, ◌<◌, ◌≤◌, ◌⊎◌, inl, inr, ◌==◌, ◌&&◌, ◌||◌, Bool, true, false, cond, List, [], ◌∷◌, length, map, Option, Some, None, refl, sym, ap, ◌∙◌, subst, arith, eqb-true, eq-eqb}
 use Rattle.std.specs.Prelude.{slice_get, is_some}
 use Rattle.std.specs.List.{range_with_len}
+use Rattle.std.proofs.lemmas.Option.{slice_get_within}
 use Rattle.std.proofs.lemmas.Bool.{and_parts, and_from, cases_lt}
 use Rattle.migration_types.specs.declared.records.GuestRec.{GuestRec}
 use Rattle.migration_types.specs.declared.records.GuestRec.TheVariants.{Read, Write, Release, Miss, Halt, Resume, See}
@@ -15,7 +16,7 @@ use Rattle.audit_model.specs.Shape.{is_halt, is_placement_of, earlier}
 use Rattle.audit_model.specs.Faults.{looks_at, has_looked}
 use Rattle.audit_model.specs.Windows.{kept_in, tallied, rank}
 use Rattle.audit_model.proofs.Ranks.{Aligned, rank_cons, kept_at}
-use Rattle.thinned_logs.specs.Thinned.{thin_pager, thinned, decides, shows, MayGo, IsRepeated, IsOverwritten, IsThinning}
+use Rattle.thinned_logs.specs.Thinned.{thin_pager, thinned, decides, shows, MayGo, IsRepeated, IsOverwritten, IsMisread, IsThinning}
 use Rattle.thinned_logs.proofs.Settled.{IsSettled, agrees_at, agrees_behind}
 use Rattle.thinned_logs.proofs.Kept.{fold_thin, earlier_map, gone_home, gone_freed, gone_look, aligned, must_stay}
 
@@ -120,6 +121,29 @@ module _ (marks : List Bool) (s : Recorded) (n page cell : ℕ) (over : IsOverwr
     is_unseen = λ k r le to is. no_halt page cell r (unseen_to k r le to is);
   }
 
+-- a page misread before a place was misread before each later one, and before the log's end
+pub misread_later : (s : Recorded) (m n page : ℕ) → m ≤ n → IsMisread s m page → IsMisread s n page
+misread_later s m n page le bad = record {
+  place = bad.place;
+  vcpu = bad.vcpu;
+  cell = bad.cell;
+  value = bad.value;
+  is_earlier = omega (arith, le, bad.is_earlier);
+  stands = bad.stands;
+  is_wrong = bad.is_wrong;
+}
+
+pub misread_at_all : (s : Recorded) (n page : ℕ) → IsMisread s n page → IsMisread s (length s.guest) page
+misread_at_all s n page bad = record {
+  place = bad.place;
+  vcpu = bad.vcpu;
+  cell = bad.cell;
+  value = bad.value;
+  is_earlier = slice_get_within s.guest bad.place (Read bad.vcpu page bad.cell bad.value) bad.stands;
+  stands = bad.stands;
+  is_wrong = bad.is_wrong;
+}
+
 module _ (marks : List Bool) (s : Recorded) (thin : IsThinning marks s) where
   pub same_home : (n : ℕ) → home (thinned marks s) (rank marks n) ≡ home s n
   same_home n = fold_thin marks s.guest home_after home_after AtSource (aligned marks s thin) (λ m x v is mark. refl) (λ m x v is mark. gone_home marks s m x v (thin.may_go m x is mark)) n
@@ -173,15 +197,18 @@ module _ (marks : List Bool) (s : Recorded) (thin : IsThinning marks s) where
       n
 
   -- what a record that goes does to a cell
-  gone_cell : (page cell n : ℕ) (x : GuestRec) → slice_get s.guest n ≡ Some x → slice_get marks n ≡ Some false → (flat s n page cell ≡ cell_after page cell x (flat s n page cell)) ⊎ IsSettled marks s.guest (cell_after page cell) (shows page cell) (suc n)
-  gone_cell page cell n x is mark = go x (thin.may_go n x is mark)
+  gone_cell : (page cell bound : ℕ) → (IsMisread s bound page → ⊥) → (n : ℕ) (x : GuestRec) → n < bound → slice_get s.guest n ≡ Some x → slice_get marks n ≡ Some false → (flat s n page cell ≡ cell_after page cell x (flat s n page cell)) ⊎ IsSettled marks s.guest (cell_after page cell) (shows page cell) (suc n)
+  gone_cell page cell bound free n x lt is mark = go x (thin.may_go n x is mark)
     where
-      write : (p c y : ℕ) → IsRepeated s n p c y ⊎ IsOverwritten marks s n p c → (b : Bool) → ((p == page) && (c == cell)) ≡ b → (flat s n page cell ≡ cond b y (flat s n page cell)) ⊎ IsSettled marks s.guest (cell_after page cell) (shows page cell) (suc n)
+      write : (p c y : ℕ) → IsRepeated s n p c y ⊎ (IsOverwritten marks s n p c ⊎ IsMisread s n p) → (b : Bool) → ((p == page) && (c == cell)) ≡ b → (flat s n page cell ≡ cond b y (flat s n page cell)) ⊎ IsSettled marks s.guest (cell_after page cell) (shows page cell) (suc n)
       write p c y h false e = inl refl
       write p c y (inl repeated) true e =
           let both = and_parts (p == page) (c == cell) e in
           inl (sym (repeated.is_flat ∙ ap (λ q. flat s n q c) (eqb-true p page both.0) ∙ ap (flat s n page) (eqb-true c cell both.1)))
-      write p c y (inr over) true e =
+      write p c y (inr (inr bad)) true e =
+          let both = and_parts (p == page) (c == cell) e in
+          absurd (free (misread_later s n bound page (omega (arith, lt)) (subst (λ q. IsMisread s n q) (eqb-true p page both.0) bad)))
+      write p c y (inr (inl over)) true e =
           let both = and_parts (p == page) (c == cell) e in
           inr (cell_settled marks s n page cell (subst (λ d. IsOverwritten marks s n page d) (eqb-true c cell both.1) (subst (λ q. IsOverwritten marks s n q c) (eqb-true p page both.0) over)))
 
@@ -194,13 +221,14 @@ module _ (marks : List Bool) (s : Recorded) (thin : IsThinning marks s) where
       go (Resume i) h = absurd h
       go (See i) h = absurd h
 
-  gone_ledger : (page n : ℕ) (x : GuestRec) → slice_get s.guest n ≡ Some x → slice_get marks n ≡ Some false → (in_ledger s n page ≡ released_after page x (in_ledger s n page)) ⊎ IsSettled marks s.guest (released_after page) is_halt (suc n)
-  gone_ledger page n x is mark = go x (thin.may_go n x is mark)
+  gone_ledger : (page bound : ℕ) → (IsMisread s bound page → ⊥) → (n : ℕ) (x : GuestRec) → n < bound → slice_get s.guest n ≡ Some x → slice_get marks n ≡ Some false → (in_ledger s n page ≡ released_after page x (in_ledger s n page)) ⊎ IsSettled marks s.guest (released_after page) is_halt (suc n)
+  gone_ledger page bound free n x lt is mark = go x (thin.may_go n x is mark)
     where
-      write : (p c y : ℕ) → IsRepeated s n p c y ⊎ IsOverwritten marks s n p c → (b : Bool) → (p == page) ≡ b → (in_ledger s n page ≡ cond b false (in_ledger s n page)) ⊎ IsSettled marks s.guest (released_after page) is_halt (suc n)
+      write : (p c y : ℕ) → IsRepeated s n p c y ⊎ (IsOverwritten marks s n p c ⊎ IsMisread s n p) → (b : Bool) → (p == page) ≡ b → (in_ledger s n page ≡ cond b false (in_ledger s n page)) ⊎ IsSettled marks s.guest (released_after page) is_halt (suc n)
       write p c y h false e = inl refl
       write p c y (inl repeated) true e = inl (ap (in_ledger s n) (sym (eqb-true p page e)) ∙ repeated.is_owed)
-      write p c y (inr over) true e = inr (ledger_settled marks s n page c (subst (λ q. IsOverwritten marks s n q c) (eqb-true p page e) over))
+      write p c y (inr (inr bad)) true e = absurd (free (misread_later s n bound page (omega (arith, lt)) (subst (λ q. IsMisread s n q) (eqb-true p page e) bad)))
+      write p c y (inr (inl over)) true e = inr (ledger_settled marks s n page c (subst (λ q. IsOverwritten marks s n q c) (eqb-true p page e) over))
 
       go : (x : GuestRec) → MayGo marks s n x → (in_ledger s n page ≡ released_after page x (in_ledger s n page)) ⊎ IsSettled marks s.guest (released_after page) is_halt (suc n)
       go (Read v p c y) h = inl refl
@@ -212,30 +240,30 @@ module _ (marks : List Bool) (s : Recorded) (thin : IsThinning marks s) where
       go (See i) h = absurd h
 
   -- a read finds the flat machine's cell as it was
-  pub same_at_read : (n v page cell y : ℕ) → slice_get s.guest n ≡ Some (Read v page cell y) → flat (thinned marks s) (rank marks n) page cell ≡ flat s n page cell
-  same_at_read n v page cell y is =
-      agrees_at marks s.guest (cell_after page cell) (shows page cell) (initial s.init page cell) (aligned marks s thin) (gone_cell page cell) n (Read v page cell y) is
+  pub same_at_read : (n v page cell y : ℕ) → (IsMisread s n page → ⊥) → slice_get s.guest n ≡ Some (Read v page cell y) → flat (thinned marks s) (rank marks n) page cell ≡ flat s n page cell
+  same_at_read n v page cell y free is =
+      agrees_at marks s.guest (cell_after page cell) (shows page cell) (initial s.init page cell) (aligned marks s thin) n (gone_cell page cell n free) n (Read v page cell y) (omega arith) is
       (and_from (page == page) (cell == cell) (eq-eqb page page refl) (eq-eqb cell cell refl))
 
   pub same_halt : at_halt (thinned marks s) ≡ rank marks (at_halt s)
   same_halt = halt_place_thin marks s.guest (aligned marks s thin) (λ n is. must_stay marks s thin n Halt is (λ h. h))
 
   -- and so do the halt and the source's sends
-  flat_at_halt : (page cell : ℕ) → flat (thinned marks s) (at_halt (thinned marks s)) page cell ≡ flat s (at_halt s) page cell
-  flat_at_halt page cell = ap (λ n. flat (thinned marks s) n page cell) same_halt ∙ go (halt_or_end s.guest)
+  flat_at_halt : (page cell : ℕ) → (IsMisread s (length s.guest) page → ⊥) → flat (thinned marks s) (at_halt (thinned marks s)) page cell ≡ flat s (at_halt s) page cell
+  flat_at_halt page cell free = ap (λ n. flat (thinned marks s) n page cell) same_halt ∙ go (halt_or_end s.guest)
     where
       go : (slice_get s.guest (halt_place s.guest) ≡ Some Halt) ⊎ (length s.guest ≤ halt_place s.guest) → flat (thinned marks s) (rank marks (at_halt s)) page cell ≡ flat s (at_halt s) page cell
-      go (inl is) = agrees_at marks s.guest (cell_after page cell) (shows page cell) (initial s.init page cell) (aligned marks s thin) (gone_cell page cell) (at_halt s) Halt is refl
-      go (inr le) = agrees_behind marks s.guest (cell_after page cell) (shows page cell) (initial s.init page cell) (aligned marks s thin) (gone_cell page cell) (at_halt s) le
+      go (inl is) = agrees_at marks s.guest (cell_after page cell) (shows page cell) (initial s.init page cell) (aligned marks s thin) (at_halt s) (gone_cell page cell (at_halt s) (λ bad. free (misread_at_all s (at_halt s) page bad))) (at_halt s) Halt (omega arith) is refl
+      go (inr le) = agrees_behind marks s.guest (cell_after page cell) (shows page cell) (initial s.init page cell) (aligned marks s thin) (at_halt s) (gone_cell page cell (at_halt s) (λ bad. free (misread_at_all s (at_halt s) page bad))) (at_halt s) (omega arith) le
 
-  pub same_page_at_halt : (page : ℕ) → page_of s.geometry.cells (flat (thinned marks s) (at_halt (thinned marks s))) page ≡ page_of s.geometry.cells (flat s (at_halt s)) page
-  same_page_at_halt page =
-      let same : flat (thinned marks s) (at_halt (thinned marks s)) page ≡ flat s (at_halt s) page = λ j d. flat_at_halt page d j in
+  pub same_page_at_halt : (page : ℕ) → (IsMisread s (length s.guest) page → ⊥) → page_of s.geometry.cells (flat (thinned marks s) (at_halt (thinned marks s))) page ≡ page_of s.geometry.cells (flat s (at_halt s)) page
+  same_page_at_halt page free =
+      let same : flat (thinned marks s) (at_halt (thinned marks s)) page ≡ flat s (at_halt s) page = λ j d. flat_at_halt page d free j in
       ap (λ f. map f (range_with_len 0 s.geometry.cells)) same
 
-  pub same_ledger_at_halt : (page : ℕ) → in_ledger (thinned marks s) (at_halt (thinned marks s)) page ≡ in_ledger s (at_halt s) page
-  same_ledger_at_halt page = ap (λ n. in_ledger (thinned marks s) n page) same_halt ∙ go (halt_or_end s.guest)
+  pub same_ledger_at_halt : (page : ℕ) → (IsMisread s (length s.guest) page → ⊥) → in_ledger (thinned marks s) (at_halt (thinned marks s)) page ≡ in_ledger s (at_halt s) page
+  same_ledger_at_halt page free = ap (λ n. in_ledger (thinned marks s) n page) same_halt ∙ go (halt_or_end s.guest)
     where
       go : (slice_get s.guest (halt_place s.guest) ≡ Some Halt) ⊎ (length s.guest ≤ halt_place s.guest) → in_ledger (thinned marks s) (rank marks (at_halt s)) page ≡ in_ledger s (at_halt s) page
-      go (inl is) = agrees_at marks s.guest (released_after page) is_halt false (aligned marks s thin) (gone_ledger page) (at_halt s) Halt is refl
-      go (inr le) = agrees_behind marks s.guest (released_after page) is_halt false (aligned marks s thin) (gone_ledger page) (at_halt s) le
+      go (inl is) = agrees_at marks s.guest (released_after page) is_halt false (aligned marks s thin) (at_halt s) (gone_ledger page (at_halt s) (λ bad. free (misread_at_all s (at_halt s) page bad))) (at_halt s) Halt (omega arith) is refl
+      go (inr le) = agrees_behind marks s.guest (released_after page) is_halt false (aligned marks s thin) (at_halt s) (gone_ledger page (at_halt s) (λ bad. free (misread_at_all s (at_halt s) page bad))) (at_halt s) (omega arith) le

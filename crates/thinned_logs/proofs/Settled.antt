@@ -39,10 +39,10 @@ module _ {A V : Type 0} (marks : List Bool) (log : List A) (change : A → V →
       go (inl lt) = inr lt
       go (inr le) = let more = settled.is_later in inl (omega (arith, le, more))
 
-  module _ (aligned : Aligned marks log) (gone : (n : ℕ) (x : A) → slice_get log n ≡ Some x → slice_get marks n ≡ Some false → (before change start log n ≡ change x (before change start log n)) ⊎ IsSettled marks log change shows (suc n)) where
-    pub agrees_or_settled : (n : ℕ) → (before change start (kept_in marks log) (rank marks n) ≡ before change start log n) ⊎ IsSettled marks log change shows n
-    agrees_or_settled zero = inl refl
-    agrees_or_settled (suc n) = go (slice_get marks n) refl (slice_get log n) refl (agrees_or_settled n)
+  module _ (aligned : Aligned marks log) (bound : ℕ) (gone : (n : ℕ) (x : A) → n < bound → slice_get log n ≡ Some x → slice_get marks n ≡ Some false → (before change start log n ≡ change x (before change start log n)) ⊎ IsSettled marks log change shows (suc n)) where
+    pub agrees_or_settled : (n : ℕ) → n ≤ bound → (before change start (kept_in marks log) (rank marks n) ≡ before change start log n) ⊎ IsSettled marks log change shows n
+    agrees_or_settled zero le = inl refl
+    agrees_or_settled (suc n) le = go (slice_get marks n) refl (slice_get log n) refl (agrees_or_settled n (omega (arith, le)))
       where
         Kept : V
         Kept = before change start (kept_in marks log) (rank marks n)
@@ -79,20 +79,20 @@ module _ {A V : Type 0} (marks : List Bool) (log : List A) (change : A → V →
         go (Some m) a None b h = let f : true ≡ false = sym (ap is_some a) ∙ aligned n ∙ ap is_some b in absurd (cc)
         go (Some true) a (Some x) b (inl e) = inl (next_kept x b a ∙ ap (change x) e)
         go (Some true) a (Some x) b (inr settled) = by_kept x b a settled (at_or_later n settled)
-        go (Some false) a (Some x) b (inl e) = first_gone x e (gone n x b a)
+        go (Some false) a (Some x) b (inl e) = first_gone x e (gone n x (omega (arith, le)) b a)
         go (Some false) a (Some x) b (inr settled) = inr (by_gone x b a settled (at_or_later n settled))
 
     -- so it is the same where a record shows it
-    pub agrees_at : (n : ℕ) (x : A) → slice_get log n ≡ Some x → shows x ≡ true → before change start (kept_in marks log) (rank marks n) ≡ before change start log n
-    agrees_at n x is e = go (agrees_or_settled n)
+    pub agrees_at : (n : ℕ) (x : A) → n ≤ bound → slice_get log n ≡ Some x → shows x ≡ true → before change start (kept_in marks log) (rank marks n) ≡ before change start log n
+    agrees_at n x most is e = go (agrees_or_settled n most)
       where
         go : (before change start (kept_in marks log) (rank marks n) ≡ before change start log n) ⊎ IsSettled marks log change shows n → before change start (kept_in marks log) (rank marks n) ≡ before change start log n
         go (inl same) = same
         go (inr settled) = let f = settled.is_unseen n x (omega arith) settled.is_later is in absurd (cc)
 
     -- and behind the log's end
-    pub agrees_behind : (n : ℕ) → length log ≤ n → before change start (kept_in marks log) (rank marks n) ≡ before change start log n
-    agrees_behind n le = go (agrees_or_settled n)
+    pub agrees_behind : (n : ℕ) → n ≤ bound → length log ≤ n → before change start (kept_in marks log) (rank marks n) ≡ before change start log n
+    agrees_behind n most le = go (agrees_or_settled n most)
       where
         go : (before change start (kept_in marks log) (rank marks n) ≡ before change start log n) ⊎ IsSettled marks log change shows n → before change start (kept_in marks log) (rank marks n) ≡ before change start log n
         go (inl same) = same

@@ -1,5 +1,5 @@
 -- What thinned logs keep of a session.
-use Rattle.std.specs.Prelude.{◌≡◌, ◌↔◌, ℕ, ◌<◌, true, false, List, Bool, Some, slice_get}
+use Rattle.std.specs.Prelude.{◌≡◌, ◌↔◌, ℕ, ◌<◌, true, false, List, length, Bool, Some, slice_get}
 use Rattle.migration_types.specs.declared.records.LogName.TheVariants.{Guest}
 use Rattle.migration_types.specs.Receipts.{Name}
 use Rattle.migration_types.specs.Sessions.{Recorded}
@@ -7,12 +7,25 @@ use Rattle.audit_model.specs.declared.reasons.PageReason.{PageReason}
 use Rattle.audit_model.specs.Faults.{IsPageFault}
 use Rattle.page_facts.specs.declared.page_fault.PageFault.{PageFault}
 use Rattle.page_facts.specs.PageFaults.{page_at, IsFirstFault}
-use Rattle.thinned_logs.specs.Thinned.{thinned, thin_name, IsKept}
+use Rattle.thinned_logs.specs.Thinned.{thinned, thin_name, IsKept, IsMisread}
 
--- a record that is kept has a fault of its page exactly when it has that fault in the session, for the same reason
+-- a read of the page before the record with this name gives another value than one machine that never moved would; the
+-- guest's records are before those of the other logs
+abbrev pub IsMisreadBefore : Recorded → Name → ℕ → Type 0
+IsMisreadBefore s (Guest, n) page = IsMisread s n page
+IsMisreadBefore s name page = IsMisread s (length s.guest) page
+
+-- the page of the record was misread before it
+pub record WasMisread (s : Recorded) (name : Name) : Type 0 where
+  pub page : ℕ
+  pub is_of : page_at s name ≡ Some page
+  pub is_misread : IsMisreadBefore s name page
+
+-- a record that is kept, and whose page was not misread before it, has a fault of its page exactly when it has that
+-- fault in the session, for the same reason
 abbrev pub KeepsFaults : List Bool → Recorded → Type 0
 KeepsFaults marks s =
-    (reason : PageReason) (name : Name) → IsKept marks name →
+    (reason : PageReason) (name : Name) → IsKept marks name → (WasMisread s name → ⊥) →
     IsPageFault s reason name ↔ IsPageFault (thinned marks s) reason (thin_name marks name)
 
 -- a fault of the page before guest record n, at a record that is kept

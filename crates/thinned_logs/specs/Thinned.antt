@@ -91,11 +91,11 @@ pub record IsRepeated (s : Recorded) (n page cell value : ℕ) : Type 0 where
   pub is_flat : value ≡ flat s n page cell
   pub is_owed : in_ledger s n page ≡ false
 
--- Guest record n may be left out. It reads what its cell has, or its page was misread before; or it writes what its
--- cell has, or what is overwritten before it shows. It is not its page's first use at the target.
+-- Guest record n may be left out. It reads or writes what its cell has, or writes what is overwritten before it shows, or
+-- its page was misread before. It is not its page's first use at the target.
 abbrev pub MayGo : List Bool → Recorded → ℕ → GuestRec → Type 0
 MayGo marks s n (Read vcpu p c value) = HasUsed (home s n) (touched s n p) × ((value ≡ flat s n p c) ⊎ IsMisread s n p)
-MayGo marks s n (Write vcpu p c value) = HasUsed (home s n) (touched s n p) × (IsRepeated s n p c value ⊎ IsOverwritten marks s n p c)
+MayGo marks s n (Write vcpu p c value) = HasUsed (home s n) (touched s n p) × (IsRepeated s n p c value ⊎ (IsOverwritten marks s n p c ⊎ IsMisread s n p))
 MayGo marks s n _ = ⊥
 
 -- Each of the guest's records has a mark. A record that is not kept may be left out, and no record of another log is a

@@ -11,10 +11,11 @@ ghost use Rattle.page_facts.specs.PageFaults.{IsClean};
 ghost use Rattle.thinned_logs.specs.Thinned.{thinned, IsThinning};
 ghost use Rattle.thinned_logs.specs.ThinLaws.{KeepsFaults, FaultsAreLater, KeepsFirstFaults, FirstFaultsWere};
 
-/// A record that thinned logs keep has the same faults of its page as in the session, whatever the shape. Where one that
-/// they leave out has a fault, an earlier record of its page that they keep has one too. So each page's first fault
-/// stays its first, at the same record, which has another number, and no other fault becomes a first one. A page is
-/// clean exactly where it was, and no record has a fault of its page exactly where none had.
+/// A record that thinned logs keep, and whose page was not misread before it, has the same faults of its page as in the
+/// session, whatever the shape. Where one that they leave out has a fault, an earlier record of its page that they keep
+/// has one too. So each page's first fault stays its first, at the same record, which has another number, and no other
+/// fault becomes a first one. A page is clean exactly where it was, and no record has a fault of its page exactly where
+/// none had.
 pub fn thinned_logs_keep_faults()
     ensures kept { (s : Recorded) (marks : List Bool) → IsThinning marks s → KeepsFaults marks s }
     ensures later { (s : Recorded) (marks : List Bool) → IsThinning marks s → FaultsAreLater marks s }
