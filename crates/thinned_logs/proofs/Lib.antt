@@ -1,0 +1,13 @@
+pub mod Settled
+pub mod Kept
+pub mod Machine
+pub mod Faults
+pub mod Misread
+pub mod Later
+pub mod Names
+pub mod First
+pub mod Shape
+pub mod Ends
+pub mod Mergings
+pub mod Fits
+pub mod Safe
