@@ -296,13 +296,15 @@ def explained_by(tests, what, tables, line):
 
 def refused_table(tests, what, table, line):
     tests.put("table", table)
-    found, _, status = tests.run("explain", "--lines", "table", "session")
+    found, why, status = tests.run("explain", "--lines", "table", "session")
     if line is None:
         said, _, status_without = tests.run("explain", "session")
         first = re.findall("(?m)^.+$", table[:1000])
         tests.same(f"a table of {what}", (found, status), (told_by([int(it) for it in first], said), status_without))
     else:
         tests.same(f"a table of {what}", (found, status), (f"lines-text line {line}\n", 1))
+        wanted = rf'table:{line}:\d+: found (a carriage return at the end of the line; .*|.*; expected "N", the number of a line(; words are .*)?)\n'
+        tests.same(f"what is told of a table of {what}, {why}", bool(re.fullmatch(wanted, why)), True)
 
 
 # Large recordings.
