@@ -226,7 +226,7 @@ def wrong_words(tests):
     tests.same("the two files", (tests.has("kept"), tests.has("table")), (told, lines_text(lines)))
     for option, name, why in (("-o", "not-there/new", "no such file or directory"), ("--lines", "not-there/table", "no such file or directory"),
                               ("-o", "folder", "it is a directory"), ("--lines", "folder", "it is a directory")):
-        tests.same(f"window {option} {name}", tests.run("window", "recording", 1, 2, option, name)[1:], (f"output\n{name}: {why}\n", 3))
+        tests.same(f"window {option} {name}", tests.run("window", "recording", 1, 2, option, name), ("", f"output\n{name}: {why}\n", 3))
     tests.same("what is left of files", [name for name in os.listdir(tests.room) if name.endswith(".part")], [])
 
 
