@@ -7,6 +7,9 @@ which a read is interrupted there, since the program is stopped while it waits f
 
 A table of lines may have as many lines as the text of a session of a large machine: one with more lines than a machine has
 pages, and one of more bytes than a text may have that is not long, are read by `explain --lines`.
+
+A text takes 1,048,576 reads, with the one that finds its end, and a table of lines, which may be long, takes more. A line that has
+not ended has 268,435,456 bytes. One read more and one byte more are refused.
 """
 import errno
 import os
@@ -191,6 +194,67 @@ def told_by_tables(program, room):
         first = ran.stdout.split(b"\n")[0]
         yield f"a table of {count} lines", (first, ran.stderr, ran.returncode), (b"shape line %d phases" % line, b"", 1)
         os.remove(f"{room}/table")
+
+
+# How many reads a text takes, with the one that finds its end, and how many bytes a line has that has not ended, at most.
+MOST_READS, LONGEST_LINE = 1 << 20, 1 << 28
+
+# What the shortest line of a write is, and one that has a byte more.
+SHORT, LONGER = b"w 0 0 0 1\n", b"w 0 0 0 11\n"
+
+
+def session_of(size):
+    """A session whose text has so many bytes."""
+    def text(writes, longer):
+        records = SHORT * (writes - longer) + LONGER * longer
+        return b"postcopy-session 1\npages 1\ncells 1\ninit 0\nguest %d\n%ssource 0\nlink 0\npager 0\nend\n" % (writes, records)
+
+    writes = (size - len(text(0, 0)) - len(str(size))) // len(SHORT)
+    return text(writes, size - len(text(writes, 0)))
+
+
+def read_by_bytes(program, room, library):
+    """The same of texts of which each read gives one byte."""
+    by_bytes = {**os.environ, "LD_PRELOAD": library, "REFUSING": f"read 1 {1 << 30} short"}
+    note = b"session: note: the guest neither reads nor writes a page after a resume, so no use of one was judged\n"
+    for more, wanted in ((0, (b"clean\n", note, 0)), (1, (b"", b"file session\nsession: the text comes in too many pieces\n", 3))):
+        write(room, "session", session_of(MOST_READS - 1 + more))
+        ran = subprocess.run([program, "audit", "--quiet", "session"], cwd=room, env=by_bytes, capture_output=True)
+        yield f"a session that takes {MOST_READS + more} reads", (ran.stdout, ran.stderr, ran.returncode), wanted
+    write(room, "session", NO_RESUME)
+    write(room, "table", b"7\n" * (MOST_READS // 2 + 1))
+    ran = subprocess.run([program, "explain", "--lines", "table", "session"], cwd=room, env=by_bytes, capture_output=True)
+    found = ran.stdout.split(b"\n")[0], ran.stderr, ran.returncode
+    yield f"a table that takes {MOST_READS + 3} reads", found, (b"shape line 7 phases", b"", 1)
+
+
+def write_zeros(room, name, front, *sizes):
+    """Writes a text that begins so, and whose lines are filled up with zeros to these sizes. The last one does not end."""
+    with open(f"{room}/{name}", "wb") as file:
+        file.write(front)
+        for at, size in enumerate(sizes):
+            file.seek(size - (0 if at else len(front)), os.SEEK_CUR)
+            file.write(b"\n" if at < len(sizes) - 1 else b"")
+        file.truncate()
+
+
+def long_lines(program, room, _library):
+    """The same of tables of which a line is as long as may be, or longer."""
+    write(room, "session", NO_RESUME)
+    too_long = b'file table\ntable: longer than the limit for such a text; "postcopy window" takes a recording of any size\n'
+    for sizes, wanted in (((LONGEST_LINE,), (b"lines-text line 1\n", 1)), ((LONGEST_LINE + 1,), (too_long, 3)),
+                          ((200_000_000, 200_000_000), (b"lines-text line 1\n", 1)), ((5, LONGEST_LINE), (b"lines-text line 1\n", 1)),
+                          ((5, LONGEST_LINE + 1), (too_long, 3))):
+        write_zeros(room, "table", b"1", *sizes)
+        ran = subprocess.run([program, "explain", "--lines", "table", "session"], cwd=room, capture_output=True)
+        yield f"a table with lines of {sizes} bytes", (ran.stdout or ran.stderr, ran.returncode), wanted
+
+
+@pytest.mark.parametrize("tries", (
+    pytest.param(read_by_bytes, marks=pytest.mark.cases(3)), pytest.param(long_lines, marks=pytest.mark.cases(5))), ids=lambda it: it.__name__)
+def test_limits(program, room, refusing, tries):
+    for case in tries(program, room, refusing):
+        same(*case)
 
 
 @pytest.mark.parametrize("tries", (

@@ -20,6 +20,9 @@ SCRIPT = f"{TOP}/examples/migrated/script"
 # How a recording of one page begins.
 RECORDING = b"postcopy-session 1\npages 1\ncells 1\ninit 0\n"
 
+# What is told where the lines of a window and its session are to go to one file.
+ONE_FILE = b"error: --lines and --output name one file\n"
+
 # Where bindings/c/tests/refusing.c tells how many calls there were.
 COUNTS = 99
 
@@ -141,6 +144,17 @@ def a_link(run):
     yield "a link to itself", run(*steps_words("-o", "round")), (3, b"", b"output\nround: its path has too many symbolic links\n")
 
 
+def many_links(run):
+    """As many links are followed as the system follows, or nearly: a longer chain is told."""
+    for number in range(1, 42):
+        os.symlink(f"chain-{number - 1}", f"{run.room}/chain-{number}")
+    yield "through 39 links", run(*steps_words("-o", "chain-39")), (0, b"", b"")
+    yield "the file behind 39 links", run.has("chain-0"), run(*steps_words())[1]
+    run.put("chain-0", b"as it was\n")
+    yield "through 41 links", run(*steps_words("-o", "chain-41")), (3, b"", b"output\nchain-41: its path has too many symbolic links\n")
+    yield "the file behind 41 links", run.has("chain-0"), b"as it was\n"
+
+
 def two_writers(run):
     """Two that write one file at once: the file has the text of one of them, and each ends well."""
     long = b"".join(b"w 0 0 0 %d\n" % value for value in range(40_000))
@@ -169,7 +183,7 @@ def two_names(run):
     before = sorted(os.listdir(run.room))
     for lines, output in (*one, *(names[::-1] for names in one)):
         status, told, errors = run("window", "--lines", lines, "-o", output, "recording", "0", "1")
-        yield f"one file for {lines} and {output}", (status, told, errors), (2, b"", b"error: --lines and --output name one file\n")
+        yield f"one file for {lines} and {output}", (status, told, errors), (2, b"", ONE_FILE)
     yield "the old file", run.has("old"), b"as it was\n"
     yield "no new files", sorted(os.listdir(run.room)), before
     yield "two files", run("window", "--lines", "lines", "-o", "session", "recording", "0", "1"), (0, b"", b"")
@@ -214,6 +228,17 @@ def refused_memory(run):
             yield f"growths {first} to {last} of {words[0]}", (output, errors, [run.has(name) for name in names]), (b"", told.get(status), old if status else wanted)
             statuses.add(status)
         yield f"the statuses of {words[0]}", statuses >= {0, 4}, True
+
+
+def one_file_without_memory(run):
+    """Where a growth is refused, two names of one file are refused all the same, or memory ran out, and the file stays."""
+    run.put("recording", RECORDING + b"guest 0\nsource 0\nlink 0\npager 0\nend\n")
+    words, told = ("window", "--lines", "./new", "-o", "new", "recording", "0", "1"), {2: ONE_FILE, 4: b"out of memory\n"}
+    growths = run.refusing("-", *words)[1]
+    for first, last in ((first, last) for first in range(1, growths + 1) for last in (first, 9999999)):
+        run.put("new", b"as it was\n")
+        (status, output, errors), _ = run.refusing(f"memory {first} {last} memory", *words)
+        yield f"growths {first} to {last} where both names are of one file", (output, errors, run.has("new")), (b"", told.get(status), b"as it was\n")
 
 
 def a_refused_script(run):
@@ -282,12 +307,12 @@ def other_commands(run):
     yield "no file of no session", run.has("new"), None
 
 
-ALL = (a_new_file, an_old_file, the_users_own, who_may_read, who_owns_it, a_link, two_writers, two_names, a_limit_on_files, lines_of_nothing, refused_memory,
-       a_refused_script, no_text, no_place, a_device, a_migration, other_commands)
+ALL = (a_new_file, an_old_file, the_users_own, who_may_read, who_owns_it, a_link, many_links, two_writers, two_names, a_limit_on_files, lines_of_nothing, refused_memory,
+       one_file_without_memory, a_refused_script, no_text, no_place, a_device, a_migration, other_commands)
 
 
 # How many cases each has at least.
-LEAST = {other_commands: 28, a_link: 14, two_writers: 62, two_names: 23, who_may_read: 21, the_users_own: 8, a_new_file: 11, refused_memory: 796, a_device: 6}
+LEAST = {other_commands: 28, a_link: 14, two_writers: 62, two_names: 23, who_may_read: 21, the_users_own: 8, a_new_file: 11, refused_memory: 750, one_file_without_memory: 40, a_device: 6}
 
 
 @pytest.mark.parametrize("tested", [pytest.param(it, marks=pytest.mark.cases(LEAST.get(it, 1)), id=it.__name__) for it in ALL])

@@ -247,7 +247,7 @@ def wrong_words(tests):
     tests.same("the two files", (tests.has("kept"), tests.has("table")), (told, lines_text(lines)))
     for option, name, why in (("-o", "not-there/new", "no such file or directory"), ("--lines", "not-there/table", "no such file or directory"),
                               ("-o", "folder", "it is a directory"), ("--lines", "folder", "it is a directory")):
-        tests.same(f"window {option} {name}", tests.run("window", "recording", 1, 2, option, name)[1:], (f"output\n{name}: {why}\n", 3))
+        tests.same(f"window {option} {name}", tests.run("window", "recording", 1, 2, option, name), ("", f"output\n{name}: {why}\n", 3))
     tests.same("what is left of files", [name for name in os.listdir(tests.room) if name.endswith(".part")], [])
 
 
@@ -317,13 +317,15 @@ def explained_by(tests, what, tables, line):
 
 def refused_table(tests, what, table, line):
     tests.put("table", table)
-    found, _, status = tests.run("explain", "--lines", "table", "session")
+    found, why, status = tests.run("explain", "--lines", "table", "session")
     if line is None:
         said, _, status_without = tests.run("explain", "session")
         first = re.findall("(?m)^.+$", table[:1000])
         tests.same(f"a table of {what}", (found, status), (told_by([int(it) for it in first], said), status_without))
     else:
         tests.same(f"a table of {what}", (found, status), (f"lines-text line {line}\n", 1))
+        wanted = rf'table:{line}:\d+: found (a carriage return at the end of the line; .*|.*; expected "N", the number of a line(; words are .*)?)\n'
+        tests.same(f"what is told of a table of {what}, {why}", bool(re.fullmatch(wanted, why)), True)
 
 
 # Large recordings.

@@ -145,7 +145,7 @@ pub(crate) const MISSED: usize = 2;
 
 /// A gate under which no page is placed before the first virtual processor was answered at the target. The second one
 /// waits behind each operation on page 2 until the pager waits to place a page, and for a while until the first has
-/// missed its page.
+/// missed its page. Behind one on another page it waits until the first was answered.
 #[derive(Drop)]
 pub(crate) struct Releases<'a, R: Wait> {
     pub board: Board<'a, R>,
@@ -171,6 +171,8 @@ impl<R: Wait + Sync> Gate for Releases<'_, R> {
         } else if page.number() == 2 {
             self.board.hold(PLACING);
             self.board.finds(MISSED, SOME_LOOKS);
+        } else {
+            self.board.hold(ANSWERED);
         }
     }
 

@@ -15,6 +15,8 @@ mod lanes;
 #[cfg(test)]
 mod limits;
 #[cfg(test)]
+mod moments;
+#[cfg(test)]
 mod relays;
 #[cfg(test)]
 mod releases;

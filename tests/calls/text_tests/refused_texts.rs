@@ -36,7 +36,7 @@ const LATE_ENTRY: &str =
 const EVENT: &str =
     "guest V|halt|push|serve|source-tick|link down FATE|link up FATE|link lane FATE|pop|pop-lane|fault|flush|deliver|pager-tick";
 
-pub static REFUSED: [Refused; 63] = [
+pub static REFUSED: [Refused; 68] = [
     (
         Session,
         "",
@@ -57,6 +57,41 @@ pub static REFUSED: [Refused; 63] = [
         "the number of pages",
         "pages N",
         [0, 0, 0, 1, 65536, 0, 0],
+    ),
+    (
+        Session,
+        "postcopy-session 3\npages 16777217\n",
+        "the number of pages",
+        "pages N",
+        [0, 0, 0, 1, 16777216, 0, 0],
+    ),
+    (
+        Session,
+        "postcopy-session 3\npages 65537\ncells 513\n",
+        "the number of cells",
+        "cells N",
+        [0, 0, 0, 1, 512, 65537, 0],
+    ),
+    (
+        Session,
+        "postcopy-session 3\npages 65537\ncells 1\ninit 65538\n",
+        "the number of initial pages",
+        "init N",
+        [0, 0, 0, 0, 65537, 65537, 1],
+    ),
+    (
+        Session,
+        "postcopy-session 3\npages 2\ncells 1\ninit 0\nguest 134217729\n",
+        "the number of the guest's records",
+        "guest N",
+        [0, 0, 4, 0, 134217728, 2, 1],
+    ),
+    (
+        Session,
+        "postcopy-session 3\npages 2\ncells 1\ninit 0\nguest 0\nsource 0\nlink 0\nlane 0\npager 134217729\n",
+        "the number of the pager's records",
+        "pager N",
+        [0, 0, 8, 0, 134217728, 2, 1],
     ),
     (
         Session,
@@ -481,7 +516,7 @@ pub static REFUSED: [Refused; 63] = [
 ];
 
 /// Texts that are refused, and what else holds of a line in one of the forms that are wanted there.
-pub static RULES: [(Text, &str, &str); 7] = [
+pub static RULES: [(Text, &str, &str); 10] = [
     (
         Session,
         "postcopy-session 2\npages 65537\n",
@@ -497,6 +532,13 @@ pub static RULES: [(Text, &str, &str); 7] = [
         "postcopy-session 1\npages 65536\ncells 17\n",
         "the cells of all pages are at most 1,048,576",
     ),
+    (
+        Session,
+        "postcopy-session 3\npages 16777216\ncells 2\n",
+        "the cells of all pages are at most 16,777,216",
+    ),
+    (Session, "postcopy-session 3\npages 16777217\n", ""),
+    (Cert, "postcopy-certificate 3\npages 16777217\n", ""),
     (
         Session,
         "postcopy-session 1\npages 1\ncells 1\ninit 1\npage 0 0000000000000000\n",
