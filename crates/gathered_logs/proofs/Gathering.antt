@@ -9,7 +9,7 @@ use Rattle.std.proofs.lemmas.Option.{slice_get-get_or, slice_get-map, slice_get_
 use Rattle.std.proofs.lemmas.Bool.{cases_eq, cases_lt, eq-eqb, ne_eqb, le-leb, lt-leb}
 use Rattle.recorded_files.specs.declared.lines.Party.{Party}
 use Rattle.recorded_files.specs.declared.gathering.Turn.{Turn}
-use Rattle.recorded_files.specs.declared.gathering.Turn.TheVariants.{Of, End}
+use Rattle.recorded_files.specs.declared.gathering.Turn.TheVariants.{Of, Missing, End}
 use Rattle.recorded_files.specs.Gathered.{Numbered, numbered_from, all_of, IsGathered, IsTurn}
 use Rattle.recorded_files.specs.Said.{CameTo, Goes, RiseTo, Says, Standing}
 use Rattle.gathered_logs.specs.Logs.{AreAt, AreBegun, Came, Gathering, IsAt, SayLog, Stops, is_given, nothing_of, text_in}
@@ -221,6 +221,18 @@ stops party knowns g log heads number turn this came none same_heads same_number
 
 pub says_log : (party : Party) (knowns : List (Option (List ℕ))) (g : Gathering) (log : List (List ℕ)) → Stops party knowns g log End → SayLog party knowns g.files log
 says_log party knowns g log s = all_said party knowns g.files g.heads s.takens log s.are_at s.is_turn s.gathered
+
+-- a number that is missing is below those that are left
+pub missing_below : (party : Party) (knowns : List (Option (List ℕ))) (g : Gathering) (log : List (List ℕ)) (n : ℕ) → Stops party knowns g log (Missing n) → length log < n
+missing_below party knowns g log n s = go (element knowns s.is_turn.1.0 (omega (arith, within, s.are_at.many_heads, s.are_at.many_knowns))) (element g.files s.is_turn.1.0 (omega (arith, within, s.are_at.many_heads))) (element s.takens s.is_turn.1.0 (omega (arith, within, s.are_at.many_heads, s.are_at.many_takens)))
+  where
+    within : s.is_turn.1.0 < length g.heads
+    within = slice_get_within g.heads s.is_turn.1.0 (Some n) s.is_turn.1.1
+
+    go : ((known : Option (List ℕ)) × (slice_get knowns s.is_turn.1.0 ≡ Some known)) → ((file : Standing) × (slice_get g.files s.is_turn.1.0 ≡ Some file)) → ((taken : Numbered (List ℕ)) × (slice_get s.takens s.is_turn.1.0 ≡ Some taken)) → length log < n
+    go (known, ek) (file, ef) (taken, et) =
+        let at : IsAt party known file (Some n) taken (length log) false = s.are_at.each s.is_turn.1.0 known file (Some n) taken ek ef s.is_turn.1.1 et in
+        omega (arith, at.1, s.is_turn.0)
 
 -- the next record came, of the file whose turn it was
 pub comes : (party : Party) (knowns : List (Option (List ℕ))) (g : Gathering) (log : List (List ℕ)) (i next : ℕ) → Stops party knowns g log (Of i) → next ≡ length log + 1 → Came party knowns (record { files = g.files; heads = g.heads; given = Some i; number = next }) (log ++ text_in g.files (Some i) ∷ [])

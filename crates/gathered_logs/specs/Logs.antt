@@ -1,5 +1,5 @@
 -- A log, gathered from the files of its party.
-use Rattle.std.specs.Prelude.{◌≡◌, ℕ, ◌≤◌, Bool, true, false, ◌==◌, List, [], Option, Some, None, IfSome, length, slice_get, slice_index_or, map}
+use Rattle.std.specs.Prelude.{◌≡◌, ℕ, ◌<◌, ◌≤◌, Bool, true, false, ◌==◌, List, [], Option, Some, None, IfSome, length, slice_get, slice_index_or, map}
 use Rattle.recorded_files.specs.declared.lines.Party.{Party}
 use Rattle.recorded_files.specs.declared.gathering.Turn.{Turn}
 use Rattle.recorded_files.specs.declared.gathering.Turn.TheVariants.{Twice as TwiceThere, Missing as NoneThere}
@@ -74,8 +74,10 @@ pub record Stops (party : Party) (knowns : List (Option (List ℕ))) (g : Gather
   pub gathered : IsGathered takens log
   pub is_turn : IsTurn g.heads (length log) turn
 
+-- What keeps the files from being those of a log, behind this one that came of them: what is wrong with a file; two files that have
+-- the next record; or the least number of a record that is left, where the next record's own is in no file.
 abbrev pub IsGatherFault : Party → List (Option (List ℕ)) → Gathering → List (List ℕ) → GatherFault → Type 0
 IsGatherFault party knowns g log (File i fault) = (known : Option (List ℕ)) × (slice_get knowns i ≡ Some known) × IsFault party known fault
 IsGatherFault party knowns g log (Twice i j) = Stops party knowns g log (TwiceThere i j)
-IsGatherFault party knowns g log (Missing n) = Stops party knowns g log (NoneThere n)
+IsGatherFault party knowns g log (Missing n) = (length log < n) × Stops party knowns g log (NoneThere n)
 IsGatherFault party knowns g log Memory = Unit {0}

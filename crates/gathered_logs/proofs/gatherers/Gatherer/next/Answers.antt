@@ -2,7 +2,7 @@ use Rattle.std.proofs.Common.{◌≡◌, ◌+◌, None, length, refl, sym, ap, s
 use Rattle.std.proofs.lemmas.Result.{err_from_is_err_and}
 use Rattle.recorded_files.specs.declared.gathering.Turn.TheVariants.{Of, Twice, Missing, End}
 use Rattle.gathered_logs.specs.Logs.{Came, Gathering, Stops}
-use Rattle.gathered_logs.proofs.Gathering.{comes, says_log, stops}
+use Rattle.gathered_logs.proofs.Gathering.{comes, missing_below, says_log, stops}
 use Rattle.gathered_logs.proofs.gatherers.Gatherer.next.Goals as goal
 
 pub returns-in_err-read_given-clause-refused : goal.returns-in_err-read_given-clause-refused
@@ -30,7 +30,9 @@ returns-in-Twice-clause-refused g c = λ party knowns log came.
 pub returns-in-Missing-clause-refused : goal.returns-in-Missing-clause-refused
 returns-in-Missing-clause-refused g c = λ party knowns log came.
     let now : Gathering = c.read_given.new.self in
-    stops party knowns now log c.deref.result.now c.self.inside.number c.next_turn.result (Missing c.in-Missing.least) (c.in_ok-read_given.ensures.read party knowns log came) c.in_ok-read_given.ensures.none_given (c.deref.ensures.value ∙ ap (λ (x : Gathering). x.heads) c.self.view_is) (ap (λ (x : Gathering). x.number) c.self.view_is) c.next_turn.ensures c.in-Missing.is
+    let n = c.in-Missing.least in
+    let stop : Stops party knowns now log (Missing n) = stops party knowns now log c.deref.result.now c.self.inside.number c.next_turn.result (Missing n) (c.in_ok-read_given.ensures.read party knowns log came) c.in_ok-read_given.ensures.none_given (c.deref.ensures.value ∙ ap (λ (x : Gathering). x.heads) c.self.view_is) (ap (λ (x : Gathering). x.number) c.self.view_is) c.next_turn.ensures c.in-Missing.is in
+    (missing_below party knowns now log n stop, stop)
 
 pub returns-in-End-clause-taken : goal.returns-in-End-clause-taken
 returns-in-End-clause-taken g c = λ party knowns log came.
