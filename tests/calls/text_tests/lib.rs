@@ -27,6 +27,8 @@ mod recorder_files;
 #[cfg(test)]
 mod recorder_lines;
 #[cfg(test)]
+mod recorder_logs;
+#[cfg(test)]
 mod records;
 #[cfg(test)]
 mod refusals;

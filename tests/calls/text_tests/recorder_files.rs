@@ -9,7 +9,7 @@ use std::io::{ErrorKind, Read};
 
 /// Gives so many bytes at a time, and then ends, or fails.
 #[derive(Drop)]
-struct Slow {
+pub(crate) struct Slow {
     rest: &'static [u8],
     size: usize,
     fails: bool,
@@ -53,7 +53,8 @@ static PAGERS_RECORDS: [(u64, &[u8]); 4] = [
     (3, b"place 2 2 00000000000000ab"),
 ];
 
-fn opened(
+/// A party's file, of which so many bytes are read at a time.
+pub(crate) fn opened(
     alloc: Global,
     party: Party,
     rest: &'static [u8],
