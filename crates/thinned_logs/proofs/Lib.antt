@@ -11,3 +11,4 @@ pub mod Ends
 pub mod Mergings
 pub mod Fits
 pub mod Safe
+pub mod Repeats

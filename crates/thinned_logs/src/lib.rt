@@ -1,8 +1,8 @@
 //! Thinned logs: a session of which reads and writes of the guest that tell nothing new are left out.
 //!
-//! The definitions are in `specs/`. The function of `laws` carries the law as its contract.
+//! The definitions are in `specs/`. A function of `laws` carries a law as its contract.
 #![tactic(auto)]
 
 mod laws;
 
-pub use laws::{thinned_logs_keep_faults, thinned_logs_keep_verdicts};
+pub use laws::{repeats_may_go, thinned_logs_keep_faults, thinned_logs_keep_verdicts};
