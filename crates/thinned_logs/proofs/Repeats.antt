@@ -27,7 +27,7 @@ use Rattle.audit_model.specs.Shape.{passes, is_halt, is_miss, keeps, source_name
 use Rattle.audit_model.specs.Worlds.{touched}
 use Rattle.audit_model.proofs.PageFaultTests.{not_true}
 use Rattle.audit_model.proofs.Walked.{length_range}
-use Rattle.thinned_logs.specs.Thinned.{HasUsed, IsMisread, decides, IsOverwritten, IsRepeated, MayGo, IsThinning}
+use Rattle.thinned_logs.specs.Thinned.{HasUsed, IsMisread, decides, IsOverwritten, IsUnseen, IsRepeated, MayGo, IsThinning}
 use Rattle.thinned_logs.specs.Repeats.{gives, IsTold, has_used, is_repeat, without_repeats}
 
 -- a record that does not decide a cell leaves it as it was
@@ -96,9 +96,9 @@ told_read_may_go marks s n v page cell value used told = (used, told_or_misread 
 pub told_write_may_go : (marks : List Bool) (s : Recorded) (n v page cell value : ℕ) → HasUsed (home s n) (touched s n page) → IsTold s n page cell value → in_ledger s n page ≡ false → MayGo marks s n (Write v page cell value)
 told_write_may_go marks s n v page cell value used told owed = (used, at (told_or_misread s n page cell value told))
   where
-    at : (value ≡ flat s n page cell) ⊎ IsMisread s n page → IsRepeated s n page cell value ⊎ (IsOverwritten marks s n page cell ⊎ IsMisread s n page)
+    at : (value ≡ flat s n page cell) ⊎ IsMisread s n page → IsRepeated s n page cell value ⊎ (IsOverwritten marks s n page cell ⊎ (IsUnseen s n page cell ⊎ IsMisread s n page))
     at (inl e) = inl (record { is_flat = e; is_owed = owed })
-    at (inr bad) = inr (inr bad)
+    at (inr bad) = inr (inr (inr bad))
 
 used_by : (h : Home) (used : Bool) → has_used h used ≡ true → HasUsed h used
 used_by AtSource used e = tt
