@@ -12,3 +12,4 @@ pub mod Mergings
 pub mod Fits
 pub mod Safe
 pub mod Repeats
+pub mod Again

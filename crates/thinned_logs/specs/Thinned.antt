@@ -70,7 +70,7 @@ decides page cell (Write vcpu p c value) = (p == page) && (c == cell)
 decides page cell (Release vcpu p) = p == page
 decides page cell _ = false
 
--- whether it shows the value of the cell: a read of it, or the halt, when the source has what it sends and zeros
+-- whether it shows the value of the cell: a read of it, or the halt, at which pages are as the source sends them
 abbrev pub shows : ℕ → ℕ → GuestRec → Bool
 shows page cell (Read vcpu p c value) = (p == page) && (c == cell)
 shows page cell Halt = true
@@ -110,6 +110,7 @@ pub record IsThinning (marks : List Bool) (s : Recorded) : Type 0 where
   pub may_go : (n : ℕ) (r : GuestRec) → slice_get s.guest n ≡ Some r → slice_get marks n ≡ Some false → MayGo marks s n r
   pub is_unnamed : (name : Name) (n : ℕ) → receipt s name ≡ Some (Guest, n) → slice_get marks n ≢ Some false
 
--- a session with thinned logs
-abbrev pub IsThinned : Recorded → Recorded → Type 0
-IsThinned whole thin = (marks : List Bool) × IsThinning marks whole × (thin ≡ thinned marks whole)
+-- a session with thinned logs, which may be thinned again
+pub data IsThinned (whole : Recorded) : Recorded → Type 0 where
+  itself : IsThinned whole whole
+  again : {thin next : Recorded} → IsThinned whole thin → (marks : List Bool) → IsThinning marks thin → next ≡ thinned marks thin → IsThinned whole next

@@ -11,9 +11,9 @@ ghost use Rattle.page_facts.specs.PageFaults.{IsClean};
 ghost use Rattle.migration_types.specs.declared.records.GuestRec.TheVariants.{Read, Write};
 ghost use Rattle.audit_model.specs.Flat.{in_ledger, home};
 ghost use Rattle.audit_model.specs.Worlds.{touched};
-ghost use Rattle.thinned_logs.specs.Thinned.{thinned, HasUsed, MayGo, IsThinning};
+ghost use Rattle.thinned_logs.specs.Thinned.{thinned, HasUsed, MayGo, IsThinning, IsThinned};
 ghost use Rattle.thinned_logs.specs.Repeats.{IsTold, without_repeats};
-ghost use Rattle.thinned_logs.specs.ThinLaws.{KeepsFaults, FaultsAreLater, KeepsFirstFaults, FirstFaultsWere};
+ghost use Rattle.thinned_logs.specs.ThinLaws.{KeepsFaults, FaultsAreLater, KeepsFirstFaults, FirstFaultsWere, HasSameVerdict};
 
 /// A record that thinned logs keep, and whose page was not misread before it, has the same faults of its page as in the
 /// session, whatever the shape. Where one that they leave out has a fault, an earlier record of its page that they keep
@@ -38,6 +38,12 @@ pub fn thinned_logs_keep_verdicts()
     ensures fits { (s : Recorded) (marks : List Bool) → IsThinning marks s → Fits s → Fits (thinned marks s) }
     ensures session { (s : Recorded) (marks : List Bool) → IsThinning marks s → IsSession s → IsSession (thinned marks s) }
     ensures safe { (s : Recorded) (marks : List Bool) → IsThinning marks s → Fits s → IsRightShape s → HasMerging s → IsSafe s ↔ IsSafe (thinned marks s) }
+{}
+
+/// Logs may be thinned again and again. The session then has the right shape and a merging exactly if the whole has them,
+/// the same pages have a fault, and each page's first fault is the same but for its record's number.
+pub fn thinned_again_is_alike()
+    ensures { (whole thin : Recorded) → IsThinned whole thin → HasSameVerdict whole thin }
 {}
 
 /// A read or write that gives what an earlier record of its cell gave may be left out, if no record between decides the

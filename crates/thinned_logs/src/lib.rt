@@ -5,4 +5,6 @@
 
 mod laws;
 
-pub use laws::{repeats_may_go, thinned_logs_keep_faults, thinned_logs_keep_verdicts};
+pub use laws::{
+    repeats_may_go, thinned_again_is_alike, thinned_logs_keep_faults, thinned_logs_keep_verdicts,
+};
