@@ -11,3 +11,5 @@ pub mod Ends
 pub mod Mergings
 pub mod Fits
 pub mod Safe
+pub mod Repeats
+pub mod Again

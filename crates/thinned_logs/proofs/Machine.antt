@@ -16,7 +16,7 @@ use Rattle.audit_model.specs.Shape.{is_halt, is_placement_of, earlier}
 use Rattle.audit_model.specs.Faults.{looks_at, has_looked}
 use Rattle.audit_model.specs.Windows.{kept_in, tallied, rank}
 use Rattle.audit_model.proofs.Ranks.{Aligned, rank_cons, kept_at}
-use Rattle.thinned_logs.specs.Thinned.{thin_pager, thinned, decides, shows, MayGo, IsRepeated, IsOverwritten, IsMisread, IsThinning}
+use Rattle.thinned_logs.specs.Thinned.{thin_pager, thinned, decides, shows, MayGo, IsRepeated, IsOverwritten, IsUnseen, IsMisread, IsThinning}
 use Rattle.thinned_logs.proofs.Settled.{IsSettled, agrees_at, agrees_behind}
 use Rattle.thinned_logs.proofs.Kept.{fold_thin, earlier_map, gone_home, gone_freed, gone_look, aligned, must_stay}
 
@@ -196,23 +196,38 @@ module _ (marks : List Bool) (s : Recorded) (thin : IsThinning marks s) where
       (λ m x v is mark. sym (ap (λ b. b || v) (gone_look marks s m page x (thin.may_go m x is mark))))
       n
 
+  -- from this place on, past the first halt, no record shows the cell
+  record IsLost (page cell n : ℕ) : Type 0 where
+    pub is_past : at_halt s < n
+    pub is_hidden : (k : ℕ) (r : GuestRec) → n ≤ k → slice_get s.guest k ≡ Some r → shows page cell r ≡ false
+
+  lost_later : (page cell n : ℕ) → IsLost page cell n → IsLost page cell (suc n)
+  lost_later page cell n lost = record { is_past = omega (arith, lost.is_past); is_hidden = λ k r le. lost.is_hidden k r (omega (arith, le)) }
+
+  lost_hides : (page cell n : ℕ) (x : GuestRec) → IsLost page cell n → slice_get s.guest n ≡ Some x → shows page cell x ≡ false
+  lost_hides page cell n x lost is = lost.is_hidden n x (omega arith) is
+
   -- what a record that goes does to a cell
-  gone_cell : (page cell bound : ℕ) → (IsMisread s bound page → ⊥) → (n : ℕ) (x : GuestRec) → n < bound → slice_get s.guest n ≡ Some x → slice_get marks n ≡ Some false → (flat s n page cell ≡ cell_after page cell x (flat s n page cell)) ⊎ IsSettled marks s.guest (cell_after page cell) (shows page cell) (suc n)
+  gone_cell : (page cell bound : ℕ) → (IsMisread s bound page → ⊥) → (n : ℕ) (x : GuestRec) → n < bound → slice_get s.guest n ≡ Some x → slice_get marks n ≡ Some false → (flat s n page cell ≡ cell_after page cell x (flat s n page cell)) ⊎ (IsSettled marks s.guest (cell_after page cell) (shows page cell) (suc n) ⊎ IsLost page cell (suc n))
   gone_cell page cell bound free n x lt is mark = go x (thin.may_go n x is mark)
     where
-      write : (p c y : ℕ) → IsRepeated s n p c y ⊎ (IsOverwritten marks s n p c ⊎ IsMisread s n p) → (b : Bool) → ((p == page) && (c == cell)) ≡ b → (flat s n page cell ≡ cond b y (flat s n page cell)) ⊎ IsSettled marks s.guest (cell_after page cell) (shows page cell) (suc n)
+      write : (p c y : ℕ) → IsRepeated s n p c y ⊎ (IsOverwritten marks s n p c ⊎ (IsUnseen s n p c ⊎ IsMisread s n p)) → (b : Bool) → ((p == page) && (c == cell)) ≡ b → (flat s n page cell ≡ cond b y (flat s n page cell)) ⊎ (IsSettled marks s.guest (cell_after page cell) (shows page cell) (suc n) ⊎ IsLost page cell (suc n))
       write p c y h false e = inl refl
       write p c y (inl repeated) true e =
           let both = and_parts (p == page) (c == cell) e in
           inl (sym (repeated.is_flat ∙ ap (λ q. flat s n q c) (eqb-true p page both.0) ∙ ap (flat s n page) (eqb-true c cell both.1)))
-      write p c y (inr (inr bad)) true e =
+      write p c y (inr (inr (inl unseen))) true e =
+          let both = and_parts (p == page) (c == cell) e in
+          let here : IsUnseen s n page cell = subst (λ d. IsUnseen s n page d) (eqb-true c cell both.1) (subst (λ q. IsUnseen s n q c) (eqb-true p page both.0) unseen) in
+          inr (inr (record { is_past = omega (arith, here.is_past); is_hidden = λ k r le. here.is_hidden k r (omega (arith, le)) }))
+      write p c y (inr (inr (inr bad))) true e =
           let both = and_parts (p == page) (c == cell) e in
           absurd (free (misread_later s n bound page (omega (arith, lt)) (subst (λ q. IsMisread s n q) (eqb-true p page both.0) bad)))
       write p c y (inr (inl over)) true e =
           let both = and_parts (p == page) (c == cell) e in
-          inr (cell_settled marks s n page cell (subst (λ d. IsOverwritten marks s n page d) (eqb-true c cell both.1) (subst (λ q. IsOverwritten marks s n q c) (eqb-true p page both.0) over)))
+          inr (inl (cell_settled marks s n page cell (subst (λ d. IsOverwritten marks s n page d) (eqb-true c cell both.1) (subst (λ q. IsOverwritten marks s n q c) (eqb-true p page both.0) over))))
 
-      go : (x : GuestRec) → MayGo marks s n x → (flat s n page cell ≡ cell_after page cell x (flat s n page cell)) ⊎ IsSettled marks s.guest (cell_after page cell) (shows page cell) (suc n)
+      go : (x : GuestRec) → MayGo marks s n x → (flat s n page cell ≡ cell_after page cell x (flat s n page cell)) ⊎ (IsSettled marks s.guest (cell_after page cell) (shows page cell) (suc n) ⊎ IsLost page cell (suc n))
       go (Read v p c y) h = inl refl
       go (Write v p c y) h = write p c y h.1 ((p == page) && (c == cell)) refl
       go (Release v p) h = absurd h
@@ -221,16 +236,17 @@ module _ (marks : List Bool) (s : Recorded) (thin : IsThinning marks s) where
       go (Resume i) h = absurd h
       go (See i) h = absurd h
 
-  gone_ledger : (page bound : ℕ) → (IsMisread s bound page → ⊥) → (n : ℕ) (x : GuestRec) → n < bound → slice_get s.guest n ≡ Some x → slice_get marks n ≡ Some false → (in_ledger s n page ≡ released_after page x (in_ledger s n page)) ⊎ IsSettled marks s.guest (released_after page) is_halt (suc n)
-  gone_ledger page bound free n x lt is mark = go x (thin.may_go n x is mark)
+  gone_ledger : (page bound : ℕ) → bound ≤ at_halt s → (IsMisread s bound page → ⊥) → (n : ℕ) (x : GuestRec) → n < bound → slice_get s.guest n ≡ Some x → slice_get marks n ≡ Some false → (in_ledger s n page ≡ released_after page x (in_ledger s n page)) ⊎ (IsSettled marks s.guest (released_after page) is_halt (suc n) ⊎ ⊥)
+  gone_ledger page bound few free n x lt is mark = go x (thin.may_go n x is mark)
     where
-      write : (p c y : ℕ) → IsRepeated s n p c y ⊎ (IsOverwritten marks s n p c ⊎ IsMisread s n p) → (b : Bool) → (p == page) ≡ b → (in_ledger s n page ≡ cond b false (in_ledger s n page)) ⊎ IsSettled marks s.guest (released_after page) is_halt (suc n)
+      write : (p c y : ℕ) → IsRepeated s n p c y ⊎ (IsOverwritten marks s n p c ⊎ (IsUnseen s n p c ⊎ IsMisread s n p)) → (b : Bool) → (p == page) ≡ b → (in_ledger s n page ≡ cond b false (in_ledger s n page)) ⊎ (IsSettled marks s.guest (released_after page) is_halt (suc n) ⊎ ⊥)
       write p c y h false e = inl refl
       write p c y (inl repeated) true e = inl (ap (in_ledger s n) (sym (eqb-true p page e)) ∙ repeated.is_owed)
-      write p c y (inr (inr bad)) true e = absurd (free (misread_later s n bound page (omega (arith, lt)) (subst (λ q. IsMisread s n q) (eqb-true p page e) bad)))
-      write p c y (inr (inl over)) true e = inr (ledger_settled marks s n page c (subst (λ q. IsOverwritten marks s n q c) (eqb-true p page e) over))
+      write p c y (inr (inr (inl unseen))) true e = let past = unseen.is_past in absurd (omega (arith, lt, few, past))
+      write p c y (inr (inr (inr bad))) true e = absurd (free (misread_later s n bound page (omega (arith, lt)) (subst (λ q. IsMisread s n q) (eqb-true p page e) bad)))
+      write p c y (inr (inl over)) true e = inr (inl (ledger_settled marks s n page c (subst (λ q. IsOverwritten marks s n q c) (eqb-true p page e) over)))
 
-      go : (x : GuestRec) → MayGo marks s n x → (in_ledger s n page ≡ released_after page x (in_ledger s n page)) ⊎ IsSettled marks s.guest (released_after page) is_halt (suc n)
+      go : (x : GuestRec) → MayGo marks s n x → (in_ledger s n page ≡ released_after page x (in_ledger s n page)) ⊎ (IsSettled marks s.guest (released_after page) is_halt (suc n) ⊎ ⊥)
       go (Read v p c y) h = inl refl
       go (Write v p c y) h = write p c y h.1 (p == page) refl
       go (Release v p) h = absurd h
@@ -242,7 +258,7 @@ module _ (marks : List Bool) (s : Recorded) (thin : IsThinning marks s) where
   -- a read finds the flat machine's cell as it was
   pub same_at_read : (n v page cell y : ℕ) → (IsMisread s n page → ⊥) → slice_get s.guest n ≡ Some (Read v page cell y) → flat (thinned marks s) (rank marks n) page cell ≡ flat s n page cell
   same_at_read n v page cell y free is =
-      agrees_at marks s.guest (cell_after page cell) (shows page cell) (initial s.init page cell) (aligned marks s thin) n (gone_cell page cell n free) n (Read v page cell y) (omega arith) is
+      agrees_at marks s.guest (cell_after page cell) (shows page cell) (initial s.init page cell) (IsLost page cell) (lost_later page cell) (lost_hides page cell) (aligned marks s thin) n (gone_cell page cell n free) n (Read v page cell y) (omega arith) is
       (and_from (page == page) (cell == cell) (eq-eqb page page refl) (eq-eqb cell cell refl))
 
   pub same_halt : at_halt (thinned marks s) ≡ rank marks (at_halt s)
@@ -253,8 +269,8 @@ module _ (marks : List Bool) (s : Recorded) (thin : IsThinning marks s) where
   flat_at_halt page cell free = ap (λ n. flat (thinned marks s) n page cell) same_halt ∙ go (halt_or_end s.guest)
     where
       go : (slice_get s.guest (halt_place s.guest) ≡ Some Halt) ⊎ (length s.guest ≤ halt_place s.guest) → flat (thinned marks s) (rank marks (at_halt s)) page cell ≡ flat s (at_halt s) page cell
-      go (inl is) = agrees_at marks s.guest (cell_after page cell) (shows page cell) (initial s.init page cell) (aligned marks s thin) (at_halt s) (gone_cell page cell (at_halt s) (λ bad. free (misread_at_all s (at_halt s) page bad))) (at_halt s) Halt (omega arith) is refl
-      go (inr le) = agrees_behind marks s.guest (cell_after page cell) (shows page cell) (initial s.init page cell) (aligned marks s thin) (at_halt s) (gone_cell page cell (at_halt s) (λ bad. free (misread_at_all s (at_halt s) page bad))) (at_halt s) (omega arith) le
+      go (inl is) = agrees_at marks s.guest (cell_after page cell) (shows page cell) (initial s.init page cell) (IsLost page cell) (lost_later page cell) (lost_hides page cell) (aligned marks s thin) (at_halt s) (gone_cell page cell (at_halt s) (λ bad. free (misread_at_all s (at_halt s) page bad))) (at_halt s) Halt (omega arith) is refl
+      go (inr le) = agrees_behind marks s.guest (cell_after page cell) (shows page cell) (initial s.init page cell) (IsLost page cell) (lost_later page cell) (lost_hides page cell) (aligned marks s thin) (at_halt s) (gone_cell page cell (at_halt s) (λ bad. free (misread_at_all s (at_halt s) page bad))) (at_halt s) (omega arith) le (λ lost. let past = lost.is_past in omega (arith, past))
 
   pub same_page_at_halt : (page : ℕ) → (IsMisread s (length s.guest) page → ⊥) → page_of s.geometry.cells (flat (thinned marks s) (at_halt (thinned marks s))) page ≡ page_of s.geometry.cells (flat s (at_halt s)) page
   same_page_at_halt page free =
@@ -265,5 +281,5 @@ module _ (marks : List Bool) (s : Recorded) (thin : IsThinning marks s) where
   same_ledger_at_halt page free = ap (λ n. in_ledger (thinned marks s) n page) same_halt ∙ go (halt_or_end s.guest)
     where
       go : (slice_get s.guest (halt_place s.guest) ≡ Some Halt) ⊎ (length s.guest ≤ halt_place s.guest) → in_ledger (thinned marks s) (rank marks (at_halt s)) page ≡ in_ledger s (at_halt s) page
-      go (inl is) = agrees_at marks s.guest (released_after page) is_halt false (aligned marks s thin) (at_halt s) (gone_ledger page (at_halt s) (λ bad. free (misread_at_all s (at_halt s) page bad))) (at_halt s) Halt (omega arith) is refl
-      go (inr le) = agrees_behind marks s.guest (released_after page) is_halt false (aligned marks s thin) (at_halt s) (gone_ledger page (at_halt s) (λ bad. free (misread_at_all s (at_halt s) page bad))) (at_halt s) (omega arith) le
+      go (inl is) = agrees_at marks s.guest (released_after page) is_halt false (λ n. ⊥) (λ n f. f) (λ n x f is. absurd f) (aligned marks s thin) (at_halt s) (gone_ledger page (at_halt s) (omega arith) (λ bad. free (misread_at_all s (at_halt s) page bad))) (at_halt s) Halt (omega arith) is refl
+      go (inr le) = agrees_behind marks s.guest (released_after page) is_halt false (λ n. ⊥) (λ n f. f) (λ n x f is. absurd f) (aligned marks s thin) (at_halt s) (gone_ledger page (at_halt s) (omega arith) (λ bad. free (misread_at_all s (at_halt s) page bad))) (at_halt s) (omega arith) le (λ f. f)

@@ -39,8 +39,9 @@ module _ {A V : Type 0} (marks : List Bool) (log : List A) (change : A → V →
       go (inl lt) = inr lt
       go (inr le) = let more = settled.is_later in inl (omega (arith, le, more))
 
-  module _ (aligned : Aligned marks log) (bound : ℕ) (gone : (n : ℕ) (x : A) → n < bound → slice_get log n ≡ Some x → slice_get marks n ≡ Some false → (before change start log n ≡ change x (before change start log n)) ⊎ IsSettled marks log change shows (suc n)) where
-    pub agrees_or_settled : (n : ℕ) → n ≤ bound → (before change start (kept_in marks log) (rank marks n) ≡ before change start log n) ⊎ IsSettled marks log change shows n
+  -- `Lost n`: from place n on nothing shows what is said
+  module _ (Lost : ℕ → Type 0) (later : (n : ℕ) → Lost n → Lost (suc n)) (hides : (n : ℕ) (x : A) → Lost n → slice_get log n ≡ Some x → shows x ≡ false) (aligned : Aligned marks log) (bound : ℕ) (gone : (n : ℕ) (x : A) → n < bound → slice_get log n ≡ Some x → slice_get marks n ≡ Some false → (before change start log n ≡ change x (before change start log n)) ⊎ (IsSettled marks log change shows (suc n) ⊎ Lost (suc n))) where
+    pub agrees_or_settled : (n : ℕ) → n ≤ bound → (before change start (kept_in marks log) (rank marks n) ≡ before change start log n) ⊎ (IsSettled marks log change shows n ⊎ Lost n)
     agrees_or_settled zero le = inl refl
     agrees_or_settled (suc n) le = go (slice_get marks n) refl (slice_get log n) refl (agrees_or_settled n (omega (arith, le)))
       where
@@ -48,7 +49,7 @@ module _ {A V : Type 0} (marks : List Bool) (log : List A) (change : A → V →
         Kept = before change start (kept_in marks log) (rank marks n)
 
         Next : Option Bool → Option A → Type 0
-        Next m o = (before change start (kept_in marks log) (tallied m (rank marks n)) ≡ changed change o (before change start log n)) ⊎ IsSettled marks log change shows (suc n)
+        Next m o = (before change start (kept_in marks log) (tallied m (rank marks n)) ≡ changed change o (before change start log n)) ⊎ (IsSettled marks log change shows (suc n) ⊎ Lost (suc n))
 
         at_end : slice_get log n ≡ None → (settled : IsSettled marks log change shows n) → (n ≡ settled.place) ⊎ (n < settled.place) → IsSettled marks log change shows (suc n)
         at_end b settled (inr lt) = shorter n settled lt
@@ -58,7 +59,7 @@ module _ {A V : Type 0} (marks : List Bool) (log : List A) (change : A → V →
         next_kept x b a = ap (λ o. changed change o Kept) (kept_at marks log n x b a)
 
         by_kept : (x : A) → slice_get log n ≡ Some x → slice_get marks n ≡ Some true → (settled : IsSettled marks log change shows n) → (n ≡ settled.place) ⊎ (n < settled.place) → Next (Some true) (Some x)
-        by_kept x b a settled (inr lt) = inr (shorter n settled lt)
+        by_kept x b a settled (inr lt) = inr (inl (shorter n settled lt))
         by_kept x b a settled (inl e) =
             let f : Some settled.by ≡ Some x = sym settled.stands ∙ sym (ap (slice_get log) e) ∙ b in
             let same : settled.by ≡ x = cc in
@@ -68,32 +69,37 @@ module _ {A V : Type 0} (marks : List Bool) (log : List A) (change : A → V →
         by_gone x b a settled (inr lt) = shorter n settled lt
         by_gone x b a settled (inl e) = let f : Some true ≡ Some false = sym settled.is_kept ∙ sym (ap (slice_get marks) e) ∙ a in absurd (cc)
 
-        first_gone : (x : A) → Kept ≡ before change start log n → (before change start log n ≡ change x (before change start log n)) ⊎ IsSettled marks log change shows (suc n) → Next (Some false) (Some x)
+        first_gone : (x : A) → Kept ≡ before change start log n → (before change start log n ≡ change x (before change start log n)) ⊎ (IsSettled marks log change shows (suc n) ⊎ Lost (suc n)) → Next (Some false) (Some x)
         first_gone x e (inl f) = inl (e ∙ f)
-        first_gone x e (inr settled) = inr settled
+        first_gone x e (inr rest) = inr rest
 
-        go : (m : Option Bool) → slice_get marks n ≡ m → (o : Option A) → slice_get log n ≡ o → (Kept ≡ before change start log n) ⊎ IsSettled marks log change shows n → Next m o
+        go : (m : Option Bool) → slice_get marks n ≡ m → (o : Option A) → slice_get log n ≡ o → (Kept ≡ before change start log n) ⊎ (IsSettled marks log change shows n ⊎ Lost n) → Next m o
         go None a None b (inl e) = inl e
-        go None a None b (inr settled) = inr (at_end b settled (at_or_later n settled))
+        go None a None b (inr (inl settled)) = inr (inl (at_end b settled (at_or_later n settled)))
+        go None a None b (inr (inr lost)) = inr (inr (later n lost))
         go None a (Some x) b h = let f : false ≡ true = sym (ap is_some a) ∙ aligned n ∙ ap is_some b in absurd (cc)
         go (Some m) a None b h = let f : true ≡ false = sym (ap is_some a) ∙ aligned n ∙ ap is_some b in absurd (cc)
         go (Some true) a (Some x) b (inl e) = inl (next_kept x b a ∙ ap (change x) e)
-        go (Some true) a (Some x) b (inr settled) = by_kept x b a settled (at_or_later n settled)
+        go (Some true) a (Some x) b (inr (inl settled)) = by_kept x b a settled (at_or_later n settled)
+        go (Some true) a (Some x) b (inr (inr lost)) = inr (inr (later n lost))
         go (Some false) a (Some x) b (inl e) = first_gone x e (gone n x (omega (arith, le)) b a)
-        go (Some false) a (Some x) b (inr settled) = inr (by_gone x b a settled (at_or_later n settled))
+        go (Some false) a (Some x) b (inr (inl settled)) = inr (inl (by_gone x b a settled (at_or_later n settled)))
+        go (Some false) a (Some x) b (inr (inr lost)) = inr (inr (later n lost))
 
     -- so it is the same where a record shows it
     pub agrees_at : (n : ℕ) (x : A) → n ≤ bound → slice_get log n ≡ Some x → shows x ≡ true → before change start (kept_in marks log) (rank marks n) ≡ before change start log n
     agrees_at n x most is e = go (agrees_or_settled n most)
       where
-        go : (before change start (kept_in marks log) (rank marks n) ≡ before change start log n) ⊎ IsSettled marks log change shows n → before change start (kept_in marks log) (rank marks n) ≡ before change start log n
+        go : (before change start (kept_in marks log) (rank marks n) ≡ before change start log n) ⊎ (IsSettled marks log change shows n ⊎ Lost n) → before change start (kept_in marks log) (rank marks n) ≡ before change start log n
         go (inl same) = same
-        go (inr settled) = let f = settled.is_unseen n x (omega arith) settled.is_later is in absurd (cc)
+        go (inr (inl settled)) = let f = settled.is_unseen n x (omega arith) settled.is_later is in absurd (cc)
+        go (inr (inr lost)) = let f = hides n x lost is in absurd (cc)
 
     -- and behind the log's end
-    pub agrees_behind : (n : ℕ) → n ≤ bound → length log ≤ n → before change start (kept_in marks log) (rank marks n) ≡ before change start log n
-    agrees_behind n most le = go (agrees_or_settled n most)
+    pub agrees_behind : (n : ℕ) → n ≤ bound → length log ≤ n → (Lost n → ⊥) → before change start (kept_in marks log) (rank marks n) ≡ before change start log n
+    agrees_behind n most le found = go (agrees_or_settled n most)
       where
-        go : (before change start (kept_in marks log) (rank marks n) ≡ before change start log n) ⊎ IsSettled marks log change shows n → before change start (kept_in marks log) (rank marks n) ≡ before change start log n
+        go : (before change start (kept_in marks log) (rank marks n) ≡ before change start log n) ⊎ (IsSettled marks log change shows n ⊎ Lost n) → before change start (kept_in marks log) (rank marks n) ≡ before change start log n
         go (inl same) = same
-        go (inr settled) = let lt = slice_get_within log settled.place settled.by settled.stands in let more = settled.is_later in absurd (omega (arith, le, lt, more))
+        go (inr (inr lost)) = absurd (found lost)
+        go (inr (inl settled)) = let lt = slice_get_within log settled.place settled.by settled.stands in let more = settled.is_later in absurd (omega (arith, le, lt, more))

@@ -1,2 +1,3 @@
 pub mod Thinned
 pub mod ThinLaws
+pub mod Repeats

@@ -4,9 +4,11 @@ use Rattle.migration_types.specs.declared.records.LogName.TheVariants.{Guest}
 use Rattle.migration_types.specs.Receipts.{Name}
 use Rattle.migration_types.specs.Sessions.{Recorded}
 use Rattle.audit_model.specs.declared.reasons.PageReason.{PageReason}
+use Rattle.audit_model.specs.Mergings.{HasMerging}
+use Rattle.audit_model.specs.Shape.{IsRightShape}
 use Rattle.audit_model.specs.Faults.{IsPageFault}
 use Rattle.page_facts.specs.declared.page_fault.PageFault.{PageFault}
-use Rattle.page_facts.specs.PageFaults.{page_at, IsFirstFault}
+use Rattle.page_facts.specs.PageFaults.{page_at, IsClean, IsFirstFault}
 use Rattle.thinned_logs.specs.Thinned.{thinned, thin_name, IsKept, IsMisread}
 
 -- a read of the page before the record with this name gives another value than one machine that never moved would; the
@@ -58,3 +60,19 @@ abbrev pub FirstFaultsWere : List Bool → Recorded → Type 0
 FirstFaultsWere marks s =
     (page : ℕ) (f : PageFault) → IsFirstFault (thinned marks s) page f →
     (was : PageFault) × IsFirstFault s page was × (f ≡ thin_fault marks was)
+
+-- the page's first fault is in the same log as this one, and for the same reason
+pub record HasFirstLike (s : Recorded) (page : ℕ) (f : PageFault) : Type 0 where
+  pub found : PageFault
+  pub is_first : IsFirstFault s page found
+  pub is_log : found.log ≡ f.log
+  pub is_reason : found.reason ≡ f.reason
+
+-- Both sessions have the right shape or neither, both have a merging or neither, and the same pages have a fault. Each
+-- page's first fault is the same in both but for its record's number.
+pub record HasSameVerdict (whole thin : Recorded) : Type 0 where
+  pub shape : IsRightShape whole ↔ IsRightShape thin
+  pub merging : HasMerging whole ↔ HasMerging thin
+  pub clean : (page : ℕ) → IsClean whole page ↔ IsClean thin page
+  pub first : (page : ℕ) (f : PageFault) → IsFirstFault whole page f → HasFirstLike thin page f
+  pub was_first : (page : ℕ) (f : PageFault) → IsFirstFault thin page f → HasFirstLike whole page f

@@ -1,5 +1,5 @@
 -- A session with thinned logs: some reads and writes of the guest are left out, and those that are kept have new numbers.
-use Rattle.std.specs.Prelude.{◌≡◌, ◌≢◌, ℕ, ◌<◌, Bool, true, false, ◌==◌, ◌&&◌, ◌⊎◌, List, length, map, Some, slice_get}
+use Rattle.std.specs.Prelude.{◌≡◌, ◌≢◌, ℕ, ◌<◌, ◌≤◌, Bool, true, false, ◌==◌, ◌&&◌, ◌⊎◌, List, length, map, Some, slice_get}
 use Rattle.migration_types.specs.declared.records.LogName.TheVariants.{Guest}
 use Rattle.migration_types.specs.declared.records.GuestRec.{GuestRec}
 use Rattle.migration_types.specs.declared.records.GuestRec.TheVariants.{Read, Write, Release, Halt}
@@ -12,7 +12,7 @@ use Rattle.migration_types.specs.Sessions.{Recorded}
 use Rattle.audit_model.specs.Names.{receipt}
 use Rattle.audit_model.specs.declared.home.Home.{Home}
 use Rattle.audit_model.specs.declared.home.Home.TheVariants.{AtSource, Nowhere, AtTarget}
-use Rattle.audit_model.specs.Flat.{flat, in_ledger, home}
+use Rattle.audit_model.specs.Flat.{flat, in_ledger, home, at_halt}
 use Rattle.audit_model.specs.Worlds.{touched}
 use Rattle.audit_model.specs.Windows.{kept_in, rank}
 
@@ -70,7 +70,7 @@ decides page cell (Write vcpu p c value) = (p == page) && (c == cell)
 decides page cell (Release vcpu p) = p == page
 decides page cell _ = false
 
--- whether it shows the value of the cell: a read of it, or the halt, when the source has what it sends and zeros
+-- whether it shows the value of the cell: a read of it, or the halt, at which pages are as the source sends them
 abbrev pub shows : ℕ → ℕ → GuestRec → Bool
 shows page cell (Read vcpu p c value) = (p == page) && (c == cell)
 shows page cell Halt = true
@@ -86,16 +86,21 @@ pub record IsOverwritten (marks : List Bool) (s : Recorded) (n page cell : ℕ) 
   pub is_decided : decides page cell by ≡ true
   pub is_unseen : (k : ℕ) (r : GuestRec) → n < k → k < place → slice_get s.guest k ≡ Some r → shows page cell r ≡ false
 
+-- guest record n is past the first halt, and no record after it shows the value of the cell
+pub record IsUnseen (s : Recorded) (n page cell : ℕ) : Type 0 where
+  pub is_past : at_halt s ≤ n
+  pub is_hidden : (k : ℕ) (r : GuestRec) → n < k → slice_get s.guest k ≡ Some r → shows page cell r ≡ false
+
 -- a write of the value that the cell has, to a page that is not released
 pub record IsRepeated (s : Recorded) (n page cell value : ℕ) : Type 0 where
   pub is_flat : value ≡ flat s n page cell
   pub is_owed : in_ledger s n page ≡ false
 
--- Guest record n may be left out. It reads or writes what its cell has, or writes what is overwritten before it shows, or
--- its page was misread before. It is not its page's first use at the target.
+-- Guest record n may be left out. It reads or writes what its cell has, or writes what is overwritten before it shows or
+-- never shows, or its page was misread before. It is not its page's first use at the target.
 abbrev pub MayGo : List Bool → Recorded → ℕ → GuestRec → Type 0
 MayGo marks s n (Read vcpu p c value) = HasUsed (home s n) (touched s n p) × ((value ≡ flat s n p c) ⊎ IsMisread s n p)
-MayGo marks s n (Write vcpu p c value) = HasUsed (home s n) (touched s n p) × (IsRepeated s n p c value ⊎ (IsOverwritten marks s n p c ⊎ IsMisread s n p))
+MayGo marks s n (Write vcpu p c value) = HasUsed (home s n) (touched s n p) × (IsRepeated s n p c value ⊎ (IsOverwritten marks s n p c ⊎ (IsUnseen s n p c ⊎ IsMisread s n p)))
 MayGo marks s n _ = ⊥
 
 -- Each of the guest's records has a mark. A record that is not kept may be left out, and no record of another log is a
@@ -105,6 +110,7 @@ pub record IsThinning (marks : List Bool) (s : Recorded) : Type 0 where
   pub may_go : (n : ℕ) (r : GuestRec) → slice_get s.guest n ≡ Some r → slice_get marks n ≡ Some false → MayGo marks s n r
   pub is_unnamed : (name : Name) (n : ℕ) → receipt s name ≡ Some (Guest, n) → slice_get marks n ≢ Some false
 
--- a session with thinned logs
-abbrev pub IsThinned : Recorded → Recorded → Type 0
-IsThinned whole thin = (marks : List Bool) × IsThinning marks whole × (thin ≡ thinned marks whole)
+-- a session with thinned logs, which may be thinned again
+pub data IsThinned (whole : Recorded) : Recorded → Type 0 where
+  itself : IsThinned whole whole
+  again : {thin next : Recorded} → IsThinned whole thin → (marks : List Bool) → IsThinning marks thin → next ≡ thinned marks thin → IsThinned whole next

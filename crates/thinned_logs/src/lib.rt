@@ -1,8 +1,13 @@
 //! Thinned logs: a session of which reads and writes of the guest that tell nothing new are left out.
 //!
-//! The definitions are in `specs/`. The function of `laws` carries the law as its contract.
+//! The definitions are in `specs/`. A function of `laws` carries a law as its contract. [`decides`] and [`shows`] say what
+//! one record says of a cell.
 #![tactic(auto)]
 
 mod laws;
+mod records;
 
-pub use laws::{thinned_logs_keep_faults, thinned_logs_keep_verdicts};
+pub use laws::{
+    repeats_may_go, thinned_again_is_alike, thinned_logs_keep_faults, thinned_logs_keep_verdicts,
+};
+pub use records::{decides, shows};

@@ -33,6 +33,8 @@ mod stories;
 #[cfg(test)]
 mod texts;
 #[cfg(test)]
+mod thinned;
+#[cfg(test)]
 mod threads;
 #[cfg(test)]
 mod verdicts;
