@@ -684,10 +684,18 @@ def piped(program, words, pieces, takes=None):
 
 
 def pipes(program, session, greatest):
-    """Pipes by single bytes, and one whose reader goes away."""
+    """Pipes by single bytes, one that has no byte and is not waited for, and one whose reader goes away."""
     plain = limited(program, "certify -", 1 << 31, session)
     found = piped(program, "certify -", (session[n:n + 1] for n in range(len(session))))
     yield None if found == plain else f"an input by single bytes: {found}"
+    reading, writing = os.pipe()
+    os.set_blocking(reading, False)
+    child = subprocess.run([program, "certify", "-"], stdin=reading, capture_output=True)
+    os.close(reading)
+    os.close(writing)
+    found = Outcome(child.returncode, child.stdout, child.stderr)
+    wanted = (3, b"", b"file -\n-: it has no bytes ready\n")
+    yield None if found == wanted else f"an input with no byte ready: {found}"
     for takes in (0, 1, 70000):
         found = piped(program, "certify -", [greatest], takes)
         yield None if (found.status, found.errors) == (0, b"-: " + NOTE) else f"a reader that goes away after {takes} bytes: {found.status} {found.errors}"

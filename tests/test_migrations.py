@@ -244,10 +244,23 @@ def is_carried_wrongly(program):
     return None, None
 
 
+def late_script(reads):
+    """A script of one virtual processor that reads a page often at the target, and then one that it released before it moved: the
+    source was told by then that all is there, and the pager is still needed."""
+    return script_of(2, 1, 4, ("-", "-"), [(["z 0"], ["r 1 0"] * reads + ["r 0 0"])])
+
+
+def quiet_script():
+    """A script whose pages are pushed over a lane, one at a time, while nothing else is under way and nobody waits."""
+    return script_of(12, 1, 1, ("-", "-", "-"), [([], ["r 0 0"])], 2)
+
+
 def scripts():
     """The name of each script, its text, the words after `migrate`, and how many runs there are."""
     for number, worked in enumerate(WORKED):
         yield f"worked script {number}", worked.replace(" / ", "\n") + "\n", ["-"], 100
+    yield "one that needs a released page late", late_script(20_000), ["-"], 5
+    yield "pages over a lane where nothing else is under way", quiet_script(), ["-"], 5
     yield "sixteen virtual processors", busy_script(1, 64, 30, (1, 0, 0, 0)), ["--link", "memory", "-"], 20
     yield "sixteen over a bad link", busy_script(2, 64, 30, (7, 1, 1, 1)), ["-"], 50
     yield "sixteen over a worse link", busy_script(3, 20, 10, (1, 1, 1, 1)), ["-"], 30
@@ -275,7 +288,7 @@ def scripts():
 
 
 @pytest.mark.slow
-@pytest.mark.cases(1000)
+@pytest.mark.cases(1010)
 def test_migrations(program):
     kinds = set()
     for name, text, words, runs in scripts():

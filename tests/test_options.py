@@ -110,3 +110,13 @@ def test_options(program, room):
     objects = "".join(tests.run("audit", *ALL, *JSON, name)[1] for name in SESSIONS)
     told = [json.loads(line) for line in tests.run("audit", *ALL, *JSON, *SESSIONS)[1].splitlines()]
     same("the objects of several sessions", [{key: it[key] for key in it if key != "file"} for it in told], [json.loads(line) for line in objects.splitlines()])
+
+
+@pytest.mark.quick
+@pytest.mark.cases(5)
+def test_words_that_are_not_utf_8(program):
+    """The first of them is told, by its number and its first bytes."""
+    for words, number, shown in (((b"\xff",), 1, r'"\xff"'), ((b"audit", b"a\xffb"), 2, r'"a\xffb"'), ((b"audit", b"\xc3\xa9", b"\xe9 ", b"\xff"), 3, r'"\xe9 "'),
+                                 ((b"audit", b"x" * 255 + b"\xff"), 2, f'"{"x" * 60}"..'), ((b"audit", b"x" * 1000 + b"\xff"), 2, f'"{"x" * 60}"..')):
+        ran = subprocess.run([program, *words], stdin=subprocess.DEVNULL, capture_output=True)
+        same(f"{words}", (ran.returncode, ran.stdout, ran.stderr), (2, b"", f"error: word {number} is not UTF-8: {shown}\n".encode()))
