@@ -45,7 +45,7 @@ seen_told w lined name known cut (Ok a) is h table clean =
     record {
       text = is.text;
       is_known = is.is_known;
-      holds = record { answered = inl record { cut = cut; is_cut = is.holds; is_text = h.0; is_status = h.1; has_table = table }; line = None; is_line = (is.holds.s, is.holds.spelled); is_place = inl (ap (option_map told_place) clean) };
+      holds = record { answered = inl record { cut = cut; is_cut = is.holds; is_text = h.0; is_status = h.1; has_table = table }; line = None; is_line = (is.holds.s, is.holds.spelled); is_place = subst (λ (w : Option Why). IfSome (option_map told_place w) (λ p. place_of name None ≡ Some p)) (sym clean) tt };
     }
 
 pub uncut_told : (w : Window) (lined : Bool) (name : List ℕ) (known : Option (List ℕ)) (fault : CutFault) (found : Result Tabled Fault) → OfRead known (λ recording. IsTold w recording fault) → ((window : Window) (recording : List ℕ) (lines : Bool) → IsTold window recording fault → IfOk found (λ a. IsAnsweredAt window lines name recording a.0 a.1 (option_map told_place a.2))) → IfOk found (TellsOf w lined name known)
@@ -75,10 +75,10 @@ pub few_written : (w : Window) (lined : Bool) (name : List ℕ) (known : Option 
 few_written w lined name known a status is same = rw same (few_of w lined is.text a.0 a.1 is.holds.answered)
 
 -- why a recording is refused is told at its place, or nothing is told where memory ran out for it
-told_at : (name : List ℕ) (line : Option ℕ) (place : Option Place) (old new : Option (List ℕ)) → (place ≡ None) ⊎ (place ≡ place_of name line) → TellsWhy Short place old new → TellsWhy Short (place_of name line) old new
-told_at name None place old new (inl none) told = subst (λ (p : Option Place). TellsWhy Short p old new) none told
-told_at name (Some n) place old new (inl none) told = inl (subst (λ (p : Option Place). TellsWhy Short p old new) none told)
-told_at name line place old new (inr same) told = subst (λ (p : Option Place). TellsWhy Short p old new) same told
+told_at : (name : List ℕ) (line : Option ℕ) (place : Option Place) (old new : Option (List ℕ)) → IfSome place (λ p. place_of name line ≡ Some p) → TellsWhy Short place old new → TellsWhy Short (place_of name line) old new
+told_at name None None old new is told = told
+told_at name (Some n) None old new is told = inl told
+told_at name line (Some p) old new is told = subst (λ (q : Option Place). TellsWhy Short q old new) (sym is) told
 
 why_told : (w : Window) (lined : Bool) (name recording : List ℕ) (a : Tabled) (status : ℕ) (old new : Option (List ℕ)) → IsAnsweredAt w lined name recording a.0 a.1 (option_map told_place a.2) → TellsWhy Short (option_map told_place a.2) old new → TellsRefused name recording status old new
 why_told w lined name recording a status old new is told =

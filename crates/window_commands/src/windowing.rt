@@ -1,6 +1,6 @@
 //! The window of a recording, as a text and a status, and the table of its lines.
 
-ghost use Rattle.std.specs.Prelude.{◌≡◌, ◌≢◌, ◌<◌, ◌⊎◌, ℕ, Bool, List, Ok, Some, None, true, false, IfOk, IfErr, MatchOption, codes, option_map};
+ghost use Rattle.std.specs.Prelude.{◌≡◌, ◌≢◌, ◌<◌, ℕ, Bool, List, Ok, Some, None, true, false, IfOk, IfErr, IfSome, MatchOption, codes, option_map};
 ghost use Rattle.command_texts.specs.Answers.{IsReadFault, Says, numbered};
 ghost use Rattle.command_texts.specs.Reasons.{IsRefusedAt, place_of, told_place};
 ghost use Rattle.command_texts.specs.Written.{BothGain};
@@ -117,18 +117,18 @@ fn cut_named<'a, S: TextSource>(
 /// Returns why the text under a name is refused, if it is, with what was found there and what is allowed. It is `None` if
 /// that is not known.
 fn why_at<'a>(name: &'a str, fault: CutFault, misread: Option<Misread>) -> Option<Why<'a>>
-    ensures { (option_map told_place result ≡ None) ⊎ (option_map told_place result ≡ place_of name.entry.now (refused_line fault)) }
+    ensures { IfSome (option_map told_place result) (λ place. place_of name.entry.now (refused_line fault) ≡ Some place) }
 {
     let CutFault::Recording(RecordingFault::Line(line)) = fault else {
         return None;
     };
-    let Some(misread) = misread else {
-        return None;
-    };
-    Some(Why {
-        name,
-        refused: Refused { line, misread },
-    })
+    match misread {
+        Some(misread) => Some(Why {
+            name,
+            refused: Refused { line, misread },
+        }),
+        None => None,
+    }
 }
 
 /// Returns the answer if nothing can be cut out of the text under a name. It has no table.

@@ -1,5 +1,5 @@
 -- The answer of `window`, with the table of its lines.
-use Rattle.std.specs.Prelude.{◌≡◌, ◌⊎◌, ℕ, Bool, true, false, List, Option, Some, None}
+use Rattle.std.specs.Prelude.{◌≡◌, ◌⊎◌, ℕ, Bool, true, false, List, Option, Some, None, IfSome}
 use Rattle.std.specs.Global.{Vec}
 use Rattle.command_texts.specs.declared.answer.Answer.{Answer}
 use Rattle.command_texts.specs.Reasons.{IsRefusedAt, Place, place_of}
@@ -47,4 +47,4 @@ pub record IsAnsweredAt (w : Window) (lined : Bool) (name recording : List ℕ) 
   pub answered : IsAnswered w lined recording answer table
   pub line : Option ℕ
   pub is_line : IsRefusedAt SpellsRecording recording line
-  pub is_place : (place ≡ None) ⊎ (place ≡ place_of name line)
+  pub is_place : IfSome place (λ p. place_of name line ≡ Some p)

@@ -1,0 +1,9 @@
+use Rattle.std.proofs.Common.{subst}
+use Rattle.window_cut.specs.Cuts.{IsTold}
+use Rattle.window_commands.proofs.Told.{of_any}
+use Rattle.window_commands.proofs.windowing.uncut.Goals as goal
+
+pub returns-in-Outside-clause-line : goal.returns-in-Outside-clause-line
+returns-in-Outside-clause-line c = λ window recording told.
+    let outside = subst (λ f. IsTold window recording f) c.in-Outside.is told in
+    rw c.in-Outside.is (of_any c.given.result _ (outside.s, outside.spelled))
