@@ -261,6 +261,8 @@ def scripts():
         yield f"worked script {number}", worked.replace(" / ", "\n") + "\n", ["-"], 100
     yield "one that needs a released page late", late_script(20_000), ["-"], 5
     yield "pages over a lane where nothing else is under way", quiet_script(), ["-"], 5
+    yield "a released page that is waited for before the resume", script_of(2, 1, 4, ("-", "-"), [(["z 0"], ["r 0 0"])]), ["-"], 10
+    yield "pages that come where the state is lost", script_of(4, 1, 4, ("l", "-"), [([], ["r 0 0"])]), ["-"], 30
     yield "sixteen virtual processors", busy_script(1, 64, 30, (1, 0, 0, 0)), ["--link", "memory", "-"], 20
     yield "sixteen over a bad link", busy_script(2, 64, 30, (7, 1, 1, 1)), ["-"], 50
     yield "sixteen over a worse link", busy_script(3, 20, 10, (1, 1, 1, 1)), ["-"], 30
@@ -288,7 +290,7 @@ def scripts():
 
 
 @pytest.mark.slow
-@pytest.mark.cases(1010)
+@pytest.mark.cases(1050)
 def test_migrations(program):
     kinds = set()
     for name, text, words, runs in scripts():
