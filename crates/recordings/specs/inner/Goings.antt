@@ -1,5 +1,5 @@
 -- A walk through a recording's text, and what lines change in it.
-use Rattle.std.specs.Prelude.{◌≡◌, ℕ, ◌+◌, List, [], ◌∷◌, ◌++◌, Option, length}
+use Rattle.std.specs.Prelude.{◌≡◌, ℕ, ◌+◌, ◌^◌, List, [], ◌∷◌, ◌++◌, Option, length}
 use Rattle.std.specs.Io.KnownBytes.{Consumes}
 use Rattle.text_lines.specs.declared.FaultKind.{FaultKind}
 use Rattle.text_lines.specs.declared.FaultKind.TheVariants.{Memory as NoMemory}
@@ -25,10 +25,10 @@ pub record Goes {V : Type 0} (IsNew : V → Type 0) (Met : V → Recorded → Ty
   pub lines : List (List ℕ)
   pub came : Came IsNew Met w visitor lines
 
--- no text begins with these lines and one more, which is this
+-- no text begins with these lines and one more, which is this; or that line would have the greatest number
 abbrev pub Stops : List (List ℕ) → List ℕ → RecordingFault → Type 0
 Stops lines line (Line number) = (number ≡ length lines + 1) × (Begins SpellsRecording (lines ++ line ∷ []) → ⊥)
-Stops lines line File = Unit {0}
+Stops lines line File = length lines + 2 ≡ 2 ^ 64
 Stops lines line Memory = Unit {0}
 
 -- the fault of a line
