@@ -1,9 +1,10 @@
 -- Answers as they are written.
-use Rattle.std.proofs.Common.{◌≡◌, ◌∙◌, ℕ, List, Option, Some, None, subst, sym, refl, inl, ap}
+use Rattle.std.proofs.Common.{◌≡◌, ◌∙◌, ℕ, List, ◌++◌, Option, Some, None, take, drop, codes, subst, sym, refl, inl, inr}
 use Rattle.std.specs.Prelude.{Bool, true, false, is_some, option_map}
 use Rattle.command_texts.specs.declared.why.Telling.{Telling}
 use Rattle.command_texts.specs.declared.why.Telling.TheVariants.{Short, Full, Fields}
 use Rattle.command_texts.specs.declared.why.Why.{Why}
+use Rattle.command_texts.proofs.Cuts.{split_parts}
 use Rattle.command_texts.specs.Fields.{HasFields, IsAnswerTold, IsObject, IsTold}
 use Rattle.std.specs.Option.{option_or}
 use Rattle.command_texts.specs.Reasons.{first_place, place_of, told_place}
@@ -39,3 +40,11 @@ module _ {T : Type 0} (IsRefused : T → Option ℕ → Type 0) (IsAnswer : T �
   answer_told Fields how refused only same is is_answer h =
       subst (λ (t : Telling). IsAnswerTold t IsRefused IsAnswer texts told status) (sym (only refl))
       (record { line = line; is_line = is; answer = answer; is_answer = is_answer; is_told = subst (λ (b : Bool). IsTold Fields b answer told) same h })
+
+-- an object that ends as one does
+pub front_is : (object front back : List ℕ) (k : ℕ) → front ≡ take k object → back ≡ drop k object → back ≡ codes "}\n" → object ≡ take k object ++ codes "}\n"
+front_is object front back k f b end = split_parts object (take k object) (codes "}\n") k refl (sym end ∙ b)
+
+-- and the same with more fields
+pub has_more : (object fields told : List ℕ) (k : ℕ) → object ≡ take k object ++ codes "}\n" → told ≡ (take k object ++ fields) ++ codes "}\n" → HasFields object told
+has_more object fields told k before after = inr record { front = take k object; more = fields; before = before; after = after }

@@ -45,6 +45,7 @@ fn fields_of(alloc: Global, reason: &Reason) -> Result<Vec<u8>, AllocError> {
 }
 
 /// Returns how many bytes of an object come before its end, if it ends as an object does.
+#[tactic(auto, using(crate::proofs::Objects::front_is))]
 fn front_of(object: &[u8]) -> Option<usize>
     ensures { IfSome result (λ at. object.now ≡ take at object.now ++ codes "}\n") }
 {
@@ -54,6 +55,7 @@ fn front_of(object: &[u8]) -> Option<usize>
 }
 
 /// Returns an object with the fields that say why a text is refused before its end.
+#[tactic(auto, using(crate::proofs::Objects::has_more))]
 fn with_fields(alloc: Global, object: Vec<u8>, refused: &Refused) -> Result<Vec<u8>, AllocError>
     ensures { IfOk result (λ told. HasFields object.items told.items) }
 {
