@@ -9,6 +9,7 @@ import glob
 import itertools
 import json
 import os
+import re
 import subprocess
 
 import pytest
@@ -21,6 +22,9 @@ TOP = os.path.dirname(os.path.dirname(os.path.realpath(__file__)))
 # What names the page of a record of these words, by its place among the record's fields.
 PAGE_FIELD = {"r": 2, "w": 2, "send": 1, "place": 1, "zero": 1}
 
+
+# The fields of the object of a refused text, in their order.
+REFUSED = ("verdict", "line", "column", "found", "expected", "reason")
 
 # What the first word of a record of each role is, where the role says it.
 ROLES = {
@@ -60,6 +64,38 @@ def incomplete(session, words):
     return {"verdict": "incomplete", "missing": words[0]}
 
 
+# The words on a refused text: its line, the column, what was found there, and what is expected.
+WORDS = re.compile(r'[^:]*:(\d+):(\d+): (.*)')
+FOUND = re.compile(r'found "(.*?)"(\.\.)?(?: in ".*"| after ".*")?; expected .*')
+AS_IN = re.compile(r'.*, as in "(.*?)"(?:; .*)?')
+QUOTED = re.compile(r'"([^"]*)"')
+
+
+def refused(verdict, line, errors):
+    """The object of a refused text, by the words on standard error. The forms are told only if there are few."""
+    told, column, words = WORDS.match(errors.decode().splitlines()[0]).groups()
+    found = {"verdict": verdict, "line": line, "column": int(column)}
+    same("the line of the words", int(told), line)
+    at = FOUND.match(words)
+    if at:
+        found["found"] = at[1] + (at[2] or "")
+    return found, words
+
+
+def is_refused(given, verdict, line, errors):
+    """Whether this object says what standard error says of a refused text."""
+    found, words = refused(verdict, line, errors)
+    given = dict(given)
+    forms, reason = given.pop("expected", None), given.pop("reason")
+    same(f"the fields of {words}", given, found if "carriage return" not in words else {**found, "found": "\\x0d"})
+    same(f"the reason of {words}", reason, words)
+    if forms is None:
+        return any(part in words for part in ("carriage return", "line feed after", "unpack it", "UTF-16", "byte order mark", "nothing after"))
+    form = AS_IN.match(words)
+    few = QUOTED.findall(words.rpartition("; expected ")[2])
+    return (form[1] in forms) if form else all(name in few for name in forms) if len(forms) <= 3 and few else len(forms) > 0
+
+
 def object_of(text, session_bytes):
     """The object of an answer in lines. The runs of a knot, which stand in no line, are those of a slow model."""
     lines = text.decode().splitlines()
@@ -69,7 +105,7 @@ def object_of(text, session_bytes):
         return verdict
     if words[0] == "clean":
         return {**verdict, "runs": runs_of(lines)}
-    if words[0] in ("session-text", "certificate-text", "runs", "page"):
+    if words[0] in ("runs", "page"):
         return {**verdict, "line": int(words[2])}
     session = SessionText(session_bytes.decode())
     if words[0] == "incomplete":
@@ -106,7 +142,12 @@ class Tests:
         found = json.loads(output)
         self.seen.add((found["verdict"], found.get("reason") or found.get("missing")))
         self.same(f"the line of {what}", output.decode(), json.dumps(found, separators=(",", ":")) + "\n")
-        self.same(f"the object of {what}", list(found.items()), list(object_of(text, session_bytes).items()))
+        first = text.decode().split("\n")[0].split(" ")
+        if first[0] in ("session-text", "certificate-text"):
+            self.same(f"the object of {what}", is_refused(found, first[0], int(first[2]), errors), True)
+            self.same(f"the order of the fields of {what}", [name for name in REFUSED if name in found], list(found))
+        else:
+            self.same(f"the object of {what}", list(found.items()), list(object_of(text, session_bytes).items()))
 
     def story(self, what, session_bytes):
         """The object of an explanation, beside that of the audit and the words."""

@@ -4,6 +4,7 @@ pub mod Answers
 pub mod Told
 pub mod Written
 pub mod Reasons
+pub mod Fields
 pub mod Shown
 pub mod Several
 pub mod inner

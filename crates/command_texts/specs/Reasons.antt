@@ -6,7 +6,7 @@ use Rattle.text_lines.specs.Text.{IsRefusalLine, IsSpelling}
 use Rattle.text_lines.specs.declared.wanted.Refusal.{Refusal}
 use Rattle.refusal_words.specs.Placed.{AddsPlaced, AddsPlacedFirst}
 use Rattle.command_texts.specs.declared.why.Telling.{Telling}
-use Rattle.command_texts.specs.declared.why.Telling.TheVariants.{Short, Full}
+use Rattle.command_texts.specs.declared.why.Telling.TheVariants.{Short, Full, Fields}
 use Rattle.command_texts.specs.declared.why.Why.{Why}
 use Rattle.command_texts.specs.Shown.{line_on, shown}
 use Rattle.command_texts.specs.Written.{MayTell}
@@ -47,6 +47,7 @@ told_place why = (why.name.now, why.refused.line)
 abbrev pub AreReasons : Telling → Place → List ℕ → Type 0
 AreReasons Short place words = AddsPlaced (shown place.0) place.1 [] words
 AreReasons Full place words = AddsPlacedFirst (shown place.0) place.1 [] words
+AreReasons Fields place words = AddsPlaced (shown place.0) place.1 [] words
 
 -- Words on why a text is refused, if one is. The output may fail before all of them are written, or before any is.
 abbrev pub TellsWhy : Telling → Option Place → Option (List ℕ) → Option (List ℕ) → Type 0

@@ -8,6 +8,7 @@ mod causes;
 mod closing;
 mod console;
 mod cutting;
+mod fields;
 mod limits;
 mod naming;
 mod noting;

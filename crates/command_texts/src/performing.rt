@@ -4,7 +4,8 @@
 
 ghost use Rattle.std.specs.Prelude.{◌≡◌, ⊤, ◌<◌, ◌⊎◌, ℕ, List, [], IfOk, IfErr, MatchOption, OnOk};
 ghost use Rattle.command_texts.specs.Answers.{IsTextFault};
-ghost use Rattle.command_texts.specs.Reasons.{TellsBeside, TellsWhyOf};
+ghost use Rattle.command_texts.specs.Fields.{IsAnswerTold};
+ghost use Rattle.command_texts.specs.Reasons.{IsFirstRefused, TellsBeside, TellsWhyOf};
 ghost use Rattle.command_texts.specs.Shown.{shown};
 ghost use Rattle.command_texts.specs.declared.why.Telling.{Telling as HowMuch};
 ghost use Rattle.command_texts.specs.Told.{AreNamed, Ends, IsNamed};
@@ -12,6 +13,7 @@ ghost use Rattle.command_texts.specs.Written.{BothGain, MayTell};
 
 use crate::answer::{Answer, Fault, Given, written};
 use crate::console::Console;
+use crate::fields::as_told;
 use crate::naming::{read_named, read_pair};
 use crate::noting::tell_note;
 use crate::reading::TextSource;
@@ -81,8 +83,20 @@ pub trait OnTwo {
     /// now.
     ghost adds_more: { Self → List ℕ × List ℕ → List ℕ → List ℕ → List ℕ → Type 0 };
 
+    /// How much the command says about a text that is refused.
+    ghost how_much: { Self → HowMuch };
+
     /// There is a note on these texts, for an answer that says that all is well.
     ghost has_note: { Self → List ℕ × List ℕ → Type 0 };
+
+    /// Returns how much the answer to what was found in two texts says about the first of them that is refused, besides
+    /// one line.
+    fn telling(
+        &self,
+        first: &<Self::First as Taker>::Found,
+        second: &<Self::Second as Taker>::Found,
+    ) -> Telling
+        ensures { result ≡ HowMuch.Fields → how_much self.now ≡ HowMuch.Fields };
 
     /// Returns the answer to what was found in two texts, with what it says. Its status is 0 or 1. Fails only if memory
     /// runs out.
@@ -132,7 +146,7 @@ pub fn perform_one<
 >(console: &mut Console<'_, R, S, I, O, E>, command: &C, name: &'a str) -> Result<u8, Fault<'a>>
     requires ready { C.ready }
     ensures few { IfOk result (λ status. status < 2) }
-    ensures told { Ends (IsTextFault (λ n. n ≡ name.entry.now)) (IsNamed name.entry.now (S.bytes_of console.old.texts.now) (I.remaining console.old.input)) (C.is_answer command.now) (TellsWhyOf C.Text.is_refused (C.has_note command.now) (C.how_much command.now) name.entry.now) (O.contents console.old.output, E.contents console.old.errors) (O.contents console.new.output, E.contents console.new.errors) result }
+    ensures told { Ends (IsTextFault (λ n. n ≡ name.entry.now)) (IsNamed name.entry.now (S.bytes_of console.old.texts.now) (I.remaining console.old.input)) (IsAnswerTold (C.how_much command.now) C.Text.is_refused (C.is_answer command.now)) (TellsWhyOf C.Text.is_refused (C.has_note command.now) (C.how_much command.now) name.entry.now) (O.contents console.old.output, E.contents console.old.errors) (O.contents console.new.output, E.contents console.new.errors) result }
     ensures gains { BothGain (O.contents console.old.output, E.contents console.old.errors) (O.contents console.new.output, E.contents console.new.errors) }
 {
     let (found, why) = read_named::<C::Text, R, S, I>(
@@ -142,9 +156,11 @@ pub fn perform_one<
         console.texts,
         &mut console.input,
     )?;
-    let answer = command.answer(console.alloc, &found)?;
+    let found_answer = command.answer(console.alloc, &found)?;
+    let telling = command.telling();
+    let answer = as_told(console.alloc, found_answer, telling, &why)?;
     let status = written(&answer, &mut console.output)?;
-    tell_why(console.alloc, &why, command.telling(), &mut console.errors);
+    tell_why(console.alloc, &why, telling, &mut console.errors);
     let note = command.note(&found);
     tell_note(name, note, status, &mut console.errors);
     mem::forget(found);
@@ -211,7 +227,7 @@ pub fn perform_two<
 ) -> Result<u8, Fault<'a>>
     requires ready { C.ready }
     ensures few { IfOk result (λ status. status < 2) }
-    ensures told { Ends (IsTextFault (λ n. (n ≡ first.entry.now) ⊎ (n ≡ second.entry.now))) (AreNamed first.entry.now second.entry.now (S.bytes_of console.old.texts.now) (I.remaining console.old.input)) (C.is_answer command.now) (TellsBeside C.First.is_refused C.Second.is_refused (C.adds_more command.now) (C.has_note command.now) first.entry.now second.entry.now) (O.contents console.old.output, E.contents console.old.errors) (O.contents console.new.output, E.contents console.new.errors) result }
+    ensures told { Ends (IsTextFault (λ n. (n ≡ first.entry.now) ⊎ (n ≡ second.entry.now))) (AreNamed first.entry.now second.entry.now (S.bytes_of console.old.texts.now) (I.remaining console.old.input)) (IsAnswerTold (C.how_much command.now) (IsFirstRefused C.First.is_refused C.Second.is_refused) (C.is_answer command.now)) (TellsBeside C.First.is_refused C.Second.is_refused (C.adds_more command.now) (C.has_note command.now) first.entry.now second.entry.now) (O.contents console.old.output, E.contents console.old.errors) (O.contents console.new.output, E.contents console.new.errors) result }
     ensures gains { BothGain (O.contents console.old.output, E.contents console.old.errors) (O.contents console.new.output, E.contents console.new.errors) }
 {
     let ((found, other), why) = read_pair::<C::First, C::Second, R, S, I>(
@@ -222,7 +238,9 @@ pub fn perform_two<
         console.texts,
         &mut console.input,
     )?;
-    let (answer, said) = command.answer(console.alloc, &found, &other)?;
+    let (found_answer, said) = command.answer(console.alloc, &found, &other)?;
+    let telling = command.telling(&found, &other);
+    let answer = as_told(console.alloc, found_answer, telling, &why)?;
     let status = written(&answer, &mut console.output)?;
     tell_why(console.alloc, &why, Telling::Short, &mut console.errors);
     tell_more(

@@ -37,6 +37,8 @@ pub enum Telling {
     Short,
     /// That line, followed by the text's own line and each form that is allowed there.
     Full,
+    /// That line. The answer is an object, and says the same in fields of its own.
+    Fields,
 }
 
 // Returns the words on why a text is refused.
@@ -47,7 +49,7 @@ fn words(alloc: Global, why: &Why<'_>, telling: Telling) -> Result<Vec<u8>, Allo
     push_shown(&mut name, why.name)?;
     let mut out = Vec::new(alloc);
     match telling {
-        Telling::Short => push_why(&mut out, name.as_slice(), &why.refused)?,
+        Telling::Short | Telling::Fields => push_why(&mut out, name.as_slice(), &why.refused)?,
         Telling::Full => push_why_in_full(&mut out, name.as_slice(), &why.refused)?,
     }
     Ok(out)

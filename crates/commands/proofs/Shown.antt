@@ -6,7 +6,8 @@ use Rattle.command_words.specs.declared.requests.Request.{Request}
 use Rattle.command_words.specs.declared.requests.Request.TheVariants.{Two}
 use Rattle.command_words.specs.declared.requests.Checks.{Checks}
 use Rattle.command_words.specs.declared.requests.VerdictForm.{VerdictForm}
-use Rattle.command_words.specs.declared.requests.TwoTexts.TheVariants.{Check}
+use Rattle.command_words.specs.declared.requests.VerdictForm.TheVariants.{Line, Object}
+use Rattle.command_words.specs.declared.asked.TwoTexts.TheVariants.{Check}
 use Rattle.command_words.specs.Table.{plain}
 use Rattle.command_words.specs.Words.{asked, asked_by}
 use Rattle.command_words.proofs.Plain.{IsTaken, taken_plain}
@@ -21,7 +22,11 @@ use Rattle.migration_types.specs.Sessions.{Recorded}
 use Rattle.audit_report.specs.ToldLines.{own}
 use Rattle.completeness.specs.declared.lack.Lack.{Lack}
 use Rattle.session_answers.specs.Lacks.{TellsLack}
-use Rattle.judge_commands.specs.Answers.{IsVerdictTold, verdict_lack, verdict_status, verdict_text}
+use Rattle.command_texts.specs.Fields.{IsAnswerTold}
+use Rattle.command_texts.specs.Reasons.{IsFirstRefused, IsRefusedAt}
+use Rattle.session_log.specs.Grammar.{SpellsSession}
+use Rattle.cert_text.specs.Grammar.{SpellsCert}
+use Rattle.judge_commands.specs.Answers.{IsVerdictTold, verdict_lack, verdict_status, verdict_telling, verdict_text}
 use Rattle.judge_commands.specs.Completed.{IsChecked, IsDemanded}
 use Rattle.commands.specs.Shown.{AsksCheck, IsTakenAsCheck, ShowsHeadline}
 use Rattle.commands.specs.Told.{IsSettled, IsTwoAnswer, extent_of}
@@ -50,6 +55,11 @@ yes_in : (form : VerdictForm) (complete : Option Extent) (texts : List ℕ × Li
 yes_in form complete texts text h =
     yes_told (verdict_text form) texts text (without_asking complete (TellsLack own (verdict_lack form)) (IsVerdictTold (verdict_text form) texts) texts.0 text h)
 
+-- the answer may be written with more fields
+yes_as_told : (form : VerdictForm) (complete : Option Extent) (texts : List ℕ × List ℕ) (text : List ℕ) → IsAnswerTold (verdict_telling form) (IsFirstRefused (IsRefusedAt SpellsSession) (IsRefusedAt SpellsCert)) (IsChecked form complete) texts text 0 → IsTextVerdict texts.0 texts.1 Yes
+yes_as_told Line complete texts text h = yes_in Line complete texts text h
+yes_as_told Object complete texts text h = yes_in Object complete texts h.answer h.is_answer
+
 -- where it ends without a fault
 shown_at : (checks : Checks) (IsFault : Fault → Type 0) (AreTexts : List ℕ × List ℕ → Type 0) (IsBeside : List ℕ × List ℕ → ℕ → Option (List ℕ) → Option (List ℕ) → Type 0) (old new : Streams)
     → ((session cert : List ℕ) → IsTextVerdict session cert Yes → HeadlineHolds session cert)
@@ -60,7 +70,7 @@ shown_at checks IsFault AreTexts IsBeside old new law h =
     record {
       texts = texts;
       are_texts = h.are_texts;
-      holds = law texts.0 texts.1 (yes_in checks.form (extent_of checks.demand) texts text h.told.is_answer);
+      holds = law texts.0 texts.1 (yes_as_told checks.form (extent_of checks.demand) texts text h.told.is_answer);
     }
 
 pub shown : (checks : Checks) (IsFault : Fault → Type 0) (AreTexts : List ℕ × List ℕ → Type 0) (IsBeside : List ℕ × List ℕ → ℕ → Option (List ℕ) → Option (List ℕ) → Type 0) (old new : Streams) (status : ℕ)

@@ -45,11 +45,12 @@ use Rattle.guest_script.specs.Scripts.{SpellsScript}
 use Rattle.command_texts.specs.declared.answer.Fault.{Fault}
 use Rattle.command_texts.specs.declared.why.Telling.TheVariants.{Short}
 use Rattle.command_texts.specs.Answers.{IsHostFault, IsTextFault, fault_line, fault_status}
-use Rattle.command_texts.specs.Reasons.{IsRefusedAt, TellsBeside, TellsWhyOf}
+use Rattle.command_texts.specs.Fields.{IsAnswerTold}
+use Rattle.command_texts.specs.Reasons.{IsFirstRefused, IsRefusedAt, TellsBeside, TellsWhyOf}
 use Rattle.command_texts.specs.Several.{IsListStatus, StopsSeveral, Style, TellsSeveral}
 use Rattle.command_texts.specs.Told.{AreNamed, AreOfInput, Ends, IsNamed}
 use Rattle.command_texts.specs.Written.{AppendsFront, Gains, Streams}
-use Rattle.judge_commands.specs.Answers.{AddsMisfitOf, how_much}
+use Rattle.judge_commands.specs.Answers.{AddsMisfitOf, how_much, table_telling, verdict_telling}
 use Rattle.judge_commands.specs.ByTables.{IsExplainedByTable}
 use Rattle.judge_commands.specs.Completed.{IsAnswered, IsChecked}
 use Rattle.judge_commands.specs.Noted.{TellsNoUse}
@@ -105,14 +106,14 @@ ask_of (Explain explains) = explain_ask explains
 
 -- the answer of a command on one text
 abbrev pub IsOneAnswer : OneText → List ℕ → List ℕ → ℕ → Type 0
-IsOneAnswer task = IsAnswered (ask_of task)
+IsOneAnswer task = IsAnswerTold (how_much (ask_of task).form) (IsRefusedAt SpellsSession) (IsAnswered (ask_of task))
 
 -- the answer of a command on two texts
 abbrev pub IsTwoAnswer : TwoTexts → List ℕ × List ℕ → List ℕ → ℕ → Type 0
-IsTwoAnswer (Check checks) texts = IsChecked checks.form (extent_of checks.demand) texts
+IsTwoAnswer (Check checks) texts = IsAnswerTold (verdict_telling checks.form) (IsFirstRefused (IsRefusedAt SpellsSession) (IsRefusedAt SpellsCert)) (IsChecked checks.form (extent_of checks.demand)) texts
 IsTwoAnswer Replay texts = IsReplayAnswer texts.0 texts.1
 IsTwoAnswer Steps texts = IsStepsAnswer texts.0 texts.1
-IsTwoAnswer (two.Explain explains) texts = IsExplainedByTable (story_form explains.form) (extent_of explains.demand) texts
+IsTwoAnswer (two.Explain explains) texts = IsAnswerTold (table_telling (story_form explains.form)) (IsFirstRefused (IsRefusedAt SpellsSession) (IsRefusedAt SpellsTable)) (IsExplainedByTable (story_form explains.form) (extent_of explains.demand)) texts
 
 -- the answer if there are no words: that of `check` without options
 abbrev pub IsPlainCheck : List ℕ × List ℕ → List ℕ → ℕ → Type 0
@@ -213,9 +214,13 @@ list_style list.FirstLines = Some (codes " sessions are clean\n")
 list_style list.Objects = None
 list_style list.AllFaultsObjects = None
 
+-- the answer to one of several sessions that are audited
+abbrev pub IsListAnswer : Lists → List ℕ → List ℕ → ℕ → Type 0
+IsListAnswer lists = IsAnswerTold (how_much (list_ask lists).form) (IsRefusedAt SpellsSession) (IsAnswered (list_ask lists))
+
 -- the audits of the sessions under these names were written, or the list stopped early
 abbrev pub EndsSeveral : Lists × List (List ℕ) → (List ℕ → Option (List ℕ)) → Streams → Streams → Result ℕ Fault → Type 0
 EndsSeveral several files old new done =
     MatchResult done
-    (TellsSeveral files (IsAnswered (list_ask several.0)) (IsRefusedAt SpellsSession) TellsNoUse (list_style several.0.form) several.1 old new)
-    (StopsSeveral files (IsAnswered (list_ask several.0)) (IsRefusedAt SpellsSession) TellsNoUse (list_style several.0.form) several.1 old new)
+    (TellsSeveral files (IsListAnswer several.0) (IsRefusedAt SpellsSession) TellsNoUse (list_style several.0.form) several.1 old new)
+    (StopsSeveral files (IsListAnswer several.0) (IsRefusedAt SpellsSession) TellsNoUse (list_style several.0.form) several.1 old new)

@@ -163,7 +163,13 @@ impl<R: Threads + Sync> OnTwo for DrawAlongCommand<'_, R> {
 
     ghost adds_more = { λ _ _ _ before after. after ≡ before };
 
+    ghost how_much = { λ _. Short };
+
     ghost has_note = { λ _ _. ⊥ };
+
+    fn telling(&self, _session: &Result<Session, u32>, _runs: &Result<Seq<Run>, u32>) -> Telling {
+        Telling::Short
+    }
 
     fn answer(
         &self,

@@ -7,9 +7,12 @@ ghost use Rattle.session_log.specs.Grammar.{session_lines};
 ghost use Rattle.guest_script.specs.Events.{SpellsEvents};
 ghost use Rattle.guest_script.specs.Scripts.{SpellsScript};
 ghost use Rattle.command_texts.specs.Answers.{Says};
+ghost use Rattle.command_texts.specs.declared.why.Telling.TheVariants.{Short};
 ghost use Rattle.host_commands.specs.Steps.{IsStepsAnswer};
 
-use command_texts::{ACCEPTED, Answer, Fault, Gathered, OnTwo, given_alone, refused, remark};
+use command_texts::{
+    ACCEPTED, Answer, Fault, Gathered, OnTwo, Telling, given_alone, refused, remark,
+};
 use guest_script::{EventParts, Script, ScriptParts};
 use migration_events::Event;
 use migration_types::{Seq, Session};
@@ -84,7 +87,13 @@ impl OnTwo for StepsCommand {
 
     ghost adds_more = { λ _ _ _ before after. after ≡ before };
 
+    ghost how_much = { λ _. Short };
+
     ghost has_note = { λ _ _. ⊥ };
+
+    fn telling(&self, _script: &Result<Script, u32>, _events: &Result<Seq<Event>, u32>) -> Telling {
+        Telling::Short
+    }
 
     fn answer(
         &self,

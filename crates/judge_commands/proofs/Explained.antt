@@ -1,14 +1,14 @@
 -- What is explained by a table, by what was read of it.
-use Rattle.std.proofs.Common.{ℕ, inl, inr, List, Option, IfOk, Result, Ok, Err, codes}
+use Rattle.std.proofs.Common.{ℕ, inl, inr, List, Option, IfOk, Result, Ok, Err}
 use Rattle.std.specs.declared.alloc.AllocError.{AllocError}
 use Rattle.text_lines.specs.Text.{IsSpelling, IsRefusalLine}
 use Rattle.completeness.specs.declared.lack.Extent.{Extent}
 use Rattle.audit_report.specs.ToldLines.{line_by}
 use Rattle.command_texts.specs.declared.answer.Answer.{Answer}
-use Rattle.command_texts.specs.Answers.{Says, numbered}
+use Rattle.command_texts.specs.Answers.{Says}
 use Rattle.window_commands.specs.Tables.{SpellsTable}
 use Rattle.session_answers.specs.declared.forms.Story.{Story}
-use Rattle.judge_commands.specs.ByTables.{IsExplainedByTable}
+use Rattle.judge_commands.specs.ByTables.{IsExplainedByTable, refused_table}
 use Rattle.judge_commands.specs.Completed.{IsExplained}
 
 module _ (story : Story) (complete : Option Extent) (first second : List ℕ) where
@@ -16,6 +16,6 @@ module _ (story : Story) (complete : Option Extent) (first second : List ℕ) wh
   by_table table (Ok a) spelled told = inl (table, spelled, told)
   by_table table (Err e) spelled told = tt
 
-  pub table_refused : (line : ℕ) (found : Result Answer AllocError) → IsRefusalLine SpellsTable second line → IfOk found (λ a. Says a (numbered (codes "lines-text line ") line) 1) → IfOk found (λ a. IsExplainedByTable story complete (first, second) a.text.items a.status)
+  pub table_refused : (line : ℕ) (found : Result Answer AllocError) → IsRefusalLine SpellsTable second line → IfOk found (λ a. Says a (refused_table story line) 1) → IfOk found (λ a. IsExplainedByTable story complete (first, second) a.text.items a.status)
   table_refused line (Ok a) refused says = inr (record { line = line; is_line = refused; is_text = says.0; is_status = says.1 })
   table_refused line (Err e) refused says = tt

@@ -10,13 +10,14 @@ use Rattle.judged_texts.specs.declared.audit_part.AuditPart.{AuditPart}
 use Rattle.judge_commands.specs.Misfits.{AddsMisfit}
 use Rattle.command_texts.specs.Answers.{IsAnswer, numbered}
 use Rattle.command_texts.specs.declared.why.Telling.{Telling}
-use Rattle.command_texts.specs.declared.why.Telling.TheVariants.{Short, Full}
+use Rattle.command_texts.specs.declared.why.Telling.TheVariants.{Short, Full, Fields}
 use Rattle.command_words.specs.declared.requests.VerdictForm.{VerdictForm}
 use Rattle.command_words.specs.declared.requests.VerdictForm.TheVariants.{Line, Object}
 use Rattle.session_answers.specs.Judged.{IsJudgedTold}
 use Rattle.session_answers.specs.Forms.{TellsWanted}
 use Rattle.session_answers.specs.declared.forms.AnswerForm.{AnswerForm}
 use Rattle.session_answers.specs.declared.forms.AnswerForm.TheVariants as form
+use Rattle.session_answers.specs.declared.forms.Story.{Story}
 use Rattle.session_answers.specs.declared.forms.Story.TheVariants as story
 use Rattle.session_answers.specs.declared.forms.LackForm.{LackForm}
 use Rattle.session_answers.specs.declared.forms.LackForm.TheVariants as lack
@@ -62,7 +63,24 @@ AddsMisfitOf texts name before after = (verdict : Verdict) × IsTextVerdict text
 abbrev pub IsAuditAnswer : AuditPart → List ℕ → List ℕ → ℕ → Type 0
 IsAuditAnswer wanted = IsJudgedTold (TellsWanted wanted)
 
--- how much is said beside the answer to a text that is refused: more if the answer is a story in words
+-- how much is said about a text that is refused: more if the story of the session is told in words, and fields of the
+-- answer if this is an object
+abbrev pub story_telling : Story → Telling
+story_telling (story.Words topic) = Full
+story_telling story.Object = Fields
+
 abbrev pub how_much : AnswerForm → Telling
-how_much (form.Story (story.Words topic)) = Full
-how_much other = Short
+how_much (form.Lines wanted) = Short
+how_much form.AllFaults = Short
+how_much form.Object = Fields
+how_much form.AllFaultsObject = Fields
+how_much (form.Story told) = story_telling told
+
+abbrev pub verdict_telling : VerdictForm → Telling
+verdict_telling Line = Short
+verdict_telling Object = Fields
+
+-- of two texts, a session and a table, no more than one line is said if the story is told in words
+abbrev pub table_telling : Story → Telling
+table_telling (story.Words topic) = Short
+table_telling story.Object = Fields

@@ -5,14 +5,21 @@ use Rattle.completeness.specs.declared.lack.Extent.{Extent}
 use Rattle.audit_report.specs.ToldLines.{line_by}
 use Rattle.command_texts.specs.Answers.{numbered}
 use Rattle.window_commands.specs.Tables.{SpellsTable}
+use Rattle.report_json.specs.JsonText.{table_object}
 use Rattle.session_answers.specs.declared.forms.Story.{Story}
+use Rattle.session_answers.specs.declared.forms.Story.TheVariants as story
 use Rattle.judge_commands.specs.Completed.{IsExplained}
 
+-- the refusal of a table at this line, in this form
+abbrev pub refused_table : Story → ℕ → List ℕ
+refused_table (story.Words topic) line = numbered (codes "lines-text line ") line
+refused_table story.Object line = table_object line
+
 -- the text of a table is refused at this line
-pub record IsTableRefused (table : List ℕ) (text : List ℕ) (status : ℕ) : Type 0 where
+pub record IsTableRefused (story : Story) (table : List ℕ) (text : List ℕ) (status : ℕ) : Type 0 where
   pub line : ℕ
   pub is_line : IsRefusalLine SpellsTable table line
-  pub is_text : text ≡ numbered (codes "lines-text line ") line
+  pub is_text : text ≡ refused_table story line
   pub is_status : status ≡ 1
 
 -- `explain` for the first of two texts, with the line numbers of the table that the second text spells; or the line at
@@ -20,4 +27,4 @@ pub record IsTableRefused (table : List ℕ) (text : List ℕ) (status : ℕ) : 
 abbrev pub IsExplainedByTable : Story → Option Extent → List ℕ × List ℕ → List ℕ → ℕ → Type 0
 IsExplainedByTable story complete texts text status =
     ((table : List ℕ) × IsSpelling SpellsTable table texts.1 × IsExplained (line_by table) story complete texts.0 text status)
-    ⊎ IsTableRefused texts.1 text status
+    ⊎ IsTableRefused story texts.1 text status

@@ -7,18 +7,18 @@ ghost use Rattle.session_log.specs.Grammar.{SpellsSession};
 ghost use Rattle.cert_text.specs.Grammar.{SpellsCert};
 ghost use Rattle.judged_texts.specs.Checked.{IsTextVerdict};
 ghost use Rattle.command_texts.specs.Answers.{Says};
-ghost use Rattle.judge_commands.specs.Answers.{AddsMisfitOf, verdict_line, verdict_status, verdict_text};
+ghost use Rattle.judge_commands.specs.Answers.{AddsMisfitOf, verdict_line, verdict_status, verdict_telling, verdict_text};
 ghost use Rattle.judge_commands.specs.Completed.{IsChecked};
 ghost use Rattle.judge_commands.specs.Noted.{TellsNoUse};
 
 use crate::completing::held;
-use crate::forms::{lack_beside, push_told};
+use crate::forms::{lack_beside, push_told, verdict_telling};
 use crate::misfit_words::push_misfit;
 use crate::noting::note_on;
 use audit_report::{OwnLines, push_refused_certificate, push_refused_session, push_shape};
 use cert_check::Verdict;
 use cert_text::CertReader;
-use command_texts::{Answer, Fault, OnTwo, given, status_where};
+use command_texts::{Answer, Fault, OnTwo, Telling, given, status_where};
 use command_words::VerdictForm;
 use completeness::Extent;
 use judged_texts::check_read;
@@ -123,7 +123,13 @@ impl<R: Threads + Sync> OnTwo for CheckCommand<'_, R> {
 
     ghost adds_more = { λ _. AddsMisfitOf };
 
+    ghost how_much = { λ command. verdict_telling command.form };
+
     ghost has_note = { λ _ texts. TellsNoUse texts.0 };
+
+    fn telling(&self, _session: &Result<Session, u32>, _cert: &Result<Cert, u32>) -> Telling {
+        verdict_telling(self.form)
+    }
 
     fn answer(
         &self,

@@ -7,18 +7,22 @@ ghost use Rattle.session_log.specs.Grammar.{SpellsSession};
 ghost use Rattle.session_answers.specs.Forms.{TellsStory};
 ghost use Rattle.session_answers.specs.Judged.{IsJudgedTold};
 ghost use Rattle.window_commands.specs.Tables.{SpellsTable};
-ghost use Rattle.judge_commands.specs.ByTables.{IsExplainedByTable};
+ghost use Rattle.command_texts.specs.Answers.{Says};
+ghost use Rattle.judge_commands.specs.Answers.{table_telling};
+ghost use Rattle.judge_commands.specs.ByTables.{IsExplainedByTable, refused_table};
 ghost use Rattle.judge_commands.specs.Completed.{IsExplained};
 ghost use Rattle.judge_commands.specs.Noted.{TellsNoUse};
 ghost use Rattle.judge_commands.specs.inner.Reported.{SaysRefusal, SaysReport};
 
 use crate::auditing::report_status;
 use crate::completing::held;
+use crate::forms::table_telling;
 use crate::noting::note_on;
 use audit_report::{Lines, audit};
-use command_texts::{Answer, Fault, Gathered, OnTwo, REFUSED, given_alone, refused};
+use command_texts::{Answer, Fault, Gathered, OnTwo, REFUSED, Telling, given_alone, refused};
 use completeness::Extent;
 use migration_types::{Seq, Session};
+use report_json::push_refused_table;
 use session_answers::{Story, print_story, print_story_refusal};
 use session_log::{SessionReader, session_texts_are_unambiguous};
 use std::alloc::{AllocError, Global};
@@ -89,6 +93,23 @@ fn explained<R: Threads + Sync, L: Lines>(
     held(lines, story.of_lack(), complete, alloc, session, answer)
 }
 
+/// Returns the answer to a table that is refused at this line, in this form.
+fn table_refused(alloc: Global, story: Story, line: u32) -> Result<Answer, AllocError>
+    ensures { IfOk result (λ answer. Says answer (refused_table story line) 1) }
+{
+    match story {
+        Story::Words(_) => refused(alloc, b"lines-text line ", line),
+        Story::Object => {
+            let mut text = Vec::new(alloc);
+            push_refused_table(&mut text, line)?;
+            Ok(Answer {
+                text,
+                status: REFUSED,
+            })
+        }
+    }
+}
+
 /// Returns the answer with the line numbers of a table, given what was read from the texts of a session and of the
 /// table.
 fn explained_by<R: Threads + Sync>(
@@ -103,7 +124,7 @@ fn explained_by<R: Threads + Sync>(
 {
     match table {
         Ok(table) => explained(rt, table, story, complete, alloc, session),
-        Err(line) => refused(alloc, b"lines-text line ", *line),
+        Err(line) => table_refused(alloc, story, *line),
     }
 }
 
@@ -132,7 +153,16 @@ impl<R: Threads + Sync> OnTwo for ExplainByTable<'_, R> {
 
     ghost adds_more = { λ _ _ _ before after. after ≡ before };
 
+    ghost how_much = { λ command. table_telling command.story };
+
     ghost has_note = { λ _ texts. TellsNoUse texts.0 };
+
+    fn telling(&self, session: &Result<Session, u32>, table: &Result<Seq<u64>, u32>) -> Telling {
+        if session.is_err() && table.is_err() {
+            return Telling::Short;
+        }
+        table_telling(self.story)
+    }
 
     fn answer(
         &self,

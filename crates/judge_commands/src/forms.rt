@@ -1,7 +1,7 @@
 //! The form of a verdict, and how much is said beside an answer.
 
 ghost use Rattle.std.specs.Prelude.{◌≡◌, ◌++◌, OnOk};
-ghost use Rattle.judge_commands.specs.Answers.{how_much, verdict_lack, verdict_text};
+ghost use Rattle.judge_commands.specs.Answers.{how_much, story_telling, table_telling, verdict_lack, verdict_telling, verdict_text};
 
 use crate::checking::push_verdict;
 use cert_check::Verdict;
@@ -35,16 +35,43 @@ pub(crate) fn lack_beside(form: VerdictForm) -> LackForm
     }
 }
 
-/// Returns how much is said beside the answer to a text that is refused, given the form of a report.
+/// Returns how much is said about a text that is refused, if the story of the session is told in this form.
+fn story_telling(story: Story) -> Telling
+    ensures { result ≡ story_telling story }
+{
+    match story {
+        Story::Words(_) => Telling::Full,
+        Story::Object => Telling::Fields,
+    }
+}
+
+/// Returns how much is said about a text that is refused, if the report is told in this form.
 pub(crate) fn telling_beside(form: AnswerForm) -> Telling
     ensures { result ≡ how_much form }
 {
     match form {
-        AnswerForm::Story(Story::Words(_)) => Telling::Full,
-        AnswerForm::Lines(_)
-        | AnswerForm::AllFaults
-        | AnswerForm::Object
-        | AnswerForm::AllFaultsObject
-        | AnswerForm::Story(Story::Object) => Telling::Short,
+        AnswerForm::Lines(_) | AnswerForm::AllFaults => Telling::Short,
+        AnswerForm::Object | AnswerForm::AllFaultsObject => Telling::Fields,
+        AnswerForm::Story(story) => story_telling(story),
+    }
+}
+
+/// Returns how much is said about a text that is refused, if a verdict is told in this form.
+pub(crate) fn verdict_telling(form: VerdictForm) -> Telling
+    ensures { result ≡ verdict_telling form }
+{
+    match form {
+        VerdictForm::Line => Telling::Short,
+        VerdictForm::Object => Telling::Fields,
+    }
+}
+
+/// Returns how much is said about a session and a table of lines, if one is refused and the story is told in this form.
+pub(crate) fn table_telling(story: Story) -> Telling
+    ensures { result ≡ table_telling story }
+{
+    match story {
+        Story::Words(_) => Telling::Short,
+        Story::Object => Telling::Fields,
     }
 }

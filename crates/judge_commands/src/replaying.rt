@@ -4,11 +4,12 @@ ghost use Rattle.std.specs.Prelude.{◌≡◌, ◌++◌, ℕ, List, IfOk, OnOk, 
 ghost use Rattle.text_lines.specs.Answer.{IsRead};
 ghost use Rattle.session_log.specs.Grammar.{SpellsSession};
 ghost use Rattle.cert_text.specs.Order.{SpellsOrder};
+ghost use Rattle.command_texts.specs.declared.why.Telling.TheVariants.{Short};
 ghost use Rattle.judge_commands.specs.Replayed.{IsReplayAnswer, outcome_line, outcome_status};
 
 use audit_report::{push_refused_session, push_shape};
 use cert_text::OrderReader;
-use command_texts::{Answer, Fault, OnTwo, given_alone, status_where};
+use command_texts::{Answer, Fault, OnTwo, Telling, given_alone, status_where};
 use judged_texts::{Outcome, find_outcome};
 use migration_types::{Run, Seq, Session};
 use session_log::SessionReader;
@@ -70,7 +71,13 @@ impl OnTwo for ReplayCommand {
 
     ghost adds_more = { λ _ _ _ before after. after ≡ before };
 
+    ghost how_much = { λ _. Short };
+
     ghost has_note = { λ _ _. ⊥ };
+
+    fn telling(&self, _session: &Result<Session, u32>, _runs: &Result<Seq<Run>, u32>) -> Telling {
+        Telling::Short
+    }
 
     fn answer(
         &self,

@@ -66,6 +66,10 @@ object name told = begun name ++ told ++ codes "}\n"
 abbrev pub at_line : List ℕ → ℕ → List ℕ
 at_line name line = object name (number (codes "line") line)
 
+-- the refusal of a table of lines
+abbrev pub table_object : ℕ → List ℕ
+table_object line = at_line (codes "lines-text") line
+
 -- a record: its line in the session's text, its log and its number there
 unfoldable pub record_at : ℕ → LogName → ℕ → List ℕ
 record_at line log place = number (codes "line") line ++ word (codes "log") (log_word log) ++ number (codes "record") place

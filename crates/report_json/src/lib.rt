@@ -8,5 +8,6 @@ mod objects;
 mod records;
 
 pub use objects::{
-    push_all_faults, push_explained, push_missing, push_refused, push_report, push_verdict,
+    push_all_faults, push_explained, push_missing, push_refused, push_refused_table, push_report,
+    push_verdict,
 };

@@ -2,7 +2,7 @@
 
 ghost use Rattle.std.specs.Prelude.{◌≡◌, ◌++◌, codes, OnOk};
 ghost use Rattle.completeness.specs.Complete.{IsFirstMissing};
-ghost use Rattle.report_json.specs.JsonText.{all_faults_object, at_line, begun, fault_told, missing_object, missing_told, number, pages_told, record_at, report_begun, report_object, shape_object, shape_told, verdict_object, word};
+ghost use Rattle.report_json.specs.JsonText.{all_faults_object, at_line, begun, fault_told, missing_object, missing_told, number, pages_told, record_at, report_begun, report_object, shape_object, shape_told, table_object, verdict_object, word};
 ghost use Rattle.report_json.specs.RecordsText.{explained_object};
 
 use crate::fields::{
@@ -34,6 +34,14 @@ pub fn push_refused<L: Lines>(out: &mut Vec<u8>, lines: &L, line: u32) -> Result
     ensures { OnOk result (out.new.items ≡ out.old.items ++ at_line (codes "session-text") (L.tell lines.now line)) }
 {
     push_at_line(out, b"session-text", lines.line(line))
+}
+
+/// Appends the object that says that the text of a table of lines is refused at this line. Fails only if memory runs
+/// out.
+pub fn push_refused_table(out: &mut Vec<u8>, line: u32) -> Result<(), AllocError>
+    ensures { OnOk result (out.new.items ≡ out.old.items ++ table_object line) }
+{
+    push_at_line(out, b"lines-text", u64::from(line))
 }
 
 /// Begins the object of a fault of shape, with its line number from `lines`.

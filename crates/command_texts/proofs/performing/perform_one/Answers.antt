@@ -1,9 +1,10 @@
-use Rattle.std.proofs.Common.{List, ℕ, ◌≡◌, Option, subst}
+use Rattle.std.proofs.Common.{List, ℕ, ◌≡◌, ◌∙◌, Option, subst, sym}
 use Rattle.std.proofs.lemmas.Result.{err_from_is_err_and}
 use Rattle.command_texts.specs.declared.why.Telling.{Telling}
 use Rattle.command_texts.specs.Reasons.{Place, TellsWhy, place_of}
 use Rattle.command_texts.proofs.Endings.{no_memory, not_read, not_written, output_fault, text_fault, written_whole}
 use Rattle.command_texts.proofs.Fronts.{both_gain, front_gains, note_told, same_gains, told_gains, why_gains}
+use Rattle.command_texts.proofs.Objects.{answer_told, some_place}
 use Rattle.command_texts.proofs.performing.perform_one.Goals as goal
 
 pub returns-in_err-found-clause-told : goal.returns-in_err-found-clause-told
@@ -14,6 +15,14 @@ returns-in_err-found-clause-told g c =
 
 pub returns-in_err-found-clause-gains : goal.returns-in_err-found-clause-gains
 returns-in_err-found-clause-gains g c = (same_gains _, same_gains _)
+
+pub returns-in_err-found_answer-clause-told : goal.returns-in_err-found_answer-clause-told
+returns-in_err-found_answer-clause-told g c =
+    let p = err_from_is_err_and c.from_residual-in_err-found_answer.result c.from_residual-in_err-found_answer.ensures.1 in
+    rw (p.1, p.2) (no_memory _ _ _ _ _ c.in_err-found_answer.ensures.fault tt)
+
+pub returns-in_err-found_answer-clause-gains : goal.returns-in_err-found_answer-clause-gains
+returns-in_err-found_answer-clause-gains g c = (same_gains _, same_gains _)
 
 pub returns-in_err-answer-clause-told : goal.returns-in_err-answer-clause-told
 returns-in_err-answer-clause-told g c =
@@ -28,7 +37,7 @@ returns-in_err-status-clause-told g c =
     let n = c.in_ok-found.ensures.named in
     let IsName = λ (n : List ℕ). n ≡ c.args.name.now in
     let p = err_from_is_err_and c.from_residual-in_err-status.result c.from_residual-in_err-status.ensures.1 in
-    rw (p.1, p.2) (not_written _ _ _ n.0 c.in_ok-answer.answer.text.items c.in_ok-answer.answer.status _ _ _ _ c.in_err-status.ensures.fault (output_fault IsName _ c.in_err-status.ensures.fault) n.1 (c.in_ok-answer.ensures.told n.0 n.2) c.in_err-status.ensures.front)
+    rw (p.1, p.2) (not_written _ _ _ n.0 c.in_ok-answer.answer.text.items c.in_ok-answer.answer.status _ _ _ _ c.in_err-status.ensures.fault (output_fault IsName _ c.in_err-status.ensures.fault) n.1 (answer_told g.C.OnOne.Text.Taker.is_refused (g.C.OnOne.is_answer c.args.command.now) n.0 n.3.0 c.in_ok-found_answer.found_answer.text.items c.in_ok-answer.answer.text.items c.in_ok-answer.answer.status c.telling.result (g.C.OnOne.how_much c.args.command.now) _ (λ e. sym c.telling.ensures ∙ e) (some_place c.in_ok-found.why c.args.name.now n.3.0 n.3.2) n.3.1 (rw c.in_ok-answer.ensures.status (c.in_ok-found_answer.ensures.told n.0 n.2)) c.in_ok-answer.ensures.text) c.in_err-status.ensures.front)
 
 pub returns-in_err-status-clause-gains : goal.returns-in_err-status-clause-gains
 returns-in_err-status-clause-gains g c = (front_gains _ _ _ c.in_err-status.ensures.front, same_gains _)
@@ -36,14 +45,14 @@ returns-in_err-status-clause-gains g c = (front_gains _ _ _ c.in_err-status.ensu
 pub returns-clause-few : goal.returns-clause-few
 returns-clause-few g c =
     let n = c.in_ok-found.ensures.named in
-    rw c.in_ok-status.ensures.status (c.in_ok-answer.ensures.few n.0 n.2)
+    rw c.in_ok-status.ensures.status (rw c.in_ok-answer.ensures.status (c.in_ok-found_answer.ensures.few n.0 n.2))
 
 pub returns-clause-told : goal.returns-clause-told
 returns-clause-told g c =
     let n = c.in_ok-found.ensures.named in
     let old = g.E.Write.contents c.args.console.now.errors in
     let new = g.E.Write.contents c.tell_why.new.errors in
-    written_whole _ _ _ n.0 c.in_ok-answer.answer _ _ _ c.in_ok-status.ensures.status n.1 (c.in_ok-answer.ensures.told n.0 n.2) c.in_ok-status.ensures.text
+    written_whole _ _ _ n.0 c.in_ok-answer.answer _ _ _ c.in_ok-status.ensures.status n.1 (answer_told g.C.OnOne.Text.Taker.is_refused (g.C.OnOne.is_answer c.args.command.now) n.0 n.3.0 c.in_ok-found_answer.found_answer.text.items c.in_ok-answer.answer.text.items c.in_ok-answer.answer.status c.telling.result (g.C.OnOne.how_much c.args.command.now) _ (λ e. sym c.telling.ensures ∙ e) (some_place c.in_ok-found.why c.args.name.now n.3.0 n.3.2) n.3.1 (rw c.in_ok-answer.ensures.status (c.in_ok-found_answer.ensures.told n.0 n.2)) c.in_ok-answer.ensures.text) c.in_ok-status.ensures.text
     (record {
       line = n.3.0;
       is_line = n.3.1;

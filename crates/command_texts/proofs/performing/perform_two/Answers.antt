@@ -1,9 +1,11 @@
-use Rattle.std.proofs.Common.{List, ℕ, ◌≡◌, ◌⊎◌, Option, subst}
+use Rattle.std.proofs.Common.{List, ℕ, ◌≡◌, ◌⊎◌, Option, refl, subst}
+use Rattle.std.specs.Option.{option_or}
 use Rattle.std.proofs.lemmas.Result.{err_from_is_err_and}
 use Rattle.command_texts.specs.declared.why.Telling.TheVariants.{Short}
-use Rattle.command_texts.specs.Reasons.{Place, TellsWhy}
+use Rattle.command_texts.specs.Reasons.{IsFirstRefused, Place, TellsWhy}
 use Rattle.command_texts.proofs.Endings.{no_memory, not_read, not_written, output_fault, text_fault, written_whole}
 use Rattle.command_texts.proofs.Fronts.{both_gain, front_gains, note_told, same_gains, told_gains, why_gains}
+use Rattle.command_texts.proofs.Objects.{answer_told, some_first}
 use Rattle.command_texts.proofs.performing.perform_two.Goals as goal
 
 pub returns-in_err-found-clause-told : goal.returns-in_err-found-clause-told
@@ -15,6 +17,14 @@ returns-in_err-found-clause-told g c =
 
 pub returns-in_err-found-clause-gains : goal.returns-in_err-found-clause-gains
 returns-in_err-found-clause-gains g c = (same_gains _, same_gains _)
+
+pub returns-in_err-found_answer-clause-told : goal.returns-in_err-found_answer-clause-told
+returns-in_err-found_answer-clause-told g c =
+    let p = err_from_is_err_and c.from_residual-in_err-found_answer.result c.from_residual-in_err-found_answer.ensures.1 in
+    rw (p.1, p.2) (no_memory _ _ _ _ _ c.in_err-found_answer.ensures.fault tt)
+
+pub returns-in_err-found_answer-clause-gains : goal.returns-in_err-found_answer-clause-gains
+returns-in_err-found_answer-clause-gains g c = (same_gains _, same_gains _)
 
 pub returns-in_err-answer-clause-told : goal.returns-in_err-answer-clause-told
 returns-in_err-answer-clause-told g c =
@@ -29,7 +39,7 @@ returns-in_err-status-clause-told g c =
     let n = c.in_ok-found.ensures.named in
     let IsName = λ (n : List ℕ). (n ≡ c.args.first.now) ⊎ (n ≡ c.args.second.now) in
     let p = err_from_is_err_and c.from_residual-in_err-status.result c.from_residual-in_err-status.ensures.1 in
-    rw (p.1, p.2) (not_written _ _ _ n.0 c.in_ok-answer.answer.text.items c.in_ok-answer.answer.status _ _ _ _ c.in_err-status.ensures.fault (output_fault IsName _ c.in_err-status.ensures.fault) n.1 (c.in_ok-answer.ensures.told n.0 n.2 n.3) c.in_err-status.ensures.front)
+    rw (p.1, p.2) (not_written _ _ _ n.0 c.in_ok-answer.answer.text.items c.in_ok-answer.answer.status _ _ _ _ c.in_err-status.ensures.fault (output_fault IsName _ c.in_err-status.ensures.fault) n.1 (answer_told (IsFirstRefused g.C.OnTwo.First.Taker.is_refused g.C.OnTwo.Second.Taker.is_refused) (g.C.OnTwo.is_answer c.args.command.now) n.0 (option_or n.4.0 n.4.1) c.in_ok-found_answer.found_answer.text.items c.in_ok-answer.answer.text.items c.in_ok-answer.answer.status c.telling.result (g.C.OnTwo.how_much c.args.command.now) _ c.telling.ensures (some_first c.in_ok-found.why c.args.first.now c.args.second.now n.4.0 n.4.1 n.4.4) (record { one = n.4.0; other = n.4.1; is_one = n.4.2; is_other = n.4.3; first = refl }) (rw c.in_ok-answer.ensures.status (c.in_ok-found_answer.ensures.told n.0 n.2 n.3)) c.in_ok-answer.ensures.text) c.in_err-status.ensures.front)
 
 pub returns-in_err-status-clause-gains : goal.returns-in_err-status-clause-gains
 returns-in_err-status-clause-gains g c = (front_gains _ _ _ c.in_err-status.ensures.front, same_gains _)
@@ -37,14 +47,14 @@ returns-in_err-status-clause-gains g c = (front_gains _ _ _ c.in_err-status.ensu
 pub returns-clause-few : goal.returns-clause-few
 returns-clause-few g c =
     let n = c.in_ok-found.ensures.named in
-    rw c.in_ok-status.ensures.status (c.in_ok-answer.ensures.few n.0 n.2 n.3)
+    rw c.in_ok-status.ensures.status (rw c.in_ok-answer.ensures.status (c.in_ok-found_answer.ensures.few n.0 n.2 n.3))
 
 pub returns-clause-told : goal.returns-clause-told
 returns-clause-told g c =
     let n = c.in_ok-found.ensures.named in
     let w = n.4 in
-    let told = c.tell_more.ensures n.0 n.2 n.3 (c.in_ok-answer.ensures.said n.0 n.2 n.3) in
-    written_whole _ _ _ n.0 c.in_ok-answer.answer _ _ _ c.in_ok-status.ensures.status n.1 (c.in_ok-answer.ensures.told n.0 n.2 n.3) c.in_ok-status.ensures.text
+    let told = c.tell_more.ensures n.0 n.2 n.3 (c.in_ok-found_answer.ensures.said n.0 n.2 n.3) in
+    written_whole _ _ _ n.0 c.in_ok-answer.answer _ _ _ c.in_ok-status.ensures.status n.1 (answer_told (IsFirstRefused g.C.OnTwo.First.Taker.is_refused g.C.OnTwo.Second.Taker.is_refused) (g.C.OnTwo.is_answer c.args.command.now) n.0 (option_or n.4.0 n.4.1) c.in_ok-found_answer.found_answer.text.items c.in_ok-answer.answer.text.items c.in_ok-answer.answer.status c.telling.result (g.C.OnTwo.how_much c.args.command.now) _ c.telling.ensures (some_first c.in_ok-found.why c.args.first.now c.args.second.now n.4.0 n.4.1 n.4.4) (record { one = n.4.0; other = n.4.1; is_one = n.4.2; is_other = n.4.3; first = refl }) (rw c.in_ok-answer.ensures.status (c.in_ok-found_answer.ensures.told n.0 n.2 n.3)) c.in_ok-answer.ensures.text) c.in_ok-status.ensures.text
     (record {
       one = w.0;
       other = w.1;
@@ -60,5 +70,5 @@ returns-clause-told g c =
 pub returns-clause-gains : goal.returns-clause-gains
 returns-clause-gains g c =
     let n = c.in_ok-found.ensures.named in
-    let told = c.tell_more.ensures n.0 n.2 n.3 (c.in_ok-answer.ensures.said n.0 n.2 n.3) in
+    let told = c.tell_more.ensures n.0 n.2 n.3 (c.in_ok-found_answer.ensures.said n.0 n.2 n.3) in
     (front_gains _ _ _ c.in_ok-status.ensures.front, both_gain _ _ _ (both_gain _ _ _ (why_gains Short _ _ _ c.tell_why.ensures) (told_gains _ _ _ told)) (told_gains _ _ _ c.tell_note.ensures))
