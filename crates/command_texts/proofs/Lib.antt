@@ -5,6 +5,7 @@ pub mod PiecesTaken
 pub mod Said
 pub mod WhatIsRead
 pub mod Names
+pub mod Objects
 pub mod Listed
 pub mod Escapes
 pub mod Fronts

@@ -39,7 +39,7 @@ returns-in_err-status-clause-told g c =
     let n = c.in_ok-found.ensures.named in
     let IsName = λ (n : List ℕ). (n ≡ c.args.first.now) ⊎ (n ≡ c.args.second.now) in
     let p = err_from_is_err_and c.from_residual-in_err-status.result c.from_residual-in_err-status.ensures.1 in
-    rw (p.1, p.2) (not_written _ _ _ n.0 c.in_ok-answer.answer.text.items c.in_ok-answer.answer.status _ _ _ _ c.in_err-status.ensures.fault (output_fault IsName _ c.in_err-status.ensures.fault) n.1 (answer_told (IsFirstRefused g.C.OnTwo.First.Taker.is_refused g.C.OnTwo.Second.Taker.is_refused) (g.C.OnTwo.is_answer c.args.command.now) n.0 (option_or n.4.0 n.4.1) c.in_ok-found_answer.found_answer.text.items c.in_ok-answer.answer.text.items c.in_ok-answer.answer.status c.telling.result (g.C.OnTwo.how_much c.args.command.now) _ c.telling.ensures (some_first c.in_ok-found.why c.args.first.now c.args.second.now n.4.0 n.4.1 n.4.4) (record { one = n.4.0; other = n.4.1; is_one = n.4.2; is_other = n.4.3; first = refl }) (rw c.in_ok-answer.ensures.status (c.in_ok-found_answer.ensures.told n.0 n.2 n.3)) c.in_ok-answer.ensures.text) c.in_err-status.ensures.front)
+    rw (p.1, p.2) (not_written _ _ _ n.0 c.in_ok-answer.answer.text.items c.in_ok-answer.answer.status _ _ _ _ c.in_err-status.ensures.fault (output_fault IsName _ c.in_err-status.ensures.fault) n.1 (answer_told (IsFirstRefused _ _) (g.C.OnTwo.is_answer c.args.command.now) n.0 (option_or n.4.0 n.4.1) c.in_ok-found_answer.found_answer.text.items c.in_ok-answer.answer.text.items c.in_ok-answer.answer.status c.telling-telling.result (g.C.OnTwo.how_much c.args.command.now) _ c.telling-telling.ensures (some_first c.in_ok-found.why c.args.first.now c.args.second.now n.4.0 n.4.1 n.4.4) (record { one = n.4.0; other = n.4.1; is_one = n.4.2; is_other = n.4.3; first = refl }) (rw c.in_ok-answer.ensures.status (c.in_ok-found_answer.ensures.told n.0 n.2 n.3)) c.in_ok-answer.ensures.text) c.in_err-status.ensures.front)
 
 pub returns-in_err-status-clause-gains : goal.returns-in_err-status-clause-gains
 returns-in_err-status-clause-gains g c = (front_gains _ _ _ c.in_err-status.ensures.front, same_gains _)
@@ -54,7 +54,7 @@ returns-clause-told g c =
     let n = c.in_ok-found.ensures.named in
     let w = n.4 in
     let told = c.tell_more.ensures n.0 n.2 n.3 (c.in_ok-found_answer.ensures.said n.0 n.2 n.3) in
-    written_whole _ _ _ n.0 c.in_ok-answer.answer _ _ _ c.in_ok-status.ensures.status n.1 (answer_told (IsFirstRefused g.C.OnTwo.First.Taker.is_refused g.C.OnTwo.Second.Taker.is_refused) (g.C.OnTwo.is_answer c.args.command.now) n.0 (option_or n.4.0 n.4.1) c.in_ok-found_answer.found_answer.text.items c.in_ok-answer.answer.text.items c.in_ok-answer.answer.status c.telling.result (g.C.OnTwo.how_much c.args.command.now) _ c.telling.ensures (some_first c.in_ok-found.why c.args.first.now c.args.second.now n.4.0 n.4.1 n.4.4) (record { one = n.4.0; other = n.4.1; is_one = n.4.2; is_other = n.4.3; first = refl }) (rw c.in_ok-answer.ensures.status (c.in_ok-found_answer.ensures.told n.0 n.2 n.3)) c.in_ok-answer.ensures.text) c.in_ok-status.ensures.text
+    written_whole _ _ _ n.0 c.in_ok-answer.answer _ _ _ c.in_ok-status.ensures.status n.1 (answer_told (IsFirstRefused _ _) (g.C.OnTwo.is_answer c.args.command.now) n.0 (option_or n.4.0 n.4.1) c.in_ok-found_answer.found_answer.text.items c.in_ok-answer.answer.text.items c.in_ok-answer.answer.status c.telling-telling.result (g.C.OnTwo.how_much c.args.command.now) _ c.telling-telling.ensures (some_first c.in_ok-found.why c.args.first.now c.args.second.now n.4.0 n.4.1 n.4.4) (record { one = n.4.0; other = n.4.1; is_one = n.4.2; is_other = n.4.3; first = refl }) (rw c.in_ok-answer.ensures.status (c.in_ok-found_answer.ensures.told n.0 n.2 n.3)) c.in_ok-answer.ensures.text) c.in_ok-status.ensures.text
     (record {
       one = w.0;
       other = w.1;

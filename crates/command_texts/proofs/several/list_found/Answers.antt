@@ -13,13 +13,13 @@ use Rattle.command_texts.proofs.Objects.{answer_told, some_place}
 use Rattle.command_texts.proofs.several.list_found.Goals as goal
 
 pub returns-in_err-found_answer-clause-stop : goal.returns-in_err-found_answer-clause-stop
-returns-in_err-found_answer-clause-stop g c = let p = err_from_is_err_and c.from_residual-in_err-found_answer.result c.from_residual-in_err-found_answer.ensures.1 in rw (p.1, p.2, c.in_err-found_answer.ensures.fault) tt
+returns-in_err-found_answer-clause-stop g c = let p = err_from_is_err_and c.from_residual.result c.from_residual.ensures.1 in rw (p.1, p.2, c.in_err-found_answer.ensures.fault) tt
 
 pub returns-in_err-found_answer-clause-gains : goal.returns-in_err-found_answer-clause-gains
 returns-in_err-found_answer-clause-gains g c = (same_gains _, same_gains _)
 
 pub returns-in_err-answer-clause-stop : goal.returns-in_err-answer-clause-stop
-returns-in_err-answer-clause-stop g c = let p = err_from_is_err_and c.from_residual.result c.from_residual.ensures.1 in rw (p.1, p.2, c.in_err-answer.ensures.fault) tt
+returns-in_err-answer-clause-stop g c = let p = err_from_is_err_and c.from_residual-in_err-answer.result c.from_residual-in_err-answer.ensures.1 in rw (p.1, p.2, c.in_err-answer.ensures.fault) tt
 
 pub returns-in_err-answer-clause-gains : goal.returns-in_err-answer-clause-gains
 returns-in_err-answer-clause-gains g c = (same_gains _, same_gains _)
@@ -53,7 +53,7 @@ returns-clause-listed g c = λ text line named found refused place.
     record {
       entry = record { name = c.args.name.now; said = Some (record { text = text; answer = answer.text.items; status = answer.status; line = line }) };
       is_name = refl;
-      is_right = record { is_named = named; is_answer = answer_told g.C.OnOne.Text.Taker.is_refused (g.C.OnOne.is_answer c.args.command.now) text line c.in_ok-found_answer.found_answer.text.items answer.text.items answer.status c.telling.result (g.C.OnOne.how_much c.args.command.now) _ (λ e. sym c.telling.ensures ∙ e) (some_place c.args.why.now c.args.name.now line place) refused (rw c.in_ok-answer.ensures.status (c.in_ok-found_answer.ensures.told text found)) c.in_ok-answer.ensures.text; is_line = refused };
+      is_right = record { is_named = named; is_answer = answer_told _ (g.C.OnOne.is_answer c.args.command.now) text line c.in_ok-found_answer.found_answer.text.items answer.text.items answer.status c.telling.result (g.C.OnOne.how_much c.args.command.now) _ (λ e. sym c.telling.ensures ∙ e) (some_place c.args.why.now c.args.name.now line place) refused (rw c.in_ok-answer.ensures.status (c.in_ok-found_answer.ensures.told text found)) c.in_ok-answer.ensures.text; is_line = refused };
       written = rw (sym says.0) c.in_ok-status.ensures.text;
       beside = record {
         between = between;
