@@ -39,7 +39,7 @@ Tabled = Answer × Option (Vec ℕ) × Option Why
 abbrev pub TellsOf : Window → Bool → List ℕ → Option (List ℕ) → Tabled → Type 0
 TellsOf w lined name known a = OfRead known (λ recording. IsAnsweredAt w lined name recording a.0 a.1 (option_map told_place a.2))
 
-pub seen_told : (w : Window) (lined : Bool) (name : List ℕ) (known : Option (List ℕ)) (cut : WindowText) (found : Result Tabled AllocError) → OfRead known (λ recording. IsFound w recording (Ok cut)) → IfOk found (λ s. Says s.0 cut.text.items 0) → IfOk found (λ s. HasTable lined cut.lines.items s.1) → IfOk found (λ s. s.2 ≡ None) → IfOk found (TellsOf w lined name known)
+pub seen_told : (w : Window) (lined : Bool) (name : List ℕ) (known : Option (List ℕ)) (cut : WindowText) (found : Result Tabled Fault) → OfRead known (λ recording. IsFound w recording (Ok cut)) → IfOk found (λ s. Says s.0 cut.text.items 0) → IfOk found (λ s. HasTable lined cut.lines.items s.1) → IfOk found (λ s. s.2 ≡ None) → IfOk found (TellsOf w lined name known)
 seen_told w lined name known cut (Err e) is h table clean = tt
 seen_told w lined name known cut (Ok a) is h table clean =
     record {

@@ -40,13 +40,16 @@ fn table_of(alloc: Global, lined: bool, lines: &[u64]) -> Result<Option<Vec<u8>>
 }
 
 /// Returns the answer for a window, and the table of its lines, if it is asked for.
-fn seen(alloc: Global, cut: WindowText, lined: bool) -> Result<Told<'static>, AllocError>
+fn seen<'a>(alloc: Global, cut: WindowText, lined: bool) -> Result<Told<'a>, Fault<'a>>
     ensures answer { IfOk result (λ seen. Says seen.0 cut.text.items 0) }
     ensures table { IfOk result (λ seen. HasTable lined cut.lines.items seen.1) }
     ensures clean { IfOk result (λ seen. seen.2 ≡ None) }
+    ensures fault { IfErr result (λ fault. fault ≡ Fault.Memory) }
 {
     let WindowText { text, lines } = cut;
-    let table = table_of(alloc, lined, lines.as_slice())?;
+    let Ok(table) = table_of(alloc, lined, lines.as_slice()) else {
+        return Err(Fault::Memory);
+    };
     let answer = Answer {
         text,
         status: ACCEPTED,
@@ -163,7 +166,7 @@ fn answer_to<'a, S: TextSource>(
     }
     let mut misread = None;
     match cut_named(alloc, window, name, texts, &mut misread)? {
-        Ok(cut) => given(seen(alloc, cut, lined)),
+        Ok(cut) => seen(alloc, cut, lined),
         Err(fault) => untabled(alloc, name, fault, misread),
     }
 }
