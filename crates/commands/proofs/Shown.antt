@@ -7,7 +7,7 @@ use Rattle.command_words.specs.declared.requests.Request.TheVariants.{Two}
 use Rattle.command_words.specs.declared.requests.Checks.{Checks}
 use Rattle.command_words.specs.declared.requests.VerdictForm.{VerdictForm}
 use Rattle.command_words.specs.declared.requests.VerdictForm.TheVariants.{Line, Object}
-use Rattle.command_words.specs.declared.asked.TwoTexts.TheVariants.{Check}
+use Rattle.command_words.specs.declared.requests.TwoTexts.TheVariants.{Check}
 use Rattle.command_words.specs.Table.{plain}
 use Rattle.command_words.specs.Words.{asked, asked_by}
 use Rattle.command_words.proofs.Plain.{IsTaken, taken_plain}
