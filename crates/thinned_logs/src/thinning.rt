@@ -153,8 +153,9 @@ pub fn without_repeats(alloc: Global, session: &Session) -> Result<Vec<bool>, Al
 {
     session.keeps_limits();
     let mut walk = Walk::start(alloc, session)?;
-    let mut marks = Vec::new(alloc);
-    for n in 0..session.guest().len() {
+    let count = session.guest().len();
+    let mut marks = Vec::with_capacity(alloc, count)?;
+    for n in 0..count {
         marks.push(!walk.is_repeat(session, n))?;
         walk.step(session, n);
     }
