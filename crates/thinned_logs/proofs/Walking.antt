@@ -20,9 +20,9 @@ use Rattle.thinned_logs.specs.inner.Walks.{IsAt, touched_by}
 pub guest_read : (s : Recorded) (log : List GuestRec) (n : ℕ) (r : GuestRec) → log ≡ s.guest → n < length s.guest → r ≡ get_or log n r → slice_get s.guest n ≡ Some r
 guest_read s log n r same lt at = let all = ap (λ (xs : List GuestRec). length xs) same in read_at log s.guest n r same (omega (arith, all, lt)) at
 
--- whether it is a repeat
-pub repeat_at : (s : Recorded) (n : ℕ) (r x : GuestRec) → slice_get s.guest n ≡ Some r → r ≡ x → is_repeat s n x ≡ passes (is_repeat s n) (slice_get s.guest n)
-repeat_at s n r x is e = ap (is_repeat s n) (sym e) ∙ ap (passes (is_repeat s n)) (sym is)
+-- what is so of a record is so of what stands there
+pub repeat_at : (s : Recorded) (n : ℕ) (r x : GuestRec) (t : Bool) → slice_get s.guest n ≡ Some r → r ≡ x → t ≡ is_repeat s n x → t ≡ passes (is_repeat s n) (slice_get s.guest n)
+repeat_at s n r x t is e so = so ∙ ap (is_repeat s n) (sym e) ∙ ap (passes (is_repeat s n)) (sym is)
 
 touched_next : (s : Recorded) (n : ℕ) (r : GuestRec) → slice_get s.guest n ≡ Some r → touched_by (home s n) r (touched s n) ≡ touched s (suc n)
 touched_next s n r is = λ i p. page p i
