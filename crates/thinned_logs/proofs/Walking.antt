@@ -1,6 +1,8 @@
 -- The walk along the guest's log, one record further.
-use Rattle.std.proofs.Common.{◌≡◌, ◌≢◌, ℕ, suc, ◌+◌, ◌<◌, Bool, true, false, ◌&&◌, List, length, get_or, Some, refl, sym, ap, ◌∙◌, subst, arith}
+use Rattle.std.proofs.Common.{◌≡◌, ◌≢◌, ℕ, suc, ◌+◌, ◌<◌, Bool, true, false, not, ◌&&◌, List, [], ◌∷◌, ◌++◌, map, length, get_or, Some, refl, sym, ap, ◌∙◌, subst, arith}
 use Rattle.std.specs.Prelude.{slice_get}
+use Rattle.std.specs.List.{range_with_len}
+use Rattle.std.proofs.lemmas.List.FromFn.{map-range_with_len_more}
 use Rattle.migration_types.specs.declared.records.GuestRec.{GuestRec}
 use Rattle.migration_types.specs.declared.records.GuestRec.TheVariants.{Read, Write, Release, Miss, Halt, Resume, See}
 use Rattle.migration_types.specs.Sessions.{Recorded}
@@ -12,7 +14,7 @@ use Rattle.page_facts.proofs.Reading.{read_at}
 use Rattle.page_store.specs.Tables.{values, IsWith}
 use Rattle.flat_machine.specs.Machines.{IsAfter}
 use Rattle.flat_machine.proofs.Stepping.{flat_next}
-use Rattle.thinned_logs.specs.Repeats.{is_repeat}
+use Rattle.thinned_logs.specs.Repeats.{is_repeat, is_new}
 use Rattle.thinned_logs.specs.declared.thinning.Walk.{Walk}
 use Rattle.thinned_logs.specs.inner.Walks.{IsAt, touched_by}
 
@@ -63,3 +65,9 @@ no_repeat s n (Miss v p) read write = refl
 no_repeat s n Halt read write = refl
 no_repeat s n (Resume i) read write = refl
 no_repeat s n (See k) read write = refl
+
+-- the marks after one record more
+pub marks_on : (s : Recorded) (n : ℕ) (old new : List Bool) (b : Bool) → new ≡ old ++ not b ∷ [] → b ≡ passes (is_repeat s n) (slice_get s.guest n) → old ≡ map (is_new s) (range_with_len 0 n) → new ≡ map (is_new s) (range_with_len 0 (n + 1))
+marks_on s n old new b pushed is were =
+    let here : 0 + n ≡ n = omega arith in
+    pushed ∙ ap (λ t. old ++ not t ∷ []) is ∙ ap (λ (marks : List Bool). marks ++ is_new s n ∷ []) were ∙ sym (map-range_with_len_more (is_new s) 0 n n here)
