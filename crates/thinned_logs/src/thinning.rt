@@ -82,8 +82,8 @@ impl Walk {
         })
     }
 
-    /// Returns whether the guest, before its record of this number, has used a page where it is, and a cell of the page has
-    /// this value.
+    /// Returns whether the guest, before its record of this number, has used a page where it is, and a cell of the page
+    /// has this value.
     fn has_value(
         &self,
         _session: &Session,
