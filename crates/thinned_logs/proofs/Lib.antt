@@ -13,3 +13,4 @@ pub mod Fits
 pub mod Safe
 pub mod Repeats
 pub mod Again
+pub mod Walking

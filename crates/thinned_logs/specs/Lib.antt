@@ -1,3 +1,4 @@
 pub mod Thinned
 pub mod ThinLaws
 pub mod Repeats
+pub mod inner

@@ -40,6 +40,10 @@ is_repeat s n (Read vcpu p c value) = has_used (home s n) (touched s n p) && (va
 is_repeat s n (Write vcpu p c value) = has_used (home s n) (touched s n p) && ((value == flat s n p c) && not (in_ledger s n p))
 is_repeat s n _ = false
 
+-- whether guest record n is no such repeat
+abbrev pub is_new : Recorded → ℕ → Bool
+is_new s n = not (passes (is_repeat s n) (slice_get s.guest n))
+
 -- the marks that keep all of the guest's records but such repeats
 abbrev pub without_repeats : Recorded → List Bool
-without_repeats s = map (λ n. not (passes (is_repeat s n) (slice_get s.guest n))) (range_with_len 0 (length s.guest))
+without_repeats s = map (is_new s) (range_with_len 0 (length s.guest))
