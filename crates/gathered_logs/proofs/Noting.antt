@@ -6,8 +6,8 @@ use Rattle.std.proofs.lemmas.List.{length-map, map-append}
 use Rattle.recorded_files.specs.declared.lines.Party.{Party}
 use Rattle.recorded_files.specs.declared.messages.Told.{Told}
 use Rattle.gathered_logs.specs.declared.telling.LogFault.{LogFault}
-use Rattle.gathered_logs.specs.declared.telling.LogFault.TheVariants.{Files, Record}
-use Rattle.gathered_logs.specs.Logs.{Came, Gathering, IsGatherFault, SayLog, text_in}
+use Rattle.gathered_logs.specs.declared.telling.LogFault.TheVariants.{Files, Record, Memory}
+use Rattle.gathered_logs.specs.Logs.{Came, Gathering, SayLog, text_in}
 use Rattle.gathered_logs.specs.Records.{IsLogFault, SayRecords}
 use Rattle.gathered_logs.specs.inner.Noting.{Adds, IsTextFault, Notes, NotesText}
 
@@ -42,5 +42,6 @@ says_records line IsOf Tells party knowns g now before after found n none taken 
 
 -- the next record came, and was not noted
 pub is_refused : {X Y : Type 0} (line : X → List ℕ) (IsOf : X → Type 0) (Tells : Told → List X → List Y → Type 0) (party : Party) (knowns : List (Option (List ℕ))) (g now : Gathering) (before mid : Told) (text : List ℕ) (number : ℕ) (fault : LogFault) → (n : Notes line IsOf Tells party knowns g before mid) → number ≡ length (map line n.records) → Came party knowns now (map line n.records ++ text ∷ []) → IsTextFault line IsOf text number fault → IsLogFault line IsOf party knowns now fault
-is_refused line IsOf Tells party knowns g now before mid text number (Files why) n counted came fault = (n.records, n.each, subst (IsGatherFault party knowns now (map line n.records)) (sym fault) tt)
+is_refused line IsOf Tells party knowns g now before mid text number (Files why) n counted came fault = absurd fault
 is_refused line IsOf Tells party knowns g now before mid text number (Record m) n counted came fault = (n.records, n.each, fault.0 ∙ (counted ∙ length-map n.records line), (text, came, fault.1))
+is_refused line IsOf Tells party knowns g now before mid text number Memory n counted came fault = tt

@@ -31,6 +31,9 @@ pub enum LogFault {
     /// The text of the record of this number is none of the party's.
     #[error("record {0} is none of the party's")]
     Record(u64),
+    /// Memory was refused.
+    #[error("out of memory")]
+    Memory,
 }
 
 /// A party's record, whose message is noted.
@@ -109,11 +112,11 @@ fn note_text<K: Telling>(
     match K::read_line(alloc, machine, text) {
         Ok(rec) => match rec.note(told) {
             Ok(()) => Ok(()),
-            Err(_) => Err(LogFault::Files(GatherFault::Memory)),
+            Err(_) => Err(LogFault::Memory),
         },
         Err(kind) => {
             if kind == FaultKind::Memory {
-                Err(LogFault::Files(GatherFault::Memory))
+                Err(LogFault::Memory)
             } else {
                 Err(LogFault::Record(number))
             }

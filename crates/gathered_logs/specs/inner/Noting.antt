@@ -4,9 +4,8 @@ use Rattle.std.specs.List.{AllByRecursion}
 use Rattle.recorded_files.specs.declared.lines.Party.{Party}
 use Rattle.recorded_files.specs.declared.messages.Told.{Told}
 use Rattle.gathered_logs.specs.Logs.{Came, Gathering}
-use Rattle.gathered_logs.specs.declared.gatherers.GatherFault.TheVariants.{Memory}
 use Rattle.gathered_logs.specs.declared.telling.LogFault.{LogFault}
-use Rattle.gathered_logs.specs.declared.telling.LogFault.TheVariants.{Files, Record}
+use Rattle.gathered_logs.specs.declared.telling.LogFault.TheVariants.{Files, Record, Memory}
 
 -- What was noted of the records of one party, with any records of the other
 abbrev pub Adds : {X Y : Type 0} → (Told → List X → List Y → Type 0) → Told → Told → List X → Type 0
@@ -28,5 +27,6 @@ pub record NotesText {X Y : Type 0} (line : X → List ℕ) (IsOf : X → Type 0
 
 -- the text of the record of this number is the line of none, or memory was refused
 abbrev pub IsTextFault : {X : Type 0} → (X → List ℕ) → (X → Type 0) → List ℕ → ℕ → LogFault → Type 0
-IsTextFault {X} line IsOf text number (Files fault) = fault ≡ Memory
+IsTextFault {X} line IsOf text number (Files fault) = ⊥
 IsTextFault {X} line IsOf text number (Record n) = (n ≡ number) × ((r : X) → IsOf r → text ≡ line r → ⊥)
+IsTextFault {X} line IsOf text number Memory = Unit {0}
