@@ -234,7 +234,9 @@ fn tells_which_record_is_none_of_the_partys(rt: HostRuntime) {
         told_of(alloc, PAGER, &[wrong, PAGERS_FIRST], &mut told) == Err(LogFault::Record(2))
     );
     let wrong: &'static [u8] = b"postcopy-records 1\nrecording a\nlog source 0 0\n0 got-sent 1\n";
-    assert!(rt; told_of(alloc, SOURCE, &[wrong], &mut Told::new(alloc)) == Err(LogFault::Record(0)));
+    assert!(rt;
+        told_of(alloc, SOURCE, &[wrong], &mut Told::new(alloc)) == Err(LogFault::Record(0))
+    );
 }
 
 #[test]
