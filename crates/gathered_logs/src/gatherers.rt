@@ -1,6 +1,6 @@
 //! The files of a log, read as one.
 
-ghost use Rattle.std.specs.Prelude.{◌≡◌, ◌<◌, ◌++◌, ◌∷◌, [], ℕ, Bool, true, false, List, Option, None, length, slice_get, IfOk, IfErr, OnOk, MatchOption};
+ghost use Rattle.std.specs.Prelude.{◌≡◌, ◌<◌, ◌+◌, ◌++◌, ◌∷◌, [], ℕ, Bool, true, false, List, Option, None, length, slice_get, IfOk, IfErr, IfSome, OnOk, MatchOption};
 ghost use Rattle.recorded_files.specs.Gathered.{Numbered};
 ghost use Rattle.recorded_files.specs.Said.{IsFault, Standing};
 ghost use Rattle.recorded_files.specs.declared.lines.Party.{Party};
@@ -111,6 +111,7 @@ impl<R: Read + Drop> Gatherer<R> {
     fn read_given(&mut self) -> Result<(), GatherFault>
         ensures read { OnOk result ((party : Party) (knowns : List (Option (List ℕ))) (log : List (List ℕ)) → Came party knowns self.old log → Came party knowns self.new log) }
         ensures none_given { OnOk result (self.new.given ≡ None) }
+        ensures number { OnOk result (self.new.number ≡ self.old.number) }
         ensures refused { IfErr result (λ fault. (party : Party) (knowns : List (Option (List ℕ))) (log : List (List ℕ)) → Came party knowns self.old log → (g : Gathering) (front : List (List ℕ)) → IsGatherFault party knowns g front fault) }
     {
         if let Some(i) = self.given {
@@ -129,6 +130,7 @@ impl<R: Read + Drop> Gatherer<R> {
     /// of the log. After an error, or the end, there is no next record to be asked for.
     pub fn next(&mut self) -> Result<Option<u64>, GatherFault>
         ensures taken { IfOk result (λ found. (party : Party) (knowns : List (Option (List ℕ))) (log : List (List ℕ)) → Came party knowns self.old log → MatchOption found (SayLog party knowns self.new.files log) (λ n. (n ≡ length log) × Came party knowns self.new (log ++ text_in self.new.files self.new.given ∷ []))) }
+        ensures counted { IfOk result (λ found. IfSome found (λ n. (n ≡ self.old.number) × (self.new.number ≡ n + 1))) }
         ensures refused { IfErr result (λ fault. (party : Party) (knowns : List (Option (List ℕ))) (log : List (List ℕ)) → Came party knowns self.old log → IsGatherFault party knowns self.new log fault) }
     {
         self.read_given()?;

@@ -2,5 +2,7 @@
 #![tactic(auto)]
 
 mod gatherers;
+mod telling;
 
 pub use gatherers::{GatherFault, Gatherer};
+pub use telling::{LogFault, gather_pager, gather_source};

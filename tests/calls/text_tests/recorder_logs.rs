@@ -1,10 +1,16 @@
 //! The logs of recorders: the files of a party, read as one.
 
 use crate::recorder_files::{Slow, opened};
-use gathered_logs::{GatherFault, Gatherer};
-use migration_types::LogName;
-use recorded_files::{FileFault, Last, Party};
+use deliveries::Message;
+use gathered_logs::{GatherFault, Gatherer, LogFault, gather_pager, gather_source};
+use migration_types::{LogName, Size, Version};
+use recorded_files::{FileFault, Last, Party, Told};
+use recordings::Machine;
 use std::alloc::Global;
+
+const PAGER: Party = Party::Of(LogName::Pager);
+
+const SOURCE: Party = Party::Of(LogName::Source);
 
 /// The files of a source's log: two threads wrote it, and then another process, which went on with it.
 static FIRST: &[u8] = b"postcopy-records 1
@@ -39,15 +45,16 @@ static RECORDS: [&[u8]; 6] = [
     b"done",
 ];
 
-/// A gatherer of the source's files.
+/// A gatherer of a party's files.
 fn gathered(
     alloc: Global,
+    party: Party,
     files: &[&'static [u8]],
     size: usize,
 ) -> Result<Gatherer<Slow>, GatherFault> {
     let mut readers = Vec::new(alloc);
     for i in 0..files.len() {
-        match opened(alloc, Party::Of(LogName::Source), files[i], size) {
+        match opened(alloc, party, files[i], size) {
             Ok(Some(file)) => match readers.push(file) {
                 Ok(()) => {}
                 Err(_) => return Err(GatherFault::Memory),
@@ -67,7 +74,7 @@ fn comes(
     records: &[&'static [u8]],
     then: Result<Option<u64>, GatherFault>,
 ) -> bool {
-    let Ok(mut log) = gathered(alloc, files, size) else {
+    let Ok(mut log) = gathered(alloc, SOURCE, files, size) else {
         return false;
     };
     for i in 0..records.len() {
@@ -105,7 +112,7 @@ fn reads_the_files_of_a_log_as_one(rt: HostRuntime) {
 
 #[test]
 fn lends_the_files_when_they_were_read(rt: HostRuntime) {
-    let Ok(mut log) = gathered(rt.alloc(), &[FIRST, SECOND, THIRD], 9) else {
+    let Ok(mut log) = gathered(rt.alloc(), SOURCE, &[FIRST, SECOND, THIRD], 9) else {
         assert!(rt; false);
         return;
     };
@@ -153,8 +160,90 @@ fn tells_what_keeps_files_from_being_a_log(rt: HostRuntime) {
         )
     );
     let at_once: &'static [u8] = b"postcopy-records 1\nrecording a\nlog source 2 0\n1 state\n";
-    match gathered(rt.alloc(), &[FIRST, at_once], 40) {
+    match gathered(rt.alloc(), SOURCE, &[FIRST, at_once], 40) {
         Ok(_) => assert!(rt; false),
         Err(fault) => assert!(rt; fault == GatherFault::File(1, FileFault::Order(4))),
     }
+}
+
+static MACHINE: Machine = Machine {
+    version: Version::Two,
+    size: Size::Large,
+    pages: 4,
+    cells: 1,
+};
+
+/// The files of the pager's log that goes with it: two threads wrote it.
+static PAGERS_FIRST: &[u8] = b"postcopy-records 1
+recording a
+log pager 0 0
+0 got-sent 1
+1 want 2
+3 place 0 0 00000000000000ab
+end 5
+";
+
+static PAGERS_SECOND: &[u8] = b"postcopy-records 1
+recording a
+log pager 0 0
+2 pull-sent 4
+4 all
+";
+
+/// What a walk over a party's files ends with.
+fn told_of(
+    alloc: Global,
+    party: Party,
+    files: &[&'static [u8]],
+    told: &mut Told,
+) -> Result<(), LogFault> {
+    match gathered(alloc, party, files, 40) {
+        Ok(mut log) => {
+            if party == PAGER {
+                gather_pager(alloc, &MACHINE, &mut log, told)
+            } else {
+                gather_source(alloc, &MACHINE, &mut log, told)
+            }
+        }
+        Err(fault) => Err(LogFault::Files(fault)),
+    }
+}
+
+#[test]
+fn notes_the_messages_of_gathered_logs(rt: HostRuntime) {
+    let alloc = rt.alloc();
+    let mut told = Told::new(alloc);
+    assert!(rt; told_of(alloc, SOURCE, &[THIRD, FIRST, SECOND], &mut told) == Ok(()));
+    assert!(rt; told_of(alloc, PAGER, &[PAGERS_SECOND, PAGERS_FIRST], &mut told) == Ok(()));
+    let delivered = told.deliver(alloc).expect(&rt, "memory");
+    let link = [
+        Message::Down { sent: 1, taken: 0 },
+        Message::Up { sent: 1, taken: 3 },
+    ];
+    assert!(rt; delivered.link.log.as_slice() == link.as_slice());
+    let lane = [Message::Down { sent: 4, taken: 2 }];
+    assert!(rt; delivered.lane.log.as_slice() == lane.as_slice());
+}
+
+#[test]
+fn tells_which_record_is_none_of_the_partys(rt: HostRuntime) {
+    let alloc = rt.alloc();
+    let mut told = Told::new(alloc);
+    let wrong: &'static [u8] = b"postcopy-records 1\nrecording a\nlog pager 0 0\n2 state\n4 all\n";
+    assert!(rt;
+        told_of(alloc, PAGER, &[wrong, PAGERS_FIRST], &mut told) == Err(LogFault::Record(2))
+    );
+    let wrong: &'static [u8] = b"postcopy-records 1\nrecording a\nlog source 0 0\n0 got-sent 1\n";
+    assert!(rt;
+        told_of(alloc, SOURCE, &[wrong], &mut Told::new(alloc)) == Err(LogFault::Record(0))
+    );
+}
+
+#[test]
+fn notes_no_log_of_files_that_are_none(rt: HostRuntime) {
+    let alloc = rt.alloc();
+    let missing = Err(LogFault::Files(GatherFault::Missing(3)));
+    assert!(rt; told_of(alloc, SOURCE, &[FIRST, THIRD], &mut Told::new(alloc)) == missing);
+    let missing = Err(LogFault::Files(GatherFault::Missing(2)));
+    assert!(rt; told_of(alloc, PAGER, &[PAGERS_SECOND], &mut Told::new(alloc)) == missing);
 }
