@@ -134,7 +134,7 @@ class Asks(enum.IntEnum):
 
     The answer is that of the function with this name. EXPLAIN_PAGE and EXPLAIN_LINE are `explain` with a page or a line, and
     DRAW_PAGE is `draw` with a page. A name that ends in OBJECT asks for a JSON object, as the program writes it with
-    `--format json`.
+    `--format json`. The object of a refused text has only the verdict and the line: `why` says why.
     """
 
     AUDIT = 1
