@@ -56,15 +56,29 @@ def check_records(what, text, found):
     same(f"what the processors of {what} did", found["vcpus"], [vcpus.count(it) for it in range(4)])
 
 
+def contents_after(model, page, numbers):
+    """A page's contents after each of these records of the guest, on one machine that never moved."""
+    contents, found = list(model.initial.get(page, [0] * model.cells)), {}
+    for number, record in enumerate(model.guest):
+        if record[0] == "w" and record[2] == str(page):
+            contents[int(record[3])] = int(record[4])
+        if record[0] == "z" and record[2] == str(page):
+            contents = [0] * model.cells
+        if number in numbers:
+            found[number] = [str(it) for it in contents]
+    return found
+
+
 def check_life(what, model, page, life, is_clean):
     """A page's contents at each step: those of the model, and what is wrong where the model says so."""
     flat, target, first = life["initial"]["contents"], None, model.initial.get(page, [0] * model.cells)
     same(f"the first contents of page {page} of {what}", flat, [str(it) for it in first])
+    after = contents_after(model, page, {it["number"] for it in life["steps"] if it["log"] == "guest"})
     for it in life["steps"]:
         flat, target = it.get("flat", flat), it.get("target", target)
         words, log, number = model.logs[it["log"]][it["number"]], it["log"], it["number"]
         if log == "guest":
-            wanted = [str(model.cell_before(number + 1, page, cell)) for cell in range(model.cells)]
+            wanted = after[number]
             count(flat == wanted, f"the contents of page {page} of {what} after guest {number}: {flat}, not {wanted}")
         if words[0] in ("place", "zero"):
             contents = model.contents(words[3]) if words[0] == "place" else [0] * model.cells
