@@ -1,8 +1,7 @@
 -- Each page's first fault in logs that are cut to a front.
-use Rattle.std.proofs.Common.{◌≡◌, ◌≢◌, ◌↔◌, ℕ, ◌<◌, ◌≤◌, ◌⊎◌, inl, inr, Bool, true, false, List, length, take, Option, Some, None, refl, sym, ap, ◌∙◌, subst, arith}
+use Rattle.std.proofs.Common.{◌≡◌, ◌≢◌, ◌↔◌, ℕ, ◌<◌, ◌≤◌, inl, inr, Bool, true, false, List, length, take, Option, Some, None, refl, sym, ap, ◌∙◌, subst, arith}
 use Rattle.std.specs.Prelude.{slice_get}
 use Rattle.std.specs.Bool.{Decides}
-use Rattle.std.proofs.lemmas.Bool.{cases_order}
 use Rattle.std.proofs.lemmas.Option.{slice_get_within}
 use Rattle.migration_types.specs.declared.records.LogName.{LogName}
 use Rattle.migration_types.specs.declared.records.LogName.TheVariants.{Guest, Source, Link, Lane, Pager}
@@ -21,7 +20,7 @@ use Rattle.page_facts.specs.inner.FirstOfLog.{or_else, least_reason, reason_at}
 use Rattle.page_facts.specs.PageFaults.{page_at, Precedes, IsClean}
 use Rattle.page_facts.proofs.FirstOfAll.{none_at}
 use Rattle.page_facts.proofs.LeastReason.{least_rank, least_is}
-use Rattle.cut_logs.specs.FrontLaws.{IsInFront, HasHalt, HasTouch, HasStill, KeepsFirstFaults, FirstFaultsWere, FirstFaultsAreLater}
+use Rattle.cut_logs.specs.FrontLaws.{IsInFront, HasHalt, HasTouch, KeepsFirstFaults, FirstFaultsWere}
 use Rattle.recorded_files.specs.Fronts.{IsFront, cut_to}
 use Rattle.cut_logs.proofs.Taken.{taken_at, taken_is}
 use Rattle.cut_logs.proofs.Faults.{keeps_at, faults_were}
@@ -29,13 +28,13 @@ use Rattle.cut_logs.proofs.Faults.{keeps_at, faults_were}
 -- ---- the least of a record's reasons
 
 -- a record with a fault has a reason
-has_reason : {A : Type 0} (s : Recorded) (name : Name) (r : PageReason) → reason_at s name ≡ None → IsPageFault s r name → A
+pub has_reason : {A : Type 0} (s : Recorded) (name : Name) (r : PageReason) → reason_at s name ≡ None → IsPageFault s r name → A
 has_reason s name r e f =
     let t : fault_test s r name ≡ true = (fault_Decides s r name).1 f in
     let n : fault_test s r name ≡ false = (least_is (λ reason. fault_test s reason name)).none e r (least_rank r) in
     absurd (cc)
 
-is_reason_of : (s : Recorded) (name : Name) (r : PageReason) → reason_at s name ≡ Some r → IsPageFault s r name
+pub is_reason_of : (s : Recorded) (name : Name) (r : PageReason) → reason_at s name ≡ Some r → IsPageFault s r name
 is_reason_of s name r e = (fault_Decides s r name).0 ((least_is (λ reason. fault_test s reason name)).holds r e)
 
 -- a reason that stays the least where tests fail that held
@@ -81,7 +80,7 @@ same_test false true f g h = let e = f.1 (h.1 (g.0 refl)) in absurd (cc)
 
 -- ---- names
 
-same_log_by : (l m : LogName) → log_index l ≡ log_index m → l ≡ m
+pub same_log_by : (l m : LogName) → log_index l ≡ log_index m → l ≡ m
 same_log_by l m e =
     let at : Some l ≡ Some m = sym (log_there l) ∙ ap (λ n. slice_get logs n) e ∙ log_there m in
     cc
@@ -93,7 +92,7 @@ paged_within {A} page_of log n p e = go (slice_get log n) refl e
     go None is e = absurd (cc)
     go (Some x) is e = slice_get_within log n x is
 
-page_within : (s : Recorded) (name : Name) (p : ℕ) → page_at s name ≡ Some p → name.1 < log_length s name.0
+pub page_within : (s : Recorded) (name : Name) (p : ℕ) → page_at s name ≡ Some p → name.1 < log_length s name.0
 page_within s (Guest, n) p e = paged_within guest_page s.guest n p e
 page_within s (Source, n) p e = paged_within source_page s.source n p e
 page_within s (Link, n) p e = absurd (cc)
@@ -108,14 +107,14 @@ paged_taken {A} page_of k log n p e = go (slice_get (take k log) n) refl e
     go (Some x) is e = let r = taken_is k log n x is in (r.0, ap (if_there page_of) r.1 ∙ e)
 
 module _ (s : Recorded) (c : Cursors) where
-  same_page : (name : Name) → IsInFront c name → page_at (cut_to c s) name ≡ page_at s name
+  pub same_page : (name : Name) → IsInFront c name → page_at (cut_to c s) name ≡ page_at s name
   same_page (Guest, n) lt = ap (if_there guest_page) (taken_at (c Guest) s.guest n lt)
   same_page (Source, n) lt = ap (if_there source_page) (taken_at (c Source) s.source n lt)
   same_page (Link, n) lt = refl
   same_page (Lane, n) lt = refl
   same_page (Pager, n) lt = ap (if_there pager_page) (taken_at (c Pager) s.pager n lt)
 
-  page_was : (name : Name) (p : ℕ) → page_at (cut_to c s) name ≡ Some p → IsInFront c name × (page_at s name ≡ Some p)
+  pub page_was : (name : Name) (p : ℕ) → page_at (cut_to c s) name ≡ Some p → IsInFront c name × (page_at s name ≡ Some p)
   page_was (Guest, n) p e = paged_taken guest_page (c Guest) s.guest n p e
   page_was (Source, n) p e = paged_taken source_page (c Source) s.source n p e
   page_was (Link, n) p e = absurd (cc)
@@ -147,7 +146,7 @@ module _ (s : Recorded) (c : Cursors) (front : IsFront s c) (halt : HasHalt s c)
       }
 
   -- the least reason in the front was the least
-  reason_was : (name : Name) (r : PageReason) → IsInFront c name → reason_at (cut_to c s) name ≡ Some r → reason_at s name ≡ Some r
+  pub reason_was : (name : Name) (r : PageReason) → IsInFront c name → reason_at (cut_to c s) name ≡ Some r → reason_at s name ≡ Some r
   reason_was name r inside e =
       more_least (λ t. fault_test s t name) (λ t. fault_test (cut_to c s) t name) r
       (λ t not_over. same_test (fault_test s t name) (fault_test (cut_to c s) t name) (fault_Decides s t name) (fault_Decides (cut_to c s) t name) (keeps_at s c front halt t name inside (λ over is. absurd (not_over over))))
@@ -183,42 +182,3 @@ module _ (s : Recorded) (c : Cursors) (front : IsFront s c) (halt : HasHalt s c)
       high : (name : Name) → name.0 ≡ Pager → Precedes name (f.log, f.place) → 0 < log_index f.log
       high name is (inl lt) = let e : log_index name.0 ≡ 4 = ap log_index is in omega (arith, lt, e)
       high name is (inr both) = let e : log_index name.0 ≡ 4 = ap log_index is in let g = both.0 in omega (arith, g, e)
-
-  same_reason : {a b : PageReason} → Some a ≡ Some b → a ≡ b
-  same_reason e = cc
-
-  pub first_faults_are_later : FirstFaultsAreLater s c
-  first_faults_are_later page f first cut_first whole_first =
-      by (cases_order (log_index first.log) (log_index f.log)) (cases_order first.place f.place)
-    where
-      was : IsInFront c (f.log, f.place) × (page_at s (f.log, f.place) ≡ Some cut_first.page)
-      was = page_was s c (f.log, f.place) cut_first.page cut_first.is_of
-
-      reason : reason_at s (f.log, f.place) ≡ Some f.reason
-      reason = reason_was (f.log, f.place) f.reason was.0 cut_first.is_reason
-
-      not_after : {A : Type 0} → Precedes (f.log, f.place) (first.log, first.place) → A
-      not_after before = has_reason s (f.log, f.place) f.reason (whole_first.is_first cut_first.page (f.log, f.place) cut_first.is_among was.1 before) (is_reason_of s (f.log, f.place) f.reason reason)
-
-      lacks : Precedes (first.log, first.place) (f.log, f.place) → HasStill s c first → ⊥
-      lacks before still =
-          let inside = (faults_were s c front halt first.reason (first.log, first.place) still).0 in
-          has_reason (cut_to c s) (first.log, first.place) first.reason (cut_first.is_first whole_first.page (first.log, first.place) whole_first.is_among (same_page s c (first.log, first.place) inside ∙ whole_first.is_of) before) still
-
-      before_it : Precedes (first.log, first.place) (f.log, f.place) → (f ≡ first) ⊎ (Precedes (first.log, first.place) (f.log, f.place) × (HasStill s c first → ⊥))
-      before_it before = inr (before, lacks before)
-
-      by : (log_index first.log ≡ log_index f.log) ⊎ ((log_index first.log < log_index f.log) ⊎ (log_index f.log < log_index first.log)) →
-          (first.place ≡ f.place) ⊎ ((first.place < f.place) ⊎ (f.place < first.place)) →
-          (f ≡ first) ⊎ (Precedes (first.log, first.place) (f.log, f.place) × (HasStill s c first → ⊥))
-      by (inr (inl lt)) places = before_it (inl lt)
-      by (inr (inr gt)) places = not_after (inl gt)
-      by (inl e) (inr (inl lt)) = before_it (inr (e, lt))
-      by (inl e) (inr (inr gt)) = not_after (inr (sym e, gt))
-      by (inl e) (inl g) =
-          let l : f.log ≡ first.log = same_log_by f.log first.log (sym e) in
-          let n : f.place ≡ first.place = sym g in
-          let at : Path Name (f.log, f.place) (first.log, first.place) = λ j. (l j, n j) in
-          let two : Some f.reason ≡ Some first.reason = sym reason ∙ ap (reason_at s) at ∙ whole_first.is_reason in
-          let r = same_reason two in
-          inl (λ j. record { log = l j; place = n j; reason = r j })

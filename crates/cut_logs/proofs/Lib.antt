@@ -2,6 +2,8 @@ pub mod Taken
 pub mod Named
 pub mod Faults
 pub mod First
+pub mod Found
+pub mod Later
 pub mod Shape
 pub mod Mergings
 pub mod Fits

@@ -20,10 +20,6 @@ taken_is (suc k) [] n x e = absurd (cc)
 taken_is (suc k) (y ∷ log) zero x e = (omega arith, e)
 taken_is (suc k) (y ∷ log) (suc n) x e = let r = taken_is k log n x e in let lt = r.0 in (omega (arith, lt), r.1)
 
--- what holds where each record of a log stands holds where each of its first ones does
-pub at_taken : {A B : Type 0} (f : Option A → B) (k : ℕ) (log : List A) (n : ℕ) → n < k → f (slice_get (take k log) n) ≡ f (slice_get log n)
-at_taken f k log n lt = ap f (taken_at k log n lt)
-
 -- a value is changed by the records before a place alone
 pub before_taken : {A B : Type 0} (change : A → B → B) (start : B) (k : ℕ) (log : List A) (n : ℕ) → n ≤ k → before change start (take k log) n ≡ before change start log n
 before_taken change start k log zero le = refl

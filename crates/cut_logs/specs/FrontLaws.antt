@@ -1,4 +1,4 @@
--- What logs that are cut to a front keep of a session.
+-- Cut sessions, whose logs are cut to a front, and what they keep of the whole one.
 use Rattle.std.specs.Prelude.{◌≡◌, ◌≢◌, ◌↔◌, ℕ, ◌<◌, ◌≤◌, ◌⊎◌, Bool, true, not, nat_lt, List, ◌++◌, filter, Some, slice_get}
 use Rattle.migration_types.specs.declared.records.LogName.{LogName}
 use Rattle.migration_types.specs.declared.records.LogName.TheVariants.{Guest, Source, Pager}
@@ -63,11 +63,19 @@ abbrev pub FirstFaultsWere : Recorded → Cursors → Type 0
 FirstFaultsWere s c =
     (page : ℕ) (f : PageFault) → IsFirstFault (cut_to c s) page f → HasAllAbove s c f.log → IsFirstFault s page f
 
--- else the page's first fault was the same, or it stands before that and the cut session lacks it
+-- the fault is the same as this first one, or that stands before it and the cut session lacks it
+abbrev pub IsNoLater : Recorded → Cursors → PageFault → PageFault → Type 0
+IsNoLater s c f first = (f ≡ first) ⊎ (Precedes (first.log, first.place) (f.log, f.place) × (HasStill s c first → ⊥))
+
+-- the page has a first fault, which stands no later
+pub record HasFirstFault (s : Recorded) (c : Cursors) (page : ℕ) (f : PageFault) : Type 0 where
+  pub first : PageFault
+  pub is_first : IsFirstFault s page first
+  pub is_no_later : IsNoLater s c f first
+
+-- in any front, a page with a first fault in the cut session has a first fault, which stands no later
 abbrev pub FirstFaultsAreLater : Recorded → Cursors → Type 0
-FirstFaultsAreLater s c =
-    (page : ℕ) (f first : PageFault) → IsFirstFault (cut_to c s) page f → IsFirstFault s page first →
-    (f ≡ first) ⊎ (Precedes (first.log, first.place) (f.log, f.place) × (HasStill s c first → ⊥))
+FirstFaultsAreLater s c = (page : ℕ) (f : PageFault) → IsFirstFault (cut_to c s) page f → HasFirstFault s c page f
 
 -- ---- the shape
 
@@ -75,18 +83,18 @@ FirstFaultsAreLater s c =
 abbrev pub HasState : Cursors → Type 0
 HasState c = c Source ≢ 1
 
--- a record that has the right shape keeps it, and the source's first does if the state is there too
+-- a record with the right shape keeps it; the source's first does if the state is there too
 abbrev pub KeepsShape : Recorded → Cursors → Type 0
 KeepsShape s c =
     (reason : ShapeReason) (name : Name) → (name ≡ (Source, 0) → HasState c) →
     is_right s reason name ≡ true → is_right (cut_to c s) reason name ≡ true
 
--- a record of the source with which it starts its guest again; it is right only at the log's end, in a session without a
--- resume
+-- The record of the source with which it starts its guest again. Whether it is right is seen only with the ends of the
+-- logs: it is the source's last record, in a session without a resume.
 abbrev pub IsBack : Recorded → Name → Type 0
 IsBack s name = (name.0 ≡ Source) × (slice_get s.source name.1 ≡ Some Back)
 
--- Another record of the front has a fault of its shape exactly where it has it in the session, for the same reason.
+-- any other record of the front has a fault of its shape exactly where it has it in the session, for the same reason
 abbrev pub KeepsShapeFaults : Recorded → Cursors → Type 0
 KeepsShapeFaults s c =
     (reason : ShapeReason) (name : Name) → IsInFront c name → (name ≡ (Source, 0) → HasState c) → (IsBack s name → ⊥) →

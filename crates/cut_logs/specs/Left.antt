@@ -36,7 +36,7 @@ without_lone s c log = c log
 abbrev pub left_of : Cursors → Recorded → Recorded
 left_of c s = cut_to (without_lone s c) s
 
--- an unsafe session without a fault of shape, and a front of it that is safe
+-- an unsafe session of the right shape with a merging, and a front of it that is safe
 pub record HasSafeFront : Type 0 where
   pub whole : Recorded
   pub cursors : Cursors

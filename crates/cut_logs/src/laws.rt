@@ -18,8 +18,9 @@ ghost use Rattle.cut_logs.specs.FrontLaws.{HasHalt, KeepsFaults, FaultsWere, Kee
 /// front of a session of the right shape has the halt, if it has records of the source or of the pager. That a placement
 /// comes over a release shows only where the front has that release. A page's first fault is its first in the cut
 /// session, if it still shows there. A page's first fault in the cut session was its first, if the front has all records
-/// of the logs above. Otherwise one that no longer shows may stand before it. A page is clean in the cut session if it is
-/// clean in the session, and no record has a fault of its page if none has one in the session.
+/// of the logs above. In any front, a page with a first fault in the cut session has one in the session: the same, or one
+/// that stands before it and no longer shows. A page is clean in the cut session if it is clean in the session, and no
+/// record has a fault of its page if none has one in the session.
 pub fn fronts_keep_faults()
     ensures kept { (s : Recorded) (c : Cursors) → IsFront s c → HasHalt s c → KeepsFaults s c }
     ensures were { (s : Recorded) (c : Cursors) → IsFront s c → HasHalt s c → FaultsWere s c }

@@ -1,5 +1,6 @@
 use Rattle.cut_logs.proofs.Faults.{keeps_faults, faults_were, still_clean}
-use Rattle.cut_logs.proofs.First.{keeps_first_faults, first_faults_were, first_faults_are_later, still_clean_page}
+use Rattle.cut_logs.proofs.First.{keeps_first_faults, first_faults_were, still_clean_page}
+use Rattle.cut_logs.proofs.Later.{first_faults_are_later}
 use Rattle.cut_logs.proofs.Named.{front_has_halt}
 use Rattle.cut_logs.proofs.laws.fronts_keep_faults.Goals as goal
 
