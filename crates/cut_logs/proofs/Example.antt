@@ -11,7 +11,8 @@ use Rattle.migration_types.specs.declared.cert.Run.{Run}
 use Rattle.migration_types.specs.declared.version.Version.TheVariants.{Two}
 use Rattle.migration_types.specs.declared.size.Size.TheVariants.{Small}
 use Rattle.migration_types.specs.Receipts.{Name}
-use Rattle.migration_types.specs.Sessions.{Recorded, log_length}
+use Rattle.migration_types.specs.Sessions.{Recorded, IsSession, log_length}
+use Rattle.migration_types.specs.Limits.{limits}
 use Rattle.audit_model.specs.Mergings.{IsMerging, Cursors, spelled, at_start}
 use Rattle.audit_model.specs.Walks.{cursors_from}
 use Rattle.audit_model.specs.Shape.{IsRightShape}
@@ -19,7 +20,7 @@ use Rattle.audit_model.specs.World.{IsSafe}
 use Rattle.audit_model.proofs.Headline.{certified_safe}
 use Rattle.audit_model.proofs.ExampleD.{certified_d}
 use Rattle.audit_model.proofs.Walked.{walk_merges}
-use Rattle.audit_model.proofs.WrittenOut.{shape_by_tests, walks_by_test}
+use Rattle.audit_model.proofs.WrittenOut.{each_few, shape_by_tests, walks_by_test}
 use Rattle.recorded_files.specs.inner.Reaches.{names_in, reach}
 use Rattle.recorded_files.proofs.Cuts.{is_front}
 use Rattle.cut_logs.specs.Left.{HasSafeFront}
@@ -73,6 +74,27 @@ is_unsafe safe =
     let wrong : 7 ≡ 6 = demand.is_flat in
     omega (arith, wrong)
 
+limits_kept : IsSession whole
+limits_kept = record {
+  size = tt;
+  geometry = record { some_pages = omega arith; few_pages = omega arith; some_cells = omega arith; few_cells = omega arith; few_in_all = omega arith; own = record { pages = omega arith; cells = omega arith } };
+  init = record {
+    each = (record { page = omega arith; content = record { count = refl; each = (omega arith, tt) }; not_zeros = λ zeros. absurd (let e = zeros.0 in cc) }, tt);
+    rising = λ k lt. absurd (omega arith);
+  };
+  few_guest = omega arith;
+  few_source = omega arith;
+  few_link = omega arith;
+  few_lane = omega arith;
+  few_pager = omega arith;
+  own = each_few whole (limits Small).records (omega arith) (omega arith) (omega arith) (omega arith) (omega arith);
+  guest = (tt, (omega arith, (omega arith, ((omega arith, omega arith, omega arith, omega arith), ((omega arith, omega arith, omega arith, omega arith), tt)))));
+  source = (omega arith, (tt, ((omega arith, record { count = refl; each = (omega arith, tt) }), tt)));
+  link = (omega arith, tt);
+  lane = ((tt, omega arith), tt);
+  pager = (omega arith, (tt, ((tt, omega arith), ((omega arith, omega arith, record { count = refl; each = (omega arith, tt) }), tt))));
+}
+
 -- each log goes to the front's end, and what its records name does not stop it before
 is_front_of_it : IsFront whole cursors
 is_front_of_it = is_front whole cursors within reaches
@@ -96,6 +118,7 @@ safe_front = record {
   whole = whole;
   cursors = cursors;
   front = is_front_of_it;
+  is_session = limits_kept;
   shape = shape;
   merging = (spelled runs, merging);
   is_unsafe = is_unsafe;

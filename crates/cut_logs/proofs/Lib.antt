@@ -11,3 +11,4 @@ pub mod Parts
 pub mod Safe
 pub mod Lone
 pub mod Example
+pub mod Missed

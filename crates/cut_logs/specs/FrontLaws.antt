@@ -9,13 +9,13 @@ use Rattle.audit_model.specs.declared.reasons.PageReason.{PageReason}
 use Rattle.audit_model.specs.declared.reasons.PageReason.TheVariants.{Over}
 use Rattle.audit_model.specs.declared.reasons.ShapeReason.{ShapeReason}
 use Rattle.audit_model.specs.Flat.{at_halt}
-use Rattle.audit_model.specs.Shape.{is_right}
+use Rattle.audit_model.specs.Shape.{is_right, IsRightShape}
 use Rattle.audit_model.specs.Certificates.{IsLateTouch}
 use Rattle.audit_model.specs.Faults.{IsPageFault}
 use Rattle.audit_model.specs.Mergings.{IsMerging, Cursors}
 use Rattle.page_facts.specs.declared.page_fault.PageFault.{PageFault}
 use Rattle.page_facts.specs.PageFaults.{page_at, IsFirstFault, Precedes}
-use Rattle.recorded_files.specs.Fronts.{cut_to}
+use Rattle.recorded_files.specs.Fronts.{IsFront, cut_to}
 
 -- ---- faults of pages
 
@@ -39,6 +39,17 @@ KeepsFaults s c =
     (reason : PageReason) (name : Name) → IsInFront c name →
     (reason ≡ Over → (page : ℕ) → page_at s name ≡ Some page → HasTouch s c page) →
     IsPageFault s reason name ↔ IsPageFault (cut_to c s) reason name
+
+-- a session of the right shape, and a front of it with a placement over a release that the cut session lacks
+pub record LacksFault : Type 0 where
+  pub whole : Recorded
+  pub shape : IsRightShape whole
+  pub cursors : Cursors
+  pub front : IsFront whole cursors
+  pub name : Name
+  pub is_inside : IsInFront cursors name
+  pub is_fault : IsPageFault whole Over name
+  pub is_lacking : IsPageFault (cut_to cursors whole) Over name → ⊥
 
 -- a fault of a page in the cut session is one in the session, of the same record, for the same reason
 abbrev pub FaultsWere : Recorded → Cursors → Type 0

@@ -3,7 +3,7 @@ use Rattle.std.specs.Prelude.{Bool, true, false, ◌==◌, ◌&&◌, slice_get, 
 use Rattle.migration_types.specs.declared.records.LogName.TheVariants.{Source}
 use Rattle.migration_types.specs.declared.records.SourceRec.{SourceRec}
 use Rattle.migration_types.specs.declared.records.SourceRec.TheVariants.{Halted}
-use Rattle.migration_types.specs.Sessions.{Recorded}
+use Rattle.migration_types.specs.Sessions.{Recorded, IsSession}
 use Rattle.audit_model.specs.Fitting.{Fits}
 use Rattle.audit_model.specs.Shape.{passes, IsRightShape}
 use Rattle.audit_model.specs.Faults.{HasNoPageFault}
@@ -41,6 +41,7 @@ pub record HasSafeFront : Type 0 where
   pub whole : Recorded
   pub cursors : Cursors
   pub front : IsFront whole cursors
+  pub is_session : IsSession whole
   pub shape : IsRightShape whole
   pub merging : HasMerging whole
   pub is_unsafe : IsSafe whole → ⊥

@@ -11,12 +11,12 @@ ghost use Rattle.audit_model.specs.Faults.{HasNoPageFault};
 ghost use Rattle.page_facts.specs.PageFaults.{IsClean};
 ghost use Rattle.cut_logs.specs.Left.{HasNoFault, without_lone, left_of, HasSafeFront};
 ghost use Rattle.recorded_files.specs.Fronts.{IsFront, cut_to};
-ghost use Rattle.cut_logs.specs.FrontLaws.{HasHalt, KeepsFaults, FaultsWere, KeepsFirstFaults, FirstFaultsWere, FirstFaultsAreLater, HasState, KeepsShape, KeepsShapeFaults, KeepsMergings, MergingsGoOn, IsPart};
+ghost use Rattle.cut_logs.specs.FrontLaws.{HasHalt, KeepsFaults, LacksFault, FaultsWere, KeepsFirstFaults, FirstFaultsWere, FirstFaultsAreLater, HasState, KeepsShape, KeepsShapeFaults, KeepsMergings, MergingsGoOn, IsPart};
 
 /// A front has the first records of each log, with their numbers, and all that these name. In logs that are cut to a
 /// front with the halt, a record of the front has the faults of its page that it has in the session, and no others. Each
 /// front of a session of the right shape has the halt, if it has records of the source or of the pager. That a placement
-/// comes over a release shows only where the front has that release. A page's first fault is its first in the cut
+/// comes over a release may not show where the front lacks that release. A page's first fault is its first in the cut
 /// session, if it still shows there. A page's first fault in the cut session was its first, if the front has all records
 /// of the logs above. In any front, a page with a first fault in the cut session has one in the session: the same, or one
 /// that stands before it and no longer shows. A page is clean in the cut session if it is clean in the session, and no
@@ -24,6 +24,7 @@ ghost use Rattle.cut_logs.specs.FrontLaws.{HasHalt, KeepsFaults, FaultsWere, Kee
 pub fn fronts_keep_faults()
     ensures kept { (s : Recorded) (c : Cursors) → IsFront s c → HasHalt s c → KeepsFaults s c }
     ensures were { (s : Recorded) (c : Cursors) → IsFront s c → HasHalt s c → FaultsWere s c }
+    ensures lacking { LacksFault }
     ensures halt { (s : Recorded) (c : Cursors) → IsFront s c → IsRightShape s → HasHalt s c }
     ensures first { (s : Recorded) (c : Cursors) → IsFront s c → HasHalt s c → KeepsFirstFaults s c }
     ensures was_first { (s : Recorded) (c : Cursors) → IsFront s c → HasHalt s c → FirstFaultsWere s c }
