@@ -1,0 +1,14 @@
+pub mod Taken
+pub mod Named
+pub mod Faults
+pub mod First
+pub mod Found
+pub mod Later
+pub mod Shape
+pub mod Mergings
+pub mod Fits
+pub mod Parts
+pub mod Safe
+pub mod Lone
+pub mod Example
+pub mod Missed
