@@ -58,9 +58,9 @@ pub fn fronts_keep_mergings()
 /// A front of a safe session that has a merging is safe. A front of a session without a fault has none, unless `halted` is
 /// alone in the source's log. In the right shape, a front without that record is still a front. A front of the first
 /// records of a session's logs is a front of the session. So where logs end early, anywhere, what is left of them once
-/// they are cut to a front has no fault if the session has none, and is safe if the session is safe: a cut session that
-/// is faulty was faulty. The other way round, nothing is said of what is left out: an unsafe session can have a safe
-/// front.
+/// they are cut to a front has no fault if the session has none: a cut session that is faulty was faulty. It is safe if
+/// the session is safe, has the right shape and has a merging. The other way round, nothing is said of what is left out:
+/// an unsafe session can have a safe front.
 pub fn cut_and_faulty_was_faulty()
     ensures safe { (s : Recorded) (c : Cursors) → IsFront s c → HasMerging s → IsSafe s → IsSafe (cut_to c s) }
     ensures no_fault { (s : Recorded) (c : Cursors) → IsFront s c → HasState c → HasNoFault s → HasNoFault (cut_to c s) }
