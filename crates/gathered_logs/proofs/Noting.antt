@@ -1,23 +1,30 @@
--- A gathered log, as its records are noted.
-use Rattle.std.proofs.Common.{◌≡◌, ℕ, List, [], ◌∷◌, ◌++◌, length, Option, Some, None, sym, ap, subst, ◌∙◌}
+-- A gathered log, as its records are taken.
+use Rattle.std.proofs.Common.{◌≡◌, ℕ, Result, Ok, Err, OnOk, List, [], ◌∷◌, ◌++◌, length, Option, Some, None, sym, ap, subst, ◌∙◌}
 use Rattle.std.specs.Prelude.{MatchOption, map}
 use Rattle.std.specs.List.{AllByRecursion}
 use Rattle.std.proofs.lemmas.List.{length-map, map-append}
 use Rattle.recorded_files.specs.declared.lines.Party.{Party}
-use Rattle.recorded_files.specs.declared.messages.Told.{Told}
-use Rattle.gathered_logs.specs.declared.telling.LogFault.{LogFault}
-use Rattle.gathered_logs.specs.declared.telling.LogFault.TheVariants.{Files, Record, Memory}
-use Rattle.gathered_logs.specs.Logs.{Came, Gathering, SayLog, text_in}
-use Rattle.gathered_logs.specs.Records.{IsLogFault, SayRecords}
-use Rattle.gathered_logs.specs.inner.Noting.{Adds, IsTextFault, Notes, NotesText}
+use Rattle.gathered_logs.specs.declared.gatherers.GatherFault.{GatherFault}
+use Rattle.gathered_logs.specs.declared.gatherers.GatherFault.TheVariants.{Missing}
+use Rattle.gathered_logs.specs.declared.taking.LogFault.TheVariants.{Files, Record, Memory}
+use Rattle.gathered_logs.specs.declared.taking.TakingFault.{TakingFault}
+use Rattle.gathered_logs.specs.declared.taking.TakingFault.TheVariants.{Log, Unfit}
+use Rattle.gathered_logs.specs.Logs.{Came, Gathering, IsGatherFault, SayLog, text_in}
+use Rattle.gathered_logs.specs.Records.{EndsAt, IsLogFault, IsTakingFault, SayRecords, SayUpTo}
+use Rattle.gathered_logs.specs.inner.Noting.{Adds, IsTextFault, Notes, TakesText}
 
 all_and_one : {X : Type 0} (P : X → Type 0) (xs : List X) (x : X) → AllByRecursion P xs → P x → AllByRecursion P (xs ++ x ∷ [])
 all_and_one P [] x all one = (one, tt)
 all_and_one P (y ∷ xs) x all one = (all.0, all_and_one P xs x all.1 one)
 
+-- what follows of an answer
+pub on_ok : {A E P Q : Type 0} (r : Result A E) → OnOk r P → (P → Q) → OnOk r Q
+on_ok (Ok a) p follows = follows p
+on_ok (Err e) p follows = tt
+
 -- no record came yet
-pub notes_none : {X Y : Type 0} (line : X → List ℕ) (IsOf : X → Type 0) (Tells : Told → List X → List Y → Type 0) (party : Party) (knowns : List (Option (List ℕ))) (g : Gathering) (told : Told) → Came party knowns g [] → Notes line IsOf Tells party knowns g told told
-notes_none line IsOf Tells party knowns g told came = record { records = []; came = came; each = tt; told = λ others tells. tells }
+pub notes_none : {X T S : Type 0} (line : X → List ℕ) (IsOf : X → Type 0) (Takes : T → S → T → S → List X → Type 0) (party : Party) (knowns : List (Option (List ℕ))) (g : Gathering) (taker : T) (onto : S) → Came party knowns g [] → Notes line IsOf Takes party knowns g taker onto taker onto
+notes_none line IsOf Takes party knowns g taker onto came = record { records = []; came = came; each = tt; took = λ first from takes. takes }
 
 -- the next record's number and text
 pub comes_next : (party : Party) (knowns : List (Option (List ℕ))) (now : Gathering) (log : List (List ℕ)) (found : Option ℕ) (number : ℕ) (text : List ℕ) → found ≡ Some number → text ≡ text_in now.files now.given → MatchOption found (SayLog party knowns now.files log) (λ n. (n ≡ length log) × Came party knowns now (log ++ text_in now.files now.given ∷ [])) → (number ≡ length log) × Came party knowns now (log ++ text ∷ [])
@@ -25,23 +32,47 @@ comes_next party knowns now log found number text is same came =
     let taken : (number ≡ length log) × Came party knowns now (log ++ text_in now.files now.given ∷ []) = subst (λ o. MatchOption o (SayLog party knowns now.files log) (λ n. (n ≡ length log) × Came party knowns now (log ++ text_in now.files now.given ∷ []))) is came in
     (taken.0, subst (λ t. Came party knowns now (log ++ t ∷ [])) (sym same) taken.1)
 
--- the next record came, and was noted
-pub notes_more : {X Y : Type 0} (line : X → List ℕ) (IsOf : X → Type 0) (Tells : Told → List X → List Y → Type 0) (party : Party) (knowns : List (Option (List ℕ))) (g now : Gathering) (before mid after : Told) (text : List ℕ) → (n : Notes line IsOf Tells party knowns g before mid) → Came party knowns now (map line n.records ++ text ∷ []) → NotesText line IsOf Tells text mid after → Notes line IsOf Tells party knowns now before after
-notes_more line IsOf Tells party knowns g now before mid after text n came noted = record {
-  records = n.records ++ noted.rec ∷ [];
-  came = subst (Came party knowns now) (ap (λ t. map line n.records ++ t ∷ []) noted.is_line ∙ sym (map-append line n.records (noted.rec ∷ []))) came;
-  each = all_and_one IsOf n.records noted.rec n.each noted.is_of;
-  told = λ others tells. noted.told n.records others (n.told others tells);
+-- the next record came, and was taken
+pub notes_more : {X T S : Type 0} (line : X → List ℕ) (IsOf : X → Type 0) (Takes : T → S → T → S → List X → Type 0) (party : Party) (knowns : List (Option (List ℕ))) (g now : Gathering) (before mid after : T) (onto half new : S) (text : List ℕ) (number : ℕ) → (n : Notes line IsOf Takes party knowns g before onto mid half) → number ≡ length (map line n.records) → Came party knowns now (map line n.records ++ text ∷ []) → TakesText line IsOf Takes text number mid half after new → Notes line IsOf Takes party knowns now before onto after new
+notes_more line IsOf Takes party knowns g now before mid after onto half new text number n counted came taken = record {
+  records = n.records ++ taken.rec ∷ [];
+  came = subst (Came party knowns now) (ap (λ t. map line n.records ++ t ∷ []) taken.is_line ∙ sym (map-append line n.records (taken.rec ∷ []))) came;
+  each = all_and_one IsOf n.records taken.rec n.each taken.is_of;
+  took = λ first from takes. taken.took first from n.records (counted ∙ length-map n.records line) (n.took first from takes);
 }
 
 -- no record is left
-pub says_records : {X Y : Type 0} (line : X → List ℕ) (IsOf : X → Type 0) (Tells : Told → List X → List Y → Type 0) (party : Party) (knowns : List (Option (List ℕ))) (g now : Gathering) (before after : Told) (found : Option ℕ) → (n : Notes line IsOf Tells party knowns g before after) → found ≡ None → MatchOption found (SayLog party knowns now.files (map line n.records)) (λ m. (m ≡ length (map line n.records)) × Came party knowns now (map line n.records ++ text_in now.files now.given ∷ [])) → (records : List X) × SayRecords line IsOf party knowns now.files records × Adds Tells before after records
-says_records line IsOf Tells party knowns g now before after found n none taken =
+pub says_records : {X T S : Type 0} (line : X → List ℕ) (IsOf : X → Type 0) (Takes : T → S → T → S → List X → Type 0) (party : Party) (knowns : List (Option (List ℕ))) (g now : Gathering) (before after : T) (onto new : S) (found : Option ℕ) → (n : Notes line IsOf Takes party knowns g before onto after new) → found ≡ None → MatchOption found (SayLog party knowns now.files (map line n.records)) (λ m. (m ≡ length (map line n.records)) × Came party knowns now (map line n.records ++ text_in now.files now.given ∷ [])) → (records : List X) × SayUpTo line IsOf party knowns now None records × Adds Takes before onto after new records
+says_records line IsOf Takes party knowns g now before after onto new found n none taken =
     let says : SayLog party knowns now.files (map line n.records) = subst (λ o. MatchOption o (SayLog party knowns now.files (map line n.records)) (λ m. (m ≡ length (map line n.records)) × Came party knowns now (map line n.records ++ text_in now.files now.given ∷ []))) none taken in
-    (n.records, record { log = says; each = n.each }, n.told)
+    (n.records, record { log = says; each = n.each }, n.took)
 
--- the next record came, and was not noted
-pub is_refused : {X Y : Type 0} (line : X → List ℕ) (IsOf : X → Type 0) (Tells : Told → List X → List Y → Type 0) (party : Party) (knowns : List (Option (List ℕ))) (g now : Gathering) (before mid : Told) (text : List ℕ) (number : ℕ) (fault : LogFault) → (n : Notes line IsOf Tells party knowns g before mid) → number ≡ length (map line n.records) → Came party knowns now (map line n.records ++ text ∷ []) → IsTextFault line IsOf text number fault → IsLogFault line IsOf party knowns now fault
-is_refused line IsOf Tells party knowns g now before mid text number (Files why) n counted came fault = absurd fault
-is_refused line IsOf Tells party knowns g now before mid text number (Record m) n counted came fault = (n.records, n.each, fault.0 ∙ (counted ∙ length-map n.records line), (text, came, fault.1))
-is_refused line IsOf Tells party knowns g now before mid text number Memory n counted came fault = tt
+-- no file has the next record
+pub says_to_hole : {X T S : Type 0} (line : X → List ℕ) (IsOf : X → Type 0) (Takes : T → S → T → S → List X → Type 0) (party : Party) (knowns : List (Option (List ℕ))) (g now : Gathering) (before after : T) (onto new : S) (fault : GatherFault) (least : ℕ) → (n : Notes line IsOf Takes party knowns g before onto after new) → fault ≡ Missing least → IsGatherFault party knowns now (map line n.records) fault → (records : List X) × SayUpTo line IsOf party knowns now (Some least) records × Adds Takes before onto after new records
+says_to_hole line IsOf Takes party knowns g now before after onto new fault least n is missing = (n.records, record { log = subst (IsGatherFault party knowns now (map line n.records)) is missing; each = n.each }, n.took)
+
+-- the log has its end there
+pub said_whole : {X : Type 0} (line : X → List ℕ) (IsOf : X → Type 0) (party : Party) (knowns : List (Option (List ℕ))) (g : Gathering) (hole : Option ℕ) (records : List X) → hole ≡ None → SayUpTo line IsOf party knowns g hole records → SayRecords line IsOf party knowns g.files records
+said_whole line IsOf party knowns g hole records none said = record { log = subst (EndsAt party knowns g (map line records)) none said.log; each = said.each }
+
+-- it has a hole there
+pub said_to_hole : {X : Type 0} (line : X → List ℕ) (IsOf : X → Type 0) (party : Party) (knowns : List (Option (List ℕ))) (g : Gathering) (hole : Option ℕ) (least : ℕ) (records : List X) → hole ≡ Some least → SayUpTo line IsOf party knowns g hole records → IsLogFault line IsOf party knowns g (Files (Missing least))
+said_to_hole line IsOf party knowns g hole least records some said = (records, said.each, subst (EndsAt party knowns g (map line records)) some said.log)
+
+-- the next record came, and was not taken
+pub is_refused : {X T S : Type 0} (line : X → List ℕ) (IsOf : X → Type 0) (Takes : T → S → T → S → List X → Type 0) (IsUnfit : T → ℕ → X → Type 0) (party : Party) (knowns : List (Option (List ℕ))) (g now : Gathering) (before mid : T) (onto half : S) (text : List ℕ) (number : ℕ) (fault : TakingFault) → (n : Notes line IsOf Takes party knowns g before onto mid half) → number ≡ length (map line n.records) → Came party knowns now (map line n.records ++ text ∷ []) → IsTextFault line IsOf IsUnfit text number mid fault → IsTakingFault line IsOf Takes IsUnfit party knowns now before onto fault
+is_refused line IsOf Takes IsUnfit party knowns g now before mid onto half text number (Log (Files why)) n counted came fault = absurd fault
+is_refused line IsOf Takes IsUnfit party knowns g now before mid onto half text number (Log (Record m)) n counted came fault = (n.records, n.each, fault.0 ∙ (counted ∙ length-map n.records line), (text, came, fault.1))
+is_refused line IsOf Takes IsUnfit party knowns g now before mid onto half text number (Log Memory) n counted came fault = tt
+is_refused line IsOf Takes IsUnfit party knowns g now before mid onto half text number (Unfit m) n counted came fault = record {
+  records = n.records;
+  each = n.each;
+  number = fault.0 ∙ (counted ∙ length-map n.records line);
+  rec = fault.1.rec;
+  is_of = fault.1.is_of;
+  came = subst (λ t. Came party knowns now (map line n.records ++ t ∷ [])) fault.1.is_line came;
+  at = mid;
+  at_onto = half;
+  took = n.took;
+  unfit = subst (λ k. IsUnfit mid k fault.1.rec) (sym fault.0) fault.1.unfit;
+}

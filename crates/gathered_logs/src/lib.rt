@@ -2,7 +2,11 @@
 #![tactic(auto)]
 
 mod gatherers;
+mod records;
+mod taking;
 mod telling;
 
 pub use gatherers::{GatherFault, Gatherer};
-pub use telling::{LogFault, gather_pager, gather_source};
+pub use records::LogRecord;
+pub use taking::{LogFault, Refusal, Taker, TakingFault, take_records};
+pub use telling::{Noter, gather_pager, gather_source};

@@ -9,7 +9,8 @@ use Rattle.migration_types.specs.Sessions.{Recorded, log_length}
 use Rattle.recorded_files.specs.declared.fronts.Front.{Front}
 use Rattle.recorded_files.specs.declared.naming.Naming.{Naming}
 use Rattle.recorded_files.specs.Fronts.{cursors_of, IsGreatestFront}
-use Rattle.recorded_files.specs.inner.Reaches.{names_in, reach, IsNaming}
+use Rattle.recorded_files.specs.Named.{IsNaming}
+use Rattle.recorded_files.specs.inner.Reaches.{names_in, reach}
 use Rattle.recorded_files.proofs.Cuts.{IsAbove, is_front, still_above}
 
 -- no front of the logs has more records, and the next one ends each log in front of a record that names one which is not there

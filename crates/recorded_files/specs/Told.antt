@@ -1,6 +1,6 @@
 -- The messages over the link and the lane in the records of the pager and of the source, if the receiver of a message
 -- records which one it is.
-use Rattle.std.specs.Prelude.{◌≡◌, ℕ, suc, List, [], ◌∷◌, ◌++◌, Option, Some, None}
+use Rattle.std.specs.Prelude.{◌≡◌, ◌≤◌, ℕ, suc, List, [], ◌∷◌, ◌++◌, Option, Some, None, length}
 use Rattle.std.specs.Option.{option_to_list}
 use Rattle.migration_types.specs.declared.records.SourceRec.{SourceRec}
 use Rattle.migration_types.specs.declared.records.SourceRec.TheVariants.{Ask}
@@ -11,6 +11,7 @@ use Rattle.deliveries.specs.declared.messages.Message.{Message}
 use Rattle.deliveries.specs.declared.messages.Message.TheVariants.{Down, Up}
 use Rattle.deliveries.specs.declared.delivering.Deliveries.{Deliveries}
 use Rattle.deliveries.specs.Deliveries.{delivered, AreNumbers}
+use Rattle.recorded_files.specs.declared.messages.Delivered.{Delivered}
 use Rattle.recorded_files.specs.declared.raw.RawSource.{RawSource}
 use Rattle.recorded_files.specs.declared.raw.RawSource.TheVariants.{Own as OwnSource, AskSent}
 use Rattle.recorded_files.specs.declared.raw.RawPager.{RawPager}
@@ -48,6 +49,19 @@ lane_messages pager = told_from lane_packet 0 pager
 pub record AreDelivered (messages : List Message) (count : ℕ) (d : Deliveries) : Type 0 where
   pub log : d.log.items ≡ delivered messages count
   pub numbers : AreNumbers messages count d.log.items d.numbers.items
+
+-- the messages in these records
+pub record HasMessages (d : Delivered) (pager : List RawPager) (source : List RawSource) : Type 0 where
+  pub link : d.link_messages.items ≡ link_messages pager source
+  pub packets : d.packets ≡ length (told_from link_packet 0 pager)
+  pub lane : d.lane_messages.items ≡ lane_messages pager
+  pub count : d.pager ≡ length pager
+
+-- the deliveries are those of the messages, the first of which are packets
+pub record Follow (d : Delivered) : Type 0 where
+  pub link : AreDelivered d.link_messages.items d.pager d.link
+  pub lane : AreDelivered d.lane_messages.items d.pager d.lane
+  pub packets : d.packets ≤ length d.link_messages.items
 
 -- a record with the number of the message that it takes, if it takes one
 abbrev pub numbered_pager : ℕ → RawPager → PagerRec

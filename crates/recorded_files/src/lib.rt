@@ -25,4 +25,5 @@ pub use heads::read_name;
 pub use laws::{files_say_one_thing, fronts_have_a_greatest};
 pub use lines::{HEADER, Last, Opening, Party, read_numbered};
 pub use messages::{Delivered, Told};
+pub use naming::Naming;
 pub use raw::{RawPager, RawSource};

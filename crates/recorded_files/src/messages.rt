@@ -5,7 +5,7 @@ ghost use Rattle.std.specs.Option.{option_to_list};
 ghost use Rattle.recordings.specs.Wide.{source_of, pager_of};
 ghost use Rattle.recorded_files.specs.declared.raw.RawSource.{RawSource as Taken};
 ghost use Rattle.recorded_files.specs.declared.raw.RawPager.{RawPager as Received};
-ghost use Rattle.recorded_files.specs.Told.{AreDelivered, lane_messages, lane_packet, link_messages, link_packet, numbered_pager, numbered_source, request};
+ghost use Rattle.recorded_files.specs.Told.{AreDelivered, Follow, HasMessages, lane_messages, lane_packet, link_messages, link_packet, numbered_pager, numbered_source, request};
 ghost use Rattle.recorded_files.specs.inner.Noted.{Tells};
 
 use crate::raw::{RawPager, RawSource};
@@ -31,6 +31,15 @@ pub struct Delivered {
     pub link: Deliveries,
     /// Those of the lane, in the order of the pager's records.
     pub lane: Deliveries,
+    /// The messages of the link: the pager's packets, in the order of its records, and then those that the source's records take,
+    /// in the order of these records.
+    pub link_messages: Vec<Message>,
+    /// How many of these are the pager's packets.
+    pub packets: usize,
+    /// The messages of the lane, in the order of the pager's records.
+    pub lane_messages: Vec<Message>,
+    /// How many records the pager has.
+    pub pager: u64,
 }
 
 /// Keeps a message, if there is one.
@@ -46,7 +55,7 @@ fn keep(messages: &mut Vec<Message>, message: Option<Message>) -> Result<(), All
 
 impl RawPager {
     /// Returns the packet of the link that it takes.
-    fn link_packet(&self, number: u64) -> Option<Message>
+    pub fn link_packet(&self, number: u64) -> Option<Message>
         ensures { result ≡ link_packet number self.now }
     {
         match self {
@@ -59,7 +68,7 @@ impl RawPager {
     }
 
     /// Returns the packet of the lane that it takes.
-    fn lane_packet(&self, number: u64) -> Option<Message>
+    pub fn lane_packet(&self, number: u64) -> Option<Message>
         ensures { result ≡ lane_packet number self.now }
     {
         match self {
@@ -85,7 +94,7 @@ impl RawPager {
 
 impl RawSource {
     /// Returns the message that it takes.
-    fn request(&self, number: u64) -> Option<Message>
+    pub fn request(&self, number: u64) -> Option<Message>
         ensures { result ≡ request number self.now }
     {
         match self {
@@ -161,6 +170,8 @@ impl Told {
     pub fn deliver(self, alloc: Global) -> Result<Delivered, AllocError>
         ensures link { IfOk result (λ d. (pager : List Received) (source : List Taken) → Tells self pager source → AreDelivered (link_messages pager source) (length pager) d.link) }
         ensures lane { IfOk result (λ d. (pager : List Received) (source : List Taken) → Tells self pager source → AreDelivered (lane_messages pager) (length pager) d.lane) }
+        ensures told { IfOk result (λ d. (pager : List Received) (source : List Taken) → Tells self pager source → HasMessages d pager source) }
+        ensures follow { IfOk result Follow }
     {
         let Told {
             mut packets,
@@ -169,9 +180,17 @@ impl Told {
             pager,
             source: _,
         } = self;
+        let count = packets.len();
         packets.extend_from_slice(&requests)?;
         let link = deliver(alloc, &packets, pager)?;
         let lane = deliver(alloc, &pulls, pager)?;
-        Ok(Delivered { link, lane })
+        Ok(Delivered {
+            link,
+            lane,
+            link_messages: packets,
+            packets: count,
+            lane_messages: pulls,
+            pager,
+        })
     }
 }

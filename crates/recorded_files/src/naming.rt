@@ -5,16 +5,17 @@ ghost use Rattle.migration_types.specs.declared.records.LogName.{LogName};
 ghost use Rattle.migration_types.specs.Receipts.{Name};
 ghost use Rattle.migration_types.specs.Sessions.{Recorded, log_length};
 ghost use Rattle.recorded_files.specs.Fronts.{cursors_of, IsGreatestFront};
-ghost use Rattle.recorded_files.specs.inner.Reaches.{names_in, reach, IsBlank, IsNaming};
+ghost use Rattle.recorded_files.specs.Named.{IsBlank, IsNaming};
+ghost use Rattle.recorded_files.specs.inner.Reaches.{names_in, reach};
 
 use crate::fronts::Front;
 use crate::reach::Reach;
 use std::alloc::Global;
 
-/// What the records of each log name. Takes memory only for records that name a later record of a log than all before
-/// them.
+/// A visitor that collects what the records of each log name. Takes memory only for records that name a later record of
+/// a log than all before them.
 #[derive(Drop)]
-pub(crate) struct Naming {
+pub struct Naming {
     pub(crate) guest: Reach,
     pub(crate) source: Reach,
     pub(crate) link: Reach,
@@ -23,8 +24,8 @@ pub(crate) struct Naming {
 }
 
 impl Naming {
-    /// Returns the names of no records.
-    pub(crate) fn new(alloc: Global) -> Self
+    /// Returns a visitor that has met nothing. Allocates no memory.
+    pub fn new(alloc: Global) -> Self
         ensures { IsBlank result }
     {
         Naming {
@@ -36,8 +37,8 @@ impl Naming {
         }
     }
 
-    /// Returns how many records each log has.
-    fn counts(&self) -> Front
+    /// Returns how many records of each log it has met.
+    pub fn counts(&self) -> Front
         ensures { (s : Recorded) → IsNaming self.now s → (log : LogName) → cursors_of result log ≡ log_length s log }
     {
         Front {
@@ -68,8 +69,9 @@ impl Naming {
         }
     }
 
-    /// Returns the greatest front of the logs. Allocates no memory.
-    pub(crate) fn greatest_front(&self) -> Front
+    /// Returns the greatest front of the logs that it has met: the first records of each log, none of which names a
+    /// record outside them. Allocates no memory.
+    pub fn greatest_front(&self) -> Front
         ensures { (s : Recorded) → IsNaming self.now s → IsGreatestFront s (cursors_of result) }
     {
         let mut front = self.counts();

@@ -10,7 +10,7 @@ use recordings::{
 use std::alloc::AllocError;
 
 impl Visitor for Naming {
-    ghost use Rattle.recorded_files.specs.inner.Reaches.{IsBlank, IsNaming};
+    ghost use Rattle.recorded_files.specs.Named.{IsBlank, IsNaming};
 
     ghost IsNew = { IsBlank };
 

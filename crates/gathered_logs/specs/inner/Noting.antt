@@ -1,32 +1,40 @@
--- A gathered log, as its records are noted.
-use Rattle.std.specs.Prelude.{◌≡◌, ℕ, List, [], ◌∷◌, ◌++◌, Option, map}
+-- A gathered log, as its records are taken.
+use Rattle.std.specs.Prelude.{◌≡◌, ℕ, List, [], ◌∷◌, ◌++◌, Option, length, map}
 use Rattle.std.specs.List.{AllByRecursion}
 use Rattle.recorded_files.specs.declared.lines.Party.{Party}
-use Rattle.recorded_files.specs.declared.messages.Told.{Told}
 use Rattle.gathered_logs.specs.Logs.{Came, Gathering}
-use Rattle.gathered_logs.specs.declared.telling.LogFault.{LogFault}
-use Rattle.gathered_logs.specs.declared.telling.LogFault.TheVariants.{Files, Record, Memory}
+use Rattle.gathered_logs.specs.declared.taking.LogFault.TheVariants.{Files, Record, Memory}
+use Rattle.gathered_logs.specs.declared.taking.TakingFault.{TakingFault}
+use Rattle.gathered_logs.specs.declared.taking.TakingFault.TheVariants.{Log, Unfit}
 
--- What was noted of the records of one party, with any records of the other
-abbrev pub Adds : {X Y : Type 0} → (Told → List X → List Y → Type 0) → Told → Told → List X → Type 0
-Adds {X} {Y} Tells before after records = (others : List Y) → Tells before [] others → Tells after records others
+-- from one state of a taker, with what records were put onto, it came to another by these records
+abbrev pub Adds : {X T S : Type 0} → (T → S → T → S → List X → Type 0) → T → S → T → S → List X → Type 0
+Adds {X} {T} {S} Takes before onto after new records = (first : T) (from : S) → Takes first from before onto [] → Takes first from after new records
 
--- these records came of the files, and were noted
-pub record Notes {X Y : Type 0} (line : X → List ℕ) (IsOf : X → Type 0) (Tells : Told → List X → List Y → Type 0) (party : Party) (knowns : List (Option (List ℕ))) (g : Gathering) (before after : Told) : Type 0 where
+-- these records came of the files, and were taken
+pub record Notes {X T S : Type 0} (line : X → List ℕ) (IsOf : X → Type 0) (Takes : T → S → T → S → List X → Type 0) (party : Party) (knowns : List (Option (List ℕ))) (g : Gathering) (before : T) (onto : S) (after : T) (new : S) : Type 0 where
   pub records : List X
   pub came : Came party knowns g (map line records)
   pub each : AllByRecursion IsOf records
-  pub told : Adds Tells before after records
+  pub took : Adds Takes before onto after new records
 
--- a record with this text was noted
-pub record NotesText {X Y : Type 0} (line : X → List ℕ) (IsOf : X → Type 0) (Tells : Told → List X → List Y → Type 0) (text : List ℕ) (before after : Told) : Type 0 where
+-- the record of this number, which has this text, was taken
+pub record TakesText {X T S : Type 0} (line : X → List ℕ) (IsOf : X → Type 0) (Takes : T → S → T → S → List X → Type 0) (text : List ℕ) (number : ℕ) (before : T) (onto : S) (after : T) (new : S) : Type 0 where
   pub rec : X
   pub is_of : IsOf rec
   pub is_line : text ≡ line rec
-  pub told : (records : List X) (others : List Y) → Tells before records others → Tells after (records ++ rec ∷ []) others
+  pub took : (first : T) (from : S) (records : List X) → number ≡ length records → Takes first from before onto records → Takes first from after new (records ++ rec ∷ [])
 
--- the text of the record of this number is the line of none, or memory was refused
-abbrev pub IsTextFault : {X : Type 0} → (X → List ℕ) → (X → Type 0) → List ℕ → ℕ → LogFault → Type 0
-IsTextFault {X} line IsOf text number (Files fault) = ⊥
-IsTextFault {X} line IsOf text number (Record n) = (n ≡ number) × ((r : X) → IsOf r → text ≡ line r → ⊥)
-IsTextFault {X} line IsOf text number Memory = Unit {0}
+-- a record with this text is not for the taker
+pub record IsUnfitText {X T : Type 0} (line : X → List ℕ) (IsOf : X → Type 0) (IsUnfit : T → ℕ → X → Type 0) (text : List ℕ) (number : ℕ) (taker : T) : Type 0 where
+  pub rec : X
+  pub is_of : IsOf rec
+  pub is_line : text ≡ line rec
+  pub unfit : IsUnfit taker number rec
+
+-- the text of the record of this number is the line of none, or the record is not for the taker, or memory was refused
+abbrev pub IsTextFault : {X T : Type 0} → (X → List ℕ) → (X → Type 0) → (T → ℕ → X → Type 0) → List ℕ → ℕ → T → TakingFault → Type 0
+IsTextFault {X} {T} line IsOf IsUnfit text number taker (Log (Files fault)) = ⊥
+IsTextFault {X} {T} line IsOf IsUnfit text number taker (Log (Record n)) = (n ≡ number) × ((r : X) → IsOf r → text ≡ line r → ⊥)
+IsTextFault {X} {T} line IsOf IsUnfit text number taker (Log Memory) = Unit {0}
+IsTextFault {X} {T} line IsOf IsUnfit text number taker (Unfit n) = (n ≡ number) × IsUnfitText line IsOf IsUnfit text number taker

@@ -12,7 +12,6 @@ use Rattle.audit_model.specs.Names.{same_log}
 use Rattle.recorded_files.specs.declared.reach.Reach.{Reach}
 use Rattle.recorded_files.specs.declared.steps.Step.{Step}
 use Rattle.recorded_files.specs.declared.steps.Steps.{Steps}
-use Rattle.recorded_files.specs.declared.naming.Naming.{Naming}
 
 -- the first name, or else the next
 abbrev pub or_next : Option Name → Option Name → Option Name
@@ -72,19 +71,3 @@ pub record IsReach (reach : Reach) (names : List (Option Name)) : Type 0 where
   pub link : AreSteps reach.link Link names
   pub lane : AreSteps reach.lane Lane names
   pub pager : AreSteps reach.pager Pager names
-
--- what the records of all logs name
-pub record IsNaming (naming : Naming) (s : Recorded) : Type 0 where
-  pub guest : IsReach naming.guest (names_in s Guest)
-  pub source : IsReach naming.source (names_in s Source)
-  pub link : IsReach naming.link (names_in s Link)
-  pub lane : IsReach naming.lane (names_in s Lane)
-  pub pager : IsReach naming.pager (names_in s Pager)
-
--- no records
-pub record IsBlank (naming : Naming) : Type 0 where
-  pub guest : IsReach naming.guest []
-  pub source : IsReach naming.source []
-  pub link : IsReach naming.link []
-  pub lane : IsReach naming.lane []
-  pub pager : IsReach naming.pager []

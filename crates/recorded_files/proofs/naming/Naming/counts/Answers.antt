@@ -3,7 +3,7 @@ use Rattle.migration_types.specs.declared.records.LogName.{LogName}
 use Rattle.migration_types.specs.declared.records.LogName.TheVariants.{Guest, Source, Link, Lane, Pager}
 use Rattle.migration_types.specs.Sessions.{Recorded, log_length}
 use Rattle.recorded_files.specs.Fronts.{cursors_of}
-use Rattle.recorded_files.specs.inner.Reaches.{IsNaming}
+use Rattle.recorded_files.specs.Named.{IsNaming}
 use Rattle.recorded_files.proofs.Cuts.{names_length}
 use Rattle.recorded_files.proofs.naming.Naming.counts.Goals as goal
 

@@ -4,7 +4,8 @@ use Rattle.migration_types.specs.declared.records.LogName.{LogName}
 use Rattle.migration_types.specs.declared.records.LogName.TheVariants.{Guest, Source, Link, Lane, Pager}
 use Rattle.migration_types.specs.Sessions.{Recorded}
 use Rattle.recorded_files.specs.Fronts.{cursors_of}
-use Rattle.recorded_files.specs.inner.Reaches.{names_in, reach, IsNaming}
+use Rattle.recorded_files.specs.Named.{IsNaming}
+use Rattle.recorded_files.specs.inner.Reaches.{names_in, reach}
 use Rattle.recorded_files.proofs.naming.Naming.narrow.Goals as goal
 
 pub returns : goal.returns
