@@ -1,0 +1,137 @@
+//! What a log lacks.
+
+ghost use Rattle.std.specs.Prelude.{◌≡◌, ◌<◌, ◌++◌, IfOk, OnOk, length, slice_get, Some, take};
+ghost use Rattle.std.specs.Option.{option_to_list};
+ghost use Rattle.surveyed_logs.specs.Lacks.{begin_lack, is_gone_on, lacks, lacks_at, left_lack, record_count};
+ghost use Rattle.surveyed_logs.specs.declared.parts.Part.{Part as LogPart};
+
+use crate::parts::Part;
+use recorded_files::Last;
+use std::alloc::{AllocError, Global};
+
+/// What a log lacks. Files are counted from 0.
+#[derive(Clone, Copy, Debug, PartialEq, Eq)]
+pub enum Lack {
+    /// The part that begins in this file does not go on where those in front of it end.
+    Begin {
+        file: usize,
+        /// The number with which it was opened.
+        first: u32,
+        /// How many records those in front of it have.
+        front: u64,
+    },
+    /// No file of the part that begins in this one tells how it was left.
+    End {
+        file: usize,
+    },
+    /// This file tells that a record was not written, because of this system error.
+    Record {
+        file: usize,
+        errno: u32,
+    },
+    /// This file tells that another process goes on after this many records, and none does.
+    Heir {
+        file: usize,
+        count: u32,
+    },
+}
+
+/// Returns how many records a log of these parts has: the greatest of their counts.
+pub fn count_records(parts: &[Part]) -> u64
+    ensures { result ≡ record_count parts.now }
+{
+    let mut count = 0;
+    for part in parts {
+        count = part.count.max(count);
+    }
+    count
+}
+
+/// Returns whether another of the parts than the one that begins in this file was opened with this number.
+fn is_gone_on(parts: &[Part], file: usize, count: u32) -> bool
+    ensures { result ≡ is_gone_on parts.now file count }
+{
+    parts
+        .iter()
+        .any(|part| part.file != file && part.first == count)
+}
+
+/// Returns what is lacking where one of the parts begins.
+fn lack_of_begin(parts: &[Part], at: usize) -> Option<Lack>
+    requires { at < length parts.now }
+    ensures { (p : LogPart) → slice_get parts.now at ≡ Some p → result ≡ begin_lack (record_count (take at parts.now)) p }
+{
+    let part = parts[at];
+    let front = count_records(&parts[..at]);
+    if u64::from(part.first) != front && u64::from(part.first) < part.count {
+        Some(Lack::Begin {
+            file: part.file,
+            first: part.first,
+            front,
+        })
+    } else {
+        None
+    }
+}
+
+/// Returns what is lacking where one of the parts ends.
+fn lack_of_end(parts: &[Part], at: usize) -> Option<Lack>
+    requires { at < length parts.now }
+    ensures { (p : LogPart) → slice_get parts.now at ≡ Some p → result ≡ left_lack parts.now p.file p.left }
+{
+    let part = parts[at];
+    match part.left {
+        None => Some(Lack::End { file: part.file }),
+        Some(left) => match left.last {
+            Last::End(_) => None,
+            Last::Lost(errno) => Some(Lack::Record {
+                file: left.file,
+                errno,
+            }),
+            Last::Next(count) => {
+                if is_gone_on(parts, part.file, count) {
+                    None
+                } else {
+                    Some(Lack::Heir {
+                        file: left.file,
+                        count,
+                    })
+                }
+            }
+        },
+    }
+}
+
+/// Appends what is lacking, if something is.
+fn push_lack(lacks: &mut Vec<Lack>, lack: Option<Lack>) -> Result<(), AllocError>
+    ensures { OnOk result (lacks.new.items ≡ lacks.old.items ++ option_to_list lack) }
+{
+    match lack {
+        Some(lack) => {
+            lacks.push(lack)?;
+            Ok(())
+        }
+        None => Ok(()),
+    }
+}
+
+/// Appends what is lacking at one of the parts.
+fn push_lacks(parts: &[Part], at: usize, lacks: &mut Vec<Lack>) -> Result<(), AllocError>
+    requires { at < length parts.now }
+    ensures { OnOk result ((p : LogPart) → slice_get parts.now at ≡ Some p → lacks.new.items ≡ lacks.old.items ++ lacks_at parts.now (take at parts.now) p) }
+{
+    push_lack(lacks, lack_of_begin(parts, at))?;
+    push_lack(lacks, lack_of_end(parts, at))?;
+    Ok(())
+}
+
+/// Returns what a log of these parts lacks, part after part.
+pub fn find_lacks(alloc: Global, parts: &[Part]) -> Result<Vec<Lack>, AllocError>
+    ensures { IfOk result (λ list. list.items ≡ lacks parts.now) }
+{
+    let mut lacks = Vec::new(alloc);
+    for at in 0..parts.len() {
+        push_lacks(parts, at, &mut lacks)?;
+    }
+    Ok(lacks)
+}
