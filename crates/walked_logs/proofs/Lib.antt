@@ -1,0 +1,4 @@
+pub mod Meeting
+pub mod Passing
+pub mod Refusing
+pub mod Walked

@@ -1,0 +1,5 @@
+-- Definitions that only proofs use.
+pub mod Meeting
+pub mod Passing
+pub mod Refusing
+pub mod Walking
