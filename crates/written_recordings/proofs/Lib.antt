@@ -1,0 +1,4 @@
+pub mod Lines
+pub mod Sections
+pub mod Fronts
+pub mod Pieces
