@@ -3,6 +3,7 @@ use Rattle.std.proofs.Common.{◌≡◌, ℕ, zero, suc, ◌<◌, ◌≤◌, Boo
 use Rattle.std.specs.Prelude.{slice_get}
 use Rattle.std.specs.List.{AllByRecursion}
 use Rattle.std.specs.Option.{option_map}
+use Rattle.std.proofs.lemmas.List.{length-map}
 use Rattle.std.proofs.lemmas.Option.{slice_get-map}
 use Rattle.migration_types.specs.declared.records.LogName.{LogName}
 use Rattle.migration_types.specs.declared.records.LogName.TheVariants.{Guest, Source, Link, Lane, Pager}
@@ -18,13 +19,13 @@ use Rattle.migration_types.specs.Sessions.{Recorded, IsSession, HasLog, HasSourc
 use Rattle.audit_model.specs.Fitting.{FieldIsOf, contents_of, Fits, NamesInReach, IsWithinLimits}
 use Rattle.audit_model.specs.Windows.{tallied, rank}
 use Rattle.audit_model.proofs.Fits.{of_record, session_is}
-use Rattle.thinned_logs.specs.Thinned.{thin_source, thin_pager, thinned, IsThinning}
-use Rattle.thinned_logs.proofs.Kept.{kept_from}
-use Rattle.thinned_logs.proofs.Mergings.{same_length}
+use Rattle.audit_model.proofs.Ranks.{kept_length}
+use Rattle.thinned_logs.specs.Thinned.{thin_source, thin_pager, thinned}
+use Rattle.thinned_logs.proofs.Kept.{aligned_by_length, kept_from}
 use Rattle.thinned_logs.proofs.Names.{same_mapped}
 
 -- ranks are at most places
-rank_most : (marks : List Bool) (n : ℕ) → rank marks n ≤ n
+pub rank_most : (marks : List Bool) (n : ℕ) → rank marks n ≤ n
 rank_most marks zero = omega arith
 rank_most marks (suc n) = go (slice_get marks n) (rank_most marks n)
   where
@@ -41,7 +42,7 @@ mapped_from {A} f log n y is = go (slice_get log n) refl (sym (slice_get-map f l
     go None at e = absurd (cc)
     go (Some x) at e = let same : f x ≡ y = cc in (x, at, same)
 
-module _ (marks : List Bool) (s : Recorded) (thin : IsThinning marks s) where
+module _ (marks : List Bool) (s : Recorded) (marked : length marks ≡ length s.guest) where
   -- what holds of each row of the session, whatever records of the guest are named, holds of each row of thinned logs
   rows : (P : Consists → Type 0) → ((i : ℕ) → P (source_row (Halted i)) → P (source_row (Halted (rank marks i)))) → ((i : ℕ) → P (pager_row (Fault i)) → P (pager_row (Fault (rank marks i)))) →
       ((name : Name) (row : Consists) → row_of s name ≡ Some row → P row) → (name : Name) (row : Consists) → row_of (thinned marks s) name ≡ Some row → P row
@@ -118,11 +119,11 @@ module _ (marks : List Bool) (s : Recorded) (thin : IsThinning marks s) where
       less i lt = let le = rank_most marks i in omega (arith, le, lt)
 
       few : (l : LogName) → log_length (thinned marks s) l ≤ (limits s.geometry.size).records
-      few Guest = let all = same_length marks s thin Guest in let le = rank_most marks (length s.guest) in let most = within.size.few Guest in omega (arith, all, le, most)
-      few Source = let all = same_length marks s thin Source in let most = within.size.few Source in omega (arith, all, most)
+      few Guest = let all = kept_length marks s.guest (aligned_by_length marks s.guest marked) in let le = rank_most marks (length s.guest) in let most = within.size.few Guest in omega (arith, all, le, most)
+      few Source = let all = length-map s.source (thin_source marks) in let most = within.size.few Source in omega (arith, all, most)
       few Link = within.size.few Link
       few Lane = within.size.few Lane
-      few Pager = let all = same_length marks s thin Pager in let most = within.size.few Pager in omega (arith, all, most)
+      few Pager = let all = length-map s.pager (thin_pager marks) in let most = within.size.few Pager in omega (arith, all, most)
 
   pub session_thin : IsSession s → IsSession (thinned marks s)
   session_thin session =

@@ -15,7 +15,7 @@ use Rattle.audit_model.specs.Windows.{kept_in, rank}
 use Rattle.audit_model.proofs.Ranks.{Aligned, came_from, fold_kept}
 use Rattle.thinned_logs.specs.Thinned.{MayGo, IsThinning}
 
-aligned_by_length : {A : Type 0} (marks : List Bool) (log : List A) → length marks ≡ length log → Aligned marks log
+pub aligned_by_length : {A : Type 0} (marks : List Bool) (log : List A) → length marks ≡ length log → Aligned marks log
 aligned_by_length [] [] e n = refl
 aligned_by_length [] (x ∷ log) e n = absurd (omega (arith, e))
 aligned_by_length (m ∷ marks) [] e n = absurd (omega (arith, e))

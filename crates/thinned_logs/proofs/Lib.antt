@@ -14,3 +14,5 @@ pub mod Safe
 pub mod Repeats
 pub mod Again
 pub mod Walking
+pub mod Numbers
+pub mod Parts

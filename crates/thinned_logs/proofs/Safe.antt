@@ -15,6 +15,6 @@ use Rattle.thinned_logs.proofs.Shape.{same_shape}
 pub same_safe : (marks : List Bool) (s : Recorded) → IsThinning marks s → Fits s → IsRightShape s → HasMerging s → IsSafe s ↔ IsSafe (thinned marks s)
 same_safe marks s thin fits shape has =
     let whole = fitting_exactly s fits shape has in
-    let parts = fitting_exactly (thinned marks s) (fits_thin marks s thin fits) ((same_shape marks s thin).0 shape) ((same_mergings marks s thin).0 has) in
+    let parts = fitting_exactly (thinned marks s) (fits_thin marks s thin.has_marks fits) ((same_shape marks s thin).0 shape) ((same_mergings marks s thin).0 has) in
     let clean = same_clean marks s thin in
     (λ safe. parts.1 (clean.0 (whole.0 safe)), λ safe. whole.1 (clean.1 (parts.0 safe)))

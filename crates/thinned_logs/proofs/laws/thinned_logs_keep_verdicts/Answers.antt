@@ -8,7 +8,7 @@ pub returns : goal.returns
 returns c = record {
   right = λ s marks thin. same_shape marks s thin;
   merges = λ s marks thin. same_mergings marks s thin;
-  fits = λ s marks thin. fits_thin marks s thin;
-  session = λ s marks thin. session_thin marks s thin;
+  fits = λ s marks thin. fits_thin marks s thin.has_marks;
+  session = λ s marks thin. session_thin marks s thin.has_marks;
   safe = λ s marks thin. same_safe marks s thin;
 }
