@@ -31,6 +31,17 @@ pub trait TextSource {
     fn stays(&self, _name: &str) -> bool {
         true
     }
+
+    /// Returns the names of what is in a folder, in no order. Names that are not UTF-8 are left out. A source has no
+    /// folders unless it says so. No proof depends on it.
+    fn names(&self, _alloc: Global, _folder: &str) -> io::Result<Vec<String>> {
+        Err(io::Error::from(ErrorKind::NotADirectory))
+    }
+
+    /// Returns whether two names lead to one folder, as far as it can be known. No proof depends on it.
+    fn is_one(&self, folder: &str, other: &str) -> bool {
+        folder == other
+    }
 }
 
 /// Why a text could not be read to its end.

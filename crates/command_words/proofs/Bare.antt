@@ -18,7 +18,7 @@ abbrev pub nothing : Invocation
 nothing = record { intent = None; targets = record { lines = None; output = None; answer = Report } }
 
 none_in_none : IsFoundIn None nothing
-none_in_none = record { job = refl; several = refl; alike = refl; targets = record { names = refl; answer = refl } }
+none_in_none = record { job = refl; several = refl; folders = refl; alike = refl; targets = record { names = refl; answer = refl } }
 
 pub nothing_found : (words : List Text) → length words ≤ 1 → IsFound words nothing
 nothing_found words le = record {

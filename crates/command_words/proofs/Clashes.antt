@@ -5,8 +5,9 @@ use Rattle.clap.specs.Words.{Row, Text, subcommand_of}
 use Rattle.clap.specs.declared.error.kind.ErrorKind.{ErrorKind}
 use Rattle.clap.specs.declared.error.kind.ErrorKind.TheVariants.{ArgumentConflict, OutOfMemory}
 use Rattle.command_words.specs.declared.requests.Request.{Request}
+use Rattle.command_words.specs.declared.requests.Lacking.{Lacking}
 use Rattle.command_words.specs.declared.requests.Lists.{Lists}
-use Rattle.command_words.specs.Words.{IsRefusedFor, asked, asked_in, asked_of, clashes, clashing, postcopy_words, several_asked, several_given, several_in}
+use Rattle.command_words.specs.Words.{IsRefusedFor, asked, asked_in, asked_of, clashes, clashing, folders_asked, folders_given, folders_in, postcopy_words, several_asked, several_given, several_in}
 
 -- what is asked for unless something holds, does not hold where it is asked for
 unless : {X : Type 0} (b : Bool) (found : Option X) (x : X) → cond b None found ≡ Some x → b ≡ false
@@ -21,6 +22,10 @@ several_alike : (found : Option (Text × List Row)) (several : Lists × List Tex
 several_alike None several e = refl
 several_alike (Some given) several e = unless (clashes given.1) (several_given given) several e
 
+folders_alike : (found : Option (Text × List Row)) (folders : Lacking × List Text) → option_and_then folders_in found ≡ Some folders → option_map_or (λ (given : Text × List Row). clashes given.1) found false ≡ false
+folders_alike None folders e = refl
+folders_alike (Some given) folders e = unless (clashes given.1) (folders_given given) folders e
+
 -- words that ask for a command
 pub asked_alike : (words : List Text) (job : Request Text) → asked words ≡ Some job → clashing words ≡ false
 asked_alike words job e = found_alike (subcommand_of postcopy_words words) job e
@@ -28,6 +33,10 @@ asked_alike words job e = found_alike (subcommand_of postcopy_words words) job e
 -- and for the audit of several sessions
 pub several_asked_alike : (words : List Text) (several : Lists × List Text) → several_asked words ≡ Some several → clashing words ≡ false
 several_asked_alike words several e = several_alike (subcommand_of postcopy_words words) several e
+
+-- and for the session of the files in folders
+pub folders_asked_alike : (words : List Text) (folders : Lacking × List Text) → folders_asked words ≡ Some folders → clashing words ≡ false
+folders_asked_alike words folders e = folders_alike (subcommand_of postcopy_words words) folders e
 
 -- want of memory refuses words, whether or not they clash
 pub refused_for_memory : (clash : Bool) (kind : ErrorKind) → kind ≡ OutOfMemory → IsRefusedFor clash kind

@@ -18,10 +18,12 @@ use Rattle.command_words.specs.declared.requests.OneText.{OneText}
 use Rattle.command_words.specs.declared.requests.OneText.TheVariants.{Certify, Audit, Explain}
 use Rattle.command_words.specs.declared.requests.TwoTexts.{TwoTexts}
 use Rattle.command_words.specs.declared.requests.TwoTexts.TheVariants.{Check, Replay, Steps}
+use Rattle.command_words.specs.declared.requests.Takes.{Takes}
+use Rattle.command_words.specs.declared.requests.Takes.TheVariants as by
 use Rattle.command_words.specs.declared.requests.NamedTopic.TheVariants.{Report}
 use Rattle.command_words.specs.Table.{plain as asked_plainly, plain_audit, plain_explanation, no_pages}
 use Rattle.command_words.proofs.Names.{Form, Dash, Empty, Other, IsName, at, form_of, is_name, turn_name, walked_name}
-use Rattle.command_words.specs.Words.{IsPlain, IsPlainName, asked, asked_by, asked_in, postcopy_words, with_names}
+use Rattle.command_words.specs.Words.{IsPlain, IsPlainName, asked, asked_by, asked_in, postcopy_words, with_names, with_texts}
 
 -- the words are taken, and ask for this
 pub record IsTaken (words : List Text) (job : Request Text) : Type 0 where
@@ -257,7 +259,7 @@ taken_draw_along program first second f g =
     record { taken = is.takes_them; given = ap (option_and_then asked_in) is.found ∙ draw_along_asks first second }
 
 -- a command with so many names, which are plain, is taken
-one_taken : (task : OneText) (command : Text) (taken : (program name : Text) → Form name → IsTaken (program ∷ command ∷ name ∷ []) (One task name)) (program word : Text) (names : List Text) (job : Request Text) → AllByRecursion IsPlainName names → with_names names (One task word) ≡ Some job → IsTaken (program ∷ command ∷ names) job
+one_taken : (task : OneText) (command : Text) (taken : (program name : Text) → Form name → IsTaken (program ∷ command ∷ name ∷ []) (One task name)) (program word : Text) (names : List Text) (job : Request Text) → AllByRecursion IsPlainName names → with_texts names (One task word) ≡ Some job → IsTaken (program ∷ command ∷ names) job
 one_taken task command taken program word [] job plain e = let none : None ≡ Some job = e in absurd cc
 one_taken task command taken program word (name ∷ []) job plain e =
     let same : One task name ≡ job = cc in
@@ -265,7 +267,7 @@ one_taken task command taken program word (name ∷ []) job plain e =
 one_taken task command taken program word (name ∷ other ∷ []) job plain e = let none : None ≡ Some job = e in absurd cc
 one_taken task command taken program word (name ∷ other ∷ third ∷ rest) job plain e = let none : None ≡ Some job = e in absurd cc
 
-two_taken : (task : TwoTexts) (command : Text) (taken : (program first second : Text) → Form first → Form second → IsTaken (program ∷ command ∷ first ∷ second ∷ []) (Two task first second)) (program word other : Text) (names : List Text) (job : Request Text) → AllByRecursion IsPlainName names → with_names names (Two task word other) ≡ Some job → IsTaken (program ∷ command ∷ names) job
+two_taken : (task : TwoTexts) (command : Text) (taken : (program first second : Text) → Form first → Form second → IsTaken (program ∷ command ∷ first ∷ second ∷ []) (Two task first second)) (program word other : Text) (names : List Text) (job : Request Text) → AllByRecursion IsPlainName names → with_texts names (Two task word other) ≡ Some job → IsTaken (program ∷ command ∷ names) job
 two_taken task command taken program word other [] job plain e = let none : None ≡ Some job = e in absurd cc
 two_taken task command taken program word other (name ∷ []) job plain e = let none : None ≡ Some job = e in absurd cc
 two_taken task command taken program word other (first ∷ second ∷ []) job plain e =
@@ -273,7 +275,7 @@ two_taken task command taken program word other (first ∷ second ∷ []) job pl
     subst (IsTaken (program ∷ command ∷ first ∷ second ∷ [])) same (taken program first second (form_of first plain.0) (form_of second plain.1.0))
 two_taken task command taken program word other (first ∷ second ∷ third ∷ rest) job plain e = let none : None ≡ Some job = e in absurd cc
 
-migrate_taken : (program word : Text) (names : List Text) (job : Request Text) → AllByRecursion IsPlainName names → with_names names (Migrate Memory word) ≡ Some job → IsTaken (program ∷ codes "migrate" ∷ names) job
+migrate_taken : (program word : Text) (names : List Text) (job : Request Text) → AllByRecursion IsPlainName names → with_texts names (Migrate Memory word) ≡ Some job → IsTaken (program ∷ codes "migrate" ∷ names) job
 migrate_taken program word [] job plain e = let none : None ≡ Some job = e in absurd cc
 migrate_taken program word (name ∷ []) job plain e =
     let same : Migrate Memory name ≡ job = cc in
@@ -281,7 +283,7 @@ migrate_taken program word (name ∷ []) job plain e =
 migrate_taken program word (name ∷ other ∷ []) job plain e = let none : None ≡ Some job = e in absurd cc
 migrate_taken program word (name ∷ other ∷ third ∷ rest) job plain e = let none : None ≡ Some job = e in absurd cc
 
-draw_taken : (program word further : Text) (names : List Text) (job : Request Text) → AllByRecursion IsPlainName names → with_names names (Draw Report word (Some further)) ≡ Some job → IsTaken (program ∷ codes "draw" ∷ names) job
+draw_taken : (program word further : Text) (names : List Text) (job : Request Text) → AllByRecursion IsPlainName names → with_texts names (Draw Report word (Some further)) ≡ Some job → IsTaken (program ∷ codes "draw" ∷ names) job
 draw_taken program word further [] job plain e = let none : None ≡ Some job = e in absurd cc
 draw_taken program word further (name ∷ []) job plain e =
     let same : Draw Report name None ≡ job = cc in
@@ -292,7 +294,7 @@ draw_taken program word further (first ∷ second ∷ []) job plain e =
 draw_taken program word further (name ∷ other ∷ third ∷ rest) job plain e = let none : None ≡ Some job = e in absurd cc
 
 -- of a window nothing is said
-no_window : (word : Text) (names : List Text) → with_names names (Window no_pages word None) ≡ None
+no_window : (word : Text) (names : List Text) → with_texts names (Window no_pages word None) ≡ None
 no_window word [] = refl
 no_window word (name ∷ []) = refl
 no_window word (name ∷ other ∷ []) = refl
@@ -300,27 +302,28 @@ no_window word (name ∷ other ∷ third ∷ rest) = refl
 
 -- the row of a name is the first that has it
 row_taken : (program name : Text) (names : List Text) (job : Request Text) → AllByRecursion IsPlainName names
-    → (check certify audit explain replay steps migrate draw window : Bool)
+    → (check certify audit explain replay steps migrate draw window session : Bool)
     → (check ≡ true → codes "check" ≡ name) → (certify ≡ true → codes "certify" ≡ name) → (audit ≡ true → codes "audit" ≡ name) → (explain ≡ true → codes "explain" ≡ name) → (replay ≡ true → codes "replay" ≡ name) → (steps ≡ true → codes "steps" ≡ name) → (migrate ≡ true → codes "migrate" ≡ name) → (draw ≡ true → codes "draw" ≡ name)
-    → option_and_then (λ (row : Text × Request Text). with_names names row.1) (cond check (Some (codes "check", Two (Check asked_plainly) (codes "SESSION") (codes "CERT"))) (cond certify (Some (codes "certify", One Certify (codes "SESSION"))) (cond audit (Some (codes "audit", One (Audit plain_audit) (codes "SESSION"))) (cond explain (Some (codes "explain", One (Explain plain_explanation) (codes "SESSION"))) (cond replay (Some (codes "replay", Two Replay (codes "SESSION") (codes "RUNS"))) (cond steps (Some (codes "steps", Two Steps (codes "SCRIPT") (codes "EVENTS"))) (cond migrate (Some (codes "migrate", Migrate Memory (codes "SCRIPT"))) (cond draw (Some (codes "draw", Draw Report (codes "SESSION") (Some (codes "RUNS")))) (cond window (Some (codes "window", Window no_pages (codes "RECORDING") None)) None))))))))) ≡ Some job
+    → option_and_then (λ (row : Text × Takes Text). with_names names row.1) (cond check (Some (codes "check", by.Texts (Two (Check asked_plainly) (codes "SESSION") (codes "CERT")))) (cond certify (Some (codes "certify", by.Texts (One Certify (codes "SESSION")))) (cond audit (Some (codes "audit", by.Texts (One (Audit plain_audit) (codes "SESSION")))) (cond explain (Some (codes "explain", by.Texts (One (Explain plain_explanation) (codes "SESSION")))) (cond replay (Some (codes "replay", by.Texts (Two Replay (codes "SESSION") (codes "RUNS")))) (cond steps (Some (codes "steps", by.Texts (Two Steps (codes "SCRIPT") (codes "EVENTS")))) (cond migrate (Some (codes "migrate", by.Texts (Migrate Memory (codes "SCRIPT")))) (cond draw (Some (codes "draw", by.Texts (Draw Report (codes "SESSION") (Some (codes "RUNS"))))) (cond window (Some (codes "window", by.Texts (Window no_pages (codes "RECORDING") None))) (cond session (Some (codes "session", by.Folders (codes "FOLDER"))) None)))))))))) ≡ Some job
     → IsTaken (program ∷ name ∷ names) job
-row_taken program name names job plain true certify audit explain replay steps migrate draw window a b c d f g h i e = subst (λ (x : Text). IsTaken (program ∷ x ∷ names) job) (a refl) (two_taken (Check asked_plainly) (codes "check") taken_check program _ _ names job plain e)
-row_taken program name names job plain false true audit explain replay steps migrate draw window a b c d f g h i e = subst (λ (x : Text). IsTaken (program ∷ x ∷ names) job) (b refl) (one_taken Certify (codes "certify") taken_certify program _ names job plain e)
-row_taken program name names job plain false false true explain replay steps migrate draw window a b c d f g h i e = subst (λ (x : Text). IsTaken (program ∷ x ∷ names) job) (c refl) (one_taken (Audit plain_audit) (codes "audit") taken_audit program _ names job plain e)
-row_taken program name names job plain false false false true replay steps migrate draw window a b c d f g h i e = subst (λ (x : Text). IsTaken (program ∷ x ∷ names) job) (d refl) (one_taken (Explain plain_explanation) (codes "explain") taken_explain program _ names job plain e)
-row_taken program name names job plain false false false false true steps migrate draw window a b c d f g h i e = subst (λ (x : Text). IsTaken (program ∷ x ∷ names) job) (f refl) (two_taken Replay (codes "replay") taken_replay program _ _ names job plain e)
-row_taken program name names job plain false false false false false true migrate draw window a b c d f g h i e = subst (λ (x : Text). IsTaken (program ∷ x ∷ names) job) (g refl) (two_taken Steps (codes "steps") taken_steps program _ _ names job plain e)
-row_taken program name names job plain false false false false false false true draw window a b c d f g h i e = subst (λ (x : Text). IsTaken (program ∷ x ∷ names) job) (h refl) (migrate_taken program _ names job plain e)
-row_taken program name names job plain false false false false false false false true window a b c d f g h i e = subst (λ (x : Text). IsTaken (program ∷ x ∷ names) job) (i refl) (draw_taken program _ _ names job plain e)
-row_taken program name names job plain false false false false false false false false true a b c d f g h i e = let none : None ≡ Some job = sym (no_window (codes "RECORDING") names) ∙ e in absurd cc
-row_taken program name names job plain false false false false false false false false false a b c d f g h i e = let none : None ≡ Some job = e in absurd cc
+row_taken program name names job plain true certify audit explain replay steps migrate draw window session a b c d f g h i e = subst (λ (x : Text). IsTaken (program ∷ x ∷ names) job) (a refl) (two_taken (Check asked_plainly) (codes "check") taken_check program _ _ names job plain e)
+row_taken program name names job plain false true audit explain replay steps migrate draw window session a b c d f g h i e = subst (λ (x : Text). IsTaken (program ∷ x ∷ names) job) (b refl) (one_taken Certify (codes "certify") taken_certify program _ names job plain e)
+row_taken program name names job plain false false true explain replay steps migrate draw window session a b c d f g h i e = subst (λ (x : Text). IsTaken (program ∷ x ∷ names) job) (c refl) (one_taken (Audit plain_audit) (codes "audit") taken_audit program _ names job plain e)
+row_taken program name names job plain false false false true replay steps migrate draw window session a b c d f g h i e = subst (λ (x : Text). IsTaken (program ∷ x ∷ names) job) (d refl) (one_taken (Explain plain_explanation) (codes "explain") taken_explain program _ names job plain e)
+row_taken program name names job plain false false false false true steps migrate draw window session a b c d f g h i e = subst (λ (x : Text). IsTaken (program ∷ x ∷ names) job) (f refl) (two_taken Replay (codes "replay") taken_replay program _ _ names job plain e)
+row_taken program name names job plain false false false false false true migrate draw window session a b c d f g h i e = subst (λ (x : Text). IsTaken (program ∷ x ∷ names) job) (g refl) (two_taken Steps (codes "steps") taken_steps program _ _ names job plain e)
+row_taken program name names job plain false false false false false false true draw window session a b c d f g h i e = subst (λ (x : Text). IsTaken (program ∷ x ∷ names) job) (h refl) (migrate_taken program _ names job plain e)
+row_taken program name names job plain false false false false false false false true window session a b c d f g h i e = subst (λ (x : Text). IsTaken (program ∷ x ∷ names) job) (i refl) (draw_taken program _ _ names job plain e)
+row_taken program name names job plain false false false false false false false false true session a b c d f g h i e = let none : None ≡ Some job = sym (no_window (codes "RECORDING") names) ∙ e in absurd cc
+row_taken program name names job plain false false false false false false false false false true a b c d f g h i e = let none : None ≡ Some job = e in absurd cc
+row_taken program name names job plain false false false false false false false false false false a b c d f g h i e = let none : None ≡ Some job = e in absurd cc
 
 same_text : (a b : Text) → bytes_eq a b ≡ true → a ≡ b
 same_text a b e = (bytes_eq-Decides a b).0 e
 
 -- plain words of a command are taken, and ask for it
 pub taken_plain : (words : List Text) (name : Text) (names : List Text) (job : Request Text) → IsPlain words name names → asked_by name names ≡ Some job → IsTaken words job
-taken_plain words name names job h e = rw h.words_are (row_taken h.program name names job h.plain _ _ _ _ _ _ _ _ _ (same_text (codes "check") name) (same_text (codes "certify") name) (same_text (codes "audit") name) (same_text (codes "explain") name) (same_text (codes "replay") name) (same_text (codes "steps") name) (same_text (codes "migrate") name) (same_text (codes "draw") name) e)
+taken_plain words name names job h e = rw h.words_are (row_taken h.program name names job h.plain _ _ _ _ _ _ _ _ _ _ (same_text (codes "check") name) (same_text (codes "certify") name) (same_text (codes "audit") name) (same_text (codes "explain") name) (same_text (codes "replay") name) (same_text (codes "steps") name) (same_text (codes "migrate") name) (same_text (codes "draw") name) e)
 
 -- a word or none is not taken, as a command has to be there
 pub bare_not_taken : (words : List Text) → length words ≤ 1 → takes postcopy_words words ≡ false

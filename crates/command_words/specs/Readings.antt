@@ -5,18 +5,19 @@ use Rattle.clap.specs.declared.error.Error.{Error}
 use Rattle.clap.specs.declared.error.kind.ErrorKind.TheVariants.{ArgumentConflict}
 use Rattle.command_words.specs.declared.requests.Invocation.{Invocation}
 use Rattle.command_words.specs.declared.requests.Targets.{Targets}
-use Rattle.command_words.specs.Table.{job_of, several_of}
-use Rattle.command_words.specs.Words.{answer_kind, asked_in, clash_in, clashing, postcopy_words, several_in, target_names, targets_in}
+use Rattle.command_words.specs.Table.{folders_of, job_of, several_of}
+use Rattle.command_words.specs.Words.{answer_kind, asked_in, clash_in, clashing, folders_in, postcopy_words, several_in, target_names, targets_in}
 
 -- the files are those that a command and its arguments name for what is written, and the kind is that of its answer
 pub record AreTargetsIn (given : Option (Text × List Row)) (targets : Targets) : Type 0 where
   pub names : target_names targets ≡ targets_in given
-  pub answer : targets.answer ≡ answer_kind (option_and_then asked_in given)
+  pub answer : targets.answer ≡ answer_kind (option_and_then asked_in given) (option_and_then folders_in given)
 
 -- this is what a command and its arguments ask for, and the options do not clash
 pub record IsFoundIn (given : Option (Text × List Row)) (found : Invocation) : Type 0 where
   pub job : option_and_then job_of found.intent ≡ option_and_then asked_in given
   pub several : option_and_then several_of found.intent ≡ option_and_then several_in given
+  pub folders : option_and_then folders_of found.intent ≡ option_and_then folders_in given
   pub alike : clash_in given ≡ false
   pub targets : AreTargetsIn given found.targets
 

@@ -16,6 +16,10 @@ use Rattle.command_words.specs.declared.requests.VerdictForm.TheVariants as verd
 use Rattle.command_words.specs.declared.requests.ReportForm.TheVariants as report
 use Rattle.command_words.specs.declared.requests.StoryForm.TheVariants as story
 use Rattle.command_words.specs.declared.requests.Several.{Several}
+use Rattle.command_words.specs.declared.requests.Folders.{Folders}
+use Rattle.command_words.specs.declared.requests.Lacking.{Lacking}
+use Rattle.command_words.specs.declared.requests.Takes.{Takes}
+use Rattle.command_words.specs.declared.requests.Takes.TheVariants as by
 use Rattle.command_words.specs.declared.requests.NamedTopic.TheVariants as topic
 use Rattle.command_words.specs.declared.requests.Intent.{Intent}
 use Rattle.command_words.specs.declared.requests.Intent.TheVariants.{Job}
@@ -46,18 +50,19 @@ no_pages = record { first = 0; count = 0 }
 
 -- what each of these asks for without options: `check SESSION CERT`, `certify SESSION`, `audit SESSION`, `explain
 -- SESSION`, `replay SESSION RUNS`, `steps SCRIPT EVENTS`, `migrate SCRIPT`, `draw SESSION`, `draw SESSION RUNS`,
--- `window RECORDING FIRST COUNT`
-abbrev pub table : List (Text × Request Text)
+-- `window RECORDING FIRST COUNT`, `session FOLDER`
+abbrev pub table : List (Text × Takes Text)
 table =
-    (codes "check", Two (Check plain) (codes "SESSION") (codes "CERT")) ∷
-    (codes "certify", One Certify (codes "SESSION")) ∷
-    (codes "audit", One (Audit plain_audit) (codes "SESSION")) ∷
-    (codes "explain", One (Explain plain_explanation) (codes "SESSION")) ∷
-    (codes "replay", Two Replay (codes "SESSION") (codes "RUNS")) ∷
-    (codes "steps", Two Steps (codes "SCRIPT") (codes "EVENTS")) ∷
-    (codes "migrate", Migrate Memory (codes "SCRIPT")) ∷
-    (codes "draw", Draw topic.Report (codes "SESSION") (Some (codes "RUNS"))) ∷
-    (codes "window", Window no_pages (codes "RECORDING") None) ∷ []
+    (codes "check", by.Texts (Two (Check plain) (codes "SESSION") (codes "CERT"))) ∷
+    (codes "certify", by.Texts (One Certify (codes "SESSION"))) ∷
+    (codes "audit", by.Texts (One (Audit plain_audit) (codes "SESSION"))) ∷
+    (codes "explain", by.Texts (One (Explain plain_explanation) (codes "SESSION"))) ∷
+    (codes "replay", by.Texts (Two Replay (codes "SESSION") (codes "RUNS"))) ∷
+    (codes "steps", by.Texts (Two Steps (codes "SCRIPT") (codes "EVENTS"))) ∷
+    (codes "migrate", by.Texts (Migrate Memory (codes "SCRIPT"))) ∷
+    (codes "draw", by.Texts (Draw topic.Report (codes "SESSION") (Some (codes "RUNS")))) ∷
+    (codes "window", by.Texts (Window no_pages (codes "RECORDING") None)) ∷
+    (codes "session", by.Folders (codes "FOLDER")) ∷ []
 
 -- the name of a carrier of a migration
 abbrev pub carrier_name : Carrier → Text
@@ -101,15 +106,27 @@ asked_names asked = asked_map (λ name. name.now) asked
 abbrev pub several_names : Several → Lists × List Text
 several_names several = (several.lists, map (λ name. name.now) several.names.items)
 
+-- the names of the folders of a recording, with what is done if it lacks something
+abbrev pub folders_names : Folders → Lacking × List Text
+folders_names folders = (folders.lacking, map (λ name. name.now) folders.names.items)
+
 -- the command that is asked for
 abbrev pub job_of : Intent → Option (Request Text)
 job_of (Job job) = Some (asked_names job)
 job_of (intent.Several several) = None
+job_of (intent.Folders folders) = None
 
 -- the sessions to audit
 abbrev pub several_of : Intent → Option (Lists × List Text)
 several_of (Job job) = None
 several_of (intent.Several several) = Some (several_names several)
+several_of (intent.Folders folders) = None
+
+-- the folders of a recording
+abbrev pub folders_of : Intent → Option (Lacking × List Text)
+folders_of (Job job) = None
+folders_of (intent.Several several) = None
+folders_of (intent.Folders folders) = Some (folders_names folders)
 
 -- what a row of the program's table asks for, with the names of its words
 abbrev pub word_names : Request Word → Request Text
@@ -119,9 +136,14 @@ word_names asked = asked_map (λ word. word.name.now) asked
 abbrev pub further_name : Option Word → Option Text
 further_name word = option_map (λ w. w.name.now) word
 
--- a row of the program's table
-abbrev pub row_of : CommandRow → Text × Request Text
-row_of row = (row.name.now, word_names row.asked)
+-- what a row of the program's table takes, with the names of its words
+abbrev pub taken_names : Takes Word → Takes Text
+taken_names (by.Texts asked) = by.Texts (word_names asked)
+taken_names (by.Folders word) = by.Folders word.name.now
 
-abbrev pub rows_of : List CommandRow → List (Text × Request Text)
+-- a row of the program's table
+abbrev pub row_of : CommandRow → Text × Takes Text
+row_of row = (row.name.now, taken_names row.takes)
+
+abbrev pub rows_of : List CommandRow → List (Text × Takes Text)
 rows_of rows = map row_of rows

@@ -31,6 +31,10 @@ use Rattle.command_words.specs.declared.requests.Explains.{Explains}
 use Rattle.command_words.specs.declared.requests.NamedTopic.{NamedTopic}
 use Rattle.command_words.specs.declared.requests.NamedTopic.TheVariants.{Page, Line}
 use Rattle.command_words.specs.declared.requests.NamedTopic.TheVariants as topic
+use Rattle.command_words.specs.declared.requests.Lacking.{Lacking}
+use Rattle.command_words.specs.declared.requests.Lacking.TheVariants.{Refused, Cut}
+use Rattle.command_words.specs.declared.requests.Takes.{Takes}
+use Rattle.command_words.specs.declared.requests.Takes.TheVariants as by
 use Rattle.command_words.specs.declared.requests.Demand.{Demand}
 use Rattle.command_words.specs.declared.requests.Demand.TheVariants as demand
 use Rattle.command_words.specs.declared.requests.Format.{Format}
@@ -117,6 +121,10 @@ with_format parser app = with_rule app (choice_rule (codes "format") parser (for
 abbrev pub with_quiet : App → App
 with_quiet app = with_rule app (flag_rule (codes "quiet"))
 
+-- a command with the option that cuts a recording that lacks something
+abbrev pub with_cut : App → App
+with_cut app = with_rule app (flag_rule (codes "cut"))
+
 -- a command on one text, and a command on two texts, with their options
 abbrev pub with_one : ValueParser → OneText → App → App
 with_one parser (Audit audits) app = with_format parser (with_quiet (with_all (with_demand app)))
@@ -142,16 +150,21 @@ with_words choices app (Migrate carrier word) = with_rule (with_rule app (needed
 with_words choices app (Draw topic word further) = with_page (with_further (with_rule app (needed word)) further)
 with_words choices app (Window pages word lines) = with_lines (with_rule (with_rule (with_rule app (needed word)) (count_rule (codes "FIRST"))) (count_rule (codes "COUNT")))
 
+-- a command with a word for each of its texts, or for its folders, and its own options
+abbrev pub with_taken : Choices → App → Takes Text → App
+with_taken choices app (by.Texts asked) = with_words choices app asked
+with_taken choices app (by.Folders word) = with_cut (with_rule app (repeated word))
+
 -- the command of a row of the table; each has the option for the file of its answer
-abbrev pub command_words : Choices → Text × Request Text → App
-command_words choices row = with_output (with_words choices (new_app row.0) row.1)
+abbrev pub command_words : Choices → Text × Takes Text → App
+command_words choices row = with_output (with_taken choices (new_app row.0) row.1)
 
 -- `postcopy`, which has a version and requires a command
 abbrev pub program_words : App
 program_words = on_top (λ s. record s { has_version = true; subcommand_required = true }) (new_app (codes "postcopy"))
 
 -- the same with the command of one more row
-abbrev pub with_command : Choices → App → Text × Request Text → App
+abbrev pub with_command : Choices → App → Text × Takes Text → App
 with_command choices app row = with_subcommand app (command_words choices row).top
 
 -- `postcopy` with the commands of the table, and with these parsers for the values of options
@@ -318,13 +331,22 @@ told_with (Some lines) Certify name = One Certify name
 abbrev pub further_in : List Row → Option Text → Option Text
 further_in rows word = option_and_then (λ id. first_of id rows) word
 
--- what a command asks for, with the names among its arguments
-abbrev pub given_in : List Row → Request Text → Option (Request Text)
-given_in rows (One task word) = option_map (λ name. told_with (first_of (codes "lines") rows) (one_in rows task) name) (only_of word rows)
-given_in rows (Two task first second) = both_names (two_in rows task) (first_of first rows) (first_of second rows)
-given_in rows (Migrate carrier word) = option_map (λ name. Migrate (carrier_in rows carrier) name) (first_of word rows)
-given_in rows (Draw topic word further) = option_map (λ name. Draw (page_in rows topic) name (further_in rows further)) (first_of word rows)
-given_in rows (Window pages word lines) = window_in rows word
+-- what is done with a recording that lacks something: it is cut if the arguments have that option
+abbrev pub lacking_in : List Row → Lacking
+lacking_in rows = if is_set (first_of (codes "cut") rows) then Cut else Refused
+
+-- what a command on texts asks for, with the names among its arguments
+abbrev pub texts_in : List Row → Request Text → Option (Request Text)
+texts_in rows (One task word) = option_map (λ name. told_with (first_of (codes "lines") rows) (one_in rows task) name) (only_of word rows)
+texts_in rows (Two task first second) = both_names (two_in rows task) (first_of first rows) (first_of second rows)
+texts_in rows (Migrate carrier word) = option_map (λ name. Migrate (carrier_in rows carrier) name) (first_of word rows)
+texts_in rows (Draw topic word further) = option_map (λ name. Draw (page_in rows topic) name (further_in rows further)) (first_of word rows)
+texts_in rows (Window pages word lines) = window_in rows word
+
+-- what a command asks for with the names among its arguments, if it is on texts
+abbrev pub given_in : List Row → Takes Text → Option (Request Text)
+given_in rows (by.Texts asked) = texts_in rows asked
+given_in rows (by.Folders word) = None
 
 -- what a command and its arguments ask for, by the table
 abbrev pub asked_of : Text × List Row → Option (Request Text)
@@ -374,9 +396,13 @@ asked words = option_and_then asked_in (subcommand_of postcopy_words words)
 abbrev pub several_among : List Row → Option (Lists × List Text)
 several_among rows = option_map (λ names. (lists_in rows, names)) (sessions_in rows)
 
+-- the sessions that a command and its arguments name to be audited
+abbrev pub several_named : Text × List Row → Option (Lists × List Text)
+several_named given = if bytes_eq given.0 (codes "audit") then several_among given.1 else None
+
 -- the sessions that a command and its arguments ask to be audited, if they ask for nothing else
 abbrev pub several_given : Text × List Row → Option (Lists × List Text)
-several_given given = if is_some (asked_of given) then None else if bytes_eq given.0 (codes "audit") then several_among given.1 else None
+several_given given = if is_some (asked_of given) then None else several_named given
 
 -- the same, if the options do not clash
 abbrev pub several_in : Text × List Row → Option (Lists × List Text)
@@ -385,6 +411,26 @@ several_in given = unclashed several_given given
 -- the sessions that the words ask to be audited
 abbrev pub several_asked : List Text → Option (Lists × List Text)
 several_asked words = option_and_then several_in (subcommand_of postcopy_words words)
+
+-- the folders that `session` was given, with what is done if the recording lacks something
+abbrev pub folders_among : List Row → Option (Lacking × List Text)
+folders_among rows = option_map (λ names. (lacking_in rows, names)) (all_of (codes "FOLDER") rows)
+
+-- the folders that a command and its arguments name for a session to be made of their files
+abbrev pub folders_named : Text × List Row → Option (Lacking × List Text)
+folders_named given = if bytes_eq given.0 (codes "session") then folders_among given.1 else None
+
+-- the folders of which a command and its arguments ask a session to be made, if they ask for nothing else
+abbrev pub folders_given : Text × List Row → Option (Lacking × List Text)
+folders_given given = if is_some (asked_of given) then None else folders_named given
+
+-- the same, if the options do not clash
+abbrev pub folders_in : Text × List Row → Option (Lacking × List Text)
+folders_in given = unclashed folders_given given
+
+-- the folders of which the words ask a session to be made
+abbrev pub folders_asked : List Text → Option (Lacking × List Text)
+folders_asked words = option_and_then folders_in (subcommand_of postcopy_words words)
 
 -- whether a command was given options that clash
 abbrev pub clash_in : Option (Text × List Row) → Bool
@@ -440,10 +486,12 @@ answer_of (Migrate carrier name) = Artifact
 answer_of (Draw topic name further) = Artifact
 answer_of (Window pages name lines) = Artifact
 
--- the kind of the answer to what is asked for; it is a report if no command on named texts is asked for
-abbrev pub answer_kind : Option (Request Text) → AnswerKind
-answer_kind None = Report
-answer_kind (Some asked) = answer_of asked
+-- the kind of the answer to what is asked for: a command on named texts, or the session of the files in folders; it is a
+-- report if neither is asked for
+abbrev pub answer_kind : Option (Request Text) → Option (Lacking × List Text) → AnswerKind
+answer_kind (Some asked) folders = answer_of asked
+answer_kind None (Some folders) = Artifact
+answer_kind None None = Report
 
 abbrev pub is_report : AnswerKind → Bool
 is_report Artifact = false
@@ -458,13 +506,18 @@ abbrev pub IsPlainName : Text → Type 0
 IsPlainName name = (name ≡ codes "-") ⊎ ((rest : Text) → name ≢ codes "-" ++ rest)
 
 -- A command with these names, if it has this many texts. `window` is left out, because its numbers may be invalid.
-abbrev pub with_names : List Text → Request Text → Option (Request Text)
-with_names (name ∷ []) (One task word) = Some (One task name)
-with_names (first ∷ second ∷ []) (Two task word other) = Some (Two task first second)
-with_names (name ∷ []) (Migrate carrier word) = Some (Migrate carrier name)
-with_names (name ∷ []) (Draw topic word further) = Some (Draw topic name None)
-with_names (first ∷ second ∷ []) (Draw topic word (Some further)) = Some (Draw topic first (Some second))
-with_names names asked = None
+abbrev pub with_texts : List Text → Request Text → Option (Request Text)
+with_texts (name ∷ []) (One task word) = Some (One task name)
+with_texts (first ∷ second ∷ []) (Two task word other) = Some (Two task first second)
+with_texts (name ∷ []) (Migrate carrier word) = Some (Migrate carrier name)
+with_texts (name ∷ []) (Draw topic word further) = Some (Draw topic name None)
+with_texts (first ∷ second ∷ []) (Draw topic word (Some further)) = Some (Draw topic first (Some second))
+with_texts names asked = None
+
+-- the same, if the command is on texts
+abbrev pub with_names : List Text → Takes Text → Option (Request Text)
+with_names names (by.Texts asked) = with_texts names asked
+with_names names (by.Folders word) = None
 
 -- what the name of a command and the names of its texts ask for
 abbrev pub asked_by : Text → List Text → Option (Request Text)

@@ -1,15 +1,15 @@
 //! The command line that the table makes.
 
 ghost use Rattle.std.specs.Prelude.{◌≡◌, IfOk, false};
-ghost use Rattle.command_words.specs.Table.{further_name, row_of, word_names};
-ghost use Rattle.command_words.specs.Words.{choice_rule, command_words, flag_rule, line_words, needed, number_rule, program_words, with_all, with_complete, with_complete_pages, with_demand, with_format, with_further, with_line, with_lines, with_one, with_output, with_page, with_quiet, with_two, with_words, count_rule, text_word};
+ghost use Rattle.command_words.specs.Table.{further_name, row_of, taken_names, word_names};
+ghost use Rattle.command_words.specs.Words.{choice_rule, command_words, flag_rule, line_words, needed, number_rule, program_words, with_all, with_complete, with_complete_pages, with_cut, with_demand, with_format, with_further, with_line, with_lines, with_one, with_output, with_page, with_quiet, with_taken, with_two, with_words, count_rule, repeated, text_word};
 ghost use Rattle.clap.specs.Words.{app_of, kind_of, rule_of, with_rule};
 ghost use Rattle.clap.specs.declared.builder.command.Command.TheViews.{out-Command as fields_of};
 
-use crate::requests::{Format, OneText, Request, TwoTexts};
+use crate::requests::{Format, OneText, Request, Takes, TwoTexts};
 use crate::table::{
-    ALL, COMPLETE, COMPLETE_PAGES, COUNT, CommandRow, FIRST, FORMAT, LINE, LINES, LINK, OUTPUT,
-    PAGE, QUIET, Word, commands,
+    ALL, COMPLETE, COMPLETE_PAGES, COUNT, CUT, CommandRow, FIRST, FORMAT, LINE, LINES, LINK,
+    OUTPUT, PAGE, QUIET, Word, commands,
 };
 use clap::builder::ValueParser;
 use clap::error::ErrorKind;
@@ -53,6 +53,9 @@ const LINE_HELP: &str = "Show the record at this line of the session, and its pa
 
 const LINES_HELP: &str =
     "File of the recording's line numbers, one for each line of its window: window writes it, explain reads it";
+
+const CUT_HELP: &str =
+    "If something is missing, write what is left, cut so that no record names one that is missing";
 
 const OUTPUT_HELP: &str =
     "Write the answer to this file instead of standard output. The file gets all of it or stays as it was";
@@ -99,6 +102,23 @@ fn with_word<'a>(
     ensures local { IfOk result (λ c. (fields_of c).has_globals ≡ false) }
 {
     let arg = Arg::new(alloc, word.name).required(true).help(word.help);
+    command.arg(arg)
+}
+
+// Returns the command with one more required word, which may be repeated.
+fn with_repeated<'a>(
+    alloc: Global,
+    command: Command<'a>,
+    word: &Word,
+) -> Result<Command<'a>, AllocError>
+    requires { (fields_of command).has_globals ≡ false }
+    ensures app { IfOk result (λ c. app_of c ≡ with_rule (app_of command.entry) (repeated word.now.name.now)) }
+    ensures local { IfOk result (λ c. (fields_of c).has_globals ≡ false) }
+{
+    let arg = Arg::new(alloc, word.name)
+        .required(true)
+        .action(ArgAction::Append)
+        .help(word.help);
     command.arg(arg)
 }
 
@@ -284,6 +304,15 @@ fn with_quiet<'a>(alloc: Global, command: Command<'a>) -> Result<Command<'a>, Al
     with_flag(alloc, command, QUIET, QUIET_HELP)
 }
 
+// Returns the command with the option that cuts a recording that lacks something.
+fn with_cut<'a>(alloc: Global, command: Command<'a>) -> Result<Command<'a>, AllocError>
+    requires { (fields_of command).has_globals ≡ false }
+    ensures app { IfOk result (λ c. app_of c ≡ with_cut (app_of command.entry)) }
+    ensures local { IfOk result (λ c. (fields_of c).has_globals ≡ false) }
+{
+    with_flag(alloc, command, CUT, CUT_HELP)
+}
+
 // Returns the command with the option for the form of its answer. The default is lines of text.
 fn with_format<'a>(
     alloc: Global,
@@ -309,13 +338,7 @@ fn with_text<'a>(
     ensures local { IfOk result (λ c. (fields_of c).has_globals ≡ false) }
 {
     match task {
-        OneText::Audit(_) => {
-            let arg = Arg::new(alloc, word.name)
-                .required(true)
-                .action(ArgAction::Append)
-                .help(word.help);
-            command.arg(arg)
-        }
+        OneText::Audit(_) => with_repeated(alloc, command, word),
         OneText::Certify | OneText::Explain(_) => with_word(alloc, command, word),
     }
 }
@@ -415,6 +438,26 @@ fn with_words<'a>(
     }
 }
 
+// Returns the command with a word for each of its texts, or for its folders, and its own options.
+fn with_taken<'a>(
+    alloc: Global,
+    command: Command<'a>,
+    choices: Choices<'a>,
+    takes: &Takes<Word>,
+) -> Result<Command<'a>, AllocError>
+    requires { (fields_of command).has_globals ≡ false }
+    ensures app { IfOk result (λ c. app_of c ≡ with_taken choices.entry (app_of command.entry) (taken_names takes.now)) }
+    ensures local { IfOk result (λ c. (fields_of c).has_globals ≡ false) }
+{
+    match takes {
+        Takes::Texts(asked) => with_words(alloc, command, choices, asked),
+        Takes::Folders(word) => {
+            let command = with_repeated(alloc, command, word)?;
+            with_cut(alloc, command)
+        }
+    }
+}
+
 // Returns the command of a row. `choices` has the parsers of the values of options.
 fn command_of<'a>(
     alloc: Global,
@@ -425,7 +468,7 @@ fn command_of<'a>(
     ensures local { IfOk result (λ c. (fields_of c).has_globals ≡ false) }
 {
     let command = Command::new(alloc, row.name).about(row.about);
-    let command = with_words(alloc, command, choices, &row.asked)?;
+    let command = with_taken(alloc, command, choices, &row.takes)?;
     with_output(alloc, command)
 }
 

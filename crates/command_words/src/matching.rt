@@ -1,21 +1,22 @@
 //! What words ask for.
 
-ghost use Rattle.std.specs.Prelude.{◌≡◌, IfOk, IfErr, Some, codes, false, is_some, option_and_then, option_map, true, find};
+ghost use Rattle.std.specs.Prelude.{◌≡◌, IfOk, IfErr, None, Some, codes, false, is_some, option_and_then, option_map, true, find};
 ghost use Rattle.std.specs.Str.{bytes_eq};
-ghost use Rattle.command_words.specs.Table.{asked_names, further_name, job_of, several_names, several_of, word_names};
+ghost use Rattle.command_words.specs.Table.{asked_names, folders_names, folders_of, further_name, job_of, several_names, several_of, taken_names, word_names};
 ghost use Rattle.command_words.specs.Readings.{IsFoundIn};
-ghost use Rattle.command_words.specs.Words.{IsRefusedFor, all_faults_form_in, answer_kind, answer_of, asked_of, audits_in, carrier_in, checks_in, clash_in, clashes, clashing, count_in, count_of, demand_in, explains_in, faults_clash, further_in, given_in, has, is_set, lines_file, list_form_in, lists_in, number_in, number_of, one_in, only_of, page_in, postcopy_words, report_form_in, sessions_in, several_among, several_given, short_form_in, story_form_in, told_with, topic_in, topics_clash, two_in, verdict_form_in, wants_object, window_in, word_texts};
+ghost use Rattle.command_words.specs.Words.{IsRefusedFor, all_faults_form_in, answer_kind, answer_of, asked_of, audits_in, carrier_in, checks_in, clash_in, clashes, clashing, count_in, count_of, demand_in, explains_in, faults_clash, folders_among, folders_given, folders_named, further_in, given_in, has, is_set, lacking_in, lines_file, list_form_in, lists_in, number_in, number_of, one_in, only_of, page_in, postcopy_words, report_form_in, sessions_in, several_among, several_given, several_named, short_form_in, story_form_in, texts_in, told_with, topic_in, topics_clash, two_in, verdict_form_in, wants_object, window_in, word_texts};
 ghost use Rattle.clap.specs.Words.{all_of, first_of, found_of, kind_of, rows_of, subcommand_of, subcommand_rows_of, takes};
 
 use crate::building::{Choices, command_line, refused_for};
 use crate::requests::{
-    AnswerKind, Audits, Carrier, Checks, Demand, Explains, Format, Intent, Invocation, Job,
-    ListForm, Lists, NO_TARGETS, NamedTopic, OneText, Pages, ReportForm, Request, Several,
-    StoryForm, Targets, TwoTexts, VerdictForm,
+    AnswerKind, Audits, Carrier, Checks, Demand, Explains, Folders, Format, Intent, Invocation,
+    Job, Lacking, ListForm, Lists, NO_TARGETS, NamedTopic, OneText, Pages, ReportForm, Request,
+    Several, StoryForm, Takes, Targets, TwoTexts, VerdictForm,
 };
 use crate::table::{
-    ALL, COMPLETE, COMPLETE_PAGES, COUNT, CommandRow, FIRST, FORMAT, LINE, LINES, LINK, OUTPUT,
-    PAGE, QUIET, SESSION, Word, carrier_named, carrier_names, commands, format_named, format_names,
+    ALL, COMPLETE, COMPLETE_PAGES, COUNT, CUT, CommandRow, FIRST, FOLDER, FORMAT, LINE, LINES,
+    LINK, OUTPUT, PAGE, QUIET, SESSION, Word, carrier_named, carrier_names, commands, format_named,
+    format_names,
 };
 use clap::ArgMatches;
 use clap::builder::ValueParser;
@@ -318,9 +319,20 @@ fn further_given<'a>(word: &Option<Word>, matches: &ArgMatches<'a>) -> Option<&'
     }
 }
 
+// Returns what is done with a recording that lacks something: it is cut if an option says so.
+fn lacking_given(matches: &ArgMatches<'_>) -> Lacking
+    ensures { result ≡ lacking_in (rows_of (found_of matches.now)) }
+{
+    if is_given(CUT, matches) {
+        Lacking::Cut
+    } else {
+        Lacking::Refused
+    }
+}
+
 // Returns what a command asks for, with the names that were given for its words.
 fn given<'a>(asks: &Request<Word>, matches: &ArgMatches<'a>) -> Option<Job<'a>>
-    ensures { option_map asked_names result ≡ given_in (rows_of (found_of matches.now)) (word_names asks.now) }
+    ensures { option_map asked_names result ≡ texts_in (rows_of (found_of matches.now)) (word_names asks.now) }
 {
     match asks {
         Request::One(task, word) => {
@@ -346,6 +358,16 @@ fn given<'a>(asks: &Request<Word>, matches: &ArgMatches<'a>) -> Option<Job<'a>>
     }
 }
 
+// Returns what a command on texts asks for, with the names that were given for its words.
+fn texts_given<'a>(takes: &Takes<Word>, matches: &ArgMatches<'a>) -> Option<Job<'a>>
+    ensures { option_map asked_names result ≡ given_in (rows_of (found_of matches.now)) (taken_names takes.now) }
+{
+    match takes {
+        Takes::Texts(asks) => given(asks, matches),
+        Takes::Folders(_) => None,
+    }
+}
+
 // Returns the row with this name.
 fn row_named<'a>(rows: &'a [CommandRow], name: &str) -> Option<&'a CommandRow>
     ensures { option_map (λ row. row.now) result ≡ find (λ row. bytes_eq row.name.now name.now) rows.now }
@@ -358,7 +380,7 @@ fn job_of<'a>(name: &str, matches: &ArgMatches<'a>) -> Option<Job<'a>>
     ensures { option_map asked_names result ≡ asked_of (name.now, rows_of (found_of matches.now)) }
 {
     match row_named(commands(), name) {
-        Some(row) => given(&row.asked, matches),
+        Some(row) => texts_given(&row.takes, matches),
         None => None,
     }
 }
@@ -437,6 +459,15 @@ fn matches_in<'a>(alloc: Global, words: &'a [&'a str]) -> Result<ArgMatches<'a>,
     }
 }
 
+// Returns a list of these names.
+fn kept<'a>(alloc: Global, names: &[&'a str]) -> Result<Vec<&'a str>, AllocError>
+    ensures { IfOk result (λ kept. kept.items ≡ names.now) }
+{
+    let mut kept = Vec::new(alloc);
+    kept.extend_from_slice(names)?;
+    Ok(kept)
+}
+
 // Returns what is asked about the sessions of an audit, if there are several.
 fn sessions_asked<'a>(
     alloc: Global,
@@ -447,16 +478,56 @@ fn sessions_asked<'a>(
     let Some(names) = sessions_given(matches) else {
         return Ok(None);
     };
-    let mut kept = Vec::new(alloc);
-    kept.extend_from_slice(names)?;
     Ok(Some(Several {
         lists: lists_given(matches),
-        names: kept,
+        names: kept(alloc, names)?,
     }))
 }
 
-// Returns what the matches of the command with this name ask for: a command on named texts, or else the audit of
-// several sessions.
+// Returns the folders of a recording, if there are some.
+fn folders_asked<'a>(
+    alloc: Global,
+    matches: &ArgMatches<'a>,
+) -> Result<Option<Folders<'a>>, AllocError>
+    ensures { IfOk result (λ r. option_map folders_names r ≡ folders_among (rows_of (found_of matches.now))) }
+{
+    let Some(names) = names_given(FOLDER.name, matches) else {
+        return Ok(None);
+    };
+    Ok(Some(Folders {
+        lacking: lacking_given(matches),
+        names: kept(alloc, names)?,
+    }))
+}
+
+// Returns what is asked of all names for the one word of the command with this name: the audit of several sessions, or
+// the session of the files in folders.
+fn intent_of_names<'a>(
+    alloc: Global,
+    name: &str,
+    matches: &ArgMatches<'a>,
+) -> Result<Option<Intent<'a>>, AllocError>
+    ensures job { IfOk result (λ r. option_and_then job_of r ≡ None) }
+    ensures several { IfOk result (λ r. option_and_then several_of r ≡ several_named (name.now, rows_of (found_of matches.now))) }
+    ensures folders { IfOk result (λ r. option_and_then folders_of r ≡ folders_named (name.now, rows_of (found_of matches.now))) }
+{
+    if name == "audit" {
+        return match sessions_asked(alloc, matches)? {
+            Some(several) => Ok(Some(Intent::Several(several))),
+            None => Ok(None),
+        };
+    }
+    if name != "session" {
+        return Ok(None);
+    }
+    match folders_asked(alloc, matches)? {
+        Some(folders) => Ok(Some(Intent::Folders(folders))),
+        None => Ok(None),
+    }
+}
+
+// Returns what the matches of the command with this name ask for: a command on named texts, or else what is asked of
+// all names for one word.
 fn intent_of<'a>(
     alloc: Global,
     name: &str,
@@ -464,16 +535,11 @@ fn intent_of<'a>(
 ) -> Result<Option<Intent<'a>>, AllocError>
     ensures job { IfOk result (λ r. option_and_then job_of r ≡ asked_of (name.now, rows_of (found_of matches.now))) }
     ensures several { IfOk result (λ r. option_and_then several_of r ≡ several_given (name.now, rows_of (found_of matches.now))) }
+    ensures folders { IfOk result (λ r. option_and_then folders_of r ≡ folders_given (name.now, rows_of (found_of matches.now))) }
 {
-    if let Some(job) = job_of(name, matches) {
-        return Ok(Some(Intent::Job(job)));
-    }
-    if name != "audit" {
-        return Ok(None);
-    }
-    match sessions_asked(alloc, matches)? {
-        Some(several) => Ok(Some(Intent::Several(several))),
-        None => Ok(None),
+    match job_of(name, matches) {
+        Some(job) => Ok(Some(Intent::Job(job))),
+        None => intent_of_names(alloc, name, matches),
     }
 }
 
@@ -506,10 +572,11 @@ fn answer_of(job: &Job<'_>) -> AnswerKind
 
 // Returns the kind of the answer to an intent.
 fn answer_kind(intent: &Option<Intent<'_>>) -> AnswerKind
-    ensures { result ≡ answer_kind (option_and_then job_of intent.now) }
+    ensures { result ≡ answer_kind (option_and_then job_of intent.now) (option_and_then folders_of intent.now) }
 {
     match intent {
         Some(Intent::Job(job)) => answer_of(job),
+        Some(Intent::Folders(_)) => AnswerKind::Artifact,
         Some(Intent::Several(_)) | None => AnswerKind::Report,
     }
 }

@@ -59,9 +59,9 @@ impl<'a> Reading<'a> {
     ghost use Rattle.std.specs.Prelude.{◌≡◌, ◌≤◌, ◌⊎◌, IfErr, IfOk, None, Ok, false, length, option_and_then, true};
     ghost use Rattle.clap.specs.Words.{kind_of, takes};
     ghost use Rattle.clap.specs.declared.error.kind.ErrorKind.TheVariants.{ArgumentConflict};
-    ghost use Rattle.command_words.specs.Table.{job_of, several_of};
+    ghost use Rattle.command_words.specs.Table.{folders_of, job_of, several_of};
     ghost use Rattle.command_words.specs.Readings.{AreTargets};
-    ghost use Rattle.command_words.specs.Words.{asked, clashing, postcopy_words, several_asked, target_names};
+    ghost use Rattle.command_words.specs.Words.{asked, clashing, folders_asked, postcopy_words, several_asked, target_names};
 
     /// Returns what the words ask for, or `None` if they are the program's own name alone, or not even that. The error
     /// is clap's: the words are no command, they have options that clash, or they ask for the help or the version.
@@ -69,6 +69,7 @@ impl<'a> Reading<'a> {
         ensures bare { length self.entry ≤ 1 → result ≡ Ok None }
         ensures job { IfOk result (λ r. option_and_then job_of r ≡ asked self.entry) }
         ensures several { IfOk result (λ r. option_and_then several_of r ≡ several_asked self.entry) }
+        ensures folders { IfOk result (λ r. option_and_then folders_of r ≡ folders_asked self.entry) }
         ensures alike { IfOk result (λ _. clashing self.entry ≡ false) }
         ensures err { IfErr result (λ e. takes postcopy_words self.entry ≡ true → (clashing self.entry ≡ true) × (kind_of e ≡ ArgumentConflict)) }
     {

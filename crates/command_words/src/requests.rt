@@ -163,6 +163,15 @@ impl Carrier {
     }
 }
 
+/// What is done with a recording that lacks something.
+#[derive(Clone, Copy)]
+pub enum Lacking {
+    /// Nothing is written.
+    Refused,
+    /// What is left is written. It is cut so that no record names one that is missing.
+    Cut,
+}
+
 /// The pages of a window.
 #[derive(Clone, Copy)]
 pub struct Pages {
@@ -186,6 +195,15 @@ pub enum Request<W> {
     Window(Pages, W, Option<W>),
 }
 
+/// What a command takes, with words for it.
+#[derive(Clone, Copy)]
+pub enum Takes<W> {
+    /// Texts.
+    Texts(Request<W>),
+    /// Folders of recorders' files. There is one word for all of them.
+    Folders(W),
+}
+
 /// What the words ask for, with the names of its texts.
 pub type Job<'a> = Request<&'a str>;
 
@@ -197,6 +215,14 @@ pub struct Several<'a> {
     pub names: Vec<&'a str>,
 }
 
+/// The folders that have the files of a recording.
+#[derive(Drop)]
+pub struct Folders<'a> {
+    pub lacking: Lacking,
+    /// Their names: one or more.
+    pub names: Vec<&'a str>,
+}
+
 /// What the words ask for.
 #[derive(Drop)]
 pub enum Intent<'a> {
@@ -204,6 +230,8 @@ pub enum Intent<'a> {
     Job(Job<'a>),
     /// The audit of several sessions.
     Several(Several<'a>),
+    /// The session of the files that recorders left in folders.
+    Folders(Folders<'a>),
 }
 
 /// The kind of a command's answer.

@@ -5,7 +5,7 @@ ghost use Rattle.command_words.specs.Table.{carriers, carrier_name, carrier_name
 
 use crate::requests::{
     Audits, Carrier, Checks, Demand, Explains, Format, NamedTopic, OneText, Pages, ReportForm,
-    Request, StoryForm, TwoTexts, VerdictForm,
+    Request, StoryForm, Takes, TwoTexts, VerdictForm,
 };
 
 /// A word of the command line that stands for a text.
@@ -23,13 +23,13 @@ pub struct CommandRow {
     pub name: &'static str,
     /// The help for the command, with an example.
     pub about: &'static str,
-    pub asked: Request<Word>,
+    pub takes: Takes<Word>,
 }
 
 /// The word for a session.
 pub const SESSION: Word = Word {
     name: "SESSION",
-    help: "Session file, or - for standard input",
+    help: "Session file, folder with files of recorders, or - for standard input",
 };
 
 const CERT: Word = Word {
@@ -69,6 +69,12 @@ pub const COUNT: Word = Word {
     help: "Number of pages",
 };
 
+/// The word for a folder of recorders' files.
+pub const FOLDER: Word = Word {
+    name: "FOLDER",
+    help: "Folder with files of recorders. A recording may be spread over several folders",
+};
+
 /// The option for the carrier of a migration.
 pub const LINK: &str = "link";
 
@@ -98,6 +104,9 @@ pub const LINES: &str = "lines";
 
 /// The option for the file of an answer.
 pub const OUTPUT: &str = "output";
+
+/// The option that cuts a recording that lacks something.
+pub const CUT: &str = "cut";
 
 /// What `check` asks for without options: a safe session, and the verdict as a line.
 const PLAIN_CHECK: Checks = Checks {
@@ -153,57 +162,62 @@ pub fn carrier_named(name: &str) -> Option<Carrier>
         .copied()
 }
 
-static COMMANDS: [CommandRow; 9] = [
+static COMMANDS: [CommandRow; 10] = [
     CommandRow {
         name: "check",
         about: "Judge the certificate of a session. Example: postcopy check session cert",
-        asked: Request::Two(TwoTexts::Check(PLAIN_CHECK), SESSION, CERT),
+        takes: Takes::Texts(Request::Two(TwoTexts::Check(PLAIN_CHECK), SESSION, CERT)),
     },
     CommandRow {
         name: "certify",
         about: "Write the certificate of a clean session, or the first line of the report on another. Example: postcopy certify session",
-        asked: Request::One(OneText::Certify, SESSION),
+        takes: Takes::Texts(Request::One(OneText::Certify, SESSION)),
     },
     CommandRow {
         name: "audit",
         about: "Write the report on a session, or a line on each of several. Example: postcopy audit session",
-        asked: Request::One(OneText::Audit(PLAIN_AUDIT), SESSION),
+        takes: Takes::Texts(Request::One(OneText::Audit(PLAIN_AUDIT), SESSION)),
     },
     CommandRow {
         name: "explain",
         about: "Explain what happened in a session, with the records of its fault. Example: postcopy explain session",
-        asked: Request::One(
+        takes: Takes::Texts(Request::One(
             OneText::Explain(Explains {
                 demand: Demand::Safety,
                 form: StoryForm::Words(NamedTopic::Report),
             }),
             SESSION,
-        ),
+        )),
     },
     CommandRow {
         name: "replay",
         about: "Replay a session in the order of its runs. Example: postcopy replay session runs",
-        asked: Request::Two(TwoTexts::Replay, SESSION, RUNS),
+        takes: Takes::Texts(Request::Two(TwoTexts::Replay, SESSION, RUNS)),
     },
     CommandRow {
         name: "steps",
         about: "Write the session that events record from a guest script. Example: postcopy steps script events",
-        asked: Request::Two(TwoTexts::Steps, SCRIPT, EVENTS),
+        takes: Takes::Texts(Request::Two(TwoTexts::Steps, SCRIPT, EVENTS)),
     },
     CommandRow {
         name: "migrate",
         about: "Migrate the guest of a script, and write its session and certificate. Example: postcopy migrate script | postcopy",
-        asked: Request::Migrate(Carrier::Memory, SCRIPT),
+        takes: Takes::Texts(Request::Migrate(Carrier::Memory, SCRIPT)),
     },
     CommandRow {
         name: "draw",
         about: "Draw the records of a session as SVG, in the order of its report or of runs. Example: postcopy draw session -o picture.svg",
-        asked: Request::Draw(NamedTopic::Report, SESSION, Some(RUNS)),
+        takes: Takes::Texts(Request::Draw(NamedTopic::Report, SESSION, Some(RUNS))),
     },
     CommandRow {
         name: "window",
         about: "Write the session of some pages of a recording. Example: postcopy window recording 4096 1024 -o session",
-        asked: Request::Window(NO_PAGES, RECORDING, None),
+        takes: Takes::Texts(Request::Window(NO_PAGES, RECORDING, None)),
+    },
+    CommandRow {
+        name: "session",
+        about: "Make the session of the files that recorders left in folders. Example: postcopy session recording -o session",
+        takes: Takes::Folders(FOLDER),
     },
 ];
 

@@ -3,6 +3,7 @@ use Rattle.std.proofs.lemmas.List.{take_all}
 use Rattle.std.proofs.lemmas.List.Sums.{fold_more}
 use Rattle.clap.specs.Words.{App, with_subcommand}
 use Rattle.command_words.specs.declared.requests.Request.TheVariants.{One}
+use Rattle.command_words.specs.declared.requests.Takes.TheVariants.{Texts}
 use Rattle.command_words.specs.declared.requests.OneText.TheVariants.{Certify}
 use Rattle.command_words.specs.declared.table.CommandRow.{CommandRow}
 use Rattle.command_words.specs.Table.{row_of}
@@ -15,7 +16,7 @@ abbrev no_row : CommandRow
 no_row = record {
   name = record { ref_ptr = (0, 0); now = [] };
   about = record { ref_ptr = (0, 0); now = [] };
-  asked = One Certify (record { name = record { ref_ptr = (0, 0); now = [] }; help = record { ref_ptr = (0, 0); now = [] } });
+  takes = Texts (One Certify (record { name = record { ref_ptr = (0, 0); now = [] }; help = record { ref_ptr = (0, 0); now = [] } }));
 }
 
 pub loop-row-preserved : goal.loop-row-preserved

@@ -4,7 +4,7 @@ use Rattle.command_words.proofs.Rows.{asked_by_row}
 use Rattle.command_words.proofs.matching.job_of.Goals as goal
 
 pub returns-in-Some : goal.returns-in-Some
-returns-in-Some c = c.given.ensures ∙ sym (asked_by_row c.commands.result.now c.args.name.now (rows_of (found_of c.args.matches.now)) (Some c.in-Some.row.now) c.commands.ensures c.in-Some.ensures)
+returns-in-Some c = c.texts_given.ensures ∙ sym (asked_by_row c.commands.result.now c.args.name.now (rows_of (found_of c.args.matches.now)) (Some c.in-Some.row.now) c.commands.ensures c.in-Some.ensures)
 
 pub returns-in-None : goal.returns-in-None
 returns-in-None c = sym (asked_by_row c.commands.result.now c.args.name.now (rows_of (found_of c.args.matches.now)) None c.commands.ensures c.in-None.ensures)
