@@ -9,6 +9,6 @@ mod program;
 mod several;
 mod topics;
 
-pub use command_words::{Reading, Targets, read_words};
+pub use command_words::{Lacking, Reading, Targets, read_words};
 pub use laws::{migrations_are_judged_yes, recorded_sessions_are_clean};
 pub use program::run;

@@ -3,11 +3,12 @@
 ghost use Rattle.std.specs.Prelude.{◌≡◌, ◌≢◌, ◌<◌, ◌≤◌, ◌⊎◌, ℕ, List, IfOk, IfSome, MatchResult, None, false, length, true};
 ghost use Rattle.std.specs.Io.KnownBytes.{Keeps};
 ghost use Rattle.clap.specs.Words.{kind_of, takes};
-ghost use Rattle.command_words.specs.Table.{job_of, several_of};
-ghost use Rattle.command_words.specs.Words.{IsPlain, asked, asked_by, clashing, postcopy_words, several_asked};
+ghost use Rattle.command_words.specs.Table.{folders_of, job_of, several_of};
+ghost use Rattle.command_words.specs.Words.{IsPlain, asked, asked_by, clashing, folders_asked, postcopy_words, several_asked};
 ghost use Rattle.command_texts.specs.Answers.{fault_line, fault_status};
 ghost use Rattle.command_texts.specs.Told.{AreNamed, AreOfInput};
 ghost use Rattle.command_texts.specs.Written.{AppendsFront, BothGain, Gains};
+ghost use Rattle.session_commands.specs.Files.{WritesSession};
 ghost use Rattle.commands.specs.Refused.{IsRefusalOf};
 ghost use Rattle.commands.specs.Shown.{AsksCheck, ShowsHeadline};
 ghost use Rattle.commands.specs.Told.{EndsAsked, EndsBare, EndsSeveral, HasLines, IsFaultTold, IsSettled, IsSettledList};
@@ -21,6 +22,7 @@ use command_texts::{
 use command_words::{Intent, Reading, VerdictForm};
 use judge_commands::CheckCommand;
 use judged_texts::headline_holds_at_yes;
+use session_commands::perform_session;
 use std::alloc::{AllocError, Global};
 use std::io::{Read, Write};
 use std::net::{Net, TcpListener, TcpStream};
@@ -107,6 +109,7 @@ fn grant<
     ensures fault { 2 < result → IsFaultTold (E.contents console.old.errors) (E.contents console.new.errors) result }
     ensures job { IfSome (job_of intent.entry) (λ job. IsSettled (EndsAsked job (S.bytes_of console.old.texts.now) (I.remaining console.old.input) (O.contents console.old.output, E.contents console.old.errors)) (O.contents console.new.output, E.contents console.new.errors) result) }
     ensures several { IfSome (several_of intent.entry) (λ asked. IsSettledList (EndsSeveral asked (S.bytes_of console.old.texts.now) (O.contents console.old.output, E.contents console.old.errors)) (O.contents console.new.output, E.contents console.new.errors) result) }
+    ensures folders { IfSome (folders_of intent.entry) (λ asked. result ≡ 0 → WritesSession (S.bytes_of console.old.texts.now) (O.contents console.old.output) (O.contents console.new.output)) }
     ensures lines { result ≡ 0 → IfSome (job_of intent.entry) (λ job. HasLines job (S.bytes_of console.old.texts.now) (O.contents console.old.output) (O.contents console.new.output) lines.old lines.new) }
     ensures unlined { job_of intent.entry ≡ None → lines.new ≡ lines.old }
     ensures kept { result ≢ 0 → lines.new ≡ lines.old }
@@ -119,6 +122,10 @@ fn grant<
         }
         Intent::Several(several) => {
             let done = asked_several(console, &several);
+            settle(done, &mut console.errors)
+        }
+        Intent::Folders(folders) => {
+            let done = perform_session(console, folders.lacking, folders.names.as_slice());
             settle(done, &mut console.errors)
         }
     }
@@ -159,6 +166,9 @@ fn check_bare<R: Threads + Sync, S: TextSource, I: Read + Send, O: Write, E: Wri
 /// errors say so, and the next one is audited. If the input is one of them, nothing is promised about the bytes that it
 /// held.
 ///
+/// If a session is made of the files in folders, it is written as they are read. The errors say what is missing. If the
+/// status is 0, the output gained the text of a recording that files make, perhaps cut.
+///
 /// The answer is written to the output, even if the words name a file for it, which `reading` says. If the words name a
 /// file for the lines of a window, and the status is 0, their table is put into `lines`. Otherwise `lines` stays as it
 /// was.
@@ -188,6 +198,7 @@ pub fn run<
     ensures clash { takes postcopy_words reading.entry ≡ true → clashing reading.entry ≡ true → (result ≡ 2) ⊎ (result ≡ 4) }
     ensures told { takes postcopy_words reading.entry ≡ true → IfSome (asked reading.entry) (λ job. IsSettled (EndsAsked job (S.bytes_of console.old.texts.now) (I.remaining console.old.input) (O.contents console.old.output, E.contents console.old.errors)) (O.contents console.new.output, E.contents console.new.errors) result) }
     ensures several { takes postcopy_words reading.entry ≡ true → IfSome (several_asked reading.entry) (λ asked. IsSettledList (EndsSeveral asked (S.bytes_of console.old.texts.now) (O.contents console.old.output, E.contents console.old.errors)) (O.contents console.new.output, E.contents console.new.errors) result) }
+    ensures folders { takes postcopy_words reading.entry ≡ true → IfSome (folders_asked reading.entry) (λ asked. result ≡ 0 → WritesSession (S.bytes_of console.old.texts.now) (O.contents console.old.output) (O.contents console.new.output)) }
     ensures lines { takes postcopy_words reading.entry ≡ true → result ≡ 0 → IfSome (asked reading.entry) (λ job. HasLines job (S.bytes_of console.old.texts.now) (O.contents console.old.output) (O.contents console.new.output) lines.old lines.new) }
     ensures unlined { asked reading.entry ≡ None → lines.new ≡ lines.old }
     ensures kept { result ≢ 0 → lines.new ≡ lines.old }

@@ -5,6 +5,7 @@ use Rattle.command_texts.specs.Written.{Streams}
 use Rattle.command_texts.proofs.Fronts.{both_gain}
 use Rattle.commands.specs.Told.{EndsAsked, EndsSeveral, HasLines}
 use Rattle.commands.proofs.Settled.{kept_lines, known, known_list, settled, settled_as, told_at_last, told_of_list, well_lines}
+use Rattle.session_commands.specs.Files.{WritesSession}
 use Rattle.commands.proofs.program.grant.Goals as goal
 
 pub returns-in-Job-clause-known : goal.returns-in-Job-clause-known
@@ -44,3 +45,15 @@ returns-in-Several-clause-gains g c = (c.asked_several-done.ensures.gains.0, bot
 
 pub returns-in-Several-clause-fault : goal.returns-in-Several-clause-fault
 returns-in-Several-clause-fault g c = told_of_list c.asked_several-done.result c.settle-in-Several.result _ _ _ c.asked_several-done.ensures.known c.asked_several-done.ensures.unread c.asked_several-done.ensures.gains.1 c.settle-in-Several.ensures.settled
+
+pub returns-in-Folders-clause-known : goal.returns-in-Folders-clause-known
+returns-in-Folders-clause-known g c = known_list c.perform_session-done.result c.settle-in-Folders.result _ _ c.perform_session-done.ensures.known c.settle-in-Folders.ensures.settled
+
+pub returns-in-Folders-clause-gains : goal.returns-in-Folders-clause-gains
+returns-in-Folders-clause-gains g c = (c.perform_session-done.ensures.gains.0, both_gain _ _ _ c.perform_session-done.ensures.gains.1 c.settle-in-Folders.ensures.gains)
+
+pub returns-in-Folders-clause-fault : goal.returns-in-Folders-clause-fault
+returns-in-Folders-clause-fault g c = told_of_list c.perform_session-done.result c.settle-in-Folders.result _ _ _ c.perform_session-done.ensures.known c.perform_session-done.ensures.unread c.perform_session-done.ensures.gains.1 c.settle-in-Folders.ensures.settled
+
+pub returns-in-Folders-clause-folders : goal.returns-in-Folders-clause-folders
+returns-in-Folders-clause-folders g c = rw c.in-Folders.is (well_lines (WritesSession (g.S.TextSource.bytes_of c.args.console.now.texts.now) (g.O.Write.contents c.args.console.now.output) (g.O.Write.contents c.perform_session-done.new.console.output)) c.perform_session-done.result c.settle-in-Folders.result _ _ c.settle-in-Folders.ensures.settled c.perform_session-done.ensures.written)

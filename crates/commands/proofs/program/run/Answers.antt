@@ -3,10 +3,12 @@ use Rattle.clap.specs.Words.{Text, kind_of}
 use Rattle.command_words.specs.declared.requests.Request.{Request}
 use Rattle.command_words.specs.declared.requests.Request.TheVariants.{Two}
 use Rattle.command_words.specs.declared.requests.TwoTexts.TheVariants.{Check}
+use Rattle.command_words.specs.declared.requests.Lacking.{Lacking}
 use Rattle.command_words.specs.declared.requests.Lists.{Lists}
-use Rattle.command_words.specs.Table.{job_of, plain, several_of}
-use Rattle.command_words.specs.Words.{asked, asked_by, clashing, several_asked}
-use Rattle.command_words.proofs.Clashes.{asked_alike, several_asked_alike}
+use Rattle.session_commands.specs.Files.{WritesSession}
+use Rattle.command_words.specs.Table.{folders_of, job_of, plain, several_of}
+use Rattle.command_words.specs.Words.{asked, asked_by, clashing, folders_asked, several_asked}
+use Rattle.command_words.proofs.Clashes.{asked_alike, folders_asked_alike, several_asked_alike}
 use Rattle.command_words.proofs.Plain.{taken_plain}
 use Rattle.commands.specs.Told.{EndsAsked, EndsSeveral, HasLines, IsSettled, IsSettledList}
 use Rattle.commands.proofs.Shown.{shown, taken_check}
@@ -20,6 +22,10 @@ returns-in-Ok-Some-clause-told g c = λ taken. some_told (job_of c.in-Ok-Some.in
 pub returns-in-Ok-Some-clause-several : goal.returns-in-Ok-Some-clause-several
 returns-in-Ok-Some-clause-several g c = λ taken. some_told (several_of c.in-Ok-Some.intent) (several_asked c.args.reading) (λ (several : Lists × List Text). IsSettledList (EndsSeveral several (g.S.TextSource.bytes_of c.args.console.now.texts.now) (g.O.Write.contents c.args.console.now.output, g.E.Write.contents c.args.console.now.errors)) (g.O.Write.contents c.grant.new.console.output, g.E.Write.contents c.grant.new.console.errors) c.grant.result)
     (ap (option_and_then several_of) (sym c.in-Ok-Some.field-0-is) ∙ c.in-Ok-Some.ensures.several) c.grant.ensures.several
+
+pub returns-in-Ok-Some-clause-folders : goal.returns-in-Ok-Some-clause-folders
+returns-in-Ok-Some-clause-folders g c = λ taken. some_told (folders_of c.in-Ok-Some.intent) (folders_asked c.args.reading) (λ (asked : Lacking × List Text). c.grant.result ≡ 0 → WritesSession (g.S.TextSource.bytes_of c.args.console.now.texts.now) (g.O.Write.contents c.args.console.now.output) (g.O.Write.contents c.grant.new.console.output))
+    (ap (option_and_then folders_of) (sym c.in-Ok-Some.field-0-is) ∙ c.in-Ok-Some.ensures.folders) c.grant.ensures.folders
 
 pub returns-in-Ok-Some-clause-plain : goal.returns-in-Ok-Some-clause-plain
 returns-in-Ok-Some-clause-plain g c = λ name names plain. if_some (asked_by name names) _ (λ job e. (
@@ -102,6 +108,12 @@ returns-in-Err-clause-told g c = λ taken. if_some (asked c.args.reading) _ (λ 
 pub returns-in-Err-clause-several : goal.returns-in-Err-clause-several
 returns-in-Err-clause-several g c = λ taken. if_some (several_asked c.args.reading) _ (λ several e.
     let alike = several_asked_alike c.args.reading several e in
+    let clash = (c.in-Err.ensures.err taken).0 in
+    absurd cc)
+
+pub returns-in-Err-clause-folders : goal.returns-in-Err-clause-folders
+returns-in-Err-clause-folders g c = λ taken. if_some (folders_asked c.args.reading) _ (λ folders e.
+    let alike = folders_asked_alike c.args.reading folders e in
     let clash = (c.in-Err.ensures.err taken).0 in
     absurd cc)
 

@@ -1,0 +1,4 @@
+pub mod Gained
+pub mod Opened
+pub mod Spelled
+pub mod Walked

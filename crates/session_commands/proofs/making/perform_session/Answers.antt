@@ -1,0 +1,9 @@
+use Rattle.command_texts.proofs.Fronts.{both_gain}
+use Rattle.session_commands.proofs.Gained.{unread_later}
+use Rattle.session_commands.proofs.making.perform_session.Goals as goal
+
+pub returns-in-Err-clause-unread : goal.returns-in-Err-clause-unread
+returns-in-Err-clause-unread g c = unread_later c.tell_stop.result _ _ _ c.make.ensures.gains.1 c.tell_stop.ensures.unread
+
+pub returns-in-Err-clause-gains : goal.returns-in-Err-clause-gains
+returns-in-Err-clause-gains g c = (c.make.ensures.gains.0, both_gain _ _ _ c.make.ensures.gains.1 c.tell_stop.ensures.gains)

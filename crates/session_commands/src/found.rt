@@ -1,0 +1,266 @@
+//! The files of recorders in folders.
+
+ghost use Rattle.std.specs.Prelude.{◌≡◌};
+ghost use Rattle.session_commands.specs.Files.{log_in};
+
+use crate::stops::{Stop, add, unread};
+use crate::words::push;
+use command_texts::TextSource;
+use migration_types::LogName;
+use recorded_files::Party;
+use std::alloc::{AllocError, Global};
+use std::io;
+use std::io::ErrorKind;
+use surveyed_logs::{Surveyed, read_file_name};
+
+/// The cause if a name is not that of a folder.
+const NO_FOLDER: &str = "it is not a directory";
+
+/// A file of a recorder, by its name.
+#[derive(Drop)]
+pub(crate) struct FoundFile {
+    pub(crate) path: String,
+    pub(crate) party: Party,
+    /// Its folder, counted from 0.
+    folder: usize,
+    /// The digits of its process.
+    digits: Vec<u8>,
+    /// Its process: the first file of this process, counted from 0.
+    pub(crate) process: usize,
+}
+
+/// The files of a log.
+#[derive(Drop)]
+pub(crate) struct FoundLog {
+    /// The names of the files that have a head.
+    pub(crate) paths: Vec<String>,
+    /// What each of these says, but for its records.
+    pub(crate) surveyed: Vec<Surveyed>,
+    /// The names of the files that end within their head.
+    pub(crate) headless: Vec<String>,
+    /// The names of all files, in their order.
+    pub(crate) names: Vec<String>,
+}
+
+/// The files of all logs.
+#[derive(Drop)]
+pub(crate) struct FoundLogs {
+    pub(crate) machine: FoundLog,
+    pub(crate) guest: FoundLog,
+    pub(crate) source: FoundLog,
+    pub(crate) link: FoundLog,
+    pub(crate) lane: FoundLog,
+    pub(crate) pager: FoundLog,
+}
+
+impl FoundLog {
+    /// Returns a log of no files.
+    fn new(alloc: Global) -> Self {
+        FoundLog {
+            paths: Vec::new(alloc),
+            surveyed: Vec::new(alloc),
+            headless: Vec::new(alloc),
+            names: Vec::new(alloc),
+        }
+    }
+
+    /// Returns whether it has no file.
+    pub(crate) fn is_empty(&self) -> bool {
+        self.names.is_empty()
+    }
+
+    /// Returns how many records its files have.
+    pub(crate) fn records(&self) -> u64 {
+        let mut records: u64 = 0;
+        for file in self.surveyed.iter() {
+            records = records.saturating_add(file.records);
+        }
+        records
+    }
+}
+
+impl FoundLogs {
+    /// Returns logs of no files.
+    pub(crate) fn new(alloc: Global) -> Self {
+        FoundLogs {
+            machine: FoundLog::new(alloc),
+            guest: FoundLog::new(alloc),
+            source: FoundLog::new(alloc),
+            link: FoundLog::new(alloc),
+            lane: FoundLog::new(alloc),
+            pager: FoundLog::new(alloc),
+        }
+    }
+
+    /// Returns the names of the files of a log that have a head.
+    pub(crate) fn paths(&self, log: LogName) -> &[String]
+        ensures { result.now ≡ (log_in self.now log).paths.items }
+    {
+        match log {
+            LogName::Guest => self.guest.paths.as_slice(),
+            LogName::Source => self.source.paths.as_slice(),
+            LogName::Link => self.link.paths.as_slice(),
+            LogName::Lane => self.lane.paths.as_slice(),
+            LogName::Pager => self.pager.paths.as_slice(),
+        }
+    }
+
+    /// Returns the log of a party.
+    pub(crate) fn log(&self, party: Party) -> &FoundLog {
+        match party {
+            Party::Machine => &self.machine,
+            Party::Of(LogName::Guest) => &self.guest,
+            Party::Of(LogName::Source) => &self.source,
+            Party::Of(LogName::Link) => &self.link,
+            Party::Of(LogName::Lane) => &self.lane,
+            Party::Of(LogName::Pager) => &self.pager,
+        }
+    }
+
+    /// Returns the log of a party, to be changed.
+    pub(crate) fn log_mut(&mut self, party: Party) -> &mut FoundLog {
+        match party {
+            Party::Machine => &mut self.machine,
+            Party::Of(LogName::Guest) => &mut self.guest,
+            Party::Of(LogName::Source) => &mut self.source,
+            Party::Of(LogName::Link) => &mut self.link,
+            Party::Of(LogName::Lane) => &mut self.lane,
+            Party::Of(LogName::Pager) => &mut self.pager,
+        }
+    }
+}
+
+/// Returns the path of what has this name in a folder.
+fn joined(alloc: Global, folder: &str, name: &str) -> Result<String, AllocError> {
+    let mut path = String::from_str(alloc, folder)?;
+    if !folder.is_empty() && !folder.ends_with('/') {
+        path.push('/')?;
+    }
+    path.push_str(name)?;
+    Ok(path)
+}
+
+/// Returns the process of a file: the first file of this process among those before it, or the file itself.
+fn process_of(files: &[FoundFile], folder: usize, digits: &[u8]) -> usize {
+    for i in 0..files.len() {
+        if files[i].folder == folder && files[i].digits.as_slice() == digits {
+            return i;
+        }
+    }
+    files.len()
+}
+
+/// Returns a copy of bytes.
+fn copied(alloc: Global, bytes: &[u8]) -> Result<Vec<u8>, AllocError> {
+    let mut copy = Vec::new(alloc);
+    copy.extend_from_slice(bytes)?;
+    Ok(copy)
+}
+
+/// Adds what has this name in a folder, if it is a recorder's file.
+fn push_file(
+    alloc: Global,
+    files: &mut Vec<FoundFile>,
+    folder: &str,
+    place: usize,
+    name: &str,
+) -> Result<(), AllocError> {
+    let Some((party, digits)) = read_file_name(name.as_bytes()) else {
+        return Ok(());
+    };
+    let process = process_of(files.as_slice(), place, digits);
+    let file = FoundFile {
+        path: joined(alloc, folder, name)?,
+        party,
+        folder: place,
+        digits: copied(alloc, digits)?,
+        process,
+    };
+    add(files, file)
+}
+
+/// Returns why a folder was not listed.
+fn unlisted(alloc: Global, folder: &str, error: &io::Error) -> Stop {
+    let Ok(name) = String::from_str(alloc, folder) else {
+        return Stop::Memory;
+    };
+    if error.kind() == ErrorKind::NotADirectory {
+        return Stop::File(name, NO_FOLDER);
+    }
+    unread(name, error)
+}
+
+/// Adds the recorders' files in a folder, by their names.
+fn push_files<S: TextSource>(
+    alloc: Global,
+    texts: &S,
+    files: &mut Vec<FoundFile>,
+    folder: &str,
+    place: usize,
+) -> Result<(), Stop> {
+    let mut names = match texts.names(alloc, folder) {
+        Ok(names) => names,
+        Err(error) => return Err(unlisted(alloc, folder, &error)),
+    };
+    names.sort()?;
+    for name in names.iter() {
+        push_file(alloc, files, folder, place, name.as_str())?;
+    }
+    Ok(())
+}
+
+/// Returns whether a folder is one of those before it.
+fn is_named_twice<S: TextSource>(texts: &S, folders: &[&str], place: usize) -> bool {
+    for before in 0..folders.len() {
+        if before < place
+            && place < folders.len()
+            && texts.is_one(folders[place], folders[before])
+        {
+            return true;
+        }
+    }
+    false
+}
+
+/// Returns the words on a folder that is named twice.
+fn twice(alloc: Global, folder: &str) -> Result<Stop, AllocError> {
+    let mut words = Vec::new(alloc);
+    push(&mut words, folder)?;
+    push(&mut words, " is named twice")?;
+    Ok(Stop::Unfit(words))
+}
+
+/// Returns the words on folders that have no file of a recorder.
+fn none(alloc: Global, folders: &[&str]) -> Result<Stop, AllocError> {
+    let mut words = Vec::new(alloc);
+    for i in 0..folders.len() {
+        if i > 0 {
+            push(&mut words, ", ")?;
+        }
+        push(&mut words, folders[i])?;
+    }
+    push(
+        &mut words,
+        ": there is no file of a recorder, PARTY.PROCESS.N",
+    )?;
+    Ok(Stop::Unfit(words))
+}
+
+/// Returns the recorders' files in folders, folder by folder, by their names.
+pub(crate) fn find_files<S: TextSource>(
+    alloc: Global,
+    texts: &S,
+    folders: &[&str],
+) -> Result<Vec<FoundFile>, Stop> {
+    let mut files = Vec::new(alloc);
+    for place in 0..folders.len() {
+        if is_named_twice(texts, folders, place) {
+            return Err(twice(alloc, folders[place])?);
+        }
+        push_files(alloc, texts, &mut files, folders[place], place)?;
+    }
+    if files.is_empty() {
+        return Err(none(alloc, folders)?);
+    }
+    Ok(files)
+}

@@ -1,0 +1,403 @@
+//! What logs lack, in words.
+
+use crate::faults::{GONE_ON, part_stop, push_last_place, push_path, twice_stop};
+use crate::found::FoundLog;
+use crate::places::{name_of, open_file};
+use crate::stops::{NOT_READ, Stop, add};
+use crate::words::{party_word, push, push_count, push_message};
+use command_texts::TextSource;
+use recorded_files::{FileReader, Party, Turn, next_turn};
+use std::alloc::{AllocError, Global};
+use std::io::Read;
+use surveyed_logs::{Lack, Part, count_records, find_lacks, find_parts};
+
+/// The first number that no record of a log has, and the least one above it that a record has.
+#[derive(Clone, Copy)]
+pub(crate) struct Hole {
+    pub(crate) first: u64,
+    pub(crate) behind: Option<u64>,
+}
+
+/// A system error that a recorder may meet, and its words.
+struct SystemError {
+    number: u32,
+    words: &'static str,
+}
+
+static SYSTEM_ERRORS: [SystemError; 33] = [
+    SystemError {
+        number: 1,
+        words: "Operation not permitted",
+    },
+    SystemError {
+        number: 2,
+        words: "No such file or directory",
+    },
+    SystemError {
+        number: 4,
+        words: "Interrupted system call",
+    },
+    SystemError {
+        number: 5,
+        words: "Input/output error",
+    },
+    SystemError {
+        number: 6,
+        words: "No such device or address",
+    },
+    SystemError {
+        number: 9,
+        words: "Bad file descriptor",
+    },
+    SystemError {
+        number: 11,
+        words: "Resource temporarily unavailable",
+    },
+    SystemError {
+        number: 12,
+        words: "Cannot allocate memory",
+    },
+    SystemError {
+        number: 13,
+        words: "Permission denied",
+    },
+    SystemError {
+        number: 14,
+        words: "Bad address",
+    },
+    SystemError {
+        number: 17,
+        words: "File exists",
+    },
+    SystemError {
+        number: 19,
+        words: "No such device",
+    },
+    SystemError {
+        number: 20,
+        words: "Not a directory",
+    },
+    SystemError {
+        number: 21,
+        words: "Is a directory",
+    },
+    SystemError {
+        number: 22,
+        words: "Invalid argument",
+    },
+    SystemError {
+        number: 23,
+        words: "Too many open files in system",
+    },
+    SystemError {
+        number: 24,
+        words: "Too many open files",
+    },
+    SystemError {
+        number: 26,
+        words: "Text file busy",
+    },
+    SystemError {
+        number: 27,
+        words: "File too large",
+    },
+    SystemError {
+        number: 28,
+        words: "No space left on device",
+    },
+    SystemError {
+        number: 30,
+        words: "Read-only file system",
+    },
+    SystemError {
+        number: 32,
+        words: "Broken pipe",
+    },
+    SystemError {
+        number: 36,
+        words: "File name too long",
+    },
+    SystemError {
+        number: 40,
+        words: "Too many levels of symbolic links",
+    },
+    SystemError {
+        number: 75,
+        words: "Value too large for defined data type",
+    },
+    SystemError {
+        number: 95,
+        words: "Operation not supported",
+    },
+    SystemError {
+        number: 103,
+        words: "Software caused connection abort",
+    },
+    SystemError {
+        number: 110,
+        words: "Connection timed out",
+    },
+    SystemError {
+        number: 116,
+        words: "Stale file handle",
+    },
+    SystemError {
+        number: 117,
+        words: "Structure needs cleaning",
+    },
+    SystemError {
+        number: 121,
+        words: "Remote I/O error",
+    },
+    SystemError {
+        number: 122,
+        words: "Disk quota exceeded",
+    },
+    SystemError {
+        number: 133,
+        words: "Memory page has hardware error",
+    },
+];
+
+/// Appends the words on a system error.
+fn push_system_error(out: &mut Vec<u8>, number: u32) -> Result<(), AllocError> {
+    for i in 0..SYSTEM_ERRORS.len() {
+        if SYSTEM_ERRORS[i].number == number {
+            return push(out, SYSTEM_ERRORS[i].words);
+        }
+    }
+    push(out, "Unknown error ")?;
+    push_count(out, u64::from(number))
+}
+
+/// Appends what is lacking of a log.
+fn push_lack(out: &mut Vec<u8>, log: &FoundLog, lack: Lack) -> Result<(), AllocError> {
+    match lack {
+        Lack::Begin { file, first, front } => {
+            push_path(out, log, file)?;
+            push(out, " begins with record ")?;
+            push_count(out, u64::from(first))?;
+            push(out, ", where the log has ")?;
+            push_count(out, front)?;
+            push(out, " in front of it: ")?;
+            push(out, GONE_ON)
+        }
+        Lack::End { file } => {
+            push_path(out, log, file)?;
+            push(
+                out,
+                " has no end: its process died, or did not close the log (postcopy_log_close, or Log.close)",
+            )
+        }
+        Lack::Record { file, errno } => {
+            push_last_place(out, log, file)?;
+            push(out, ": a record was not written: ")?;
+            push_system_error(out, errno)
+        }
+        Lack::Heir { file, count } => {
+            push_last_place(out, log, file)?;
+            push(out, ": handed over with ")?;
+            push_count(out, u64::from(count))?;
+            push(out, " records, and there is no file of who went on")
+        }
+    }
+}
+
+/// Returns a line that begins with the word of a party.
+pub(crate) fn line_on(alloc: Global, party: Party) -> Result<Vec<u8>, AllocError> {
+    let mut line = Vec::new(alloc);
+    push(&mut line, party_word(party))?;
+    push(&mut line, ": ")?;
+    Ok(line)
+}
+
+/// Adds what is said of the files that end within their head.
+fn tell_headless(
+    said: &mut Vec<u8>,
+    alloc: Global,
+    party: Party,
+    log: &FoundLog,
+) -> Result<(), AllocError> {
+    for path in log.headless.iter() {
+        let mut line = line_on(alloc, party)?;
+        push(&mut line, path.as_str())?;
+        push(
+            &mut line,
+            " ends in its head: its process died as it began the file",
+        )?;
+        push_message(said, line.as_slice())?;
+    }
+    Ok(())
+}
+
+/// Returns the parts of a log.
+fn parts_of(alloc: Global, party: Party, log: &FoundLog) -> Result<Vec<Part>, Stop> {
+    match find_parts(alloc, log.surveyed.as_slice()) {
+        Ok(parts) => Ok(parts),
+        Err(fault) => Err(part_stop(alloc, party, log, fault)),
+    }
+}
+
+/// Returns how many records a log has by its parts.
+pub(crate) fn count_of(alloc: Global, party: Party, log: &FoundLog) -> Result<u64, Stop> {
+    let parts = parts_of(alloc, party, log)?;
+    Ok(count_records(parts.as_slice()))
+}
+
+/// Adds what is said of a log's parts. Returns how many records the log has by them.
+pub(crate) fn tell_lacks(
+    said: &mut Vec<u8>,
+    alloc: Global,
+    party: Party,
+    log: &FoundLog,
+) -> Result<u64, Stop> {
+    tell_headless(said, alloc, party, log)?;
+    let parts = parts_of(alloc, party, log)?;
+    let lacks = find_lacks(alloc, parts.as_slice())?;
+    for lack in lacks.iter() {
+        let mut line = line_on(alloc, party)?;
+        push_lack(&mut line, log, *lack)?;
+        push_message(said, line.as_slice())?;
+    }
+    Ok(count_records(parts.as_slice()))
+}
+
+/// Appends which records are missing.
+fn push_missing(out: &mut Vec<u8>, first: u64, end: u64) -> Result<(), AllocError> {
+    let last = end.saturating_sub(1);
+    if last <= first {
+        push(out, "record ")?;
+        push_count(out, first)?;
+        return push(out, " is missing");
+    }
+    push(out, "records ")?;
+    push_count(out, first)?;
+    push(out, " to ")?;
+    push_count(out, last)?;
+    push(out, " are missing")
+}
+
+/// Adds what is said of the records that are missing in a log that has so many by its parts, if some are. `rest` is what
+/// is said behind it.
+pub(crate) fn tell_missing(
+    said: &mut Vec<u8>,
+    alloc: Global,
+    party: Party,
+    log: &FoundLog,
+    count: u64,
+    hole: Hole,
+    rest: &str,
+) -> Result<(), AllocError> {
+    if hole.first >= count {
+        return Ok(());
+    }
+    let end = match hole.behind {
+        Some(behind) => behind,
+        None => count,
+    };
+    let mut line = line_on(alloc, party)?;
+    let left_out = log.records().saturating_sub(hole.first);
+    if left_out > 0 && party != Party::Machine {
+        push_count(&mut line, left_out)?;
+        push(&mut line, " records left out: ")?;
+    }
+    push_missing(&mut line, hole.first, end)?;
+    push(&mut line, rest)?;
+    push_message(said, line.as_slice())
+}
+
+/// Returns why a file of a log was not read.
+pub(crate) fn unread_file(alloc: Global, log: &FoundLog, file: usize) -> Stop {
+    let path = if file < log.paths.len() {
+        log.paths[file].as_str()
+    } else {
+        ""
+    };
+    match String::from_str(alloc, path) {
+        Ok(path) => Stop::File(path, NOT_READ),
+        Err(_) => Stop::Memory,
+    }
+}
+
+/// The files of a log, and the number of the next record of each.
+#[derive(Drop)]
+struct Scan<R: Read + Drop> {
+    files: Vec<FileReader<R>>,
+    heads: Vec<Option<u64>>,
+}
+
+/// Opens the files of a log, and reads each on to its first record.
+fn open_scan<S: TextSource>(
+    alloc: Global,
+    texts: &S,
+    party: Party,
+    log: &FoundLog,
+) -> Result<Scan<S::Text>, Stop> {
+    let mut files = Vec::new(alloc);
+    let mut heads = Vec::new(alloc);
+    for path in log.paths.iter() {
+        let mut file = open_file(alloc, texts, party, path.as_str())?;
+        match file.next() {
+            Ok(head) => add(&mut heads, head)?,
+            Err(_) => return Err(name_of(alloc, path.as_str())),
+        }
+        add(&mut files, file)?;
+    }
+    Ok(Scan { files, heads })
+}
+
+impl<R: Read + Drop> Scan<R> {
+    /// Reads a file on to its next record. Returns whether it was read.
+    fn read_on(&mut self, file: usize) -> bool {
+        if file >= self.files.len() || file >= self.heads.len() {
+            return false;
+        }
+        match self.files[file].next() {
+            Ok(head) => {
+                self.heads[file] = head;
+                true
+            }
+            Err(_) => false,
+        }
+    }
+}
+
+/// Returns the first number that no record of a log has, and the least one above it. Reads on to the end of each file, so
+/// that it is known that no two records have one number.
+pub(crate) fn find_hole<S: TextSource>(
+    alloc: Global,
+    texts: &S,
+    party: Party,
+    log: &FoundLog,
+) -> Result<Hole, Stop> {
+    let mut scan = open_scan(alloc, texts, party, log)?;
+    let mut hole: Option<Hole> = None;
+    let mut wanted: u64 = 0;
+    for _ in 0..u64::MAX {
+        match next_turn(scan.heads.as_slice(), wanted) {
+            Turn::Of(file) => {
+                if !scan.read_on(file) {
+                    return Err(unread_file(alloc, log, file));
+                }
+                wanted = wanted.saturating_add(1);
+            }
+            Turn::Twice(_, file) => {
+                return Err(twice_stop(alloc, texts, party, log, wanted, file));
+            }
+            Turn::Missing(least) => {
+                if hole.is_none() {
+                    hole = Some(Hole {
+                        first: wanted,
+                        behind: Some(least),
+                    });
+                }
+                wanted = least;
+            }
+            Turn::End => break,
+        }
+    }
+    Ok(hole.unwrap_or(Hole {
+        first: wanted,
+        behind: None,
+    }))
+}

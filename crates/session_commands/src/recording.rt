@@ -1,0 +1,53 @@
+//! The recording that files make.
+
+ghost use Rattle.std.specs.Prelude.{◌≡◌, true};
+ghost use Rattle.recordings.specs.Recordings.{IsMachine};
+ghost use Rattle.recordings.specs.Wide.{extent_of};
+
+use crate::files::OpenedLogs;
+use command_texts::TextSource;
+use migration_types::MOST_CELLS;
+use recordings::{BEYOND, Machine, Visitor, WideInit};
+use std::alloc::Global;
+use walked_logs::{Messages, WalkFault, walk_logs};
+use written_recordings::Visited;
+
+/// The recording that files make: the machine, its initial pages, the files, and the messages in them.
+#[derive(Drop)]
+pub(crate) struct FileRecording<'a, S> {
+    pub(crate) machine: Machine,
+    pub(crate) init: Vec<WideInit>,
+    pub(crate) files: OpenedLogs<'a, S>,
+    pub(crate) messages: &'a Messages,
+}
+
+/// Returns whether a recording may have this machine.
+pub(crate) fn is_machine(machine: &Machine) -> bool
+    ensures { result ≡ true → IsMachine (extent_of machine.now) }
+{
+    machine.pages >= 1
+        && machine.pages < BEYOND
+        && machine.cells >= 1
+        && machine.cells <= MOST_CELLS
+}
+
+impl<S: TextSource> Visited for FileRecording<'_, S> {
+    type Fault = WalkFault;
+
+    ghost use Rattle.session_commands.specs.Files.{IsOfFiles};
+
+    ghost is_recording = { λ self s. IsOfFiles S.bytes_of self s };
+
+    fn visit<V: Visitor>(self, alloc: Global, visitor: &mut V) -> Result<(), WalkFault> {
+        let FileRecording {
+            machine,
+            init,
+            files,
+            messages,
+        } = self;
+        if !is_machine(&machine) {
+            return Err(WalkFault::Changed);
+        }
+        walk_logs(alloc, &machine, init, &files, messages, visitor)
+    }
+}
