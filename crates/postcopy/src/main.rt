@@ -5,7 +5,8 @@
 //! line sums up, in words. `replay SESSION RUNS` writes the outcome of a merging. `draw SESSION` draws a session's
 //! records. `steps SCRIPT EVENTS` writes the session that events record from a script. `migrate SCRIPT` migrates the
 //! script's guest in threads, and writes the session that was recorded, followed by its certificate. `window RECORDING
-//! FIRST COUNT` writes the session of some pages of a recording of any size. With `-o FILE` the answer goes to a file.
+//! FIRST COUNT` writes the session of some pages of a recording of any size. `session FOLDER ..` makes the session of the
+//! files that recorders left in folders. With `-o FILE` the answer goes to a file.
 //!
 //! A file named `-` is standard input. If two files are, the first text ends with the first line `end`. Without words,
 //! the program does `check - -`.
@@ -18,8 +19,10 @@
 
 ghost use Rattle.std.specs.Prelude.{◌≤◌};
 
+mod folders;
 mod saving;
 
+use crate::folders::WithFolders;
 use crate::saving::{Draft, is_one_file};
 use command_texts::{
     Closable, Console, Fault, STANDARD_OUTPUT, TextSource, USAGE, cause_of, tell, write_or_why,
@@ -29,9 +32,9 @@ use refusal_words::push_quote;
 use std::alloc::{AllocError, Global};
 use std::env::FillError;
 use std::fs::OpenFile;
-use std::io::{ErrorKind, Input, Write};
+use std::io::{ErrorKind, Input, Read, Write};
 use std::net::{Net, TcpListener, TcpStream};
-use std::os::unix::fs::FileTypeExt;
+use std::os::unix::fs::{FileTypeExt, MetadataExt};
 use std::process::ExitCode;
 use std::random::RandomSource;
 use std::rt::{Env, Files};
@@ -43,6 +46,37 @@ use std::{env, fs, io, str};
 #[derive(Drop)]
 struct Disk<'a, R> {
     rt: &'a R,
+}
+
+// How many bytes of names are read at a time. A read takes whole names alone, so it needs room for the longest.
+const NAMES_BYTES: usize = 65_536;
+
+// Returns the names in a folder, each ended by a byte 0.
+fn listed<R: Files>(rt: &R, alloc: Global, folder: &str) -> io::Result<Vec<u8>> {
+    if folder.is_empty() {
+        return Err(io::Error::from(ErrorKind::NotFound));
+    }
+    let path = format!(in alloc; "{folder}/")?;
+    let mut opened = rt.open_dir(path.as_str())?;
+    let mut piece = vec![in alloc; 0u8; NAMES_BYTES]?;
+    let mut names = Vec::new(alloc);
+    for _ in 0..u64::MAX {
+        let count = opened.read(piece.as_mut_slice())?;
+        if count == 0 {
+            break;
+        }
+        names.extend_from_slice(&piece[..count])?;
+    }
+    Ok(names)
+}
+
+// Adds a name to a list, if it is UTF-8 and that of something in a folder.
+fn push_name(alloc: Global, names: &mut Vec<String>, name: &[u8]) -> Result<(), AllocError> {
+    match str::from_utf8(name) {
+        Ok("" | "." | "..") | Err(_) => {}
+        Ok(name) => names.push(String::from_str(alloc, name)?)?,
+    }
+    Ok(())
 }
 
 impl<R: Files> TextSource for Disk<'_, R>
@@ -63,6 +97,22 @@ where
         match fs::metadata(self.rt, name) {
             Ok(found) => !found.file_type().is_fifo(),
             Err(_) => true,
+        }
+    }
+
+    fn names(&self, alloc: Global, folder: &str) -> io::Result<Vec<String>> {
+        let listed = listed(self.rt, alloc, folder)?;
+        let mut names = Vec::new(alloc);
+        for name in listed.as_slice().split(|byte| *byte == 0) {
+            push_name(alloc, &mut names, name)?;
+        }
+        Ok(names)
+    }
+
+    fn is_one(&self, folder: &str, other: &str) -> bool {
+        match (fs::metadata(self.rt, folder), fs::metadata(self.rt, other)) {
+            (Ok(folder), Ok(other)) => folder.dev() == other.dev() && folder.ino() == other.ino(),
+            _ => folder == other,
         }
     }
 }
@@ -127,24 +177,23 @@ fn refuse_words<R: Env, E: Write>(rt: &R, alloc: Global, error: &io::Error, erro
 }
 
 // Does what the words ask for, and writes the answer to this output. Puts the table of a window's lines into `lines`.
-fn answer<R, O: Write, E: Write>(
+fn answer<R, S: TextSource, O: Write, E: Write>(
     rt: &R,
     alloc: Global,
+    texts: &S,
     reading: Reading<'_>,
     output: &mut O,
     errors: &mut E,
     lines: &mut Option<Vec<u8>>,
 ) -> u8
 where
-    R: Threads + Wait + Sync + Net<Listener = TcpListener, Stream = TcpStream> + Files + Input,
-    R::File: Send,
+    R: Threads + Wait + Sync + Net<Listener = TcpListener, Stream = TcpStream> + Input,
     R::Reader: Send,
 {
-    let files = Disk { rt };
     let mut console = Console {
         rt,
         alloc,
-        texts: &files,
+        texts,
         input: rt.reader(),
         output,
         errors,
@@ -237,9 +286,10 @@ fn put<'a, R: Files + RandomSource, O: Write>(
 
 // Does what the words ask for. The answer goes to the file that the words name, if an answer with its status goes to a
 // file, and else to the output.
-fn answer_into<R, O: Write, E: Write>(
+fn answer_into<R, S: TextSource, O: Write, E: Write>(
     rt: &R,
     alloc: Global,
+    texts: &S,
     reading: Reading<'_>,
     targets: Targets<'_>,
     output: &mut O,
@@ -248,12 +298,11 @@ fn answer_into<R, O: Write, E: Write>(
 where
     R: Threads + Wait + Sync + Net<Listener = TcpListener, Stream = TcpStream> + Files + Input,
     R: RandomSource,
-    R::File: Send,
     R::Reader: Send,
 {
     let mut text = Vec::new(alloc);
     let mut table = None;
-    let status = answer(rt, alloc, reading, &mut text, errors, &mut table);
+    let status = answer(rt, alloc, texts, reading, &mut text, errors, &mut table);
     let written = Written { text, table };
     match put(rt, alloc, targets.at(status), &written, output) {
         Ok(()) => status,
@@ -276,9 +325,10 @@ fn refuse_targets<E: Write>(errors: &mut E) -> u8 {
 }
 
 // Does what the words ask for, and writes the answer where they say.
-fn answer_to<R, O: Write, E: Write>(
+fn answer_to<R, S: TextSource, O: Write, E: Write>(
     rt: &R,
     alloc: Global,
+    texts: &S,
     words: &[&str],
     output: &mut O,
     errors: &mut E,
@@ -286,7 +336,6 @@ fn answer_to<R, O: Write, E: Write>(
 where
     R: Threads + Wait + Sync + Net<Listener = TcpListener, Stream = TcpStream> + Files + Input,
     R: RandomSource,
-    R::File: Send,
     R::Reader: Send,
 {
     let Ok(reading) = read_words(alloc, words) else {
@@ -294,13 +343,13 @@ where
     };
     let targets = reading.targets();
     if targets.lines.is_none() && targets.output.is_none() {
-        return answer(rt, alloc, reading, output, errors, &mut None);
+        return answer(rt, alloc, texts, reading, output, errors, &mut None);
     }
     match are_one(rt, alloc, targets) {
         Ok(true) => refuse_targets(errors),
         Err(error) if error.kind() == ErrorKind::OutOfMemory => tell(Fault::Memory, errors),
         // If it cannot be known, the writing fails and says so.
-        Ok(false) | Err(_) => answer_into(rt, alloc, reading, targets, output, errors),
+        Ok(false) | Err(_) => answer_into(rt, alloc, texts, reading, targets, output, errors),
     }
 }
 
@@ -314,6 +363,12 @@ fn main(rt: HostRuntime) -> ExitCode {
     let Ok(words) = slices(alloc, words.as_slice()) else {
         return ExitCode::from(tell(Fault::Memory, &mut errors));
     };
+    let words = words.as_slice();
+    let texts = WithFolders {
+        rt: &rt,
+        disk: Disk { rt: &rt },
+        words,
+    };
     let mut output = Closable::new(rt.stdout());
-    ExitCode::from(answer_to(&rt, alloc, words.as_slice(), &mut output, &mut errors))
+    ExitCode::from(answer_to(&rt, alloc, &texts, words, &mut output, &mut errors))
 }
