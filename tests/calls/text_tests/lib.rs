@@ -43,9 +43,13 @@ mod sessions;
 #[cfg(test)]
 mod slow;
 #[cfg(test)]
+mod surveys;
+#[cfg(test)]
 mod texts;
 #[cfg(test)]
 mod values;
+#[cfg(test)]
+mod walked_records;
 
 use text_lines::{FaultKind, TextFault};
 

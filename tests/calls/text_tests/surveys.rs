@@ -1,0 +1,292 @@
+//! What the files of a log say of it but for its records, and what it lacks.
+
+use migration_types::LogName;
+use recorded_files::{FileFault, FileReader, Last, Opening, Party};
+use std::alloc::Global;
+use surveyed_logs::{
+    DescribeFault, Lack, Left, MachineLog, MachineLogFault, Part, PartFault, Surveyed,
+    count_records, find_lacks, find_parts, read_file_name, survey,
+};
+
+#[test]
+fn reads_the_name_of_a_file(rt: HostRuntime) {
+    assert!(rt; read_file_name(b"machine.12.3") == Some((Party::Machine, &b"12"[..])));
+    assert!(rt; read_file_name(b"lane.0.300") == Some((Party::Of(LogName::Lane), &b"0"[..])));
+    assert!(rt; read_file_name(b"guest.1.").is_none());
+    assert!(rt; read_file_name(b"guest..1").is_none());
+    assert!(rt; read_file_name(b"guest.1").is_none());
+    assert!(rt; read_file_name(b"guests.1.1").is_none());
+    assert!(rt; read_file_name(b"pager.1.1x").is_none());
+    assert!(rt; read_file_name(b".pager.1.1").is_none());
+}
+
+const GUEST: Party = Party::Of(LogName::Guest);
+
+/// A surveyed file of the guest.
+fn file(process: usize, opening: u32, first: u32, next: u64, last: Option<Last>) -> Surveyed {
+    Surveyed {
+        process,
+        opening: Opening {
+            party: GUEST,
+            first,
+            file: opening,
+        },
+        records: 0,
+        next,
+        last,
+    }
+}
+
+static FILE: &[u8] = b"postcopy-records 1
+recording a
+log guest 7 2
+7 halt
+9 resume 3
+next 12
+";
+
+#[test]
+fn surveys_a_file(rt: HostRuntime) {
+    let found = match FileReader::open(rt.alloc(), GUEST, FILE) {
+        Ok(Some(file)) => {
+            let mut file = file;
+            survey(4, &mut file)
+        }
+        _ => Err(FileFault::File),
+    };
+    let opening = Opening {
+        party: GUEST,
+        first: 7,
+        file: 2,
+    };
+    assert!(rt;
+        found
+            == Ok(Surveyed {
+                process: 4,
+                opening,
+                records: 2,
+                next: 10,
+                last: Some(Last::Next(12))
+            })
+    );
+}
+
+#[test]
+fn finds_the_parts_of_a_log_and_what_it_lacks(rt: HostRuntime) {
+    let files = [
+        file(0, 0, 0, 3, None),
+        file(1, 0, 5, 9, Some(Last::Lost(28))),
+        file(0, 0, 0, 2, Some(Last::Next(4))),
+        file(2, 1, 10, 10, None),
+    ];
+    let Ok(parts) = find_parts(rt.alloc(), &files) else {
+        assert!(rt; false);
+        return;
+    };
+    assert!(rt; parts.len() == 3);
+    assert!(rt;
+        parts[0]
+            == Part {
+                file: 0,
+                first: 0,
+                count: 4,
+                left: Some(Left {
+                    file: 2,
+                    last: Last::Next(4)
+                })
+            }
+    );
+    assert!(rt;
+        parts[1]
+            == Part {
+                file: 1,
+                first: 5,
+                count: 9,
+                left: Some(Left {
+                    file: 1,
+                    last: Last::Lost(28)
+                })
+            }
+    );
+    assert!(rt;
+        parts[2]
+            == Part {
+                file: 3,
+                first: 10,
+                count: 10,
+                left: None
+            }
+    );
+    assert!(rt; count_records(&parts) == 10);
+    let Ok(lacks) = find_lacks(rt.alloc(), &parts) else {
+        assert!(rt; false);
+        return;
+    };
+    assert!(rt; lacks.len() == 4);
+    assert!(rt; lacks[0] == Lack::Heir { file: 2, count: 4 });
+    assert!(rt;
+        lacks[1]
+            == Lack::Begin {
+                file: 1,
+                first: 5,
+                front: 4
+            }
+    );
+    assert!(rt; lacks[2] == Lack::Record { file: 1, errno: 28 });
+    assert!(rt; lacks[3] == Lack::End { file: 3 });
+}
+
+/// Why two files make no parts.
+fn fault(alloc: Global, one: Surveyed, other: Surveyed) -> Option<PartFault> {
+    let files = [one, other];
+    match find_parts(alloc, &files) {
+        Ok(_) => None,
+        Err(fault) => Some(fault),
+    }
+}
+
+#[test]
+fn tells_why_files_make_no_parts(rt: HostRuntime) {
+    let alloc = rt.alloc();
+    let end = Some(Last::End(3));
+    assert!(rt;
+        fault(alloc, file(0, 0, 0, 3, end), file(0, 0, 1, 3, None)) == Some(PartFault::Begin(1, 0))
+    );
+    assert!(rt;
+        fault(alloc, file(0, 0, 0, 3, end), file(0, 0, 0, 4, None)) == Some(PartFault::Behind(1, 0))
+    );
+    assert!(rt;
+        fault(alloc, file(0, 0, 0, 4, None), file(0, 0, 0, 3, end)) == Some(PartFault::Before(1, 0))
+    );
+    assert!(rt;
+        fault(alloc, file(0, 0, 0, 3, end), file(0, 0, 0, 3, end)) == Some(PartFault::Ends(1, 0))
+    );
+    assert!(rt; fault(alloc, file(0, 0, 0, 3, end), file(0, 0, 0, 3, None)).is_none());
+    assert!(rt; fault(alloc, file(0, 0, 0, 3, end), file(1, 0, 0, 4, end)).is_none());
+}
+
+static MACHINE: &[u8] = b"postcopy-records 1
+recording a
+log machine 0 0
+0 page 3 000000000000000000000000000000ab
+1 pages 4 2
+4 page 0 00000000000000010000000000000000
+";
+
+static MORE: &[u8] = b"postcopy-records 1
+recording a
+log machine 0 0
+2 page 1 00000000000000000000000000000000
+end 5
+";
+
+static TWICE: &[u8] = b"postcopy-records 1
+recording a
+log machine 0 0
+2 page 3 00000000000000000000000000000000
+end 5
+";
+
+static NONE: &[u8] = b"postcopy-records 1
+recording a
+log machine 0 0
+2 page 4 0000000000000000000000000000000g
+";
+
+static OUTSIDE: &[u8] = b"postcopy-records 1
+recording a
+log machine 0 0
+2 page 4 00000000000000000000000000000000
+";
+
+static NARROW: &[u8] = b"postcopy-records 1
+recording a
+log machine 0 0
+2 page 2 0000000000000000
+";
+
+static SAME: &[u8] = b"postcopy-records 1
+recording a
+log machine 0 0
+4 page 2 0000000000000000
+";
+
+static PAGES: &[u8] = b"postcopy-records 1
+recording a
+log machine 0 0
+2 pages 9 1
+";
+
+/// Takes a file of the machine's log.
+fn take(alloc: Global, log: &mut MachineLog, bytes: &'static [u8]) -> Result<(), MachineLogFault> {
+    match FileReader::open(alloc, Party::Machine, bytes) {
+        Ok(Some(file)) => {
+            let mut file = file;
+            log.take(alloc, &mut file)
+        }
+        Ok(None) => Ok(()),
+        Err(fault) => Err(MachineLogFault::File(fault)),
+    }
+}
+
+/// What two files describe.
+fn fault_of(alloc: Global, one: &'static [u8], other: &'static [u8]) -> Option<DescribeFault> {
+    let mut log = MachineLog::new(alloc);
+    if take(alloc, &mut log, one).is_err() || take(alloc, &mut log, other).is_err() {
+        return Some(DescribeFault::Memory);
+    }
+    match log.describe(alloc) {
+        Ok(_) => None,
+        Err(fault) => Some(fault),
+    }
+}
+
+#[test]
+fn describes_a_machine(rt: HostRuntime) {
+    let alloc = rt.alloc();
+    let mut log = MachineLog::new(alloc);
+    assert!(rt; take(alloc, &mut log, MACHINE).is_ok());
+    assert!(rt; take(alloc, &mut log, MORE).is_ok());
+    assert!(rt; take(alloc, &mut MachineLog::new(alloc), NONE) == Err(MachineLogFault::Record(2)));
+    let Ok(found) = log.describe(alloc) else {
+        assert!(rt; false);
+        return;
+    };
+    assert!(rt;
+        found.pages == 4
+            && found.cells == 2
+            && found.init.len() == 2
+            && found.front == 3
+            && found.behind == Some(4)
+    );
+    assert!(rt; found.init[0].page == 0 && found.init[0].cells.as_slice() == [1u64, 0].as_slice());
+    assert!(rt;
+        found.init[1].page == 3 && found.init[1].cells.as_slice() == [0u64, 0xab].as_slice()
+    );
+}
+
+#[test]
+fn tells_why_a_log_describes_no_machine(rt: HostRuntime) {
+    let alloc = rt.alloc();
+    assert!(rt; fault_of(alloc, MORE, MORE) == Some(DescribeFault::Number(2)));
+    assert!(rt; fault_of(alloc, MACHINE, SAME) == Some(DescribeFault::Number(4)));
+    assert!(rt; fault_of(alloc, MORE, SAME) == Some(DescribeFault::NoPages));
+    assert!(rt; fault_of(alloc, MACHINE, PAGES) == Some(DescribeFault::Pages(2, 1)));
+    assert!(rt; fault_of(alloc, MACHINE, TWICE) == Some(DescribeFault::Page(2, 0)));
+    assert!(rt;
+        fault_of(alloc, MACHINE, OUTSIDE)
+            == Some(DescribeFault::Outside {
+                number: 2,
+                page: 4,
+                pages: 4
+            })
+    );
+    assert!(rt;
+        fault_of(alloc, MACHINE, NARROW)
+            == Some(DescribeFault::Contents {
+                number: 2,
+                found: 1,
+                cells: 2
+            })
+    );
+}

@@ -1,0 +1,304 @@
+//! Recordings that are gone through as the files of their logs are read.
+
+ghost use Rattle.std.specs.Prelude.{⊤, []};
+
+use crate::recorder_files::{Slow, opened};
+use gathered_logs::{GatherFault, LogFault};
+use migration_types::{Contents, LogName, Size, Version};
+use recorded_files::{FileReader, Party};
+use recordings::{
+    Machine, Visitor, WideGuest, WideInit, WideLane, WideLink, WidePager, WideSource,
+};
+use std::alloc::{AllocError, Global};
+use walked_logs::{LogFiles, WalkFault, note_messages, walk_logs};
+
+static MACHINE: Machine = Machine {
+    version: Version::Two,
+    size: Size::Large,
+    pages: 4,
+    cells: 1,
+};
+
+static GUEST: &[u8] = b"postcopy-records 1
+recording a
+log guest 0 0
+0 halt
+1 miss 3 2
+";
+
+static SOURCE: &[u8] = b"postcopy-records 1
+recording a
+log source 0 0
+0 halted 0
+1 state
+2 send 2 00000000000000ab
+3 ask-sent 1
+4 send 3 00000000000000ac
+5 ask-sent 9
+end 6
+";
+
+static PAGER: &[u8] = b"postcopy-records 1
+recording a
+log pager 0 0
+0 got-sent 1
+1 want 2
+2 pull-sent 2
+3 got-sent 4
+4 place 2 2 00000000000000ab
+";
+
+/// A pager's log that takes one packet less.
+static FEWER: &[u8] = b"postcopy-records 1
+recording a
+log pager 0 0
+0 got-sent 1
+1 want 2
+2 pull-sent 2
+3 want 3
+4 place 2 2 00000000000000ab
+";
+
+/// A log of the link, whose third record is missing.
+static LINK: &[u8] = b"postcopy-records 1
+recording a
+log link 0 0
+0 down 7
+1 up 6
+3 down 8
+";
+
+/// A pager's log that takes the messages of that log.
+static NUMBERED: &[u8] = b"postcopy-records 1
+recording a
+log pager 0 0
+0 got 0
+1 want 2
+";
+
+/// A file of each log, where the log has one.
+#[derive(Drop)]
+struct Files {
+    guest: &'static [u8],
+    source: &'static [u8],
+    link: &'static [u8],
+    lane: &'static [u8],
+    pager: &'static [u8],
+}
+
+impl LogFiles for Files {
+    type File = Slow;
+
+    ghost bytes_of = { λ files log. [] };
+
+    fn open(&self, alloc: Global, log: LogName) -> Result<Vec<FileReader<Slow>>, GatherFault> {
+        let text = match log {
+            LogName::Guest => self.guest,
+            LogName::Source => self.source,
+            LogName::Link => self.link,
+            LogName::Lane => self.lane,
+            LogName::Pager => self.pager,
+        };
+        let mut files = Vec::new(alloc);
+        match opened(alloc, Party::Of(log), text, 7) {
+            Ok(Some(file)) => match files.push(file) {
+                Ok(()) => Ok(files),
+                Err(_) => Err(GatherFault::Memory),
+            },
+            Ok(None) => Ok(files),
+            Err(fault) => Err(GatherFault::File(0, fault)),
+        }
+    }
+}
+
+/// Writes what it meets.
+#[derive(Drop)]
+struct Writing {
+    text: Vec<u8>,
+}
+
+impl Writing {
+    /// Appends a log's word and a record's number.
+    fn begin(&mut self, log: &str, number: u64) -> Result<(), AllocError> {
+        self.text.extend_from_slice(log.as_bytes())?;
+        self.text.extend_from_slice(b" ")?;
+        self.text
+            .extend_from_slice(&[b'0' + (number % 10) as u8, b' '])
+    }
+}
+
+impl Visitor for Writing {
+    ghost IsNew = { λ visitor. ⊤ };
+
+    ghost Met = { λ visitor recording. ⊤ };
+
+    fn machine(&mut self, machine: &Machine) -> Result<(), AllocError> {
+        self.begin("machine", machine.pages)?;
+        self.text.extend_from_slice(b"\n")
+    }
+
+    fn init(&mut self, page: WideInit) -> Result<(), AllocError> {
+        page.push(&mut self.text)
+    }
+
+    fn guest(&mut self, number: u64, rec: WideGuest) -> Result<(), AllocError> {
+        self.begin("guest", number)?;
+        rec.push(&mut self.text)
+    }
+
+    fn source(&mut self, number: u64, rec: WideSource) -> Result<(), AllocError> {
+        self.begin("source", number)?;
+        rec.push(&mut self.text)
+    }
+
+    fn link(&mut self, number: u64, rec: WideLink) -> Result<(), AllocError> {
+        self.begin("link", number)?;
+        rec.push(&mut self.text)
+    }
+
+    fn lane(&mut self, number: u64, rec: WideLane) -> Result<(), AllocError> {
+        self.begin("lane", number)?;
+        rec.push(&mut self.text)
+    }
+
+    fn pager(&mut self, number: u64, rec: WidePager) -> Result<(), AllocError> {
+        self.begin("pager", number)?;
+        rec.push(&mut self.text)
+    }
+}
+
+/// Whether the files make this recording, once messages were noted of the first files.
+fn makes(alloc: Global, first: &Files, files: &Files, told: &[u8]) -> Result<bool, WalkFault> {
+    let mut init = Vec::new(alloc);
+    let page = WideInit {
+        page: 1,
+        cells: Contents::one(5),
+    };
+    if init.push(page).is_err() {
+        return Err(WalkFault::Memory);
+    }
+    let messages = note_messages(alloc, &MACHINE, first)?;
+    let mut writing = Writing {
+        text: Vec::new(alloc),
+    };
+    walk_logs(alloc, &MACHINE, init, files, &messages, &mut writing)?;
+    Ok(writing.text.as_slice() == told)
+}
+
+/// Files of which only the receivers told of messages.
+fn told_files() -> Files {
+    Files {
+        guest: GUEST,
+        source: SOURCE,
+        link: b"",
+        lane: b"",
+        pager: PAGER,
+    }
+}
+
+#[test]
+fn goes_through_the_deliveries_of_messages(rt: HostRuntime) {
+    let told = b"machine 4 
+page 1 0000000000000005
+guest 0 halt
+guest 1 miss 3 2
+source 0 halted 0
+source 1 state
+source 2 send 2 00000000000000ab
+source 3 ask 1
+source 4 send 3 00000000000000ac
+source 5 ask 4294967295
+link 0 down 1
+link 1 up 1
+link 2 down 4
+lane 0 down 2
+pager 0 got 0
+pager 1 want 2
+pager 2 pull 0
+pager 3 got 2
+pager 4 place 2 2 00000000000000ab
+";
+    assert!(rt; makes(rt.alloc(), &told_files(), &told_files(), told) == Ok(true));
+}
+
+#[test]
+fn goes_through_the_links_own_log_up_to_its_hole(rt: HostRuntime) {
+    let files = Files {
+        guest: b"",
+        source: b"",
+        link: LINK,
+        lane: b"",
+        pager: NUMBERED,
+    };
+    let told = b"machine 4 
+page 1 0000000000000005
+link 0 down 7
+link 1 up 6
+pager 0 got 0
+pager 1 want 2
+";
+    assert!(rt; makes(rt.alloc(), &files, &files, told) == Ok(true));
+}
+
+#[test]
+fn refuses_a_message_of_a_log_that_has_files(rt: HostRuntime) {
+    let files = Files {
+        guest: b"",
+        source: SOURCE,
+        link: LINK,
+        lane: b"",
+        pager: PAGER,
+    };
+    let fault = WalkFault::OwnLog(LogName::Link, LogName::Source, 3);
+    assert!(rt; makes(rt.alloc(), &files, &files, b"") == Err(fault));
+    let files = Files {
+        guest: b"",
+        source: b"",
+        link: LINK,
+        lane: b"",
+        pager: PAGER,
+    };
+    let fault = WalkFault::OwnLog(LogName::Link, LogName::Pager, 0);
+    assert!(rt; makes(rt.alloc(), &files, &files, b"") == Err(fault));
+}
+
+#[test]
+fn tells_that_the_files_have_changed(rt: HostRuntime) {
+    let fewer = Files {
+        guest: GUEST,
+        source: SOURCE,
+        link: b"",
+        lane: b"",
+        pager: FEWER,
+    };
+    let none = Files {
+        guest: GUEST,
+        source: b"",
+        link: b"",
+        lane: b"",
+        pager: PAGER,
+    };
+    let changed = Err(WalkFault::Changed);
+    assert!(rt; makes(rt.alloc(), &fewer, &told_files(), b"") == changed);
+    assert!(rt; makes(rt.alloc(), &told_files(), &fewer, b"") == changed);
+    assert!(rt; makes(rt.alloc(), &none, &told_files(), b"") == changed);
+    assert!(rt; makes(rt.alloc(), &told_files(), &none, b"") == changed);
+}
+
+#[test]
+fn tells_which_log_is_wrong(rt: HostRuntime) {
+    let files = Files {
+        guest: GUEST,
+        source: GUEST,
+        link: b"",
+        lane: b"",
+        pager: PAGER,
+    };
+    let noted = note_messages(rt.alloc(), &MACHINE, &files);
+    assert!(rt;
+        matches!(
+            noted,
+            Err(WalkFault::Log(LogName::Source, LogFault::Files(_)))
+        )
+    );
+}
