@@ -584,6 +584,9 @@ def redirected(program, words, how):
 # Words, with the name of the input that is not there, no file, or a standard input that cannot be read.
 NO_FILE, FOLDER = "no such file or directory", "it is a directory"
 
+# Why a folder with no files of recorders is no session, and the line before that.
+NO_SESSION, NO_RECORDING = "its files make no session", "session: {}: there is no file of a recorder, PARTY.PROCESS.N\n"
+
 # Words of which a text is not read, the name that is told, and why, where it is not the standard input that fails.
 UNREAD = (
     ("audit -", "-", None),
@@ -593,15 +596,15 @@ UNREAD = (
     ("", "-", None),
     ("certify missing", "missing", NO_FILE),
     ("check session ''", "", NO_FILE),
-    ("audit .", ".", FOLDER),
-    ("check . certificate", ".", FOLDER),
-    ("check session .", ".", FOLDER),
-    ("replay session .", ".", FOLDER),
-    ("steps script .", ".", FOLDER),
+    ("audit .", ".", NO_SESSION),
+    ("check . certificate", ".", NO_SESSION),
+    ("check session .", ".", NO_SESSION),
+    ("replay session .", ".", NO_SESSION),
+    ("steps script .", ".", NO_SESSION),
     ("window - 0 1", "-", NOT_THE_SAME.decode().strip().removeprefix(": ")),
-    ("window . 0 1", ".", FOLDER),
+    ("window . 0 1", ".", NO_SESSION),
     ("window missing 0 1", "missing", NO_FILE),
-    ("explain --lines . session", ".", FOLDER),
+    ("explain --lines . session", ".", NO_SESSION),
     ("audit session/x", "session/x", "a part of its path is not a directory"),
     (f"audit {'x' * 5000}", "x" * 5000, "its name is too long"),
     ("audit 'a b\nc'", '"a b\\u000ac"', NO_FILE),
@@ -648,7 +651,8 @@ def streams(program):
             yield words, how, redirected(program, words, "")
     for words, name, cause in UNREAD:
         for how, why in (("<&-", CLOSED), ("< .", FOLDER), ("0> /dev/null", CLOSED)):
-            yield words, how, (3, b"", f"file {name}\n{name}: {cause or why}\n".encode())
+            front = NO_RECORDING.format(name) if cause == NO_SESSION else ""
+            yield words, how, (3, b"", f"{front}file {name}\n{name}: {cause or why}\n".encode())
         for how in ("<&- 2>&-", "< . 2> /dev/full"):
             yield words, how, (3, b"", b"")
     for words in NO_COMMANDS:

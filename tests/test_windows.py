@@ -230,7 +230,7 @@ def wrong_words(tests):
     for words, wanted in (
         (("-", 0, 1), ("", f"file -\n-{NOT_THE_SAME}", 3)),
         (("none", 0, 1), ("", "file none\nnone: no such file or directory\n", 3)),
-        (("folder", 0, 1), ("", "file folder\nfolder: it is a directory\n", 3)),
+        (("folder", 0, 1), ("", "session: folder: there is no file of a recorder, PARTY.PROCESS.N\nfile folder\nfolder: its files make no session\n", 3)),
         (("recording", 4, 1), ("no-such-pages\n", "", 1)),
         (("recording", 0, 0), ("no-such-pages\n", "", 1)),
         (("cut", 0, 1), ("recording-text line 4\n", CUT, 1)),
