@@ -8,5 +8,5 @@ mod telling;
 
 pub use gatherers::{GatherFault, Gatherer};
 pub use records::LogRecord;
-pub use taking::{LogFault, Refusal, Taker, TakingFault, take_records};
+pub use taking::{LogFault, RecordTaker, TakeRefusal, TakingFault, take_records};
 pub use telling::{Noter, gather_pager, gather_source};

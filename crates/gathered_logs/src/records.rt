@@ -3,12 +3,12 @@
 ghost use Rattle.std.specs.Prelude.{◌≡◌, ◌≢◌, ℕ, List, IfOk, IfErr};
 ghost use Rattle.recordings.specs.Recordings.{IsMachine, IsGuestRecOf, IsLaneRecOf, IsLinkRecOf};
 ghost use Rattle.recordings.specs.Wide.{extent_of, guest_of, lane_of, link_of};
-ghost use Rattle.recordings.specs.declared.machine.Machine.{Machine as Described};
+ghost use Rattle.recordings.specs.declared.machine.WideMachine.{WideMachine as Described};
 ghost use Rattle.recorded_files.specs.Raw.{raw_source_line, raw_pager_line, IsRawSourceOf, IsRawPagerOf};
 ghost use Rattle.session_log.specs.Records.{guest_line, lane_line, link_line};
 
 use recorded_files::{RawPager, RawSource};
-use recordings::{Machine, WideGuest, WideLane, WideLink};
+use recordings::{WideGuest, WideLane, WideLink, WideMachine};
 use std::alloc::Global;
 use text_lines::FaultKind;
 
@@ -25,7 +25,7 @@ pub trait LogRecord: Drop {
     /// # Errors
     ///
     /// The line spells none, or memory was refused for its contents.
-    fn read_line(alloc: Global, machine: &Machine, text: &[u8]) -> Result<Self, FaultKind>
+    fn read_line(alloc: Global, machine: &WideMachine, text: &[u8]) -> Result<Self, FaultKind>
         requires { IsMachine (extent_of machine.now) }
         ensures found { IfOk result (λ r. IsOf machine.now r × (text.now ≡ line r)) }
         ensures refused { IfErr result (λ kind. kind ≢ FaultKind.Memory → (r : Self) → IsOf machine.now r → text.now ≢ line r) };
@@ -36,7 +36,11 @@ impl LogRecord for WideGuest {
 
     ghost IsOf = { λ machine r. IsGuestRecOf (extent_of machine) (guest_of r) };
 
-    fn read_line(alloc: Global, machine: &Machine, text: &[u8]) -> Result<WideGuest, FaultKind> {
+    fn read_line(
+        alloc: Global,
+        machine: &WideMachine,
+        text: &[u8],
+    ) -> Result<WideGuest, FaultKind> {
         let _ = alloc;
         WideGuest::read(machine, text)
     }
@@ -47,7 +51,11 @@ impl LogRecord for RawSource {
 
     ghost IsOf = { λ machine r. IsRawSourceOf (extent_of machine) r };
 
-    fn read_line(alloc: Global, machine: &Machine, text: &[u8]) -> Result<RawSource, FaultKind> {
+    fn read_line(
+        alloc: Global,
+        machine: &WideMachine,
+        text: &[u8],
+    ) -> Result<RawSource, FaultKind> {
         RawSource::read(alloc, machine, text)
     }
 }
@@ -57,7 +65,7 @@ impl LogRecord for WideLink {
 
     ghost IsOf = { λ machine r. IsLinkRecOf (link_of r) };
 
-    fn read_line(alloc: Global, machine: &Machine, text: &[u8]) -> Result<WideLink, FaultKind> {
+    fn read_line(alloc: Global, machine: &WideMachine, text: &[u8]) -> Result<WideLink, FaultKind> {
         let _ = alloc;
         let _ = machine;
         WideLink::read(text)
@@ -69,7 +77,7 @@ impl LogRecord for WideLane {
 
     ghost IsOf = { λ machine r. IsLaneRecOf machine.version (lane_of r) };
 
-    fn read_line(alloc: Global, machine: &Machine, text: &[u8]) -> Result<WideLane, FaultKind> {
+    fn read_line(alloc: Global, machine: &WideMachine, text: &[u8]) -> Result<WideLane, FaultKind> {
         let _ = alloc;
         WideLane::read(machine, text)
     }
@@ -80,7 +88,7 @@ impl LogRecord for RawPager {
 
     ghost IsOf = { λ machine r. IsRawPagerOf machine.version (extent_of machine) r };
 
-    fn read_line(alloc: Global, machine: &Machine, text: &[u8]) -> Result<RawPager, FaultKind> {
+    fn read_line(alloc: Global, machine: &WideMachine, text: &[u8]) -> Result<RawPager, FaultKind> {
         RawPager::read(alloc, machine, text)
     }
 }

@@ -10,7 +10,7 @@ ghost use Rattle.gathered_logs.specs.inner.Noting.{IsTextFault, TakesText};
 
 use crate::gatherers::{GatherFault, Gatherer};
 use crate::records::LogRecord;
-use recordings::Machine;
+use recordings::WideMachine;
 use std::alloc::Global;
 use std::io::Read;
 use text_lines::FaultKind;
@@ -32,7 +32,7 @@ pub enum LogFault {
 
 /// Why a taker does not take a record.
 #[derive(Clone, Copy, Debug, PartialEq, Eq)]
-pub enum Refusal {
+pub enum TakeRefusal {
     /// The record is not for it.
     Unfit,
     /// Memory was refused.
@@ -49,7 +49,7 @@ pub enum TakingFault {
 }
 
 /// A taker of a log's records, with what they are put onto.
-pub trait Taker<K: LogRecord, S> {
+pub trait RecordTaker<K: LogRecord, S> {
     /// From the first taker, with what it put records onto, the second came by these records.
     ghost Takes: { Self → S → Self → S → List K → Type 0 };
 
@@ -61,15 +61,15 @@ pub trait Taker<K: LogRecord, S> {
     /// # Errors
     ///
     /// The record is not for the taker, or memory was refused.
-    fn take(&mut self, onto: &mut S, number: u64, rec: K) -> Result<(), Refusal>
+    fn take(&mut self, onto: &mut S, number: u64, rec: K) -> Result<(), TakeRefusal>
         ensures taken { (first : Self) (from : S) (records : List K) → number ≡ length records → Takes first from self.old onto.old records → OnOk result (Takes first from self.new onto.new (records ++ rec ∷ [])) }
-        ensures unfit { IfErr result (λ refusal. refusal ≡ Refusal.Unfit → IsUnfit self.old number rec) };
+        ensures unfit { IfErr result (λ refusal. refusal ≡ TakeRefusal.Unfit → IsUnfit self.old number rec) };
 }
 
 /// Takes the record of this number, whose text this is.
-fn take_text<K: LogRecord, S, T: Taker<K, S>>(
+fn take_text<K: LogRecord, S, T: RecordTaker<K, S>>(
     alloc: Global,
-    machine: &Machine,
+    machine: &WideMachine,
     text: &[u8],
     number: u64,
     taker: &mut T,
@@ -82,8 +82,8 @@ fn take_text<K: LogRecord, S, T: Taker<K, S>>(
     match K::read_line(alloc, machine, text) {
         Ok(rec) => match taker.take(onto, number, rec) {
             Ok(()) => Ok(()),
-            Err(Refusal::Unfit) => Err(TakingFault::Unfit(number)),
-            Err(Refusal::Memory) => Err(TakingFault::Log(LogFault::Memory)),
+            Err(TakeRefusal::Unfit) => Err(TakingFault::Unfit(number)),
+            Err(TakeRefusal::Memory) => Err(TakingFault::Log(LogFault::Memory)),
         },
         Err(kind) => {
             if kind == FaultKind::Memory {
@@ -113,9 +113,9 @@ fn missing(fault: GatherFault) -> Option<u64>
 ///
 /// What is wrong with the files, or that a record is none of the party's, or is not for the taker. Nothing is promised about the taker
 /// afterwards.
-pub fn take_records<K: LogRecord, S, T: Taker<K, S>, R: Read + Drop>(
+pub fn take_records<K: LogRecord, S, T: RecordTaker<K, S>, R: Read + Drop>(
     alloc: Global,
-    machine: &Machine,
+    machine: &WideMachine,
     files: &mut Gatherer<R>,
     taker: &mut T,
     onto: &mut S,

@@ -14,9 +14,9 @@ ghost use Rattle.gathered_logs.specs.inner.Noting.{Adds};
 
 use crate::gatherers::{GatherFault, Gatherer};
 use crate::records::LogRecord;
-use crate::taking::{LogFault, Refusal, Taker, TakingFault, take_records};
+use crate::taking::{LogFault, RecordTaker, TakeRefusal, TakingFault, take_records};
 use recorded_files::{RawPager, RawSource, Told};
-use recordings::Machine;
+use recordings::WideMachine;
 use std::alloc::Global;
 use std::io::Read;
 
@@ -24,38 +24,38 @@ use std::io::Read;
 #[derive(Clone, Copy)]
 pub struct Noter;
 
-impl Taker<RawPager, Told> for Noter {
+impl RecordTaker<RawPager, Told> for Noter {
     ghost Takes = { λ first from now onto records. (source : List Taken) → Tells from [] source → Tells onto records source };
 
     ghost IsUnfit = { λ taker number rec. ⊥ };
 
-    fn take(&mut self, onto: &mut Told, number: u64, rec: RawPager) -> Result<(), Refusal> {
+    fn take(&mut self, onto: &mut Told, number: u64, rec: RawPager) -> Result<(), TakeRefusal> {
         let _ = number;
         match onto.note_pager(&rec) {
             Ok(()) => Ok(()),
-            Err(_) => Err(Refusal::Memory),
+            Err(_) => Err(TakeRefusal::Memory),
         }
     }
 }
 
-impl Taker<RawSource, Told> for Noter {
+impl RecordTaker<RawSource, Told> for Noter {
     ghost Takes = { λ first from now onto records. (pager : List Received) → Tells from pager [] → Tells onto pager records };
 
     ghost IsUnfit = { λ taker number rec. ⊥ };
 
-    fn take(&mut self, onto: &mut Told, number: u64, rec: RawSource) -> Result<(), Refusal> {
+    fn take(&mut self, onto: &mut Told, number: u64, rec: RawSource) -> Result<(), TakeRefusal> {
         let _ = number;
         match onto.note_source(&rec) {
             Ok(()) => Ok(()),
-            Err(_) => Err(Refusal::Memory),
+            Err(_) => Err(TakeRefusal::Memory),
         }
     }
 }
 
 /// Takes the records of a log, which is gathered from its files, with a taker that any record is for.
-fn gather<K: LogRecord, T: Taker<K, Told>, R: Read + Drop>(
+fn gather<K: LogRecord, T: RecordTaker<K, Told>, R: Read + Drop>(
     alloc: Global,
-    machine: &Machine,
+    machine: &WideMachine,
     files: &mut Gatherer<R>,
     taker: &mut T,
     told: &mut Told,
@@ -81,7 +81,7 @@ fn gather<K: LogRecord, T: Taker<K, Told>, R: Read + Drop>(
 /// What is wrong with the files, or that a record is none of the pager's. Nothing is promised about the messages afterwards.
 pub fn gather_pager<R: Read + Drop>(
     alloc: Global,
-    machine: &Machine,
+    machine: &WideMachine,
     files: &mut Gatherer<R>,
     told: &mut Told,
 ) -> Result<(), LogFault>
@@ -101,7 +101,7 @@ pub fn gather_pager<R: Read + Drop>(
 /// What is wrong with the files, or that a record is none of the source's. Nothing is promised about the messages afterwards.
 pub fn gather_source<R: Read + Drop>(
     alloc: Global,
-    machine: &Machine,
+    machine: &WideMachine,
     files: &mut Gatherer<R>,
     told: &mut Told,
 ) -> Result<(), LogFault>

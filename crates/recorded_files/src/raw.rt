@@ -8,7 +8,7 @@ ghost use Rattle.recorded_files.specs.Raw.{lost_number, raw_source_line, raw_pag
 ghost use Rattle.recorded_files.specs.declared.raw.RawSource.{RawSource as Taken};
 ghost use Rattle.recorded_files.specs.declared.raw.RawPager.{RawPager as Received};
 
-use recordings::{Machine, WidePager, WideSource};
+use recordings::{WideMachine, WidePager, WideSource};
 use std::alloc::{AllocError, Global};
 use text_lines::{FaultKind, push_keyed, read_keyed};
 
@@ -55,7 +55,7 @@ impl RawSource {
     /// # Errors
     ///
     /// The line spells none, or memory ran out for the contents.
-    pub fn read(alloc: Global, machine: &Machine, line: &[u8]) -> Result<RawSource, FaultKind>
+    pub fn read(alloc: Global, machine: &WideMachine, line: &[u8]) -> Result<RawSource, FaultKind>
         requires { IsMachine (extent_of machine.now) }
         ensures found { IfOk result (λ r. IsRawSourceOf (extent_of machine.now) r × (line.now ≡ raw_source_line r)) }
         ensures refused { IfErr result (λ kind. kind ≢ FaultKind.Memory → (r : Taken) → IsRawSourceOf (extent_of machine.now) r → line.now ≢ raw_source_line r) }
@@ -86,7 +86,7 @@ impl RawPager {
     /// # Errors
     ///
     /// The line spells none, or memory ran out for the contents.
-    pub fn read(alloc: Global, machine: &Machine, line: &[u8]) -> Result<RawPager, FaultKind>
+    pub fn read(alloc: Global, machine: &WideMachine, line: &[u8]) -> Result<RawPager, FaultKind>
         requires { IsMachine (extent_of machine.now) }
         ensures found { IfOk result (λ r. IsRawPagerOf machine.now.version (extent_of machine.now) r × (line.now ≡ raw_pager_line r)) }
         ensures refused { IfErr result (λ kind. kind ≢ FaultKind.Memory → (r : Received) → IsRawPagerOf machine.now.version (extent_of machine.now) r → line.now ≢ raw_pager_line r) }

@@ -5,7 +5,7 @@ ghost use Rattle.std.specs.Prelude.{◌≡◌, OnOk};
 use crate::names::{named_by_guest, named_by_lane, named_by_link, named_by_pager, named_by_source};
 use crate::naming::Naming;
 use recordings::{
-    Machine, Visitor, WideGuest, WideInit, WideLane, WideLink, WidePager, WideSource,
+    Visitor, WideGuest, WideInit, WideLane, WideLink, WideMachine, WidePager, WideSource,
 };
 use std::alloc::AllocError;
 
@@ -16,7 +16,7 @@ impl Visitor for Naming {
 
     ghost Met = { IsNaming };
 
-    fn machine(&mut self, machine: &Machine) -> Result<(), AllocError> {
+    fn machine(&mut self, machine: &WideMachine) -> Result<(), AllocError> {
         let _ = machine;
         let _naming = &self.guest;
         Ok(())

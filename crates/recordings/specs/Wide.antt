@@ -11,7 +11,7 @@ use Rattle.migration_types.specs.declared.records.LaneRec.TheVariants as lane
 use Rattle.migration_types.specs.declared.records.PagerRec.{PagerRec}
 use Rattle.migration_types.specs.declared.records.PagerRec.TheVariants as pager
 use Rattle.migration_types.specs.Extents.{Extent}
-use Rattle.recordings.specs.declared.machine.Machine.{Machine}
+use Rattle.recordings.specs.declared.machine.WideMachine.{WideMachine}
 use Rattle.recordings.specs.declared.wide.WideInit.{WideInit}
 use Rattle.recordings.specs.declared.wide.WideGuest.{WideGuest}
 use Rattle.recordings.specs.declared.wide.WideGuest.TheVariants.{Read, Write, Release, Miss, Halt, Resume, See}
@@ -25,7 +25,7 @@ use Rattle.recordings.specs.declared.wide.WidePager.{WidePager}
 use Rattle.recordings.specs.declared.wide.WidePager.TheVariants.{Got, Pull, Ready, Fault, Join, Want, Place, Zero, Skip, All}
 
 -- the extent of a recording's machine: its text gives its size, but the limits of that size do not apply
-abbrev pub extent_of : Machine → Extent
+abbrev pub extent_of : WideMachine → Extent
 extent_of m = record { size = m.size; pages = m.pages; cells = m.cells }
 
 abbrev pub init_of : WideInit → InitPage

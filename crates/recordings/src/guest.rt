@@ -8,7 +8,7 @@ ghost use Rattle.recordings.specs.Wide.{extent_of, guest_of};
 ghost use Rattle.session_log.specs.inner.Forms.{IsEvent};
 
 use crate::fields::{keyed_whole, number_whole};
-use crate::machine::{BEYOND, Machine};
+use crate::machine::{BEYOND, WideMachine};
 use crate::wide::WideGuest;
 use migration_types::LAST_VCPU;
 use std::alloc::AllocError;
@@ -33,7 +33,7 @@ const SEE_KEY: &[u8] = b"see ";
 
 /// Returns the processor, page, cell and value that the text spells.
 #[inline(always)]
-fn access_whole(machine: &Machine, text: &[u8]) -> Option<(u8, u64, u16, u64)>
+fn access_whole(machine: &WideMachine, text: &[u8]) -> Option<(u8, u64, u16, u64)>
     requires { IsMachine (extent_of machine.now) }
     ensures found { IfSome result (λ a. (a.0 < 64) × (a.1 < machine.now.pages) × (a.2 < machine.now.cells) × (a.3 < 2 ^ 64) × (text.now ≡ access_text a.0 a.1 a.2 a.3)) }
     ensures none { IfNone result ((v p c x : ℕ) → v < 64 → p < machine.now.pages → c < machine.now.cells → x < 2 ^ 64 → text.now ≢ access_text v p c x) }
@@ -55,7 +55,7 @@ fn access_whole(machine: &Machine, text: &[u8]) -> Option<(u8, u64, u16, u64)>
 
 /// Returns the processor and the page that the text spells.
 #[inline(always)]
-fn vcpu_page_whole(machine: &Machine, text: &[u8]) -> Option<(u8, u64)>
+fn vcpu_page_whole(machine: &WideMachine, text: &[u8]) -> Option<(u8, u64)>
     requires { IsMachine (extent_of machine.now) }
     ensures found { IfSome result (λ a. (a.0 < 64) × (a.1 < machine.now.pages) × (text.now ≡ vcpu_page_text a.0 a.1)) }
     ensures none { IfNone result ((v p : ℕ) → v < 64 → p < machine.now.pages → text.now ≢ vcpu_page_text v p) }
@@ -70,7 +70,7 @@ fn vcpu_page_whole(machine: &Machine, text: &[u8]) -> Option<(u8, u64)>
 }
 
 /// Returns the record that a line spells, if it is not a read or a write.
-fn read_event(machine: &Machine, line: &[u8]) -> Option<WideGuest>
+fn read_event(machine: &WideMachine, line: &[u8]) -> Option<WideGuest>
     requires { IsMachine (extent_of machine.now) }
     ensures found { IfSome result (λ r. IsGuestRecOf (extent_of machine.now) (guest_of r) × (line.now ≡ guest_line (guest_of r))) }
     ensures none { IfNone result ((r : GuestRec) → IsEvent r → IsGuestRecOf (extent_of machine.now) r → line.now ≢ guest_line r) }
@@ -100,7 +100,7 @@ fn read_event(machine: &Machine, line: &[u8]) -> Option<WideGuest>
 }
 
 /// Returns the record that a line spells.
-fn read_record(machine: &Machine, line: &[u8]) -> Option<WideGuest>
+fn read_record(machine: &WideMachine, line: &[u8]) -> Option<WideGuest>
     requires { IsMachine (extent_of machine.now) }
     ensures found { IfSome result (λ r. IsGuestRecOf (extent_of machine.now) (guest_of r) × (line.now ≡ guest_line (guest_of r))) }
     ensures none { IfNone result ((r : GuestRec) → IsGuestRecOf (extent_of machine.now) r → line.now ≢ guest_line r) }
@@ -167,7 +167,7 @@ impl WideGuest {
     /// # Errors
     ///
     /// The line does not spell one.
-    pub fn read(machine: &Machine, line: &[u8]) -> Result<WideGuest, FaultKind>
+    pub fn read(machine: &WideMachine, line: &[u8]) -> Result<WideGuest, FaultKind>
         requires { IsMachine (extent_of machine.now) }
         ensures found { IfOk result (λ r. IsGuestRecOf (extent_of machine.now) (guest_of r) × (line.now ≡ guest_line (guest_of r))) }
         ensures refused { IfErr result (λ kind. kind ≢ FaultKind.Memory → (r : GuestRec) → IsGuestRecOf (extent_of machine.now) r → line.now ≢ guest_line r) }

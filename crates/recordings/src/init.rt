@@ -9,7 +9,7 @@ ghost use Rattle.session_log.specs.inner.InitPages.{IsInitContent};
 ghost use Rattle.recordings.specs.Recordings.{IsMachine};
 ghost use Rattle.recordings.specs.Wide.{extent_of, init_of};
 
-use crate::machine::Machine;
+use crate::machine::WideMachine;
 use crate::wide::WideInit;
 use crate::writing::push_page;
 use migration_types::Contents;
@@ -44,7 +44,7 @@ impl WideInit {
     /// # Errors
     ///
     /// The page's number is out of range, the line does not have the right form, or memory runs out.
-    pub fn read(alloc: Global, machine: &Machine, line: &[u8]) -> Result<WideInit, FaultKind>
+    pub fn read(alloc: Global, machine: &WideMachine, line: &[u8]) -> Result<WideInit, FaultKind>
         requires { IsMachine (extent_of machine.now) }
         ensures found { IfOk result (λ p. InitPageFits (extent_of machine.now) (init_of p) × (line.now ≡ page_line (init_of p))) }
         ensures refused { IfErr result (λ kind. kind ≢ FaultKind.Memory → (p : InitPage) → InitPageFits (extent_of machine.now) p → line.now ≢ page_line p) }

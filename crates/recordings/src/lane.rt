@@ -8,7 +8,7 @@ ghost use Rattle.recordings.specs.Wide.{lane_of};
 
 use crate::fields::lane_number;
 use crate::link::DOWN_KEY;
-use crate::machine::Machine;
+use crate::machine::WideMachine;
 use crate::wide::WideLane;
 use std::alloc::AllocError;
 use text_lines::{FaultKind, push_keyed};
@@ -19,7 +19,7 @@ impl WideLane {
     /// # Errors
     ///
     /// The line does not spell one.
-    pub fn read(machine: &Machine, line: &[u8]) -> Result<WideLane, FaultKind>
+    pub fn read(machine: &WideMachine, line: &[u8]) -> Result<WideLane, FaultKind>
         ensures found { IfOk result (λ r. IsLaneRecOf machine.now.version (lane_of r) × (line.now ≡ lane_line (lane_of r))) }
         ensures refused { IfErr result (λ kind. kind ≢ FaultKind.Memory → (r : LaneRec) → IsLaneRecOf machine.now.version r → line.now ≢ lane_line r) }
     {

@@ -27,7 +27,7 @@ mod writing;
 pub use laws::{
     lines_are_plain, lines_are_short, lines_tell_records, recordings_fit, sessions_are_recordings,
 };
-pub use machine::{BEYOND, Machine};
+pub use machine::{BEYOND, WideMachine};
 pub use reading::read_behind;
 use reading::walk_through;
 use refusal_words::Misread;

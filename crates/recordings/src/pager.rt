@@ -9,7 +9,7 @@ ghost use Rattle.recordings.specs.Wide.{extent_of, pager_of};
 ghost use Rattle.session_log.specs.inner.Forms.{IsNotice};
 
 use crate::fields::{keyed_whole, lane_number};
-use crate::machine::{BEYOND, Machine};
+use crate::machine::{BEYOND, WideMachine};
 use crate::wide::WidePager;
 use migration_types::Contents;
 use session_log::{push_contents, read_page_contents};
@@ -41,7 +41,7 @@ const ALL: &[u8] = b"all";
 /// Returns the page, the number and the contents that the text spells.
 fn placed_whole(
     alloc: Global,
-    machine: &Machine,
+    machine: &WideMachine,
     text: &[u8],
 ) -> Result<(u64, u64, Contents), FaultKind>
     requires { IsMachine (extent_of machine.now) }
@@ -59,7 +59,7 @@ fn placed_whole(
 }
 
 /// Returns the record that a line spells, if it is not a placement.
-fn read_notice(machine: &Machine, line: &[u8]) -> Option<WidePager>
+fn read_notice(machine: &WideMachine, line: &[u8]) -> Option<WidePager>
     requires { IsMachine (extent_of machine.now) }
     ensures found { IfSome result (λ r. IsPagerRecOf machine.now.version (extent_of machine.now) (pager_of r) × (line.now ≡ pager_line (pager_of r))) }
     ensures none { IfNone result ((r : PagerRec) → IsNotice r → IsPagerRecOf machine.now.version (extent_of machine.now) r → line.now ≢ pager_line r) }
@@ -100,7 +100,7 @@ impl WidePager {
     /// # Errors
     ///
     /// The line does not spell one, or memory runs out.
-    pub fn read(alloc: Global, machine: &Machine, line: &[u8]) -> Result<WidePager, FaultKind>
+    pub fn read(alloc: Global, machine: &WideMachine, line: &[u8]) -> Result<WidePager, FaultKind>
         requires { IsMachine (extent_of machine.now) }
         ensures found { IfOk result (λ r. IsPagerRecOf machine.now.version (extent_of machine.now) (pager_of r) × (line.now ≡ pager_line (pager_of r))) }
         ensures refused { IfErr result (λ kind. kind ≢ FaultKind.Memory → (r : PagerRec) → IsPagerRecOf machine.now.version (extent_of machine.now) r → line.now ≢ pager_line r) }

@@ -9,7 +9,7 @@ ghost use Rattle.recordings.specs.Recordings.{IsCount};
 ghost use Rattle.recordings.specs.inner.Stands.{Holds, Steps, of_header, with_pages, announcing, behind_one};
 
 use crate::{
-    BEYOND, Machine, Visitor, WideGuest, WideInit, WideLane, WideLink, WidePager, WideSource,
+    BEYOND, Visitor, WideGuest, WideInit, WideLane, WideLink, WideMachine, WidePager, WideSource,
 };
 use migration_types::{MOST_CELLS, Version};
 use session_log::{
@@ -53,7 +53,7 @@ pub(crate) struct Place {
     /// Where the contents of pages are allocated.
     pub(crate) alloc: Global,
     /// The machine, as far as it was read.
-    pub(crate) machine: Machine,
+    pub(crate) machine: WideMachine,
     /// The least number of the next initial page.
     pub(crate) low: u64,
     /// How many items of the stage's list were read.

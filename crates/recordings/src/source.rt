@@ -10,7 +10,7 @@ ghost use Rattle.recordings.specs.Wide.{extent_of, source_of};
 ghost use Rattle.session_log.specs.inner.Forms.{IsStep};
 
 use crate::fields::keyed_whole;
-use crate::machine::{BEYOND, Machine};
+use crate::machine::{BEYOND, WideMachine};
 use crate::wide::WideSource;
 use crate::writing::push_page;
 use migration_types::{Contents, Size};
@@ -33,7 +33,11 @@ const DONE: &[u8] = b"done";
 const BACK: &[u8] = b"back";
 
 /// Returns the page and the contents that the text spells.
-fn sent_whole(alloc: Global, machine: &Machine, text: &[u8]) -> Result<(u64, Contents), FaultKind>
+fn sent_whole(
+    alloc: Global,
+    machine: &WideMachine,
+    text: &[u8],
+) -> Result<(u64, Contents), FaultKind>
     requires { IsMachine (extent_of machine.now) }
     ensures found { IfOk result (λ a. (a.0 < machine.now.pages) × IsContent machine.now.cells a.1 × (text.now ≡ page_text a.0 a.1)) }
     ensures refused { IfErr result (λ kind. kind ≢ FaultKind.Memory → (p : ℕ) (xs : List ℕ) → p < machine.now.pages → IsContent machine.now.cells xs → text.now ≢ page_text p xs) }
@@ -46,7 +50,7 @@ fn sent_whole(alloc: Global, machine: &Machine, text: &[u8]) -> Result<(u64, Con
 }
 
 /// Returns the record that a line spells, if it is not a sending.
-fn read_step(machine: &Machine, line: &[u8]) -> Option<WideSource>
+fn read_step(machine: &WideMachine, line: &[u8]) -> Option<WideSource>
     ensures found { IfSome result (λ r. IsSourceRecOf (extent_of machine.now) (source_of r) × (line.now ≡ source_line (source_of r))) }
     ensures none { IfNone result ((r : SourceRec) → IsStep r → IsSourceRecOf (extent_of machine.now) r → line.now ≢ source_line r) }
 {
@@ -84,7 +88,7 @@ impl WideSource {
     /// # Errors
     ///
     /// The line does not spell one, or memory runs out.
-    pub fn read(alloc: Global, machine: &Machine, line: &[u8]) -> Result<WideSource, FaultKind>
+    pub fn read(alloc: Global, machine: &WideMachine, line: &[u8]) -> Result<WideSource, FaultKind>
         requires { IsMachine (extent_of machine.now) }
         ensures found { IfOk result (λ r. IsSourceRecOf (extent_of machine.now) (source_of r) × (line.now ≡ source_line (source_of r))) }
         ensures refused { IfErr result (λ kind. kind ≢ FaultKind.Memory → (r : SourceRec) → IsSourceRecOf (extent_of machine.now) r → line.now ≢ source_line r) }

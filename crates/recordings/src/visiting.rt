@@ -6,7 +6,7 @@ ghost use Rattle.recordings.specs.Recordings.{IsMachine};
 ghost use Rattle.recordings.specs.Seen.{nothing_of, with_init, with_guest, with_source, with_link, with_lane, with_pager, BeforeGuest, BeforeSource, BeforeLink, BeforeLane, BeforePager};
 ghost use Rattle.recordings.specs.Wide.{extent_of, init_of, guest_of, source_of, link_of, lane_of, pager_of};
 
-use crate::machine::Machine;
+use crate::machine::WideMachine;
 use crate::wide::{WideGuest, WideInit, WideLane, WideLink, WidePager, WideSource};
 use std::alloc::AllocError;
 
@@ -23,7 +23,7 @@ pub trait Visitor {
     ghost Met: { Self → Recorded → Type 0 };
 
     /// Meets the machine.
-    fn machine(&mut self, machine: &Machine) -> Result<(), AllocError>
+    fn machine(&mut self, machine: &WideMachine) -> Result<(), AllocError>
         requires new { IsNew self.old }
         requires machine { IsMachine (extent_of machine.now) }
         ensures { OnOk result (Met self.new (nothing_of machine.now.version (extent_of machine.now))) };

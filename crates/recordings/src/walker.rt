@@ -6,7 +6,7 @@ ghost use Rattle.recordings.specs.Lines.{longest_line};
 ghost use Rattle.recordings.specs.inner.Goings.{Came, Goes, Grows, Stops, RefusesAll, line_fault};
 
 use crate::place::{Place, Stage};
-use crate::{Machine, RecordingFault, Visitor};
+use crate::{RecordingFault, Visitor, WideMachine};
 use migration_types::{Size, Version};
 use refusal_words::Misread;
 use std::alloc::Global;
@@ -35,7 +35,7 @@ impl Walker {
             stage: Stage::Header,
             place: Place {
                 alloc,
-                machine: Machine {
+                machine: WideMachine {
                     version: Version::One,
                     size: Size::Small,
                     pages: 0,

@@ -7,7 +7,7 @@ use Rattle.walked_logs.specs.Walks.{Bytes, IsRecordingOf}
 use Rattle.session_commands.specs.declared.found.FoundLog.{FoundLog}
 use Rattle.session_commands.specs.declared.found.FoundLogs.{FoundLogs}
 use Rattle.std.specs.Io.KnownBytes.{Appends}
-use Rattle.recordings.specs.declared.machine.Machine.{Machine}
+use Rattle.recordings.specs.declared.machine.WideMachine.{WideMachine}
 use Rattle.recordings.specs.declared.wide.WideInit.{WideInit}
 use Rattle.recorded_files.specs.declared.fronts.Front.{Front}
 use Rattle.written_recordings.specs.Written.{text_of}
@@ -32,7 +32,7 @@ IsOfFiles bytes_of self s = IsRecordingOf self.machine self.init.items (bytes_in
 -- This is the text of a recording, cut to a front: the files of some logs make the recording, with a machine and its initial pages.
 pub record IsSessionText (files : List ℕ → Option (List ℕ)) (text : List ℕ) : Type 0 where
   pub logs : FoundLogs
-  pub machine : Machine
+  pub machine : WideMachine
   pub init : List WideInit
   pub front : Front
   pub s : Recorded

@@ -15,7 +15,7 @@ use command_texts::TextSource;
 use migration_types::{LOGS, LogName};
 use recorded_files::{Front, Party};
 use recordings::{
-    Machine, Visitor, WideGuest, WideInit, WideLane, WideLink, WidePager, WideSource,
+    Visitor, WideGuest, WideInit, WideLane, WideLink, WideMachine, WidePager, WideSource,
 };
 use std::alloc::{AllocError, Global};
 
@@ -63,7 +63,7 @@ impl Visitor for Ends {
 
     ghost Met = { λ _ _. ⊤ };
 
-    fn machine(&mut self, machine: &Machine) -> Result<(), AllocError> {
+    fn machine(&mut self, machine: &WideMachine) -> Result<(), AllocError> {
         let _ = machine;
         let _front = self.front;
         Ok(())

@@ -8,7 +8,7 @@ use crate::names::{
 use migration_types::{LogName, MOST_CELLS, Size, Version};
 use recorded_files::{Front, Naming};
 use recordings::{
-    Machine, Visitor, WideGuest, WideInit, WideLane, WideLink, WidePager, WideSource,
+    Visitor, WideGuest, WideInit, WideLane, WideLink, WideMachine, WidePager, WideSource,
 };
 use std::alloc::{AllocError, Global};
 
@@ -150,7 +150,7 @@ impl Visitor for Facts {
 
     ghost Met = { λ a s. IsNaming a.naming s };
 
-    fn machine(&mut self, machine: &Machine) -> Result<(), AllocError> {
+    fn machine(&mut self, machine: &WideMachine) -> Result<(), AllocError> {
         self.naming.machine(machine)
     }
 

@@ -9,7 +9,7 @@ use crate::words::{push, push_count, push_quoted, push_word};
 use command_texts::TextSource;
 use migration_types::{LogName, MOST_CELLS};
 use recorded_files::Party;
-use recordings::Machine;
+use recordings::WideMachine;
 use std::alloc::{AllocError, Global};
 
 /// A field of a record, by what it has.
@@ -195,7 +195,7 @@ fn push_wrong_form(
 /// Appends why a field does not fit the machine, if it does not. Returns whether it does not.
 fn push_unfit(
     out: &mut Vec<u8>,
-    machine: &Machine,
+    machine: &WideMachine,
     field: Field,
     text: &[u8],
 ) -> Result<bool, AllocError> {
@@ -240,7 +240,7 @@ fn words_of(alloc: Global, text: &[u8]) -> Result<Vec<Vec<u8>>, AllocError> {
 fn push_wrong_fields(
     out: &mut Vec<u8>,
     alloc: Global,
-    machine: &Machine,
+    machine: &WideMachine,
     fields: &[Field],
     words: &[Vec<u8>],
 ) -> Result<(), AllocError> {
@@ -261,7 +261,7 @@ fn push_wrong_fields(
 fn push_no_record(
     out: &mut Vec<u8>,
     alloc: Global,
-    machine: &Machine,
+    machine: &WideMachine,
     log: LogName,
     text: &[u8],
 ) -> Result<(), AllocError> {
@@ -292,7 +292,7 @@ fn push_no_record(
 pub(crate) fn record_words<S: TextSource>(
     alloc: Global,
     texts: &S,
-    machine: &Machine,
+    machine: &WideMachine,
     log: LogName,
     found: &FoundLog,
     number: u64,

@@ -9,7 +9,7 @@ use command_texts::TextSource;
 use recorded_files::{FileReader, Party, Turn, next_turn};
 use std::alloc::{AllocError, Global};
 use std::io::Read;
-use surveyed_logs::{Lack, Part, count_records, find_lacks, find_parts};
+use surveyed_logs::{LogLack, LogPart, count_records, find_lacks, find_parts};
 
 /// The first number that no record of a log has, and the least one above it that a record has.
 #[derive(Clone, Copy)]
@@ -171,9 +171,9 @@ fn push_system_error(out: &mut Vec<u8>, number: u32) -> Result<(), AllocError> {
 }
 
 /// Appends what is lacking of a log.
-fn push_lack(out: &mut Vec<u8>, log: &FoundLog, lack: Lack) -> Result<(), AllocError> {
+fn push_lack(out: &mut Vec<u8>, log: &FoundLog, lack: LogLack) -> Result<(), AllocError> {
     match lack {
-        Lack::Begin { file, first, front } => {
+        LogLack::Begin { file, first, front } => {
             push_path(out, log, file)?;
             push(out, " begins with record ")?;
             push_count(out, u64::from(first))?;
@@ -182,19 +182,19 @@ fn push_lack(out: &mut Vec<u8>, log: &FoundLog, lack: Lack) -> Result<(), AllocE
             push(out, " in front of it: ")?;
             push(out, GONE_ON)
         }
-        Lack::End { file } => {
+        LogLack::End { file } => {
             push_path(out, log, file)?;
             push(
                 out,
                 " has no end: its process died, or did not close the log (postcopy_log_close, or Log.close)",
             )
         }
-        Lack::Record { file, errno } => {
+        LogLack::Record { file, errno } => {
             push_last_place(out, log, file)?;
             push(out, ": a record was not written: ")?;
             push_system_error(out, errno)
         }
-        Lack::Heir { file, count } => {
+        LogLack::Heir { file, count } => {
             push_last_place(out, log, file)?;
             push(out, ": handed over with ")?;
             push_count(out, u64::from(count))?;
@@ -231,7 +231,7 @@ fn tell_headless(
 }
 
 /// Returns the parts of a log.
-fn parts_of(alloc: Global, party: Party, log: &FoundLog) -> Result<Vec<Part>, Stop> {
+fn parts_of(alloc: Global, party: Party, log: &FoundLog) -> Result<Vec<LogPart>, Stop> {
     match find_parts(alloc, log.surveyed.as_slice()) {
         Ok(parts) => Ok(parts),
         Err(fault) => Err(part_stop(alloc, party, log, fault)),

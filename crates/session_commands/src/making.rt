@@ -24,7 +24,7 @@ use command_words::Lacking;
 use gathered_logs::{GatherFault, LogFault};
 use migration_types::{LOGS, LogName, Size, Version};
 use recorded_files::{FileFault, Front, Party};
-use recordings::{Machine, WideInit};
+use recordings::{WideInit, WideMachine};
 use std::alloc::{AllocError, Global};
 use std::io::Write;
 use surveyed_logs::Description;
@@ -133,7 +133,7 @@ fn two_records<S: TextSource>(alloc: Global, texts: &S, logs: &FoundLogs, name: 
 fn log_stop<S: TextSource>(
     alloc: Global,
     texts: &S,
-    machine: &Machine,
+    machine: &WideMachine,
     logs: &FoundLogs,
     name: LogName,
     fault: LogFault,
@@ -194,7 +194,7 @@ fn changed(alloc: Global, logs: &FoundLogs) -> Stop {
 fn walk_stop<S: TextSource>(
     alloc: Global,
     texts: &S,
-    machine: &Machine,
+    machine: &WideMachine,
     logs: &FoundLogs,
     fault: WalkFault,
 ) -> Stop {
@@ -244,7 +244,7 @@ fn check_counts<S: TextSource>(
 fn check_numbers<S: TextSource>(
     alloc: Global,
     texts: &S,
-    machine: &Machine,
+    machine: &WideMachine,
     logs: &FoundLogs,
     facts: &Facts,
 ) -> Result<(), Stop> {
@@ -300,7 +300,7 @@ fn tell_empty(said: &mut Vec<u8>, alloc: Global, counts: Front) -> Result<(), Al
 /// Goes through the logs, and returns what is to be known of them.
 fn facts_of<S: TextSource>(
     alloc: Global,
-    machine: &Machine,
+    machine: &WideMachine,
     files: &OpenedLogs<'_, S>,
     messages: &Messages,
 ) -> Result<Facts, Stop> {
@@ -317,7 +317,7 @@ fn facts_of<S: TextSource>(
 /// Goes through the logs once more, and returns the records in front of which they are cut.
 fn ends_of<S: TextSource>(
     alloc: Global,
-    machine: &Machine,
+    machine: &WideMachine,
     files: &OpenedLogs<'_, S>,
     messages: &Messages,
     front: Front,
@@ -335,7 +335,7 @@ fn ends_of<S: TextSource>(
 /// Notes the messages in the logs.
 fn messages_of<S: TextSource>(
     alloc: Global,
-    machine: &Machine,
+    machine: &WideMachine,
     files: &OpenedLogs<'_, S>,
 ) -> Result<Messages, Stop> {
     if !is_machine(machine) {
@@ -351,7 +351,7 @@ fn messages_of<S: TextSource>(
 fn tell_facts<S: TextSource>(
     said: &mut Vec<u8>,
     alloc: Global,
-    machine: &Machine,
+    machine: &WideMachine,
     files: &OpenedLogs<'_, S>,
     messages: &Messages,
     facts: &Facts,
@@ -370,7 +370,7 @@ fn tell_facts<S: TextSource>(
 /// A recording that was gone through, and is not yet written.
 #[derive(Drop)]
 struct Known {
-    machine: Machine,
+    machine: WideMachine,
     init: Vec<WideInit>,
     messages: Messages,
     /// How many records of each log are written.
@@ -380,8 +380,8 @@ struct Known {
 }
 
 /// Returns the machine as the logs are gone through before the version of the text is known.
-fn any_machine(pages: u64, cells: u32) -> Machine {
-    Machine {
+fn any_machine(pages: u64, cells: u32) -> WideMachine {
+    WideMachine {
         version: Version::Two,
         size: Size::Large,
         pages,
@@ -406,7 +406,7 @@ fn know<S: TextSource>(alloc: Global, texts: &S, logs: &FoundLogs) -> Result<Kno
     let front = facts.written_front();
     let (version, size) = facts.form(front, machine.pages, machine.cells, !logs.lane.is_empty());
     Ok(Known {
-        machine: Machine {
+        machine: WideMachine {
             version,
             size,
             ..machine
@@ -422,7 +422,7 @@ fn know<S: TextSource>(alloc: Global, texts: &S, logs: &FoundLogs) -> Result<Kno
 fn write_stop<S: TextSource>(
     alloc: Global,
     texts: &S,
-    machine: &Machine,
+    machine: &WideMachine,
     logs: &FoundLogs,
     fault: WriteFault<WalkFault>,
 ) -> Stop {

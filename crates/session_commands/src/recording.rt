@@ -7,7 +7,7 @@ ghost use Rattle.recordings.specs.Wide.{extent_of};
 use crate::files::OpenedLogs;
 use command_texts::TextSource;
 use migration_types::MOST_CELLS;
-use recordings::{BEYOND, Machine, Visitor, WideInit};
+use recordings::{BEYOND, Visitor, WideInit, WideMachine};
 use std::alloc::Global;
 use walked_logs::{Messages, WalkFault, walk_logs};
 use written_recordings::Visited;
@@ -15,14 +15,14 @@ use written_recordings::Visited;
 /// The recording that files make: the machine, its initial pages, the files, and the messages in them.
 #[derive(Drop)]
 pub(crate) struct FileRecording<'a, S> {
-    pub(crate) machine: Machine,
+    pub(crate) machine: WideMachine,
     pub(crate) init: Vec<WideInit>,
     pub(crate) files: OpenedLogs<'a, S>,
     pub(crate) messages: &'a Messages,
 }
 
 /// Returns whether a recording may have this machine.
-pub(crate) fn is_machine(machine: &Machine) -> bool
+pub(crate) fn is_machine(machine: &WideMachine) -> bool
     ensures { result ≡ true → IsMachine (extent_of machine.now) }
 {
     machine.pages >= 1

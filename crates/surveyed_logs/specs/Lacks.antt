@@ -4,42 +4,42 @@ use Rattle.std.specs.List.{list_any}
 use Rattle.std.specs.Option.{option_to_list}
 use Rattle.recorded_files.specs.declared.lines.Last.{Last}
 use Rattle.recorded_files.specs.declared.lines.Last.TheVariants.{End as Closed, Next, Lost}
-use Rattle.surveyed_logs.specs.declared.parts.Left.{Left}
-use Rattle.surveyed_logs.specs.declared.parts.Part.{Part}
-use Rattle.surveyed_logs.specs.declared.lacking.Lack.{Lack}
-use Rattle.surveyed_logs.specs.declared.lacking.Lack.TheVariants.{Begin, End, Record, Heir}
+use Rattle.surveyed_logs.specs.declared.parts.PartEnd.{PartEnd}
+use Rattle.surveyed_logs.specs.declared.parts.LogPart.{LogPart}
+use Rattle.surveyed_logs.specs.declared.lacking.LogLack.{LogLack}
+use Rattle.surveyed_logs.specs.declared.lacking.LogLack.TheVariants.{Begin, End, Record, Heir}
 
 -- how many records a log of these parts has: the greatest of their counts
-abbrev pub record_count : List Part → ℕ
+abbrev pub record_count : List LogPart → ℕ
 record_count [] = 0
 record_count (p ∷ parts) = max p.count (record_count parts)
 
 -- Where a part begins: it has records, and its first is not the one behind those of the parts in front.
-abbrev pub begin_lack : ℕ → Part → Option Lack
+abbrev pub begin_lack : ℕ → LogPart → Option LogLack
 begin_lack front p = if not (p.first == front) && nat_lt p.first p.count then Some (Begin p.file p.first front) else None
 
 -- another part begins with this number than the one that begins in this file
-abbrev pub is_gone_on : List Part → ℕ → ℕ → Bool
+abbrev pub is_gone_on : List LogPart → ℕ → ℕ → Bool
 is_gone_on parts file count = list_any (λ p. not (p.file == file) && (p.first == count)) parts
 
 -- Where a part ends: it was left, closed, or handed over to another part.
-abbrev pub last_lack : List Part → ℕ → ℕ → Last → Option Lack
+abbrev pub last_lack : List LogPart → ℕ → ℕ → Last → Option LogLack
 last_lack parts begin file (Closed count) = None
 last_lack parts begin file (Lost errno) = Some (Record file errno)
 last_lack parts begin file (Next count) = if is_gone_on parts begin count then None else Some (Heir file count)
 
-abbrev pub left_lack : List Part → ℕ → Option Left → Option Lack
+abbrev pub left_lack : List LogPart → ℕ → Option PartEnd → Option LogLack
 left_lack parts begin None = Some (End begin)
 left_lack parts begin (Some left) = last_lack parts begin left.file left.last
 
-abbrev pub lacks_at : List Part → List Part → Part → List Lack
+abbrev pub lacks_at : List LogPart → List LogPart → LogPart → List LogLack
 lacks_at parts before p = option_to_list (begin_lack (record_count before) p) ++ option_to_list (left_lack parts p.file p.left)
 
 -- what is lacking at each of the later parts, which are behind these
-abbrev pub lacks_behind : List Part → List Part → List Part → List Lack
+abbrev pub lacks_behind : List LogPart → List LogPart → List LogPart → List LogLack
 lacks_behind parts before [] = []
 lacks_behind parts before (p ∷ later) = lacks_at parts before p ++ lacks_behind parts (before ++ p ∷ []) later
 
 -- what a log of these parts lacks, part after part
-abbrev pub lacks : List Part → List Lack
+abbrev pub lacks : List LogPart → List LogLack
 lacks parts = lacks_behind parts [] parts

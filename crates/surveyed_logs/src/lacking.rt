@@ -3,15 +3,15 @@
 ghost use Rattle.std.specs.Prelude.{◌≡◌, ◌<◌, ◌++◌, IfOk, OnOk, length, slice_get, Some, take};
 ghost use Rattle.std.specs.Option.{option_to_list};
 ghost use Rattle.surveyed_logs.specs.Lacks.{begin_lack, is_gone_on, lacks, lacks_at, left_lack, record_count};
-ghost use Rattle.surveyed_logs.specs.declared.parts.Part.{Part as LogPart};
+ghost use Rattle.surveyed_logs.specs.declared.parts.LogPart.{LogPart as LogPart};
 
-use crate::parts::Part;
+use crate::parts::LogPart;
 use recorded_files::Last;
 use std::alloc::{AllocError, Global};
 
 /// What a log lacks. Files are counted from 0.
 #[derive(Clone, Copy, Debug, PartialEq, Eq)]
-pub enum Lack {
+pub enum LogLack {
     /// The part that begins in this file does not go on where those in front of it end.
     Begin {
         file: usize,
@@ -37,7 +37,7 @@ pub enum Lack {
 }
 
 /// Returns how many records a log of these parts has: the greatest of their counts.
-pub fn count_records(parts: &[Part]) -> u64
+pub fn count_records(parts: &[LogPart]) -> u64
     ensures { result ≡ record_count parts.now }
 {
     let mut count = 0;
@@ -48,7 +48,7 @@ pub fn count_records(parts: &[Part]) -> u64
 }
 
 /// Returns whether another of the parts than the one that begins in this file was opened with this number.
-fn is_gone_on(parts: &[Part], file: usize, count: u32) -> bool
+fn is_gone_on(parts: &[LogPart], file: usize, count: u32) -> bool
     ensures { result ≡ is_gone_on parts.now file count }
 {
     parts
@@ -57,14 +57,14 @@ fn is_gone_on(parts: &[Part], file: usize, count: u32) -> bool
 }
 
 /// Returns what is lacking where one of the parts begins.
-fn lack_of_begin(parts: &[Part], at: usize) -> Option<Lack>
+fn lack_of_begin(parts: &[LogPart], at: usize) -> Option<LogLack>
     requires { at < length parts.now }
     ensures { (p : LogPart) → slice_get parts.now at ≡ Some p → result ≡ begin_lack (record_count (take at parts.now)) p }
 {
     let part = parts[at];
     let front = count_records(&parts[..at]);
     if u64::from(part.first) != front && u64::from(part.first) < part.count {
-        Some(Lack::Begin {
+        Some(LogLack::Begin {
             file: part.file,
             first: part.first,
             front,
@@ -75,16 +75,16 @@ fn lack_of_begin(parts: &[Part], at: usize) -> Option<Lack>
 }
 
 /// Returns what is lacking where one of the parts ends.
-fn lack_of_end(parts: &[Part], at: usize) -> Option<Lack>
+fn lack_of_end(parts: &[LogPart], at: usize) -> Option<LogLack>
     requires { at < length parts.now }
     ensures { (p : LogPart) → slice_get parts.now at ≡ Some p → result ≡ left_lack parts.now p.file p.left }
 {
     let part = parts[at];
     match part.left {
-        None => Some(Lack::End { file: part.file }),
+        None => Some(LogLack::End { file: part.file }),
         Some(left) => match left.last {
             Last::End(_) => None,
-            Last::Lost(errno) => Some(Lack::Record {
+            Last::Lost(errno) => Some(LogLack::Record {
                 file: left.file,
                 errno,
             }),
@@ -92,7 +92,7 @@ fn lack_of_end(parts: &[Part], at: usize) -> Option<Lack>
                 if is_gone_on(parts, part.file, count) {
                     None
                 } else {
-                    Some(Lack::Heir {
+                    Some(LogLack::Heir {
                         file: left.file,
                         count,
                     })
@@ -103,7 +103,7 @@ fn lack_of_end(parts: &[Part], at: usize) -> Option<Lack>
 }
 
 /// Appends what is lacking, if something is.
-fn push_lack(lacks: &mut Vec<Lack>, lack: Option<Lack>) -> Result<(), AllocError>
+fn push_lack(lacks: &mut Vec<LogLack>, lack: Option<LogLack>) -> Result<(), AllocError>
     ensures { OnOk result (lacks.new.items ≡ lacks.old.items ++ option_to_list lack) }
 {
     match lack {
@@ -116,7 +116,7 @@ fn push_lack(lacks: &mut Vec<Lack>, lack: Option<Lack>) -> Result<(), AllocError
 }
 
 /// Appends what is lacking at one of the parts.
-fn push_lacks(parts: &[Part], at: usize, lacks: &mut Vec<Lack>) -> Result<(), AllocError>
+fn push_lacks(parts: &[LogPart], at: usize, lacks: &mut Vec<LogLack>) -> Result<(), AllocError>
     requires { at < length parts.now }
     ensures { OnOk result ((p : LogPart) → slice_get parts.now at ≡ Some p → lacks.new.items ≡ lacks.old.items ++ lacks_at parts.now (take at parts.now) p) }
 {
@@ -126,7 +126,7 @@ fn push_lacks(parts: &[Part], at: usize, lacks: &mut Vec<Lack>) -> Result<(), Al
 }
 
 /// Returns what a log of these parts lacks, part after part.
-pub fn find_lacks(alloc: Global, parts: &[Part]) -> Result<Vec<Lack>, AllocError>
+pub fn find_lacks(alloc: Global, parts: &[LogPart]) -> Result<Vec<LogLack>, AllocError>
     ensures { IfOk result (λ list. list.items ≡ lacks parts.now) }
 {
     let mut lacks = Vec::new(alloc);

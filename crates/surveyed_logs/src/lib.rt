@@ -11,9 +11,9 @@ mod parts;
 mod surveying;
 
 pub use describing::{DescribeFault, Description};
-pub use lacking::{Lack, count_records, find_lacks};
+pub use lacking::{LogLack, count_records, find_lacks};
 pub use machine_lines::MachineRec;
 pub use machine_log::{MachineEntry, MachineLog, MachineLogFault};
 pub use names::read_file_name;
-pub use parts::{Left, Part, PartFault, find_parts};
+pub use parts::{LogPart, PartEnd, PartFault, find_parts};
 pub use surveying::{Surveyed, survey};

@@ -7,7 +7,7 @@ use Rattle.migration_types.specs.Sessions.{Recorded}
 use Rattle.session_log.specs.Records.{lane_line, link_line}
 use Rattle.recordings.specs.Recordings.{IsLaneRecOf, IsLinkRecOf}
 use Rattle.recordings.specs.Wide.{lane_of, link_of}
-use Rattle.recordings.specs.declared.machine.Machine.{Machine}
+use Rattle.recordings.specs.declared.machine.WideMachine.{WideMachine}
 use Rattle.recorded_files.specs.declared.lines.Party.{Party}
 use Rattle.recorded_files.specs.declared.lines.Party.TheVariants.{Of}
 use Rattle.recorded_files.specs.declared.messages.Delivered.{Delivered}
@@ -33,19 +33,19 @@ on_err (Err e) p follows = follows e p
 pub unfits : {X T S : Type 0} (line : X → List ℕ) (IsOf : X → Type 0) (Takes : T → S → T → S → List X → Type 0) (IsUnfit : T → ℕ → X → Type 0) (party : Party) (knowns : List (Option (List ℕ))) (g : Gathering) (taker : T) (onto : S) (fault : TakingFault) (n : ℕ) → fault ≡ Unfit n → IsTakingFault line IsOf Takes IsUnfit party knowns g taker onto fault → Unfits line IsOf Takes IsUnfit party knowns taker onto
 unfits line IsOf Takes IsUnfit party knowns g taker onto fault n is refused = record { gathering = g; n = n; at = subst (IsTakingFault line IsOf Takes IsUnfit party knowns g taker onto) is refused }
 
-plain_fault : (machine : Machine) (bytes : Bytes) (messages : Delivered) (log : LogName) (fault : WalkFault) → IsPlain log fault → IsWalkFault machine bytes messages fault
+plain_fault : (machine : WideMachine) (bytes : Bytes) (messages : Delivered) (log : LogName) (fault : WalkFault) → IsPlain log fault → IsWalkFault machine bytes messages fault
 plain_fault machine bytes messages log (Log other why) plain = tt
 plain_fault machine bytes messages log (OwnLog other by n) plain = absurd plain
 plain_fault machine bytes messages log Changed plain = tt
 plain_fault machine bytes messages log Memory plain = tt
 
 -- a log's fault, or that the files have changed
-pub changed_or_plain : {U : Type 0} (machine : Machine) (bytes : Bytes) (messages : Delivered) (log : LogName) (fault : WalkFault) → IsPlain log fault ⊎ ((fault ≡ Changed) × U) → IsWalkFault machine bytes messages fault
+pub changed_or_plain : {U : Type 0} (machine : WideMachine) (bytes : Bytes) (messages : Delivered) (log : LogName) (fault : WalkFault) → IsPlain log fault ⊎ ((fault ≡ Changed) × U) → IsWalkFault machine bytes messages fault
 changed_or_plain machine bytes messages log fault (inl plain) = plain_fault machine bytes messages log fault plain
 changed_or_plain machine bytes messages log fault (inr changed) = subst (IsWalkFault machine bytes messages) (sym changed.0) tt
 
 -- the link has records of its own
-pub link_fault : {V : Type 0} (Met : V → Recorded → Type 0) (machine : Machine) (bytes : Bytes) (messages : Delivered) (first : LinkTaker) (from : V) (unfit fault : WalkFault) → first.is_met ≡ false → (messages.link_messages.items ≡ [] → first.is_told ≡ false) → ((messages.link_messages.items ≡ [] → ⊥) → IsTakingOne Link messages.link_messages.items unfit) → IsTakeFault (λ r. link_line (link_of r)) (λ r. IsLinkRecOf (link_of r)) (MeetsLink Met) (λ taker n rec. taker.is_told ≡ true) Link (Of Link) (bytes Link) first from unfit fault → IsWalkFault machine bytes messages fault
+pub link_fault : {V : Type 0} (Met : V → Recorded → Type 0) (machine : WideMachine) (bytes : Bytes) (messages : Delivered) (first : LinkTaker) (from : V) (unfit fault : WalkFault) → first.is_met ≡ false → (messages.link_messages.items ≡ [] → first.is_told ≡ false) → ((messages.link_messages.items ≡ [] → ⊥) → IsTakingOne Link messages.link_messages.items unfit) → IsTakeFault (λ r. link_line (link_of r)) (λ r. IsLinkRecOf (link_of r)) (MeetsLink Met) (λ taker n rec. taker.is_told ≡ true) Link (Of Link) (bytes Link) first from unfit fault → IsWalkFault machine bytes messages fault
 link_fault Met machine bytes messages first from unfit fault unmet empty taking (inl plain) = plain_fault machine bytes messages Link fault plain
 link_fault Met machine bytes messages first from unfit fault unmet empty taking (inr refused) =
     let at = refused.1.at in
@@ -66,7 +66,7 @@ link_fault Met machine bytes messages first from unfit fault unmet empty taking 
     subst (IsWalkFault machine bytes messages) (sym (refused.0 ∙ one.taking.is)) own
 
 -- the lane has records of its own
-pub lane_fault : {V : Type 0} (Met : V → Recorded → Type 0) (machine : Machine) (bytes : Bytes) (messages : Delivered) (first : LaneTaker) (from : V) (unfit fault : WalkFault) → first.is_met ≡ false → (messages.lane_messages.items ≡ [] → first.is_told ≡ false) → ((messages.lane_messages.items ≡ [] → ⊥) → IsTakingOne Lane messages.lane_messages.items unfit) → IsTakeFault (λ r. lane_line (lane_of r)) (λ r. IsLaneRecOf machine.version (lane_of r)) (MeetsLane Met) (λ taker n rec. taker.is_told ≡ true) Lane (Of Lane) (bytes Lane) first from unfit fault → IsWalkFault machine bytes messages fault
+pub lane_fault : {V : Type 0} (Met : V → Recorded → Type 0) (machine : WideMachine) (bytes : Bytes) (messages : Delivered) (first : LaneTaker) (from : V) (unfit fault : WalkFault) → first.is_met ≡ false → (messages.lane_messages.items ≡ [] → first.is_told ≡ false) → ((messages.lane_messages.items ≡ [] → ⊥) → IsTakingOne Lane messages.lane_messages.items unfit) → IsTakeFault (λ r. lane_line (lane_of r)) (λ r. IsLaneRecOf machine.version (lane_of r)) (MeetsLane Met) (λ taker n rec. taker.is_told ≡ true) Lane (Of Lane) (bytes Lane) first from unfit fault → IsWalkFault machine bytes messages fault
 lane_fault Met machine bytes messages first from unfit fault unmet empty taking (inl plain) = plain_fault machine bytes messages Lane fault plain
 lane_fault Met machine bytes messages first from unfit fault unmet empty taking (inr refused) =
     let at = refused.1.at in

@@ -5,7 +5,7 @@ use Rattle.std.proofs.Math.Seq.{take-length}
 use Rattle.migration_types.specs.Sessions.{Recorded}
 use Rattle.recordings.specs.Seen.{BeforeLane, BeforePager}
 use Rattle.recordings.specs.Wide.{lane_of, link_of}
-use Rattle.recordings.specs.declared.machine.Machine.{Machine}
+use Rattle.recordings.specs.declared.machine.WideMachine.{WideMachine}
 use Rattle.recordings.specs.declared.wide.WideInit.{WideInit}
 use Rattle.recordings.specs.declared.wide.WideLink.{WideLink}
 use Rattle.recordings.specs.declared.wide.WideLane.{WideLane}
@@ -45,7 +45,7 @@ passed_to first now messages numbers place end told over passed at le =
 end_of : (first now : Cursor) (messages : List Message) (numbers : List (Option ℕ)) (place : ℕ) (told : List Message) → IsOver first messages numbers place → HasPassed first now told → now.place ≡ length now.messages.now → now.place ≡ length messages
 end_of first now messages numbers place told over passed at = at ∙ ap (λ (ms : List Message). length ms) (passed.messages ∙ over.messages_are)
 
-pub walks_source : {V : Type 0} (Met : V → Recorded → Type 0) (machine : Machine) (bytes : Bytes) (messages : Delivered) (first now : SourceTaker) (from onto : V) (records : List RawSource) → IsOver first.link messages.link_messages.items messages.link.numbers.items messages.packets → TellSource machine bytes records → MeetsSource Met first from now onto records → now.link.place ≡ length now.link.messages.now → WalksSource Met machine bytes messages from onto
+pub walks_source : {V : Type 0} (Met : V → Recorded → Type 0) (machine : WideMachine) (bytes : Bytes) (messages : Delivered) (first now : SourceTaker) (from onto : V) (records : List RawSource) → IsOver first.link messages.link_messages.items messages.link.numbers.items messages.packets → TellSource machine bytes records → MeetsSource Met first from now onto records → now.link.place ≡ length now.link.messages.now → WalksSource Met machine bytes messages from onto
 walks_source Met machine bytes messages first now from onto records over tell meets at = record {
   records = records;
   tell = tell;
@@ -57,7 +57,7 @@ walks_source Met machine bytes messages first now from onto records over tell me
 
 -- ---- the link and the lane
 
-pub walks_link_own : {V : Type 0} (Met : V → Recorded → Type 0) (machine : Machine) (bytes : Bytes) (messages : Delivered) (first now : LinkTaker) (from onto : V) (records : List WideLink) → (first.is_told ≡ false → messages.link_messages.items ≡ []) → TellLink machine bytes records → MeetsLink Met first from now onto records → now.is_met ≡ true → WalksLink Met machine bytes messages from onto
+pub walks_link_own : {V : Type 0} (Met : V → Recorded → Type 0) (machine : WideMachine) (bytes : Bytes) (messages : Delivered) (first now : LinkTaker) (from onto : V) (records : List WideLink) → (first.is_told ≡ false → messages.link_messages.items ≡ []) → TellLink machine bytes records → MeetsLink Met first from now onto records → now.is_met ≡ true → WalksLink Met machine bytes messages from onto
 walks_link_own Met machine bytes messages first now from onto records untold tell meets is_met = record {
   records = records;
   tell = tell;
@@ -67,7 +67,7 @@ walks_link_own Met machine bytes messages first now from onto records untold tel
       subst (λ ls. Met onto (with_link_log d ls)) (sym log) (meets.met d before none start);
 }
 
-pub walks_link_delivered : {V : Type 0} (Met : V → Recorded → Type 0) (machine : Machine) (bytes : Bytes) (messages : Delivered) (first now : LinkTaker) (from mid onto : V) (records : List WideLink) → TellLink machine bytes records → MeetsLink Met first from now mid records → now.is_met ≡ false → ((d : Recorded) → BeforeLane d → d.link ≡ [] → Met mid d → Met onto (with_link_log d (map link_delivery messages.link.log.items))) → WalksLink Met machine bytes messages from onto
+pub walks_link_delivered : {V : Type 0} (Met : V → Recorded → Type 0) (machine : WideMachine) (bytes : Bytes) (messages : Delivered) (first now : LinkTaker) (from mid onto : V) (records : List WideLink) → TellLink machine bytes records → MeetsLink Met first from now mid records → now.is_met ≡ false → ((d : Recorded) → BeforeLane d → d.link ≡ [] → Met mid d → Met onto (with_link_log d (map link_delivery messages.link.log.items))) → WalksLink Met machine bytes messages from onto
 walks_link_delivered Met machine bytes messages first now from mid onto records tell meets unmet next = record {
   records = records;
   tell = tell;
@@ -77,7 +77,7 @@ walks_link_delivered Met machine bytes messages first now from mid onto records 
       subst (λ ls. Met onto (with_link_log d ls)) (sym log) (next (with_links d records) before (ap (λ (rs : List WideLink). map link_of rs) (meets.none unmet)) (meets.met d before none start));
 }
 
-pub walks_lane_own : {V : Type 0} (Met : V → Recorded → Type 0) (machine : Machine) (bytes : Bytes) (messages : Delivered) (first now : LaneTaker) (from onto : V) (records : List WideLane) → (first.is_told ≡ false → messages.lane_messages.items ≡ []) → TellLane machine bytes records → MeetsLane Met first from now onto records → now.is_met ≡ true → WalksLane Met machine bytes messages from onto
+pub walks_lane_own : {V : Type 0} (Met : V → Recorded → Type 0) (machine : WideMachine) (bytes : Bytes) (messages : Delivered) (first now : LaneTaker) (from onto : V) (records : List WideLane) → (first.is_told ≡ false → messages.lane_messages.items ≡ []) → TellLane machine bytes records → MeetsLane Met first from now onto records → now.is_met ≡ true → WalksLane Met machine bytes messages from onto
 walks_lane_own Met machine bytes messages first now from onto records untold tell meets is_met = record {
   records = records;
   tell = tell;
@@ -87,7 +87,7 @@ walks_lane_own Met machine bytes messages first now from onto records untold tel
       subst (λ ls. Met onto (with_lane_log d ls)) (sym log) (meets.met d before none start);
 }
 
-pub walks_lane_delivered : {V : Type 0} (Met : V → Recorded → Type 0) (machine : Machine) (bytes : Bytes) (messages : Delivered) (first now : LaneTaker) (from mid onto : V) (records : List WideLane) → TellLane machine bytes records → MeetsLane Met first from now mid records → now.is_met ≡ false → ((d : Recorded) → BeforePager d → d.lane ≡ [] → Met mid d → Met onto (with_lane_log d (map lane_delivery messages.lane.log.items))) → WalksLane Met machine bytes messages from onto
+pub walks_lane_delivered : {V : Type 0} (Met : V → Recorded → Type 0) (machine : WideMachine) (bytes : Bytes) (messages : Delivered) (first now : LaneTaker) (from mid onto : V) (records : List WideLane) → TellLane machine bytes records → MeetsLane Met first from now mid records → now.is_met ≡ false → ((d : Recorded) → BeforePager d → d.lane ≡ [] → Met mid d → Met onto (with_lane_log d (map lane_delivery messages.lane.log.items))) → WalksLane Met machine bytes messages from onto
 walks_lane_delivered Met machine bytes messages first now from mid onto records tell meets unmet next = record {
   records = records;
   tell = tell;
@@ -99,7 +99,7 @@ walks_lane_delivered Met machine bytes messages first now from mid onto records 
 
 -- ---- the pager
 
-pub walks_pager : {V : Type 0} (Met : V → Recorded → Type 0) (machine : Machine) (bytes : Bytes) (messages : Delivered) (first now : PagerTaker) (from onto : V) (records : List RawPager) → IsOver first.link messages.link_messages.items messages.link.numbers.items 0 → IsOver first.lane messages.lane_messages.items messages.lane.numbers.items 0 → TellPager machine bytes records → MeetsPager Met first from now onto records → now.link.place ≡ messages.packets → now.lane.place ≡ length now.lane.messages.now → now.count ≡ messages.pager → WalksPager Met machine bytes messages from onto
+pub walks_pager : {V : Type 0} (Met : V → Recorded → Type 0) (machine : WideMachine) (bytes : Bytes) (messages : Delivered) (first now : PagerTaker) (from onto : V) (records : List RawPager) → IsOver first.link messages.link_messages.items messages.link.numbers.items 0 → IsOver first.lane messages.lane_messages.items messages.lane.numbers.items 0 → TellPager machine bytes records → MeetsPager Met first from now onto records → now.link.place ≡ messages.packets → now.lane.place ≡ length now.lane.messages.now → now.count ≡ messages.pager → WalksPager Met machine bytes messages from onto
 walks_pager Met machine bytes messages first now from onto records over over_lane tell meets at at_lane count = record {
   records = records;
   tell = tell;
@@ -117,7 +117,7 @@ delivered_none : (n : ℕ) → delivered [] n ≡ []
 delivered_none zero = refl
 delivered_none (suc n) = append-nil (delivered [] n) ∙ delivered_none n
 
-pub walks_files : {V : Type 0} (Met : V → Recorded → Type 0) (machine : Machine) (init : List WideInit) (bytes : Bytes) (messages : Delivered) (begun guest source link lane pager : V) → Follow messages → Met begun (begun_with machine init) → WalksGuest Met machine bytes begun guest → WalksSource Met machine bytes messages guest source → WalksLink Met machine bytes messages source link → WalksLane Met machine bytes messages link lane → WalksPager Met machine bytes messages lane pager → WalksFiles Met machine init bytes pager
+pub walks_files : {V : Type 0} (Met : V → Recorded → Type 0) (machine : WideMachine) (init : List WideInit) (bytes : Bytes) (messages : Delivered) (begun guest source link lane pager : V) → Follow messages → Met begun (begun_with machine init) → WalksGuest Met machine bytes begun guest → WalksSource Met machine bytes messages guest source → WalksLink Met machine bytes messages source link → WalksLane Met machine bytes messages link lane → WalksPager Met machine bytes messages lane pager → WalksFiles Met machine init bytes pager
 walks_files Met machine init bytes messages begun guest source link lane pager follow start g s l n p =
     let lm = messages.link_messages.items in
     let link_log = messages.link.log.items in

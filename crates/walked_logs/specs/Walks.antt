@@ -11,7 +11,7 @@ use Rattle.migration_types.specs.Sessions.{Recorded}
 use Rattle.session_log.specs.Records.{guest_line, lane_line, link_line}
 use Rattle.recordings.specs.Recordings.{IsGuestRecOf, IsLaneRecOf, IsLinkRecOf}
 use Rattle.recordings.specs.Wide.{extent_of, guest_of, init_of, lane_of, link_of}
-use Rattle.recordings.specs.declared.machine.Machine.{Machine}
+use Rattle.recordings.specs.declared.machine.WideMachine.{WideMachine}
 use Rattle.recordings.specs.declared.wide.WideInit.{WideInit}
 use Rattle.recordings.specs.declared.wide.WideGuest.{WideGuest}
 use Rattle.recordings.specs.declared.wide.WideLink.{WideLink}
@@ -43,23 +43,23 @@ pub record TellLog {X : Type 0} (line : X → List ℕ) (IsOf : X → Type 0) (p
   pub hole : Option ℕ
   pub say : SayUpTo line IsOf party knowns gathering hole records
 
-abbrev pub TellGuest : Machine → Bytes → List WideGuest → Type 0
+abbrev pub TellGuest : WideMachine → Bytes → List WideGuest → Type 0
 TellGuest machine bytes = TellLog (λ r. guest_line (guest_of r)) (λ r. IsGuestRecOf (extent_of machine) (guest_of r)) (Of Guest) (bytes Guest)
 
-abbrev pub TellSource : Machine → Bytes → List RawSource → Type 0
+abbrev pub TellSource : WideMachine → Bytes → List RawSource → Type 0
 TellSource machine bytes = TellLog raw_source_line (IsRawSourceOf (extent_of machine)) (Of Source) (bytes Source)
 
-abbrev pub TellLink : Machine → Bytes → List WideLink → Type 0
+abbrev pub TellLink : WideMachine → Bytes → List WideLink → Type 0
 TellLink machine bytes = TellLog (λ r. link_line (link_of r)) (λ r. IsLinkRecOf (link_of r)) (Of Link) (bytes Link)
 
-abbrev pub TellLane : Machine → Bytes → List WideLane → Type 0
+abbrev pub TellLane : WideMachine → Bytes → List WideLane → Type 0
 TellLane machine bytes = TellLog (λ r. lane_line (lane_of r)) (λ r. IsLaneRecOf machine.version (lane_of r)) (Of Lane) (bytes Lane)
 
-abbrev pub TellPager : Machine → Bytes → List RawPager → Type 0
+abbrev pub TellPager : WideMachine → Bytes → List RawPager → Type 0
 TellPager machine bytes = TellLog raw_pager_line (IsRawPagerOf machine.version (extent_of machine)) (Of Pager) (bytes Pager)
 
 -- these are the messages that the files of the pager and of the source tell
-pub record AreMessagesOf (machine : Machine) (bytes : Bytes) (messages : Delivered) : Type 0 where
+pub record AreMessagesOf (machine : WideMachine) (bytes : Bytes) (messages : Delivered) : Type 0 where
   pub pager : List RawPager
   pub source : List RawSource
   pub tell_pager : TellPager machine bytes pager
@@ -98,7 +98,7 @@ lane_delivery (Up sent taken) = LaneDown sent
 -- The files of the logs make this recording, with this machine and these initial pages. The link and the lane are each what its own
 -- files tell, and then the deliveries of the messages that the records of the pager and of the source take without it. It is one of
 -- the two: either the log's own files have no record, or no record takes a message without it.
-pub record IsRecordingOf (machine : Machine) (initial : List WideInit) (bytes : Bytes) (s : Recorded) : Type 0 where
+pub record IsRecordingOf (machine : WideMachine) (initial : List WideInit) (bytes : Bytes) (s : Recorded) : Type 0 where
   pub guest : List WideGuest
   pub source : List RawSource
   pub link : List WideLink
@@ -121,7 +121,7 @@ pub record IsRecordingOf (machine : Machine) (initial : List WideInit) (bytes : 
   pub pagers : AreNumbered numbered_pager (IsDown (delivered (link_messages pager source) (length pager)) (delivered (lane_messages pager) (length pager)) (length pager)) pager s.pager
 
 -- a visitor met the recording that the files of the logs make
-pub record WalksFiles {V : Type 0} (Met : V → Recorded → Type 0) (machine : Machine) (init : List WideInit) (bytes : Bytes) (visitor : V) : Type 0 where
+pub record WalksFiles {V : Type 0} (Met : V → Recorded → Type 0) (machine : WideMachine) (init : List WideInit) (bytes : Bytes) (visitor : V) : Type 0 where
   pub s : Recorded
   pub made : IsRecordingOf machine init bytes s
   pub met : Met visitor s
@@ -146,13 +146,13 @@ pub record HasBoth {X : Type 0} (line : X → List ℕ) (IsOf : X → Type 0) (p
   pub there : slice_get messages place ≡ Some message
   pub taken : IsTakenBy by n message
 
-abbrev pub IsOwnLog : Machine → Bytes → Delivered → LogName → LogName → ℕ → Type 0
+abbrev pub IsOwnLog : WideMachine → Bytes → Delivered → LogName → LogName → ℕ → Type 0
 IsOwnLog machine bytes messages Link by n = HasBoth (λ r. link_line (link_of r)) (λ r. IsLinkRecOf (link_of r)) (Of Link) (bytes Link) messages.link_messages.items by n
 IsOwnLog machine bytes messages Lane by n = HasBoth (λ r. lane_line (lane_of r)) (λ r. IsLaneRecOf machine.version (lane_of r)) (Of Lane) (bytes Lane) messages.lane_messages.items by n
 IsOwnLog machine bytes messages _ by n = ⊥
 
 -- a record takes a message of a log whose own files have a record; nothing is said of what is wrong with a file
-abbrev pub IsWalkFault : Machine → Bytes → Delivered → WalkFault → Type 0
+abbrev pub IsWalkFault : WideMachine → Bytes → Delivered → WalkFault → Type 0
 IsWalkFault machine bytes messages (Log log fault) = Unit {0}
 IsWalkFault machine bytes messages (OwnLog log by n) = IsOwnLog machine bytes messages log by n
 IsWalkFault machine bytes messages Changed = Unit {0}

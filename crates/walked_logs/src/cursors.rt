@@ -4,7 +4,7 @@ ghost use Rattle.std.specs.Prelude.{◌≡◌, ◌↔◌, IfOk, IsTrue, length, 
 ghost use Rattle.walked_logs.specs.inner.Passing.{Passes, number_or_lost};
 
 use deliveries::{Deliveries, Message};
-use gathered_logs::Refusal;
+use gathered_logs::TakeRefusal;
 
 /// The number of a message whose sender's record is none of the pager's. No record has it.
 const LOST: u64 = 4_294_967_295;
@@ -79,16 +79,16 @@ impl<'a> Cursor<'a> {
     }
 
     /// Passes the message that a record takes, if it takes one, and returns the message's number. The message must be the next one.
-    pub(crate) fn pass(&mut self, message: Option<Message>) -> Result<u64, Refusal>
+    pub(crate) fn pass(&mut self, message: Option<Message>) -> Result<u64, TakeRefusal>
         ensures { IfOk result (Passes self.old self.new message) }
     {
         match message {
             Some(message) => {
                 let Some(next) = self.next() else {
-                    return Err(Refusal::Unfit);
+                    return Err(TakeRefusal::Unfit);
                 };
                 if !is_same(next, message) {
-                    return Err(Refusal::Unfit);
+                    return Err(TakeRefusal::Unfit);
                 }
                 let number = self.number();
                 self.place += 1;

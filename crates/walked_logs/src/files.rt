@@ -9,10 +9,12 @@ ghost use Rattle.gathered_logs.specs.Logs.{AreBegun};
 ghost use Rattle.walked_logs.specs.Walks.{TellLog};
 ghost use Rattle.walked_logs.specs.inner.Refusing.{IsPlain, IsTakeFault};
 
-use gathered_logs::{GatherFault, Gatherer, LogFault, LogRecord, Taker, TakingFault, take_records};
+use gathered_logs::{
+    GatherFault, Gatherer, LogFault, LogRecord, RecordTaker, TakingFault, take_records,
+};
 use migration_types::LogName;
 use recorded_files::{FileFault, FileReader};
-use recordings::Machine;
+use recordings::WideMachine;
 use std::alloc::{AllocError, Global};
 use std::io::Read;
 use thiserror::Error;
@@ -76,9 +78,9 @@ fn fault_of(log: LogName, fault: LogFault) -> WalkFault
 
 /// Takes the records of a log from its files, up to its end or to the first number that no file has. Where a record is not for the
 /// taker, the fault is `unfit`.
-pub(crate) fn take_log<F: LogFiles, K: LogRecord, S, T: Taker<K, S>>(
+pub(crate) fn take_log<F: LogFiles, K: LogRecord, S, T: RecordTaker<K, S>>(
     alloc: Global,
-    machine: &Machine,
+    machine: &WideMachine,
     files: &F,
     log: LogName,
     unfit: WalkFault,

@@ -9,7 +9,7 @@ use crate::files::{LogFiles, WalkFault, take_log};
 use gathered_logs::Noter;
 use migration_types::LogName;
 use recorded_files::{Delivered, RawPager, RawSource, Told};
-use recordings::Machine;
+use recordings::WideMachine;
 use std::alloc::Global;
 use std::marker::Model;
 
@@ -38,7 +38,7 @@ impl Model for Messages {
 /// What is wrong with one of the two logs, or that memory was refused.
 pub fn note_messages<F: LogFiles>(
     alloc: Global,
-    machine: &Machine,
+    machine: &WideMachine,
     files: &F,
 ) -> Result<Messages, WalkFault>
     requires { IsMachine (extent_of machine.now) }

@@ -6,7 +6,7 @@ ghost use Rattle.walked_logs.specs.inner.Meeting.{MeetsGuest, MeetsSource, Meets
 ghost use Rattle.walked_logs.specs.inner.Passing.{Passes};
 
 use crate::cursors::Cursor;
-use gathered_logs::{Refusal, Taker};
+use gathered_logs::{RecordTaker, TakeRefusal};
 use recorded_files::{RawPager, RawSource};
 use recordings::{Visitor, WideGuest, WideLane, WideLink};
 
@@ -14,15 +14,15 @@ use recordings::{Visitor, WideGuest, WideLane, WideLink};
 #[derive(Clone, Copy)]
 pub(crate) struct GuestTaker;
 
-impl<V: Visitor> Taker<WideGuest, V> for GuestTaker {
+impl<V: Visitor> RecordTaker<WideGuest, V> for GuestTaker {
     ghost Takes = { λ first from now onto records. MeetsGuest V.Met from onto records };
 
     ghost IsUnfit = { λ taker number rec. ⊥ };
 
-    fn take(&mut self, onto: &mut V, number: u64, rec: WideGuest) -> Result<(), Refusal> {
+    fn take(&mut self, onto: &mut V, number: u64, rec: WideGuest) -> Result<(), TakeRefusal> {
         match onto.guest(number, rec) {
             Ok(()) => Ok(()),
-            Err(_) => Err(Refusal::Memory),
+            Err(_) => Err(TakeRefusal::Memory),
         }
     }
 }
@@ -33,16 +33,16 @@ pub(crate) struct SourceTaker<'a> {
     pub(crate) link: Cursor<'a>,
 }
 
-impl<'a, V: Visitor> Taker<RawSource, V> for SourceTaker<'a> {
+impl<'a, V: Visitor> RecordTaker<RawSource, V> for SourceTaker<'a> {
     ghost Takes = { λ first from now onto records. MeetsSource V.Met first from now onto records };
 
     ghost IsUnfit = { λ taker number rec. ⊤ };
 
-    fn take(&mut self, onto: &mut V, number: u64, rec: RawSource) -> Result<(), Refusal> {
+    fn take(&mut self, onto: &mut V, number: u64, rec: RawSource) -> Result<(), TakeRefusal> {
         let up = self.link.pass(rec.request(number))?;
         match onto.source(number, rec.numbered(up)) {
             Ok(()) => Ok(()),
-            Err(_) => Err(Refusal::Memory),
+            Err(_) => Err(TakeRefusal::Memory),
         }
     }
 }
@@ -54,19 +54,19 @@ pub(crate) struct LinkTaker {
     pub(crate) is_met: bool,
 }
 
-impl<V: Visitor> Taker<WideLink, V> for LinkTaker {
+impl<V: Visitor> RecordTaker<WideLink, V> for LinkTaker {
     ghost Takes = { λ first from now onto records. MeetsLink V.Met first from now onto records };
 
     ghost IsUnfit = { λ taker number rec. taker.is_told ≡ true };
 
-    fn take(&mut self, onto: &mut V, number: u64, rec: WideLink) -> Result<(), Refusal> {
+    fn take(&mut self, onto: &mut V, number: u64, rec: WideLink) -> Result<(), TakeRefusal> {
         if self.is_told {
-            return Err(Refusal::Unfit);
+            return Err(TakeRefusal::Unfit);
         }
         self.is_met = true;
         match onto.link(number, rec) {
             Ok(()) => Ok(()),
-            Err(_) => Err(Refusal::Memory),
+            Err(_) => Err(TakeRefusal::Memory),
         }
     }
 }
@@ -78,19 +78,19 @@ pub(crate) struct LaneTaker {
     pub(crate) is_met: bool,
 }
 
-impl<V: Visitor> Taker<WideLane, V> for LaneTaker {
+impl<V: Visitor> RecordTaker<WideLane, V> for LaneTaker {
     ghost Takes = { λ first from now onto records. MeetsLane V.Met first from now onto records };
 
     ghost IsUnfit = { λ taker number rec. taker.is_told ≡ true };
 
-    fn take(&mut self, onto: &mut V, number: u64, rec: WideLane) -> Result<(), Refusal> {
+    fn take(&mut self, onto: &mut V, number: u64, rec: WideLane) -> Result<(), TakeRefusal> {
         if self.is_told {
-            return Err(Refusal::Unfit);
+            return Err(TakeRefusal::Unfit);
         }
         self.is_met = true;
         match onto.lane(number, rec) {
             Ok(()) => Ok(()),
-            Err(_) => Err(Refusal::Memory),
+            Err(_) => Err(TakeRefusal::Memory),
         }
     }
 }
@@ -103,20 +103,20 @@ pub(crate) struct PagerTaker<'a> {
     pub(crate) count: u64,
 }
 
-impl<'a, V: Visitor> Taker<RawPager, V> for PagerTaker<'a> {
+impl<'a, V: Visitor> RecordTaker<RawPager, V> for PagerTaker<'a> {
     ghost Takes = { λ first from now onto records. MeetsPager V.Met first from now onto records };
 
     ghost IsUnfit = { λ taker number rec. ⊤ };
 
-    fn take(&mut self, onto: &mut V, number: u64, rec: RawPager) -> Result<(), Refusal> {
+    fn take(&mut self, onto: &mut V, number: u64, rec: RawPager) -> Result<(), TakeRefusal> {
         let Some(count) = number.checked_add(1) else {
-            return Err(Refusal::Memory);
+            return Err(TakeRefusal::Memory);
         };
         self.count = count;
         let down = pass_either(&mut self.link, &mut self.lane, number, &rec)?;
         match onto.pager(number, rec.numbered(down)) {
             Ok(()) => Ok(()),
-            Err(_) => Err(Refusal::Memory),
+            Err(_) => Err(TakeRefusal::Memory),
         }
     }
 }
@@ -127,7 +127,7 @@ fn pass_either(
     lane: &mut Cursor<'_>,
     number: u64,
     rec: &RawPager,
-) -> Result<u64, Refusal>
+) -> Result<u64, TakeRefusal>
     ensures link { IfOk result (Passes link.old link.new (link_packet number rec.now)) }
     ensures lane { IfOk result (Passes lane.old lane.new (lane_packet number rec.now)) }
 {

@@ -17,12 +17,12 @@ use crate::takers::{GuestTaker, LaneTaker, LinkTaker, PagerTaker, SourceTaker};
 use deliveries::Message;
 use migration_types::LogName;
 use recorded_files::{Delivered, RawPager, RawSource};
-use recordings::{Machine, Visitor, WideGuest, WideInit, WideLane, WideLink};
+use recordings::{Visitor, WideGuest, WideInit, WideLane, WideLink, WideMachine};
 use std::alloc::{AllocError, Global};
 
 /// Meets the machine and the initial pages.
 fn walk_start<V: Visitor>(
-    machine: &Machine,
+    machine: &WideMachine,
     init: Vec<WideInit>,
     visitor: &mut V,
 ) -> Result<(), AllocError>
@@ -40,7 +40,7 @@ fn walk_start<V: Visitor>(
 /// Meets the guest's records.
 fn walk_guest<F: LogFiles, V: Visitor>(
     alloc: Global,
-    machine: &Machine,
+    machine: &WideMachine,
     files: &F,
     visitor: &mut V,
 ) -> Result<(), WalkFault>
@@ -63,7 +63,7 @@ fn walk_guest<F: LogFiles, V: Visitor>(
 /// Meets the source's records.
 fn walk_source<F: LogFiles, V: Visitor>(
     alloc: Global,
-    machine: &Machine,
+    machine: &WideMachine,
     files: &F,
     messages: &Delivered,
     visitor: &mut V,
@@ -152,7 +152,7 @@ fn walk_link_deliveries<V: Visitor>(
 /// Meets the link's records: those of its own files, or the deliveries.
 fn walk_link<F: LogFiles, V: Visitor>(
     alloc: Global,
-    machine: &Machine,
+    machine: &WideMachine,
     files: &F,
     messages: &Delivered,
     visitor: &mut V,
@@ -211,7 +211,7 @@ fn walk_lane_deliveries<V: Visitor>(
 /// Meets the lane's records: those of its own files, or the deliveries.
 fn walk_lane<F: LogFiles, V: Visitor>(
     alloc: Global,
-    machine: &Machine,
+    machine: &WideMachine,
     files: &F,
     messages: &Delivered,
     visitor: &mut V,
@@ -244,7 +244,7 @@ fn walk_lane<F: LogFiles, V: Visitor>(
 /// Meets the pager's records.
 fn walk_pager<F: LogFiles, V: Visitor>(
     alloc: Global,
-    machine: &Machine,
+    machine: &WideMachine,
     files: &F,
     messages: &Delivered,
     visitor: &mut V,
@@ -296,7 +296,7 @@ fn walk_pager<F: LogFiles, V: Visitor>(
 /// since the messages were noted, or that memory was refused. The visitor may have met some of the recording by then.
 pub fn walk_logs<F: LogFiles, V: Visitor>(
     alloc: Global,
-    machine: &Machine,
+    machine: &WideMachine,
     init: Vec<WideInit>,
     files: &F,
     messages: &Messages,

@@ -7,7 +7,7 @@ use Rattle.migration_types.specs.declared.records.LinkRec.{LinkRec}
 use Rattle.migration_types.specs.declared.records.LaneRec.{LaneRec}
 use Rattle.migration_types.specs.declared.records.PagerRec.{PagerRec}
 use Rattle.migration_types.specs.Sessions.{Recorded}
-use Rattle.recordings.specs.declared.machine.Machine.{Machine}
+use Rattle.recordings.specs.declared.machine.WideMachine.{WideMachine}
 use Rattle.recordings.specs.Seen.{nothing_of, with_init, with_guest, with_source, with_link, with_lane, with_pager, BeforeLink, BeforeLane, BeforePager}
 use Rattle.recordings.specs.Wide.{extent_of}
 use Rattle.audit_model.specs.Windows.{keeps_init, Numbers}
@@ -21,7 +21,7 @@ use Rattle.window_cut.specs.inner.Met.{IsNothing, GuestFound, SourceFound, Pager
 use Rattle.window_cut.proofs.Lists.{map_more, map_nothing}
 
 module _ (number : Numbers) (known : Marks) where
-  pub found_nothing : (marks : Marks) (machine : Machine) → IsNothing marks → Found number known (record { machine = machine; init = marks.init; guest = marks.guest; source = marks.source; link = marks.link; lane = marks.lane; pager = marks.pager }) (nothing_of machine.version (extent_of machine))
+  pub found_nothing : (marks : Marks) (machine : WideMachine) → IsNothing marks → Found number known (record { machine = machine; init = marks.init; guest = marks.guest; source = marks.source; link = marks.link; lane = marks.lane; pager = marks.pager }) (nothing_of machine.version (extent_of machine))
   found_nothing marks machine is = record {
     version = refl;
     extent = refl;

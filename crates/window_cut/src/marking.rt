@@ -13,7 +13,7 @@ use crate::keeping::{keeps_lane, keeps_taking};
 use crate::pages::Window;
 use crate::places::Places;
 use migration_types::{Size, Version};
-use recordings::{Machine, WideGuest, WideInit, WideLane, WideLink, WidePager, WideSource};
+use recordings::{WideGuest, WideInit, WideLane, WideLink, WideMachine, WidePager, WideSource};
 use std::alloc::{AllocError, Global};
 
 /// Marks for the guest's records: those that miss a page of the window, those that are kept, and the newest placement
@@ -48,7 +48,7 @@ pub(crate) struct PagerMarks {
 /// log.
 #[derive(Drop)]
 pub(crate) struct Marks {
-    pub(crate) machine: Machine,
+    pub(crate) machine: WideMachine,
     pub(crate) init: Places,
     pub(crate) guest: GuestMarks,
     pub(crate) source: SourceMarks,
@@ -165,7 +165,7 @@ impl Marks {
         ensures { IsNothing result }
     {
         Marks {
-            machine: Machine {
+            machine: WideMachine {
                 version: Version::One,
                 size: Size::Small,
                 pages: 0,

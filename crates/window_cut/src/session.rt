@@ -10,7 +10,7 @@ ghost use Rattle.window_cut.specs.inner.Parts.{AreSections, lane_lines};
 
 use crate::sections::{Section, Sections};
 use migration_types::Version;
-use recordings::Machine;
+use recordings::WideMachine;
 use session_log::{
     CELLS_KEY, GUEST_KEY, INIT_KEY, LANE_KEY, LINK_KEY, PAGER_KEY, PAGES_KEY, SOURCE_KEY,
     session_header,
@@ -30,7 +30,7 @@ pub struct WindowText {
 pub(crate) fn session_text(
     alloc: Global,
     pages: u64,
-    machine: &Machine,
+    machine: &WideMachine,
     sections: &Sections,
 ) -> Result<Vec<u8>, AllocError>
     ensures { IfOk result (λ out. (s : Recorded) → AreSections sections.now s → machine.now.version ≡ s.version → machine.now.size ≡ s.geometry.size → pages ≡ s.geometry.pages → machine.now.cells ≡ s.geometry.cells → out.items ≡ ended (session_lines s)) }

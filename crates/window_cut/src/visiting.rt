@@ -9,7 +9,7 @@ use crate::marking::{Guide, Marks};
 use crate::pages::Window;
 use crate::sections::Sections;
 use recordings::{
-    Machine, Visitor, WideGuest, WideInit, WideLane, WideLink, WidePager, WideSource,
+    Visitor, WideGuest, WideInit, WideLane, WideLink, WideMachine, WidePager, WideSource,
 };
 use std::alloc::{AllocError, Global};
 use std::marker::{Brand, PhantomData};
@@ -59,7 +59,7 @@ impl<W: Way> Visitor for Marking<W> {
 
     ghost Met = { λ a d. (a.guide ≡ W.guide) × Found (numbers_of a.guide.window) a.guide.known a.found d };
 
-    fn machine(&mut self, machine: &Machine) -> Result<(), AllocError> {
+    fn machine(&mut self, machine: &WideMachine) -> Result<(), AllocError> {
         self.found.machine = *machine;
         Ok(())
     }
@@ -130,7 +130,7 @@ impl<W: Way> Visitor for Writing<W> {
 
     ghost Met = { λ a d. (a.guide ≡ W.guide) × Meets a d };
 
-    fn machine(&mut self, machine: &Machine) -> Result<(), AllocError> {
+    fn machine(&mut self, machine: &WideMachine) -> Result<(), AllocError> {
         self.found.machine = *machine;
         Ok(())
     }

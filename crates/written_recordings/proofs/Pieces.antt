@@ -9,7 +9,7 @@ use Rattle.std.specs.Option.{is_some}
 use Rattle.std.specs.Io.KnownBytes.{Appends}
 use Rattle.std.proofs.KnownBytes.{Appends-nil, Appends-trans, Appends-kept}
 use Rattle.migration_types.specs.Sessions.{Recorded}
-use Rattle.recordings.specs.declared.machine.Machine.{Machine}
+use Rattle.recordings.specs.declared.machine.WideMachine.{WideMachine}
 use Rattle.recordings.specs.Seen.{nothing_of}
 use Rattle.recordings.specs.Wide.{extent_of}
 use Rattle.recordings.specs.inner.Held.{SessionDraft, came_at}
@@ -44,7 +44,7 @@ take_nil zero = refl
 take_nil (suc n) = refl
 
 -- the machine is met
-pub met_machine : (start known : Option (List ℕ)) (front : Front) (pages : ℕ) (old new : Text) (fault : Option TextFault) (machine : Machine) → IsNothing start front pages known old fault → IsMachineSaid old new machine → Holds start known new (draft_of new.init (cursors_of front) (nothing_of machine.version (extent_of machine)))
+pub met_machine : (start known : Option (List ℕ)) (front : Front) (pages : ℕ) (old new : Text) (fault : Option TextFault) (machine : WideMachine) → IsNothing start front pages known old fault → IsMachineSaid old new machine → Holds start known new (draft_of new.init (cursors_of front) (nothing_of machine.version (extent_of machine)))
 met_machine start known front pages old new fault machine nothing said =
     let d = draft_of new.init (cursors_of front) (nothing_of machine.version (extent_of machine)) in
     let same : new.front ≡ front = said.head.front ∙ nothing.front in
@@ -77,7 +77,7 @@ pub record Settles (known next : Option (List ℕ)) (pushed : Result (Unit {0}) 
   pub same : IsSame mid new
   pub ok : fault ≡ None → IsOk pushed
 
-pub meets_machine : (start known next : Option (List ℕ)) (front : Front) (pages : ℕ) (old mid new : Text) (pushed : Result (Unit {0}) TextFault) (before fault : Option TextFault) (machine : Machine) → IsNothing start front pages known old before → OnOk pushed (IsMachineSaid old mid machine) → Settles known next pushed mid new fault → Meets start front pages next new fault (nothing_of machine.version (extent_of machine))
+pub meets_machine : (start known next : Option (List ℕ)) (front : Front) (pages : ℕ) (old mid new : Text) (pushed : Result (Unit {0}) TextFault) (before fault : Option TextFault) (machine : WideMachine) → IsNothing start front pages known old before → OnOk pushed (IsMachineSaid old mid machine) → Settles known next pushed mid new fault → Meets start front pages next new fault (nothing_of machine.version (extent_of machine))
 meets_machine start known next front pages old mid new pushed before fault machine nothing said settles = λ none.
     let s = nothing_of machine.version (extent_of machine) in
     let was = ok_of pushed (settles.ok none) said in

@@ -10,7 +10,7 @@ use crate::faults::TextFault;
 use command_texts::{Cause, write_or_why};
 use migration_types::Version;
 use recorded_files::Front;
-use recordings::{Machine, WideGuest, WideInit, WideLane, WideLink, WidePager, WideSource};
+use recordings::{WideGuest, WideInit, WideLane, WideLink, WideMachine, WidePager, WideSource};
 use session_log::{
     CELLS_KEY, GUEST_KEY, INIT_KEY, LANE_KEY, LINK_KEY, PAGER_KEY, PAGES_KEY, SOURCE_KEY,
     session_header,
@@ -65,7 +65,7 @@ impl Text {
     }
 
     /// Appends the lines of the machine, and the number of initial pages.
-    pub(crate) fn push_machine(&mut self, machine: &Machine) -> Result<(), TextFault>
+    pub(crate) fn push_machine(&mut self, machine: &WideMachine) -> Result<(), TextFault>
         ensures { OnOk result (IsMachineSaid self.old self.new machine.now) }
     {
         let Ok(()) = self.push_head(machine) else {
@@ -77,7 +77,7 @@ impl Text {
         Ok(())
     }
 
-    fn push_head(&mut self, machine: &Machine) -> Result<(), AllocError>
+    fn push_head(&mut self, machine: &WideMachine) -> Result<(), AllocError>
         ensures { OnOk result (IsHead self.old self.new machine.now) }
     {
         push_line(

@@ -13,7 +13,7 @@ use crate::faults::TextFault;
 use crate::text::Text;
 use migration_types::Version;
 use recordings::{
-    Machine, Visitor, WideGuest, WideInit, WideLane, WideLink, WidePager, WideSource,
+    Visitor, WideGuest, WideInit, WideLane, WideLink, WideMachine, WidePager, WideSource,
 };
 use std::alloc::AllocError;
 use std::io::Write;
@@ -170,7 +170,7 @@ impl<'a, W: Write, B: Begun> Visitor for TextWriter<'a, W, B> {
 
     ghost Met = { λ a d. Meets B.start B.front B.init (W.contents a.output.now) a.text.now a.fault d };
 
-    fn machine(&mut self, machine: &Machine) -> Result<(), AllocError> {
+    fn machine(&mut self, machine: &WideMachine) -> Result<(), AllocError> {
         let pushed = self.text.push_machine(machine);
         self.settle(pushed)
     }

@@ -3,10 +3,10 @@
 use deliveries::Message;
 use migration_types::{Size, Version};
 use recorded_files::{RawPager, RawSource, Told};
-use recordings::{Machine, WidePager, WideSource};
+use recordings::{WideMachine, WidePager, WideSource};
 use std::alloc::{AllocError, Global};
 
-static MACHINE: Machine = Machine {
+static MACHINE: WideMachine = WideMachine {
     version: Version::Two,
     size: Size::Large,
     pages: 4,

@@ -5,7 +5,7 @@ use deliveries::Message;
 use gathered_logs::{GatherFault, Gatherer, LogFault, gather_pager, gather_source};
 use migration_types::{LogName, Size, Version};
 use recorded_files::{FileFault, Last, Party, Told};
-use recordings::Machine;
+use recordings::WideMachine;
 use std::alloc::Global;
 
 const PAGER: Party = Party::Of(LogName::Pager);
@@ -166,7 +166,7 @@ fn tells_what_keeps_files_from_being_a_log(rt: HostRuntime) {
     }
 }
 
-static MACHINE: Machine = Machine {
+static MACHINE: WideMachine = WideMachine {
     version: Version::Two,
     size: Size::Large,
     pages: 4,

@@ -7,12 +7,12 @@ use gathered_logs::{GatherFault, LogFault};
 use migration_types::{Contents, LogName, Size, Version};
 use recorded_files::{FileReader, Party};
 use recordings::{
-    Machine, Visitor, WideGuest, WideInit, WideLane, WideLink, WidePager, WideSource,
+    WideMachine, Visitor, WideGuest, WideInit, WideLane, WideLink, WidePager, WideSource,
 };
 use std::alloc::{AllocError, Global};
 use walked_logs::{LogFiles, WalkFault, note_messages, walk_logs};
 
-static MACHINE: Machine = Machine {
+static MACHINE: WideMachine = WideMachine {
     version: Version::Two,
     size: Size::Large,
     pages: 4,
@@ -132,7 +132,7 @@ impl Visitor for Writing {
 
     ghost Met = { λ visitor recording. ⊤ };
 
-    fn machine(&mut self, machine: &Machine) -> Result<(), AllocError> {
+    fn machine(&mut self, machine: &WideMachine) -> Result<(), AllocError> {
         self.begin("machine", machine.pages)?;
         self.text.extend_from_slice(b"\n")
     }

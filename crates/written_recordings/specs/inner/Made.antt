@@ -19,7 +19,7 @@ use Rattle.session_log.specs.Grammar.{header, pages_key, cells_key, init_key}
 use Rattle.session_log.specs.declared.parts.Stage.{Stage}
 use Rattle.session_log.specs.declared.parts.Stage.TheVariants as stage
 use Rattle.recordings.specs.inner.Held.{SessionDraft, Part, IsWhole, held_onto, NoGuest, NoSource, NoLink, NoLane, NoPager, came_at, announced_at}
-use Rattle.recordings.specs.declared.machine.Machine.{Machine}
+use Rattle.recordings.specs.declared.machine.WideMachine.{WideMachine}
 use Rattle.recordings.specs.Wide.{extent_of}
 use Rattle.recorded_files.specs.declared.fronts.Front.{Front}
 use Rattle.recorded_files.specs.Fronts.{cursors_of}
@@ -110,12 +110,12 @@ abbrev pub head_text : Version → Extent → ℕ → List ℕ
 head_text version e init = ended (header version e.size ∷ (pages_key ++ decimal e.pages) ∷ (cells_key ++ decimal e.cells) ∷ (init_key ++ decimal init) ∷ [])
 
 -- these lines were appended
-pub record IsHead (old new : Text) (machine : Machine) : Type 0 where
+pub record IsHead (old new : Text) (machine : WideMachine) : Type 0 where
   pub front : new.front ≡ old.front
   pub init : new.init ≡ old.init
   pub bytes : new.bytes.items ≡ old.bytes.items ++ head_text machine.version (extent_of machine) old.init
 
-pub record IsMachineSaid (old new : Text) (machine : Machine) : Type 0 where
+pub record IsMachineSaid (old new : Text) (machine : WideMachine) : Type 0 where
   pub head : IsHead old new machine
   pub version : new.version ≡ machine.version
   pub section : new.section ≡ section.Init
