@@ -11,7 +11,7 @@ records-preserved g c = λ party knowns begun.
     let now = c.next.new.self in
     let log = map line n.records in
     let next = comes_next party knowns now log c.in-Ok-Some.field-0 c.in-Ok-Some.number c.text.result.now c.in-Ok-Some.field-0-is c.text.ensures (c.in-Ok-Some.ensures.taken party knowns log n.came) in
-    notes_more line is_of g.T.Taker.Takes party knowns c.records.files now c.args.taker.now c.records.taker c.take_text.new.taker c.args.onto.now c.records.onto c.take_text.new.onto c.text.result.now c.in-Ok-Some.number n next.0 next.1 c.in_ok-take_text-in-Ok-Some.ensures.taken
+    notes_more line is_of g.T.RecordTaker.Takes party knowns c.records.files now c.args.taker.now c.records.taker c.take_text.new.taker c.args.onto.now c.records.onto c.take_text.new.onto c.text.result.now c.in-Ok-Some.number n next.0 next.1 c.in_ok-take_text-in-Ok-Some.ensures.taken
 
 pub returns-in_err-take_text-in-Ok-Some-clause-refused :
     goal.returns-in_err-take_text-in-Ok-Some-clause-refused
@@ -24,19 +24,19 @@ returns-in_err-take_text-in-Ok-Some-clause-refused g c =
     let now = c.next.new.self in
     let log = map line n.records in
     let next = comes_next party knowns now log c.in-Ok-Some.field-0 c.in-Ok-Some.number c.text.result.now c.in-Ok-Some.field-0-is c.text.ensures (c.in-Ok-Some.ensures.taken party knowns log n.came) in
-    is_refused line is_of g.T.Taker.Takes g.T.Taker.IsUnfit party knowns c.records.files now c.args.taker.now c.records.taker c.args.onto.now c.records.onto c.text.result.now c.in-Ok-Some.number c.in_err-take_text-in-Ok-Some.field-0.0 n next.0 next.1 c.in_err-take_text-in-Ok-Some.ensures.refused)
+    is_refused line is_of g.T.RecordTaker.Takes g.T.RecordTaker.IsUnfit party knowns c.records.files now c.args.taker.now c.records.taker c.args.onto.now c.records.onto c.text.result.now c.in-Ok-Some.number c.in_err-take_text-in-Ok-Some.field-0.0 n next.0 next.1 c.in_err-take_text-in-Ok-Some.ensures.refused)
 
 pub returns-in-Ok-None-clause-taken : goal.returns-in-Ok-None-clause-taken
 returns-in-Ok-None-clause-taken g c = λ party knowns begun.
     let line = g.K.LogRecord.line in
     let n = c.records.invariant party knowns begun in
-    says_records line (g.K.LogRecord.IsOf c.args.machine.now) g.T.Taker.Takes party knowns c.records.files c.next.new.self c.args.taker.now c.records.taker c.args.onto.now c.records.onto c.in-Ok-None.field-0 n c.in-Ok-None.field-0-is (c.in-Ok-None.ensures.taken party knowns (map line n.records) n.came)
+    says_records line (g.K.LogRecord.IsOf c.args.machine.now) g.T.RecordTaker.Takes party knowns c.records.files c.next.new.self c.args.taker.now c.records.taker c.args.onto.now c.records.onto c.in-Ok-None.field-0 n c.in-Ok-None.field-0-is (c.in-Ok-None.ensures.taken party knowns (map line n.records) n.came)
 
 pub returns-in-Some-clause-taken : goal.returns-in-Some-clause-taken
 returns-in-Some-clause-taken g c = λ party knowns begun.
     let line = g.K.LogRecord.line in
     let n = c.records.invariant party knowns begun in
-    says_to_hole line (g.K.LogRecord.IsOf c.args.machine.now) g.T.Taker.Takes party knowns c.records.files c.next.new.self c.args.taker.now c.records.taker c.args.onto.now c.records.onto c.in-Err.fault c.in-Some.least n c.in-Some.ensures (c.in-Err.ensures.refused party knowns (map line n.records) n.came)
+    says_to_hole line (g.K.LogRecord.IsOf c.args.machine.now) g.T.RecordTaker.Takes party knowns c.records.files c.next.new.self c.args.taker.now c.records.taker c.args.onto.now c.records.onto c.in-Err.fault c.in-Some.least n c.in-Some.ensures (c.in-Err.ensures.refused party knowns (map line n.records) n.came)
 
 pub returns-in-None-clause-refused : goal.returns-in-None-clause-refused
 returns-in-None-clause-refused g c = λ party knowns begun.

@@ -6,7 +6,7 @@ use Rattle.gathered_logs.specs.inner.Noting.{Notes}
 use Rattle.gathered_logs.proofs.taking.take_records.Given as goal
 
 abbrev pub invariant-records : goal.invariant-records
-invariant-records g l = (party : Party) (knowns : List (Option (List ℕ))) → Came party knowns l.fn.files [] → Notes g.K.LogRecord.line (g.K.LogRecord.IsOf l.machine) g.T.Taker.Takes party knowns l.files l.fn.taker l.fn.onto l.taker l.onto
+invariant-records g l = (party : Party) (knowns : List (Option (List ℕ))) → Came party knowns l.fn.files [] → Notes g.K.LogRecord.line (g.K.LogRecord.IsOf l.machine) g.T.RecordTaker.Takes party knowns l.files l.fn.taker l.fn.onto l.taker l.onto
 
 abbrev pub decreases-records : goal.decreases-records
 decreases-records g l = 2 ^ 64 - l.files.number

@@ -16,9 +16,9 @@ returns-in-Ok-Some-clause-refused g c = λ party knowns begun.
 
 pub returns-in-Err-Log-clause-refused : goal.returns-in-Err-Log-clause-refused
 returns-in-Err-Log-clause-refused g c = λ party knowns begun.
-    subst (IsTakingFault g.K.LogRecord.line (g.K.LogRecord.IsOf c.args.machine.now) g.T.Taker.Takes g.T.Taker.IsUnfit party knowns c.take_records.new.files c.args.taker.now c.args.told.now) c.in-Err-Log.field-0-is (c.in-Err-Log.ensures.refused party knowns begun)
+    subst (IsTakingFault g.K.LogRecord.line (g.K.LogRecord.IsOf c.args.machine.now) g.T.RecordTaker.Takes g.T.RecordTaker.IsUnfit party knowns c.take_records.new.files c.args.taker.now c.args.told.now) c.in-Err-Log.field-0-is (c.in-Err-Log.ensures.refused party knowns begun)
 
 pub returns-in-Err-Unfit-clause-refused : goal.returns-in-Err-Unfit-clause-refused
 returns-in-Err-Unfit-clause-refused g c = λ party knowns begun.
-    let unfit = subst (IsTakingFault g.K.LogRecord.line (g.K.LogRecord.IsOf c.args.machine.now) g.T.Taker.Takes g.T.Taker.IsUnfit party knowns c.take_records.new.files c.args.taker.now c.args.told.now) c.in-Err-Unfit.field-0-is (c.in-Err-Unfit.ensures.refused party knowns begun) in
+    let unfit = subst (IsTakingFault g.K.LogRecord.line (g.K.LogRecord.IsOf c.args.machine.now) g.T.RecordTaker.Takes g.T.RecordTaker.IsUnfit party knowns c.take_records.new.files c.args.taker.now c.args.told.now) c.in-Err-Unfit.field-0-is (c.in-Err-Unfit.ensures.refused party knowns begun) in
     absurd (c.requires.fit unfit.at c.in-Err-Unfit.number unfit.rec unfit.unfit)

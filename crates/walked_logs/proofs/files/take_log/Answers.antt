@@ -15,4 +15,4 @@ returns-clause-refused g c =
     let log = c.args.log in
     let bytes = g.F.LogFiles.bytes_of c.args.files.now log in
     let f = c.in-Err-Unfit.ensures.refused (Of log) bytes (c.in-Ok-new.ensures.begun (Of log) bytes c.in-Ok.ensures) in
-    inr (refl, unfits g.K.LogRecord.line (g.K.LogRecord.IsOf c.args.machine.now) g.T.Taker.Takes g.T.Taker.IsUnfit (Of log) bytes c.take_records.new.files c.args.taker.now c.args.onto.now _ _ c.in-Err-Unfit.field-0-is f)
+    inr (refl, unfits g.K.LogRecord.line (g.K.LogRecord.IsOf c.args.machine.now) g.T.RecordTaker.Takes g.T.RecordTaker.IsUnfit (Of log) bytes c.take_records.new.files c.args.taker.now c.args.onto.now _ _ c.in-Err-Unfit.field-0-is f)
