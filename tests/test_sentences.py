@@ -4,6 +4,9 @@ The cases are those folders of tests/cases and examples whose `args` ask to expl
 folder's `stdout` has; and each line of these, after the first one, has to be a sentence of the table below. Each sentence of the
 table has to stand in a case, in each of its forms. The table has to have the sentences that the sources have, and no other: so one
 that is new has to be written here too, and needs a case.
+
+Two sessions have a record of each kind. What each of these did is written here by hand, and so is what is told where such a record
+names one that it must not name: the session is changed there.
 """
 import glob
 import os
@@ -17,7 +20,9 @@ TOP = os.path.dirname(os.path.dirname(os.path.realpath(__file__)))
 SOURCE = f"{TOP}/crates/session_story/src/sentences.rt"
 
 PLACE = r"line \d+ \((?:guest|source|link|lane|pager) \d+\)"
-DONE = "(?:" + "|".join((
+
+# What a record did: each kind has one form.
+EACH_DONE = (
     r"virtual processor \d+ reads \d+ in cell \d+ of page \d+", r"virtual processor \d+ writes \d+ into cell \d+ of page \d+",
     r"virtual processor \d+ releases page \d+", r"virtual processor \d+ misses page \d+", "the guest is halted at the source",
     r"the guest is resumed at the target, for which pager \d+ was ready", r"the guest looks at the placement pager \d+",
@@ -28,11 +33,19 @@ DONE = "(?:" + "|".join((
     r"the pager takes what link \d+ delivered", r"the pager pulls what lane \d+ delivered", "the pager is ready for the guest",
     r"the pager learns of the miss guest \d+", r"the pager lets a miss wait for the page that pager \d+ asked for",
     r"the pager asks for page \d+", r"the pager places page \d+, which came with pager \d+", r"the pager places page \d+ as zeros",
-    r"the pager drops what came with pager \d+", "the pager says that every owed page is placed")) + ")"
+    r"the pager drops what came with pager \d+", "the pager says that every owed page is placed")
+DONE = f"(?:{'|'.join(EACH_DONE)})"
 RECORD = f"{PLACE}: {DONE}"
 VALUE = r"\d+, [0-9a-f]{16},"
 SINCE = rf"(?:since {RECORD}|as at the start)\."
-WANTED = r"(?:the pager's `ready`|the guest's `halt`|an? `\w+`(?:(?:,| or) an? `\w+`)*(?: or an `again`)?(?: of the \w+| before it.*?)?)"
+
+# What a record has to name: each kind has one form, and three of the pager's have another where the lane has records.
+EACH_WANTED = (
+    "the pager's `ready`", "a `place` or a `zero` of the pager", "the guest's `halt`", "a `state` or a `send` before it", "an `up` of the link",
+    "a `state`, a `send` or an `again` of the source", "a `want` or an `all` of the pager", "a `down` of the link", "a `down` of the lane",
+    "a `miss` of the guest", "a `want` before it", "a `got` before it that took a `send` of the page, or a repeat of it",
+    "a `got` or a `pull` before it that took a `send` of the page, or a repeat of it", "a `got` before it", "a `got` or a `pull` before it")
+WANTED = f"(?:{'|'.join(EACH_WANTED)})"
 
 # Each sentence, by its name in the sources, and the forms that it has.
 FORMS = {
@@ -129,6 +142,61 @@ FORMS = {
 # What is told of a text that is refused is no sentence on a session.
 REFUSED = r"This is no text of a session: .*"
 
+RECORDED, BY_THE_LANE, RETURNED = (f"{TOP}/{name}/session" for name in ("examples/recording", "examples/pushed-by-the-lane", "tests/cases/explain-wrong-shape-both"))
+
+# A record of each kind: its session, its line, its log and number, and what it did.
+RECORDS = (
+    (RECORDED, 9, "guest 0", "virtual processor 0 writes 2861166833142135405 into cell 0 of page 1"),
+    (RECORDED, 11, "guest 2", "virtual processor 1 reads 11325499664036486760 in cell 0 of page 0"),
+    (RECORDED, 12, "guest 3", "virtual processor 1 releases page 3"),
+    (RECORDED, 13, "guest 4", "the guest is halted at the source"),
+    (RECORDED, 14, "guest 5", "the guest is resumed at the target, for which pager 1 was ready"),
+    (RECORDED, 22, "guest 13", "virtual processor 1 misses page 3"),
+    (RECORDED, 17, "guest 8", "the guest looks at the placement pager 7"),
+    (RECORDED, 27, "source 0", "the source learns of the halt guest 4"),
+    (RECORDED, 28, "source 1", "the source sends the processor state"),
+    (RECORDED, 29, "source 2", "the source takes what link 1 delivered"),
+    (RECORDED, 34, "source 7", "the source sends page 2"),
+    (RECORDED, 33, "source 6", "the source sends once more what source 3 sent"),
+    (RECORDED, 36, "source 9", "the source learns that every owed page is placed"),
+    (RECORDED, 40, "link 2", "the link delivers to the pager what source 4 sent"),
+    (RECORDED, 41, "link 3", "the link delivers to the source what pager 8 sent"),
+    (BY_THE_LANE, 18, "lane 0", "the lane delivers to the pager what source 2 sent"),
+    (RECORDED, 53, "pager 6", "the pager takes what link 2 delivered"),
+    (BY_THE_LANE, 22, "pager 2", "the pager pulls what lane 0 delivered"),
+    (RECORDED, 48, "pager 1", "the pager is ready for the guest"),
+    (RECORDED, 51, "pager 4", "the pager learns of the miss guest 7"),
+    (RECORDED, 52, "pager 5", "the pager lets a miss wait for the page that pager 3 asked for"),
+    (RECORDED, 50, "pager 3", "the pager asks for page 1"),
+    (RECORDED, 54, "pager 7", "the pager places page 0, which came with pager 6"),
+    (RECORDED, 59, "pager 12", "the pager places page 3 as zeros"),
+    (RECORDED, 61, "pager 14", "the pager drops what came with pager 13"),
+    (RECORDED, 64, "pager 17", "the pager says that every owed page is placed"),
+    (RETURNED, 17, "source 3", "the source starts the guest again"),
+)
+
+# A record that names another than it must: its session, the lines that are changed there, the faulty one first, and what is told of it.
+NAMED = (
+    (RECORDED, {14: "resume 0"}, "It has to name the pager's `ready`, and names line 47 (pager 0): the pager takes what link 0 delivered."),
+    (RECORDED, {17: "see 6"}, "It has to name a `place` or a `zero` of the pager, and names line 53 (pager 6): the pager takes what link 2 delivered."),
+    (RECORDED, {27: "halted 6"}, "It has to name the guest's `halt`, and names line 15 (guest 6): virtual processor 0 misses page 1."),
+    (RECORDED, {29: "ask 0"}, "It has to name an `up` of the link, and names line 38 (link 0): the link delivers to the pager what source 1 sent."),
+    (RECORDED, {33: "again 2"}, "It has to name a `state` or a `send` before it, and names line 29 (source 2): the source takes what link 1 delivered."),
+    (RECORDED, {38: "down 0"}, "It has to name a `state`, a `send` or an `again` of the source, and names line 27 (source 0): the source learns of the halt guest 4."),
+    (RECORDED, {39: "up 2"}, "It has to name a `want` or an `all` of the pager, and names line 49 (pager 2): the pager learns of the miss guest 6."),
+    (RECORDED, {53: "got 1"}, "It has to name a `down` of the link, and names line 39 (link 1): the link delivers to the source what pager 3 sent."),
+    (RECORDED, {49: "fault 3"}, "It has to name a `miss` of the guest, and names line 12 (guest 3): virtual processor 1 releases page 3."),
+    (RECORDED, {52: "join 8"}, "It has to name a `want` before it, and names line 55 (pager 8): the pager asks for page 1."),
+    (RECORDED, {54: "place 0 0 9d2c41f07ab35e68"},
+     "It has to name a `got` before it that took a `send` of the page, or a repeat of it, and names line 47 (pager 0): the pager takes what link 0 delivered."),
+    (RECORDED, {61: "skip 12"}, "It has to name a `got` before it, and names line 59 (pager 12): the pager places page 3 as zeros."),
+    (BY_THE_LANE, {18: "down 0"}, "It has to name a `state`, a `send` or an `again` of the source, and names line 12 (source 0): the source learns of the halt guest 0."),
+    (BY_THE_LANE, {22: "pull 1"}, "It has to name a `down` of the lane, and names lane 1, which is not there."),
+    (BY_THE_LANE, {23: "place 0 0 0000000000000006"},
+     "It has to name a `got` or a `pull` before it that took a `send` of the page, or a repeat of it, and names line 20 (pager 0): the pager takes what link 0 delivered."),
+    (BY_THE_LANE, {23: "skip 1", 9: "r 0 0 0 6"}, "It has to name a `got` or a `pull` before it, and names line 21 (pager 1): the pager is ready for the guest."),
+)
+
 
 def read(path):
     with open(path, encoding="latin-1") as file:
@@ -167,3 +235,35 @@ def test_sentences(program):
             count(found or re.fullmatch(REFUSED, line), f"no sentence of the table, in {what}: {line!r}")
     for name, form in forms:
         count((name, form) in reached, f"no case of {name}: {form!r}")
+
+
+def explained(program, *words):
+    """The lines that the program explains something in."""
+    return subprocess.run([program, "explain", *words], stdin=subprocess.DEVNULL, capture_output=True, text=True).stdout.splitlines()
+
+
+@pytest.mark.quick
+@pytest.mark.cases(54)
+def test_records(program):
+    """What each kind of record did."""
+    for session, line, name, done in RECORDS:
+        told = explained(program, "--line", str(line), session)
+        same(f"line {line} of {os.path.relpath(session, TOP)}", told[1:2], [f"This is line {line} ({name}): {done}."])
+    for form in EACH_DONE:
+        count(any(re.fullmatch(form, done) for _, _, _, done in RECORDS), f"no record of {form!r}")
+
+
+@pytest.mark.quick
+@pytest.mark.cases(31)
+def test_named(program, room):
+    """What a record has to name, told of one that names another."""
+    for session, changes, wanted in NAMED:
+        lines = read(session).split("\n")
+        for line, record in changes.items():
+            lines[line - 1] = record
+        with open(f"{room}/session", "w", encoding="ascii") as file:
+            file.write("\n".join(lines))
+        told, line = explained(program, f"{room}/session"), next(iter(changes))
+        same(f"{changes} in {os.path.relpath(session, TOP)}", [told[0], told[2]], [f"shape line {line} named", wanted])
+    for wanted in EACH_WANTED:
+        count(any(told.startswith(f"It has to name {wanted}, and names ") for _, _, told in NAMED), f"no record that has to name {wanted}")
