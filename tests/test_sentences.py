@@ -142,7 +142,7 @@ FORMS = {
 # What is told of a text that is refused is no sentence on a session.
 REFUSED = r"This is no text of a session: .*"
 
-RECORDED, BY_THE_LANE, RETURNED = (f"{TOP}/{name}/session" for name in ("examples/recording", "examples/pushed-by-the-lane", "tests/cases/explain-wrong-shape-both"))
+RECORDED, BY_THE_LANE, RETURNED = (f"{TOP}/{name}/session" for name in ("examples/recording", "examples/pushed-by-the-lane", "tests/cases/explain-incomplete-returned"))
 
 # A record of each kind: its session, its line, its log and number, and what it did.
 RECORDS = (
@@ -172,7 +172,7 @@ RECORDS = (
     (RECORDED, 59, "pager 12", "the pager places page 3 as zeros"),
     (RECORDED, 61, "pager 14", "the pager drops what came with pager 13"),
     (RECORDED, 64, "pager 17", "the pager says that every owed page is placed"),
-    (RETURNED, 17, "source 3", "the source starts the guest again"),
+    (RETURNED, 13, "source 3", "the source starts the guest again"),
 )
 
 # A record that names another than it must: its session, the lines that are changed there, the faulty one first, and what is told of it.
