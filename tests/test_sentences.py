@@ -6,9 +6,10 @@ table has to stand in a case, in each of its forms. The table has to have the se
 that is new has to be written here too, and needs a case.
 
 Two sessions have a record of each kind. What each of these did is written here by hand, and so is what is told where such a record
-names one that it must not name: the session is changed there.
+names one that it must not name: the session is changed there. The object of an explanation has to have the records of the sentences.
 """
 import glob
+import json
 import os
 import re
 import subprocess
@@ -267,3 +268,35 @@ def test_named(program, room):
         same(f"{changes} in {os.path.relpath(session, TOP)}", [told[0], told[2]], [f"shape line {line} named", wanted])
     for wanted in EACH_WANTED:
         count(any(told.startswith(f"It has to name {wanted}, and names ") for _, _, told in NAMED), f"no record that has to name {wanted}")
+
+
+# The sentences that tell of a record with a role in the object of JSON.
+ROLES = {"Wrong": "faulty", "Misshapen": "faulty", "Change": "changed", "Halt": "halt", "Sending": "sent", "SentBefore": "sent", "Delivery": "delivered",
+         "Taking": "taken", "Placement": "placed", "SecondPlacement": "placed-again", "FirstLook": "look", "FirstUse": "touch", "ResumedToo": "resume", "Waits": "waits"}
+
+
+def roles_in(lines, forms):
+    """The records of such sentences, with their roles, in order."""
+    for line in lines:
+        name = next((name for name, form in forms if form.fullmatch(line)), None)
+        record = re.search(r"[Ll]ine (\d+) \((\w+) (\d+)\)", line)
+        if name and record:
+            yield {"role": ROLES[name], "log": record[2], "record": int(record[3]), "line": int(record[1])}
+
+
+@pytest.mark.quick
+@pytest.mark.cases(450)
+def test_records_of_objects(program):
+    """The object of an explanation has the records of the sentences, in their order. Where both links delivered, the sentences have one."""
+    forms = [(name, re.compile(form)) for name in ROLES for form in FORMS[name]]
+    roles = set()
+    for path in sorted(glob.glob(f"{TOP}/tests/cases/*/session") + glob.glob(f"{TOP}/examples/*/session")):
+        told = explained(program, "--format", "json", path)
+        if os.path.getsize(path) > 1_000_000 or not told or '"records":' not in told[0]:
+            continue
+        records, what = json.loads(told[0])["records"], os.path.relpath(path, TOP)
+        wanted = list(roles_in(explained(program, path)[1:], forms))
+        same(f"the records of {what}", [it for it in records if it["role"] != "delivered"], [it for it in wanted if it["role"] != "delivered"])
+        count(all(it in records for it in wanted), f"a delivery is told in words alone, in {what}")
+        roles.update(it["role"] for it in wanted)
+    same("the roles that were met", sorted(roles), sorted(set(ROLES.values())))
