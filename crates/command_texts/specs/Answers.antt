@@ -18,7 +18,7 @@ fault_status Memory = 4
 abbrev pub file_line : List ℕ → List ℕ
 file_line name = codes "file " ++ shown name ++ codes "\n"
 
--- the same, followed by the words on the cause
+-- the line about a text that could not be read to its end, followed by the words on the cause
 abbrev pub file_lines : List ℕ → List ℕ → List ℕ
 file_lines name why = file_line name ++ line_on name why
 

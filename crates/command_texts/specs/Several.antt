@@ -110,7 +110,7 @@ TellsUnread name old new = (why : List ℕ) × AppendsFront old new (file_lines 
 abbrev pub TellsEntry : (List ℕ → Type 0) → Entry → Option (List ℕ) → Option (List ℕ) → Type 0
 TellsEntry HasNote e old new = MatchOption e.said (TellsUnread e.name old new) (λ s. TellsSaid HasNote e.name s old new)
 
--- the same for each entry, in order
+-- what is told beside the answers to a list, about each entry in order
 abbrev pub TellsEach : (List ℕ → Type 0) → List Entry → Option (List ℕ) → Option (List ℕ) → Type 0
 TellsEach HasNote [] old new = Keeps old new
 TellsEach HasNote (e ∷ es) old new = (between : Option (List ℕ)) × TellsEntry HasNote e old between × TellsEach HasNote es between new

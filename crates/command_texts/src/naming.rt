@@ -104,7 +104,8 @@ fn read_both<A: Taker, B: Taker, R: Threads + Sync, I: Read + Send>(
     Ok(both.end()?)
 }
 
-/// The same, with faults under the name of the input.
+/// Returns what is found in the two texts of the input, and why one is refused, if one is. Faults have this name for the
+/// input.
 pub fn read_input<'a, A: Taker, B: Taker, R: Threads + Sync, I: Read + Send>(
     rt: &R,
     alloc: Global,

@@ -163,7 +163,7 @@ command_words choices row = with_output (with_taken choices (new_app row.0) row.
 abbrev pub program_words : App
 program_words = on_top (λ s. record s { has_version = true; subcommand_required = true }) (new_app (codes "postcopy"))
 
--- the same with the command of one more row
+-- a command line with the command of one more row
 abbrev pub with_command : Choices → App → Text × Takes Text → App
 with_command choices app row = with_subcommand app (command_words choices row).top
 
@@ -404,7 +404,7 @@ several_named given = if bytes_eq given.0 (codes "audit") then several_among giv
 abbrev pub several_given : Text × List Row → Option (Lists × List Text)
 several_given given = if is_some (asked_of given) then None else several_named given
 
--- the same, if the options do not clash
+-- the sessions that a command and its arguments ask to be audited, if they ask for nothing else and no options clash
 abbrev pub several_in : Text × List Row → Option (Lists × List Text)
 several_in given = unclashed several_given given
 
@@ -424,7 +424,8 @@ folders_named given = if bytes_eq given.0 (codes "session") then folders_among g
 abbrev pub folders_given : Text × List Row → Option (Lacking × List Text)
 folders_given given = if is_some (asked_of given) then None else folders_named given
 
--- the same, if the options do not clash
+-- the folders of which a command and its arguments ask a session to be made, if they ask for nothing else and no
+-- options clash
 abbrev pub folders_in : Text × List Row → Option (Lacking × List Text)
 folders_in given = unclashed folders_given given
 
@@ -514,7 +515,7 @@ with_texts (name ∷ []) (Draw topic word further) = Some (Draw topic name None)
 with_texts (first ∷ second ∷ []) (Draw topic word (Some further)) = Some (Draw topic first (Some second))
 with_texts names asked = None
 
--- the same, if the command is on texts
+-- a command with these names, if it is on texts, and on this many
 abbrev pub with_names : List Text → Takes Text → Option (Request Text)
 with_names names (by.Texts asked) = with_texts names asked
 with_names names (by.Folders word) = None

@@ -52,7 +52,8 @@ abbrev pub IsWhyOf : {V : Type 0} → (V → List (List ℕ) → Type 0) → ℕ
 IsWhyOf Spells kind text before after answer =
     IsRefused Spells kind text before after answer ⊎ IsReadWhole Spells text before after answer ⊎ TellsKind 11 before after answer
 
--- the same for the kind of text with this number: a session, a certificate, or an order; any other number is unknown
+-- what is answered about a text of the kind with this number: a session, a certificate, or an order; any other number is
+-- unknown
 pub record IsWhy (kind : ℕ) (text before after : List ℕ) (answer : PostcopyRefusal) : Type 0 where
   pub session : kind ≡ 3 → IsWhyOf SpellsSession kind text before after answer
   pub certificate : kind ≡ 4 → IsWhyOf SpellsCert kind text before after answer
