@@ -282,6 +282,71 @@ def a_device(run):
     yield "the link to standard output", os.readlink(f"{run.room}/stdout"), "/dev/stdout"
 
 
+def recorded(run, folder, pages):
+    """The files of a recording of so many pages, each of which is sent, placed, seen and read."""
+    logs = {
+        "machine": [f"pages {pages} 1", *(f"page {page} {page + 1:016x}" for page in range(pages))],
+        "guest": ["halt", "resume 1", *(record for page in range(pages) for record in (f"see {3 + 2 * page}", f"r 0 {page} 0 {page + 1}"))],
+        "source": ["halted 0", "state", *(f"send {page} {page + 1:016x}" for page in range(pages))],
+        "pager": ["got-sent 1", "ready", *(record for page in range(pages) for record in (f"got-sent {2 + page}", f"place {page} {2 + 2 * page} {page + 1:016x}"))],
+    }
+    os.mkdir(f"{run.room}/{folder}")
+    for log, records in logs.items():
+        text = "".join(f"{number} {record}\n" for number, record in enumerate(records))
+        run.put(f"{folder}/{log}.1.0", f"postcopy-records 1\nrecording long\nlog {log} 0 0\n{text}end {len(records)}\n".encode())
+    return folder
+
+
+def least_memory(run, *words):
+    """The least limit on the address space, in MiB, under which the program does what it is asked for."""
+    def is_enough(mebibytes):
+        def limit():
+            resource.setrlimit(resource.RLIMIT_AS, (mebibytes << 20, mebibytes << 20))
+        return run(*words, preexec_fn=limit)[0] == 0
+
+    low, high = 0, 256
+    while high - low > 1:
+        middle = (low + high) // 2
+        low, high = (low, middle) if is_enough(middle) else (middle, high)
+    return high
+
+
+def a_long_answer(run):
+    """An answer that is too long to be held goes to its file piece by piece, and the file has all of it or stays as it was."""
+    folder = recorded(run, "long", 20000)
+    plain = run("session", folder)
+    yield "without the option", (plain[0], plain[2], len(plain[1]) > 2 << 20), (0, b"", True)
+    yield "a new file", (run("session", folder, "-o", "new"), run.has("new")), ((0, b"", b""), plain[1])
+    run.put("old", b"as it was\n")
+    os.chmod(f"{run.room}/old", 0o640)
+    os.symlink("old", f"{run.room}/link")
+    yield "an old file behind a link", (run("session", folder, "-o", "link", umask=0o22), run.has("old")), ((0, b"", b""), plain[1])
+    yield "its mode", stat.S_IMODE(os.stat(f"{run.room}/old").st_mode), 0o640
+    yield "the link", os.readlink(f"{run.room}/link"), "old"
+    yield "a device", (run("session", folder, "-o", run.link("null")), stat.S_ISCHR(os.stat(f"{run.room}/null").st_mode)), ((0, b"", b""), True)
+    yield "a folder that is not there", run("session", folder, "-o", "not-there/new"), (3, b"", b"output\nnot-there/new: no such file or directory\n")
+
+    def limit():
+        signal.signal(signal.SIGXFSZ, signal.SIG_IGN)
+        resource.setrlimit(resource.RLIMIT_FSIZE, (1500000, 1500000))
+
+    run.put("old", b"as it was\n")
+    yield "a file that is too large", run("session", folder, "-o", "old", preexec_fn=limit, restore_signals=False), (3, b"", b"output\nold: the file would be too large\n")
+    yield "the file that stays", run.has("old"), b"as it was\n"
+    os.remove(f"{run.room}/long/source.1.0")
+    status, output, errors = run("session", folder, "-o", "old")
+    yield "a recording that is not whole", (status, output, errors != b"", run.has("old")), (1, b"", True, b"as it was\n")
+    yield "no other files", sorted(os.listdir(run.room)), ["link", "long", "new", "null", "old"]
+
+
+def a_long_answer_in_little_memory(run):
+    """A long answer that goes to a file takes hardly more memory than one that goes to standard output."""
+    folder = recorded(run, "long", 100000)
+    plain, saved = least_memory(run, "session", folder), least_memory(run, "session", folder, "-o", "new")
+    size = os.path.getsize(f"{run.room}/new") >> 20
+    yield f"{plain} and {saved} MiB for a text of {size} MiB", saved <= plain + 4 < plain + size // 2 < 256, True
+
+
 def a_migration(run):
     yield "a migration", run("migrate", SCRIPT, "-o", "both"), (0, b"", b"")
     yield "the check of it", run(stdin=run.has("both")), (0, b"yes\n", b"")
@@ -308,11 +373,12 @@ def other_commands(run):
 
 
 ALL = (a_new_file, an_old_file, the_users_own, who_may_read, who_owns_it, a_link, many_links, two_writers, two_names, a_limit_on_files, lines_of_nothing, refused_memory,
-       one_file_without_memory, a_refused_script, no_text, no_place, a_device, a_migration, other_commands)
+       one_file_without_memory, a_refused_script, no_text, no_place, a_device, a_long_answer, a_long_answer_in_little_memory,
+       a_migration, other_commands)
 
 
 # How many cases each has at least.
-LEAST = {other_commands: 28, a_link: 14, two_writers: 62, two_names: 23, who_may_read: 21, the_users_own: 8, a_new_file: 11, refused_memory: 750, one_file_without_memory: 40, a_device: 6}
+LEAST = {other_commands: 28, a_link: 14, two_writers: 62, two_names: 23, who_may_read: 21, the_users_own: 8, a_new_file: 11, refused_memory: 750, one_file_without_memory: 40, a_device: 6, a_long_answer: 11}
 
 
 @pytest.mark.parametrize("tested", [pytest.param(it, marks=pytest.mark.cases(LEAST.get(it, 1)), id=it.__name__) for it in ALL])

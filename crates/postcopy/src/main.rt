@@ -23,7 +23,7 @@ mod folders;
 mod saving;
 
 use crate::folders::WithFolders;
-use crate::saving::{Draft, is_one_file};
+use crate::saving::{Draft, Saved, is_one_file};
 use command_texts::{
     Closable, Console, Fault, STANDARD_OUTPUT, TextSource, USAGE, cause_of, tell, write_or_why,
 };
@@ -239,43 +239,44 @@ fn write<O: Write>(text: &[u8], output: &mut O) -> Result<(), Fault<'static>> {
     }
 }
 
-// Writes a text to the file with this name, if there is one, or else to the output.
+// Writes an answer to the file with this name, if there is one, or else to the output.
 fn keep_or_write<'a, R: Files + RandomSource, O: Write>(
     rt: &R,
-    alloc: Global,
     name: Option<&'a str>,
-    text: &[u8],
+    text: Saved<'a, R>,
     output: &mut O,
 ) -> Result<(), Fault<'a>> {
-    match name {
-        Some(name) => keep(rt, name, draft(rt, alloc, name, text)?),
-        None => write(text, output),
+    let Some(name) = name else {
+        return write(text.end_unnamed().as_slice(), output);
+    };
+    match text.end(name) {
+        Ok(draft) => keep(rt, name, draft),
+        Err(error) => Err(put_fault(name, &error)),
     }
 }
 
-// What is to be written.
-#[derive(Drop)]
-struct Written {
-    text: Vec<u8>,
-    // The table of a window's lines.
-    table: Option<Vec<u8>>,
-}
-
-// Writes an answer to the file that is named for it, or else to the output, and writes the table of lines to its file.
-// Each file gets all of its text or stays as it was. The table's file stays as it was if the answer could not be
-// written.
+// Writes an answer to the file that is named for it, or else to the output, and writes the table of a window's lines to
+// its file. Each file gets all of its text or stays as it was. The table's file stays as it was if the answer could not
+// be written.
 fn put<'a, R: Files + RandomSource, O: Write>(
     rt: &R,
     alloc: Global,
     targets: Targets<'a>,
-    written: &Written,
+    text: Saved<'a, R>,
+    table: &Option<Vec<u8>>,
     output: &mut O,
 ) -> Result<(), Fault<'a>> {
-    let (Some(name), Some(table)) = (targets.lines, &written.table) else {
-        return keep_or_write(rt, alloc, targets.output, &written.text, output);
+    let (Some(name), Some(table)) = (targets.lines, table) else {
+        return keep_or_write(rt, targets.output, text, output);
     };
-    let table = draft(rt, alloc, name, table)?;
-    match keep_or_write(rt, alloc, targets.output, &written.text, output) {
+    let table = match draft(rt, alloc, name, table) {
+        Ok(table) => table,
+        Err(fault) => {
+            let _ = text.end_unnamed();
+            return Err(fault);
+        }
+    };
+    match keep_or_write(rt, targets.output, text, output) {
         Ok(()) => keep(rt, name, table),
         Err(fault) => {
             table.remove(rt);
@@ -300,11 +301,10 @@ where
     R: RandomSource,
     R::Reader: Send,
 {
-    let mut text = Vec::new(alloc);
+    let mut text = Saved::new(rt, alloc, targets.output);
     let mut table = None;
     let status = answer(rt, alloc, texts, reading, &mut text, errors, &mut table);
-    let written = Written { text, table };
-    match put(rt, alloc, targets.at(status), &written, output) {
+    match put(rt, alloc, targets.at(status), text, &table, output) {
         Ok(()) => status,
         Err(fault) => tell(fault, errors),
     }

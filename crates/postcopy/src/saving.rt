@@ -20,6 +20,9 @@ const NEW_MODE: u32 = 0o666;
 /// The permission bits of a mode.
 const MODE_BITS: u32 = 0o777;
 
+/// The most bytes that are held of a text which is to get a name.
+const MOST_HELD: usize = 1_048_576;
+
 // Where a name leads.
 #[derive(Drop)]
 enum Place {
@@ -152,21 +155,6 @@ fn keep_access<F: Files>(
     file.set_permissions(Permissions::from_mode(mode))
 }
 
-// Writes a draft, and waits until the system has stored it.
-fn write_draft<F: Files>(
-    files: &F,
-    draft: &PathBuf,
-    file: &mut F::File,
-    old: &Option<Metadata>,
-    text: &[u8],
-) -> io::Result<()> {
-    if let Some(old) = old {
-        keep_access(files, draft, file, old)?;
-    }
-    file.write_all(text)?;
-    file.sync_all()
-}
-
 // Writes to something that is written in place. Appends to an open file of a process.
 fn write_fixed<F: Files>(files: &F, name: &str, text: &[u8]) -> io::Result<()> {
     let goes_on = fs::metadata(files, name)?.is_file();
@@ -175,6 +163,57 @@ fn write_fixed<F: Files>(files: &F, name: &str, text: &[u8]) -> io::Result<()> {
         .append(goes_on)
         .open(files, name)?
         .write_all(text)
+}
+
+// A file that is being written. It has a name of its own, and gets the one that leads to another file, or to none yet.
+#[derive(Drop)]
+struct Part<W> {
+    draft: PathBuf,
+    name: PathBuf,
+    file: W,
+}
+
+// Begins a file that is to get this name. It has the mode and the owner of the file that it replaces.
+fn begin_part<F: Files + RandomSource>(
+    files: &F,
+    alloc: Global,
+    name: PathBuf,
+    old: &Option<Metadata>,
+) -> io::Result<Part<F::File>> {
+    let mode = match old {
+        Some(old) => old.mode() & MODE_BITS,
+        None => NEW_MODE,
+    };
+    let (draft, file) = created(files, alloc, &name, mode)?;
+    if let Some(old) = old {
+        if let Err(error) = keep_access(files, &draft, &file, old) {
+            let _ = fs::remove_file(files, draft.as_str());
+            return Err(error);
+        }
+    }
+    Ok(Part { draft, name, file })
+}
+
+// Writes the rest of a file, and waits until the system has stored it.
+fn finish<W: Write + OpenFile>(file: &mut W, rest: &[u8]) -> io::Result<()> {
+    file.write_all(rest)?;
+    file.sync_all()
+}
+
+// Finishes a file with the rest of its text. If that fails, removes it.
+fn finish_part<F: Files>(files: &F, part: Part<F::File>, rest: &[u8]) -> io::Result<Draft> {
+    let Part {
+        draft,
+        name,
+        mut file,
+    } = part;
+    match finish(&mut file, rest) {
+        Ok(()) => Ok(Draft::Part(draft, name)),
+        Err(error) => {
+            let _ = fs::remove_file(files, draft.as_str());
+            Err(error)
+        }
+    }
 }
 
 /// A text that has been written, and gets its name with [`Draft::keep`].
@@ -195,23 +234,14 @@ impl Draft {
         name: &str,
         text: &[u8],
     ) -> io::Result<Draft> {
-        let (name, old) = match place_of(files, alloc, name)? {
-            Place::Named(name, old) => (name, old),
+        match place_of(files, alloc, name)? {
+            Place::Named(name, old) => {
+                let part = begin_part(files, alloc, name, &old)?;
+                finish_part(files, part, text)
+            }
             Place::Fixed => {
                 write_fixed(files, name, text)?;
-                return Ok(Draft::Written);
-            }
-        };
-        let mode = match &old {
-            Some(old) => old.mode() & MODE_BITS,
-            None => NEW_MODE,
-        };
-        let (draft, mut file) = created(files, alloc, &name, mode)?;
-        match write_draft(files, &draft, &mut file, &old, text) {
-            Ok(()) => Ok(Draft::Part(draft, name)),
-            Err(error) => {
-                let _ = fs::remove_file(files, draft.as_str());
-                Err(error)
+                Ok(Draft::Written)
             }
         }
     }
@@ -233,5 +263,133 @@ impl Draft {
         if let Draft::Part(draft, _) = self {
             let _ = fs::remove_file(files, draft.as_str());
         }
+    }
+}
+
+/// A text that is to get a name, while it is being written. A short text is held. A longer one goes to a file with a name
+/// of its own in the same folder, piece by piece, unless the name leads to something that is written in place. What
+/// keeps it from being written is told at the end.
+#[derive(Drop)]
+pub struct Saved<'a, F: Files> {
+    files: &'a F,
+    alloc: Global,
+    // The name that it is to get, if it is to get one.
+    name: Option<&'a str>,
+    // What is not in a file.
+    held: Vec<u8>,
+    part: Option<Part<F::File>>,
+    // Whether all of it is held.
+    is_held: bool,
+    fault: Option<io::Error>,
+}
+
+impl<'a, F: Files + RandomSource> Saved<'a, F> {
+    /// Returns an empty text that is to get this name, if there is one.
+    pub fn new(files: &'a F, alloc: Global, name: Option<&'a str>) -> Self {
+        Saved {
+            files,
+            alloc,
+            name,
+            held: Vec::new(alloc),
+            part: None,
+            is_held: name.is_none(),
+            fault: None,
+        }
+    }
+
+    // Begins the file, if the name leads to one. Otherwise the text is held.
+    fn begin(&mut self, name: &str) -> io::Result<()> {
+        match place_of(self.files, self.alloc, name)? {
+            Place::Named(name, old) => {
+                self.part = Some(begin_part(self.files, self.alloc, name, &old)?);
+            }
+            Place::Fixed => self.is_held = true,
+        }
+        Ok(())
+    }
+
+    // Writes to the file, which is begun first if there is none.
+    fn write_part(&mut self, text: &[u8]) -> io::Result<()> {
+        if self.part.is_none() {
+            if let Some(name) = self.name {
+                self.begin(name)?;
+            }
+        }
+        match &mut self.part {
+            Some(part) => {
+                part.file.write_all(self.held.as_slice())?;
+                self.held.clear();
+                part.file.write_all(text)
+            }
+            None => {
+                self.held.extend_from_slice(text)?;
+                Ok(())
+            }
+        }
+    }
+
+    // Adds to the text.
+    fn add(&mut self, text: &[u8]) -> io::Result<()> {
+        if self.is_held || self.held.len().saturating_add(text.len()) <= MOST_HELD {
+            self.held.extend_from_slice(text)?;
+            return Ok(());
+        }
+        self.write_part(text)
+    }
+
+    /// Ends the text, which has the name that it is to get.
+    pub fn end(self, name: &str) -> io::Result<Draft> {
+        let Saved {
+            files,
+            alloc,
+            held,
+            part,
+            fault,
+            ..
+        } = self;
+        match (part, fault) {
+            (Some(part), Some(fault)) => {
+                let _ = fs::remove_file(files, part.draft.as_str());
+                Err(fault)
+            }
+            (None, Some(fault)) => Err(fault),
+            (Some(part), None) => finish_part(files, part, held.as_slice()),
+            (None, None) => Draft::new(files, alloc, name, held.as_slice()),
+        }
+    }
+
+    /// Ends the text, which gets no name. Returns it, if all of it was held. Nothing is left of a longer text.
+    pub fn end_unnamed(self) -> Vec<u8> {
+        let Saved {
+            files,
+            alloc,
+            held,
+            part,
+            ..
+        } = self;
+        match part {
+            Some(part) => {
+                let _ = fs::remove_file(files, part.draft.as_str());
+                Vec::new(alloc)
+            }
+            None => held,
+        }
+    }
+}
+
+impl<F: Files + RandomSource> Write for Saved<'_, F> {
+    fn write(&mut self, buf: &[u8]) -> io::Result<usize> {
+        if self.fault.is_some() {
+            return Ok(buf.len());
+        }
+        if let Err(error) = self.add(buf) {
+            self.held.clear();
+            self.fault = Some(error);
+        }
+        Ok(buf.len())
+    }
+
+    fn flush(&mut self) -> io::Result<()> {
+        Ok(())
     }
 }
