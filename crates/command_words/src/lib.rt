@@ -2,6 +2,7 @@
 #![tactic(auto)]
 
 mod building;
+mod giving;
 mod matching;
 mod reading;
 mod requests;
