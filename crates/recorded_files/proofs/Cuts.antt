@@ -203,14 +203,18 @@ names_length s Pager = length_of_map (λ r. named_first (pager_row r).fields) s.
 abbrev pub narrow : Recorded → Cursors → Cursors
 narrow s c log = min (c log) (reach c (names_in s log))
 
-abbrev pub IsAbove : Recorded → Cursors → Type 0
+abbrev IsAbove : Recorded → Cursors → Type 0
 IsAbove s c = (d : Cursors) → IsFront s d → (log : LogName) → d log ≤ c log
 
-pub still_above : (s : Recorded) (c : Cursors) → IsAbove s c → (d : Cursors) → IsFront s d → (log : LogName) → d log ≤ min (c log) (reach c (names_in s log))
-still_above s c above d f log = let a = above d f log in let b = front_reaches s d f log in let m = reach_more c d (names_in s log) (above d f) in both (d log) (c log) (reach d (names_in s log)) (reach c (names_in s log)) a b m
+-- a front below this one is below the next one too
+pub still_below : (s : Recorded) (c d : Cursors) → IsFront s d → ((log : LogName) → d log ≤ c log) → (log : LogName) → d log ≤ min (c log) (reach c (names_in s log))
+still_below s c d f below log = let b = front_reaches s d f log in let m = reach_more c d (names_in s log) below in both (d log) (c log) (reach d (names_in s log)) (reach c (names_in s log)) (below log) b m
   where
     both : (x y u v : ℕ) → x ≤ y → x ≤ u → u ≤ v → x ≤ min y v
     both x y u v a b m = omega arith
+
+still_above : (s : Recorded) (c : Cursors) → IsAbove s c → IsAbove s (narrow s c)
+still_above s c above d f = still_below s c d f (above d f)
 
 abbrev total : Cursors → ℕ
 total c = c Guest + c Source + c Link + c Lane + c Pager

@@ -8,40 +8,44 @@ use Rattle.migration_types.specs.declared.records.LogName.TheVariants.{Guest, So
 use Rattle.migration_types.specs.Sessions.{Recorded, log_length}
 use Rattle.recorded_files.specs.declared.fronts.Front.{Front}
 use Rattle.recorded_files.specs.declared.naming.Naming.{Naming}
-use Rattle.recorded_files.specs.Fronts.{cursors_of, IsGreatestFront}
+use Rattle.recorded_files.specs.Fronts.{cursors_of, IsFront, IsGreatestFront, IsGreatestFrontWithin}
 use Rattle.recorded_files.specs.Named.{IsNaming}
 use Rattle.recorded_files.specs.inner.Reaches.{names_in, reach}
-use Rattle.recorded_files.proofs.Cuts.{IsAbove, is_front, still_above}
+use Rattle.audit_model.specs.Mergings.{Cursors}
+use Rattle.recorded_files.proofs.Cuts.{is_front, still_below}
 
--- no front of the logs has more records, and the next one ends each log in front of a record that names one which is not there
-pub record IsStep (s : Recorded) (front next : Front) : Type 0 where
+-- no front of at most so many records has more, and the next one ends each log in front of a record that names one which is not there
+pub record IsStep (s : Recorded) (most front next : Front) : Type 0 where
   pub within : (log : LogName) → cursors_of front log ≤ log_length s log
-  pub above : IsAbove s (cursors_of front)
+  pub few : (log : LogName) → cursors_of front log ≤ cursors_of most log
+  pub above : (d : Cursors) → IsFront s d → ((log : LogName) → d log ≤ cursors_of most log) → (log : LogName) → d log ≤ cursors_of front log
   pub next_is : (log : LogName) → cursors_of next log ≡ min (cursors_of front log) (reach (cursors_of front) (names_in s log))
 
-pub record Narrows (naming : Naming) (front next : Front) : Type 0 where
+pub record Narrows (naming : Naming) (most front next : Front) : Type 0 where
   pub smaller : (log : LogName) → cursors_of next log ≤ cursors_of front log
-  pub steps : (s : Recorded) → IsNaming naming s → IsStep s front next
+  pub steps : (s : Recorded) → IsNaming naming s → ((log : LogName) → cursors_of most log ≤ log_length s log) → IsStep s most front next
 
 abbrev pub size : Front → ℕ
 size f = f.guest + f.source + f.link + f.lane + f.pager
 
-pub begins : (naming : Naming) (front next : Front) → ((log : LogName) → cursors_of next log ≤ cursors_of front log) → ((s : Recorded) → IsNaming naming s → (log : LogName) → cursors_of front log ≡ log_length s log) → ((s : Recorded) → IsNaming naming s → (log : LogName) → cursors_of next log ≡ min (cursors_of front log) (reach (cursors_of front) (names_in s log))) → Narrows naming front next
-begins naming front next smaller counts reaches = record {
+pub begins : (naming : Naming) (most next : Front) → ((log : LogName) → cursors_of next log ≤ cursors_of most log) → ((s : Recorded) → IsNaming naming s → (log : LogName) → cursors_of next log ≡ min (cursors_of most log) (reach (cursors_of most) (names_in s log))) → Narrows naming most most next
+begins naming most next smaller reaches = record {
   smaller = smaller;
-  steps = λ s is. record {
-    within = λ log. let e = counts s is log in omega (arith, e);
-    above = λ d f log. let e = counts s is log in let w = f.within log in omega (arith, e, w);
+  steps = λ s is within. record {
+    within = within;
+    few = λ log. omega arith;
+    above = λ d f few log. few log;
     next_is = reaches s is;
   };
 }
 
-pub goes_on : (naming : Naming) (old front next : Front) → Narrows naming old front → ((log : LogName) → cursors_of next log ≤ cursors_of front log) → ((s : Recorded) → IsNaming naming s → (log : LogName) → cursors_of next log ≡ min (cursors_of front log) (reach (cursors_of front) (names_in s log))) → Narrows naming front next
-goes_on naming old front next n smaller reaches = record {
+pub goes_on : (naming : Naming) (most old front next : Front) → Narrows naming most old front → ((log : LogName) → cursors_of next log ≤ cursors_of front log) → ((s : Recorded) → IsNaming naming s → (log : LogName) → cursors_of next log ≡ min (cursors_of front log) (reach (cursors_of front) (names_in s log))) → Narrows naming most front next
+goes_on naming most old front next n smaller reaches = record {
   smaller = smaller;
-  steps = λ s is. record {
-    within = λ log. let e = (n.steps s is).within log in let w = n.smaller log in omega (arith, e, w);
-    above = λ d f log. let e = (n.steps s is).next_is log in let a = still_above s (cursors_of old) (n.steps s is).above d f log in omega (arith, e, a);
+  steps = λ s is within. let step = n.steps s is within in record {
+    within = λ log. let e = step.within log in let w = n.smaller log in omega (arith, e, w);
+    few = λ log. let e = step.few log in let w = n.smaller log in omega (arith, e, w);
+    above = λ d f few log. let e = step.next_is log in let a = still_below s (cursors_of old) d f (step.above d f few) log in omega (arith, e, a);
     next_is = reaches s is;
   };
 }
@@ -65,8 +69,8 @@ same_front a b below le =
     let e = all_same a.guest a.source a.link a.lane a.pager b.guest b.source b.link b.lane b.pager (below Guest) (below Source) (below Link) (below Lane) (below Pager) le in
     joined a b e.0 e.1 e.2 e.3 e.4
 
-pub gets_smaller : (naming : Naming) (front next : Front) → Narrows naming front next → next ≢ front → size next < size front
-gets_smaller naming front next n other = go (cases_lt (size next) (size front))
+pub gets_smaller : (naming : Naming) (most front next : Front) → Narrows naming most front next → next ≢ front → size next < size front
+gets_smaller naming most front next n other = go (cases_lt (size next) (size front))
   where
     go : (size next < size front) ⊎ (size front ≤ size next) → size next < size front
     go (inl lt) = lt
@@ -110,11 +114,19 @@ alike a b same =
     let pager : a.pager ≡ b.pager = equal a.pager b.pager (later_true (a.lane == b.lane) (a.pager == b.pager) two) in
     joined a b guest source link lane pager
 
-pub ends : (naming : Naming) (front next : Front) → Narrows naming front next → next ≡ front → (s : Recorded) → IsNaming naming s → IsGreatestFront s (cursors_of front)
-ends naming front next n same s is = record {
-  front = is_front s (cursors_of front) (n.steps s is).within (λ log. at_reach (cursors_of next log) (cursors_of front log) (reach (cursors_of front) (names_in s log)) ((n.steps s is).next_is log) (ap (λ f. cursors_of f log) same));
-  greatest = (n.steps s is).above;
+pub ends : (naming : Naming) (most front next : Front) → Narrows naming most front next → next ≡ front → (s : Recorded) → IsNaming naming s → ((log : LogName) → cursors_of most log ≤ log_length s log) → IsGreatestFrontWithin s (cursors_of most) (cursors_of front)
+ends naming most front next n same s is within = let step = n.steps s is within in record {
+  front = is_front s (cursors_of front) step.within (λ log. at_reach (cursors_of next log) (cursors_of front log) (reach (cursors_of front) (names_in s log)) (step.next_is log) (ap (λ f. cursors_of f log) same));
+  few = step.few;
+  greatest = step.above;
 }
   where
     at_reach : (x y r : ℕ) → x ≡ min y r → x ≡ y → y ≤ r
     at_reach x y r e f = omega arith
+
+-- the greatest of all is the greatest within all records
+pub greatest_of_all : (s : Recorded) (counts c : Front) → ((log : LogName) → cursors_of counts log ≡ log_length s log) → IsGreatestFrontWithin s (cursors_of counts) (cursors_of c) → IsGreatestFront s (cursors_of c)
+greatest_of_all s counts c many g = record { front = g.front; greatest = λ d f log. g.greatest d f (λ at. let e = many at in let w = f.within at in omega (arith, e, w)) log }
+
+pub no_more_than_all : (s : Recorded) (counts : Front) → ((log : LogName) → cursors_of counts log ≡ log_length s log) → (log : LogName) → cursors_of counts log ≤ log_length s log
+no_more_than_all s counts many log = let e = many log in omega (arith, e)

@@ -35,6 +35,12 @@ pub record IsGreatestFront (s : Recorded) (c : Cursors) : Type 0 where
   pub front : IsFront s c
   pub greatest : (d : Cursors) → IsFront s d → (log : LogName) → d log ≤ c log
 
+-- it is a front of at most so many records of each log, and no such front has more records of any log
+pub record IsGreatestFrontWithin (s : Recorded) (most c : Cursors) : Type 0 where
+  pub front : IsFront s c
+  pub few : (log : LogName) → c log ≤ most log
+  pub greatest : (d : Cursors) → IsFront s d → ((log : LogName) → d log ≤ most log) → (log : LogName) → d log ≤ c log
+
 -- the records of a session in a front
 abbrev pub cut_to : Cursors → Recorded → Recorded
 cut_to c s = record {

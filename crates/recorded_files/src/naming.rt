@@ -4,7 +4,7 @@ ghost use Rattle.std.specs.Prelude.{◌≡◌, ◌≤◌, List, [], ◌∷◌, �
 ghost use Rattle.migration_types.specs.declared.records.LogName.{LogName};
 ghost use Rattle.migration_types.specs.Receipts.{Name};
 ghost use Rattle.migration_types.specs.Sessions.{Recorded, log_length};
-ghost use Rattle.recorded_files.specs.Fronts.{cursors_of, IsGreatestFront};
+ghost use Rattle.recorded_files.specs.Fronts.{cursors_of, IsGreatestFront, IsGreatestFrontWithin};
 ghost use Rattle.recorded_files.specs.Named.{IsBlank, IsNaming};
 ghost use Rattle.recorded_files.specs.inner.Reaches.{names_in, reach};
 
@@ -69,17 +69,25 @@ impl Naming {
         }
     }
 
-    /// Returns the greatest front of the logs that it has met: the first records of each log, none of which names a
-    /// record outside them. Allocates no memory.
-    pub fn greatest_front(&self) -> Front
-        ensures { (s : Recorded) → IsNaming self.now s → IsGreatestFront s (cursors_of result) }
+    /// Returns the greatest front of at most this many records of each log: the first records of each, none of which names
+    /// a record outside them. Allocates no memory.
+    pub fn front_within(&self, most: Front) -> Front
+        ensures { (s : Recorded) → IsNaming self.now s → ((log : LogName) → cursors_of most log ≤ log_length s log) → IsGreatestFrontWithin s (cursors_of most) (cursors_of result) }
     {
-        let mut front = self.counts();
+        let mut front = most;
         let mut next = self.narrow(front);
         while next != front {
             front = next;
             next = self.narrow(front);
         }
         front
+    }
+
+    /// Returns the greatest front of the logs that it has met: the first records of each log, none of which names a
+    /// record outside them. Allocates no memory.
+    pub fn greatest_front(&self) -> Front
+        ensures { (s : Recorded) → IsNaming self.now s → IsGreatestFront s (cursors_of result) }
+    {
+        self.front_within(self.counts())
     }
 }
