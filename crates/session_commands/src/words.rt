@@ -8,6 +8,9 @@ use text_lines::push_number;
 /// What each line of a message begins with.
 const NAME: &[u8] = b"session: ";
 
+/// The first byte of the control characters from U+0080 on, and of the characters up to U+00BF.
+const CONTROL_LEAD: u8 = 0xc2;
+
 /// How many characters of a text are quoted.
 const QUOTED: usize = 60;
 
@@ -70,12 +73,34 @@ fn push_printed(out: &mut Vec<u8>, byte: u8) -> Result<(), AllocError> {
     }
 }
 
-/// Appends a line of a message. Bytes that are not printed, as in a file's name, are escaped.
+/// Appends a text of UTF-8. Control characters are escaped: U+0000 to U+001F, and U+007F to U+009F, of which those from
+/// U+0080 on have two bytes.
+fn push_text(out: &mut Vec<u8>, text: &[u8]) -> Result<(), AllocError> {
+    let mut is_held = false;
+    for byte in text {
+        if is_held && *byte >= 0x80 && *byte <= 0x9f {
+            push_escape(out, *byte)?;
+            is_held = false;
+            continue;
+        }
+        if is_held {
+            add(out, CONTROL_LEAD)?;
+        }
+        is_held = *byte == CONTROL_LEAD;
+        if !is_held {
+            push_printed(out, *byte)?;
+        }
+    }
+    if is_held {
+        add(out, CONTROL_LEAD)?;
+    }
+    Ok(())
+}
+
+/// Appends a line of a message. Control characters, as in a file's name, are escaped.
 pub(crate) fn push_message(out: &mut Vec<u8>, line: &[u8]) -> Result<(), AllocError> {
     out.extend_from_slice(NAME)?;
-    for byte in line {
-        push_printed(out, *byte)?;
-    }
+    push_text(out, line)?;
     add(out, b'\n')
 }
 
