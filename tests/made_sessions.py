@@ -8,10 +8,10 @@ import re
 import subprocess
 import sys
 
+from recorded_model import Unfit, session_of
 from session_text import LOGS, SessionText
 from window_model import window
 
-from postcopy.recorded import Unfit, session_of
 from postcopy.records import LARGE, RECORDS, SMALL
 
 TOP = os.path.dirname(os.path.dirname(os.path.abspath(__file__)))
@@ -71,6 +71,12 @@ def files_of(session, folder, parts=1, chance=None, lengths=None):
                     file.write(chance.choice(["\0" * 100, f"{len(records)} rea", "\0\0w 1 2 3 4\n\0"]))
 
 
+def run_script(program, *words, **more):
+    """Runs recorders/session by this program."""
+    return subprocess.run([sys.executable, f"{TOP}/recorders/session", *words], capture_output=True, encoding="ascii", timeout=120,
+                          env={**os.environ, "POSTCOPY": program}, **more)
+
+
 def called(session):
     """The recorder's calls that a session's records are: the party, the call and its words."""
     pages, cells = (line.split(" ")[1] for line in session.head[1:3])
@@ -112,7 +118,7 @@ class MadeSessions:
             return None, [str(fault)]
 
     def script(self, *words):
-        return subprocess.run([sys.executable, f"{TOP}/recorders/session", *words], capture_output=True, encoding="ascii")
+        return run_script(self.tests.program, *words)
 
     def run(self):
         self.of_known_sessions()
@@ -321,7 +327,7 @@ class MadeSessions:
             self.tests.same("what is said of it", "session: guest: there is no record\n" in ran.stderr, True)
         for words, said in (
             ([both, "--window", "2-4"], "session: the machine has 4 pages\n"),
-            ([f"{both}/none"], f"session: [Errno 2] No such file or directory: '{both}/none'\n"),
+            ([f"{both}/none"], f"session: {both}/none: no such file or directory\n"),
         ):
             ran = self.script(*words)
             self.tests.same(f"session {words}", (ran.stdout, ran.stderr, ran.returncode), ("", said, 2))

@@ -4,9 +4,6 @@ Each is a right recording with one fault: of the disk, of a file, of the program
 where others write there too, or the disk is full.
 """
 import contextlib
-import importlib.machinery
-import importlib.util
-import io
 import os
 import re
 import resource
@@ -17,8 +14,9 @@ import sys
 import threading
 import time
 
-from made_sessions import TOP, numbered, text_of_file
-from postcopy.recorded import session_of
+from made_sessions import TOP, numbered, run_script, text_of_file
+from recorded_model import session_of
+
 from postcopy.recorder import LOST, Log, join
 
 # A machine of two pages of one cell, and one of them moved. By log, the records.
@@ -41,33 +39,18 @@ def limited(length):
 
 
 class Faults:
-    def __init__(self, tests, room, program):
-        self.tests, self.room, self.program, self.made = tests, room, program, 0
-        loader = importlib.machinery.SourceFileLoader("session", f"{TOP}/recorders/session")
-        self.script = importlib.util.module_from_spec(importlib.util.spec_from_loader("session", loader))
-        loader.exec_module(self.script)
-        self.script.NAME = "session"
+    """Recordings with faults, for the program at this path. The second program is bindings/c/tests/recording.c."""
+
+    def __init__(self, tests, room, command=None, program=None):
+        self.tests, self.room, self.command, self.program, self.made = tests, room, command, program, 0
 
     def folder(self):
         self.made += 1
         return f"{self.room}/fault-{self.made}"
 
-    def session(self, *words):
-        """What the script writes and says, and its status, without a process of its own."""
-        out, said = io.StringIO(), io.StringIO()
-        with contextlib.redirect_stdout(out), contextlib.redirect_stderr(said):
-            sys.argv, before = ["session", *words], sys.argv
-            try:
-                status = self.script.main()
-            except SystemExit as end:
-                status = end.code
-            finally:
-                sys.argv = before
-        return subprocess.CompletedProcess(words, status, out.getvalue(), said.getvalue())
-
-    @staticmethod
-    def session_alone(*words, **more):
-        return subprocess.run([sys.executable, f"{TOP}/recorders/session", *words], capture_output=True, encoding="ascii", timeout=60, **more)
+    def session(self, *words, **more):
+        """What the script writes and says, and its status."""
+        return run_script(self.command, *words, **more)
 
     def put(self, name, text):
         os.makedirs(os.path.dirname(name), exist_ok=True)
@@ -117,7 +100,7 @@ class Faults:
 
     def of_whole_ones(self):
         folder = self.recording()
-        ran = self.session_alone(folder)
+        ran = self.session(folder)
         self.tests.same("a whole recording", (ran.returncode, ran.stderr, self.tests.audit(ran.stdout)), (0, "", "clean"))
         self.tests.same("an option that there is no more", self.session(folder, "--whole").returncode, 2)
         for log in MOVED:
@@ -278,9 +261,10 @@ class Faults:
             self.wants(what, self.recording(machine=records), 2, said)
         folder = self.folder()
         os.makedirs(folder)
-        odd = self.folder() + "\n\x1b[0m\udcff"
+        odd = self.folder() + "\n\x1b[0m\x85"
         os.makedirs(odd)
-        self.told("a folder of an odd name", self.session(odd), 2, odd[:-6] + "\\n\\x1b[0m\\udcff: there is no file of a recorder, PARTY.PROCESS.N")
+        self.told("a folder of an odd name", self.session(odd), 2, odd[:-6] + "\\n\\x1b[0m\\x85: there is no file of a recorder, PARTY.PROCESS.N")
+        self.told("a folder whose name is no text", self.session(odd + "\udcff"), 2, odd[:-6] + "\\n\\x1b[0m\\x85\\udcff: the name of this folder is not UTF-8")
         self.wants("an empty folder", folder, 2, "FOLDER: there is no file of a recorder, PARTY.PROCESS.N")
 
     def of_children(self):
@@ -385,18 +369,27 @@ class Faults:
         self.put(f"{place}/kept", "as it was\n")
         names = set(os.listdir(place))
         for words in (("-o", f"{place}/kept"), ("-o", f"{place}/none"), ("--windows", "2", "-o", f"{place}/by")):
-            ran = self.session_alone(folder, *words, preexec_fn=limited(100))
-            said = f"session: [Errno 27] File too large: '{words[-1]}"
-            self.tests.same("a full disk", (ran.returncode, ran.stderr[:len(said)], self.has(f"{place}/kept")), (2, said, "as it was\n"))
-        self.tests.same("a full disk leaves nothing", (set(os.listdir(place)) - names, os.listdir(f"{place}/by")), ({"by"}, []))
-        ran = self.session(folder, "-o", f"{place}/no/file")
-        self.tests.same("no folder", (ran.returncode, ran.stderr), (2, f"session: [Errno 2] No such file or directory: '{place}/no/file'\n"))
+            ran = self.session(folder, *words, preexec_fn=limited(100))
+            said = f"session: {words[-1]}: the file would be too large\n"
+            self.tests.same("a full disk", (ran.returncode, ran.stderr, self.has(f"{place}/kept")), (2, said, "as it was\n"))
+        self.tests.same("a full disk leaves nothing", set(os.listdir(place)), names)
+        for words, name, why in (
+            (("-o", f"{place}/no/file"), f"{place}/no/file", "No such file or directory"), (("-o", place), place, "Is a directory"),
+            (("-o", f"{place}/kept", "--windows", "2"), f"{place}/kept", "File exists"), (("-o", "/dev/full"), "/dev/full", "No space left on device"),
+        ):
+            ran = self.session(folder, *words)
+            self.tests.same(f"an output {words}", (ran.returncode, ran.stderr, self.has(f"{place}/kept")), (2, f"session: {name}: {why}\n", "as it was\n"))
+        os.makedirs(f"{place}/by/0-0")
+        ran = self.session(folder, "--windows", "1", "-o", f"{place}/by")
+        self.tests.same("a window whose file cannot be", (ran.returncode, ran.stderr), (2, f"session: {place}/by/0-0: Is a directory\n"))
+        self.tests.same("it leaves nothing but windows", set(os.listdir(f"{place}/by")) <= {"0-0", "1-1"}, True)
         cut = self.recording(pager=None)
         ran = self.session(cut, "-o", f"{place}/kept")
         self.tests.same("a part", (ran.returncode, self.has(f"{place}/kept")), (1, "as it was\n"))
         self.tests.same("a device", self.session(folder, "-o", "/dev/null").returncode, 0)
-        ran = self.session_alone(folder, "-o", "/dev/stdout")
-        self.tests.same("a pipe", (ran.returncode, ran.stdout), (0, wanted))
+        for words in ((), ("--recording",)):
+            ran = self.session(folder, "-o", "/dev/stdout", *words)
+            self.tests.same("a pipe", (ran.returncode, ran.stdout), (0, wanted))
         self.of_two_writers(place)
 
     def of_two_writers(self, place):
@@ -405,7 +398,8 @@ class Faults:
         folders = self.recording(), self.recording(guest=long)
         texts = [self.session(folder).stdout for folder in folders]
         for _ in range(3):
-            writers = [subprocess.Popen([sys.executable, f"{TOP}/recorders/session", folder, "-o", f"{place}/shared"]) for folder in folders]
+            env = {**os.environ, "POSTCOPY": self.command}
+            writers = [subprocess.Popen([sys.executable, f"{TOP}/recorders/session", folder, "-o", f"{place}/shared"], env=env) for folder in folders]
             statuses = [writer.wait() for writer in writers]
             self.tests.same("two writers", (statuses, self.has(f"{place}/shared") in texts), ([0, 0], True))
         self.tests.same("two writers leave nothing", [name for name in os.listdir(place) if re.match(r"\.(session|postcopy-session)", name)], [])

@@ -12,7 +12,7 @@ UNREAD = "its files make no session"
 
 def folders_of(room):
     """A recording that is whole, one with a fault, and one that lacks a log."""
-    faults = Faults(Silent(), room, "/bin/true")
+    faults = Faults(Silent(), room)
     whole, lacking = faults.recording(), faults.recording(pager=None)
     faulty = faults.recording()
     for name in sorted(os.listdir(faulty)):

@@ -22,9 +22,9 @@ import pytest
 from cases import count, leave_out, same
 from made_sessions import TOP, MadeSessions, called
 from recorded_faults import Faults
+from recorded_model import session_of
 from session_text import SessionText
 
-from postcopy.recorded import session_of
 from postcopy.recorder import LOST, Log, page_hash
 
 STRICT = ["-std=c11", "-Wall", "-Wextra", "-Wpedantic", "-Werror", "-O2", "-pthread"]
@@ -279,7 +279,7 @@ class Recorders:
                 count(True, "")
         log.close()
         self.tests.same("a closed log", log.halt(), LOST)
-        words = "import postcopy.recorded, postcopy.recorder, postcopy.records, postcopy.sessions"
+        words = "import postcopy.recorder, postcopy.records, postcopy.sessions"
         env = {**os.environ, "PYTHONPATH": f"{TOP}/bindings/python", "POSTCOPY_LIBRARY": "/none"}
         self.tests.same("the recorder with no library", subprocess.run([sys.executable, "-B", "-c", words], env=env).returncode, 0)
 
@@ -385,7 +385,7 @@ def test_recorders(program, room, cc):
 @pytest.mark.cases(230)
 def test_faults(program, room, cc):
     tests = Tests(program)
-    Faults(tests, room, Recorders(tests, room).program).run()
+    Faults(tests, room, program, Recorders(tests, room).program).run()
 
 
 @pytest.mark.slow

@@ -1,5 +1,5 @@
-"""The command `session` beside recorders/session: of each recording both write the same text and say the same, with the same
-status. But where the files make no session, or cannot be read, the script ends with 2, and the command with 1 or 3.
+"""The command `session` and recorders/session beside the slow model: of each recording they write its text and say the same. The
+command ends with 1 if it writes nothing; the script does so if something is missing, and with 2 if the files make no session.
 
 The recordings are whole, or lack something, or are none: those of recorded_faults.py, and sessions that are known, spread over
 files, whole and cut short at random.
@@ -10,8 +10,9 @@ import subprocess
 
 import pytest
 from cases import same
-from made_sessions import files_of, known_sessions
+from made_sessions import files_of, known_sessions, run_script
 from recorded_faults import MOVED, Faults
+from recorded_model import answer_of, model_of, told
 from session_text import SessionText
 
 TOP = os.path.dirname(os.path.dirname(os.path.realpath(__file__)))
@@ -34,41 +35,50 @@ class Silent:
 
 
 class Beside(Faults):
-    """The script and the command on the same folders."""
+    """The script and the command on the same folders, beside the model."""
 
-    def __init__(self, room, program):
-        super().__init__(Silent(), room, "/bin/true")
-        self.command = program
+    def __init__(self, room, program, has_script=True):
+        super().__init__(Silent(), room, program, "/bin/true")
+        self.has_script = has_script
 
     def by_command(self, *words):
         return subprocess.run([self.command, "session", *words], capture_output=True, encoding="utf-8", errors="surrogateescape", timeout=60)
 
     def session(self, *words):
-        wanted = super().session(*words)
-        if not any("\udcff" in word or word == "--whole" for word in words):
-            ran = self.by_command(*words)
-            same(f"session {' '.join(words)}", (ran.returncode, ran.stdout, ran.stderr), (min(wanted.returncode, 1), wanted.stdout, wanted.stderr))
+        """What the script says by the model, to which both are compared."""
+        folders = [word for word in words if word != "--cut"]
+        if any("\udcff" in word or word == "--whole" for word in words):
+            return run_script(self.command, *words)
+        made, said = model_of(folders)
+        text, lines, status = answer_of(made, said, "--cut" in words)
+        ran = self.by_command(*words)
+        same(f"session {' '.join(words)}", (ran.returncode, ran.stdout, ran.stderr), (status, text, told(lines)))
+        wanted = subprocess.CompletedProcess(words, 2 if made is None else status, text, told(lines, True))
+        if self.has_script:
+            ran = run_script(self.command, *words)
+            same(f"recorders/session {' '.join(words)}", (ran.returncode, ran.stdout, ran.stderr), (wanted.returncode, wanted.stdout, wanted.stderr))
         return wanted
 
 
-@pytest.mark.cases(100)
+@pytest.mark.cases(200)
 def test_faults(program, room):
     beside = Beside(room, program)
     for run in (beside.of_whole_ones, beside.of_lost_files, beside.of_slips, beside.of_two_recordings, beside.of_words, beside.of_machines):
         run()
 
 
-@pytest.mark.cases(400)
+@pytest.mark.cases(500)
 def test_known_sessions(program, room):
     def audit(text):
         return subprocess.run([program, "audit", "--quiet", "-"], input=text, stdout=subprocess.PIPE, encoding="ascii", check=False).stdout
 
     beside, chance = Beside(room, program), random.Random(7)
-    for text in known_sessions(audit):
+    for number, text in enumerate(known_sessions(audit)):
         session = SessionText(text)
         for parts, lengths in ((1, None), (3, None), (2, {log: chance.randrange(len(session.logs[log]) + 1) for log in session.told()})):
             folder = beside.folder()
             files_of(session, folder, parts, chance, lengths)
+            beside.has_script = number % 4 == 0
             for words in ((), ("--cut",)):
                 beside.session(folder, *words)
 

@@ -1,7 +1,7 @@
 """Makes sessions of the files of recorders by `session`, and compares each with what the slow model makes of them.
 
-The model is bindings/python/postcopy/recorded.py, as recorders/session uses it. The folders are those of made_folders.py: a third of them are
-whole, a third lack something, and a third are refused. Of each, the text has to be the model's byte for byte, with the same lines on standard
+The model is models/recorded_model.py. The folders are those of made_folders.py: a third of them are whole, a third lack something, and a
+third are refused. Of each, the text has to be the model's byte for byte, with the same lines on standard
 error; a part is written with --cut alone, and what is refused never. STRICTER has the rules of the program that the model does not have.
 
 And files that nobody should have: lines that do not end, files that grow, thousands of files, files that cannot be read, and pipes.
@@ -18,23 +18,18 @@ import threading
 from unittest import mock
 
 import pytest
+import recorded_model
 from cases import leave_out, same
 from made_folders import DAMAGES, File, damaged, made_folders, recording_of_text, small_known_texts
 from made_sessions import called, files_of
+from recorded_model import PREFIX, answer_of, model_of, told
 from session_text import LOGS, SessionText
 from text_judge import refusal_line
 
-from postcopy import recorded
-from postcopy.recorded import recording_of
 from postcopy.recorder import Log
-from postcopy.sessions import Session
 
 # How many recordings there are, in the gate and with --all.
 RECORDINGS, ALL = 480, 5000
-
-# What stands before each line that is told, and the last line where something is missing.
-PREFIX = "session: "
-NOTHING = "nothing was written: repair this, or use --cut to write what is left"
 
 # The memory that a run may use where it reads a file that is larger than that.
 LITTLE = 40_000_000
@@ -118,51 +113,10 @@ class Tests:
             file.write(text)
 
 
-def told(lines):
-    """What the program tells in these lines. Characters of ASCII that are not printable are escaped. (The script escapes others too.)"""
-    return "".join(PREFIX + "".join(it if it.isprintable() or not it.isascii() else ascii(it)[1:-1] for it in line) + "\n" for line in lines)
-
-
-class WiderMachine:
-    """The records of the machine's log as the program takes them: numbers of more than ten digits, since a recording may have so many pages."""
-
-    PATTERN = re.compile("pages ([1-9][0-9]{0,19}) ([1-9][0-9]{0,2})|page (0|[1-9][0-9]{0,19}) ((?:[0-9a-f]{16})+)", re.ASCII)
-
-    @classmethod
-    def fullmatch(cls, text):
-        match = cls.PATTERN.fullmatch(text)
-        return match if match and int(match[1] or 0) < 2**63 and int(match[3] or 0) < 2**64 else None
-
-
-def with_its_version(cut):
-    """Cuts a session as the model does. But where the pager has taken a packet of the lane, or the source has started its guest again, the text
-    stays one of the second version, or of the third, also where that record is cut off: the program reads the logs in the version in which it
-    writes."""
-    def cutting(session, *words):
-        session.has_lane |= any(record[0] == "pull" for record in session.logs["pager"])
-        session.is_large |= ("back",) in session.logs["source"]
-        return cut(session, *words)
-
-    return cutting
-
-
-def model_of(words):
-    """What the model makes of folders: the text, or None where they are refused, and what is said."""
-    try:
-        with mock.patch("postcopy.recorded._MACHINE", WiderMachine), mock.patch.object(Session, "cut", with_its_version(Session.cut)):
-            recording, said = recording_of(words)
-        return "".join(recording.lines()), said
-    except ValueError as fault:
-        return None, [str(fault)]
-
-
 def wanted_of(text, said, is_cut):
     """What is written, told and answered, where the model makes this of the folders."""
-    if text is None:
-        return "", told(said), 1
-    if said and not is_cut:
-        return "", told([*said, NOTHING]), 1
-    return text, told(said), 0
+    output, lines, status = answer_of(text, said, is_cut)
+    return output, told(lines), status
 
 
 # The rules of the program that the model does not have, in the order in which a file is looked through.
@@ -250,23 +204,23 @@ class Forgetful(dict):
 def refusals_of_other_records(words):
     """What the model says of folders in which no number comes twice, in which one record is another one, or in the machine's log is gone, and in
     which all others are."""
-    def begun(log, name, begin=recorded._Log.__init__):
+    def begun(log, name, begin=recorded_model._Log.__init__):
         begin(log, name)
         log.texts = Forgetful()
 
-    with mock.patch.object(recorded._Log, "__init__", begun):
+    with mock.patch.object(recorded_model._Log, "__init__", begun):
         text, said = model_of(words)
     if text is None:
         yield told(said)
     try:
-        logs = recorded._read(words)
-    except recorded.Unfit:
+        logs = recorded_model._read(words)
+    except recorded_model.Unfit:
         return
     right = {name: dict.fromkeys(log.texts, RIGHT[name]) for name, log in logs.items() if name in RIGHT}
     for name, texts in right.items():
         for number in texts:
             with contextlib.ExitStack() as stack:
-                stack.enter_context(mock.patch("postcopy.recorded._read", lambda _: logs))
+                stack.enter_context(mock.patch("recorded_model._read", lambda _: logs))
                 for other, log in logs.items():
                     if other in right:
                         alone = {number: log.texts[number]} if other == name else {}
@@ -279,7 +233,7 @@ def refusals_of_other_records(words):
             others = {other: text for other, text in log.texts.items() if other != number}
             if log.name in RIGHT:
                 others[number] = RIGHT[log.name]
-            with mock.patch("postcopy.recorded._read", lambda _: logs), mock.patch.object(log, "texts", others):
+            with mock.patch("recorded_model._read", lambda _: logs), mock.patch.object(log, "texts", others):
                 text, said = model_of(words)
             if text is None:
                 yield told(said)
@@ -301,7 +255,7 @@ def own_rule(words, text, said, is_cut, found):
     """By which rule an answer is right that is not the model's, if there is one."""
     output, errors, status = found
     if text is None and NO_TEXT.fullmatch(said[0]):
-        with mock.patch("postcopy.recorded._LINE", TEXTS):
+        with mock.patch("recorded_model._LINE", TEXTS):
             if found == wanted_of(*model_of(words), is_cut) or found[::2] == ("", 1) and found[1] in other_refusals(words):
                 return "a record with no text that is not taken"
     if (output, status) != ("", 1) or errors.count("\n") != 1:

@@ -1,4 +1,5 @@
-"""Makes a session from the files of recorders: those of bindings/c/postcopy_record.h, and those of postcopy.recorder.
+"""The slow model of `session`: what it writes and tells of the files of recorders, which are those of bindings/c/postcopy_record.h and
+those of postcopy.recorder. It keeps the whole recording in memory.
 
 A log's records are in files with the name PARTY.PROCESS.N, in one folder or in several. Each thread that appended to the log has
 a file:
@@ -12,7 +13,7 @@ a file:
 So a process writes a part of the log: the records from FIRST on, up to COUNT, which is not included. OPENING is the N of the
 part's first file. In place of `end COUNT`, the last line is `next COUNT` if the log was handed over to another process, and `lost
 ERRNO` if a record was not written. A file ends at a byte 0, or with a line that has no end, if its process died. A log is whole
-if each of its parts was closed, and if they have each number from 0 on once. Nothing here needs the library.
+if each of its parts was closed, and if they have each number from 0 on once.
 """
 from __future__ import annotations
 
@@ -20,17 +21,19 @@ import os
 import re
 from typing import Dict, Iterable, Iterator, List, Optional, Tuple
 
-from .records import LOGS, LOST, RECORDS, read_record
-from .sessions import Session
+from postcopy.records import LOGS, LOST, RECORDS, read_record
+from postcopy.sessions import Session
 
-__all__ = ["Unfit", "recording_of", "session_of"]
+# What stands before each line that is told, and the last line where something is missing.
+PREFIX = "session: "
+NOTHING = "nothing was written: repair this, or use --cut to write what is left"
 
 _FILE = re.compile(rf"(machine|{'|'.join(LOGS)})\.([0-9]+)\.[0-9]+", re.ASCII)
 _HEAD = ("postcopy-records 1", "recording ([A-Za-z0-9_.-]{1,64})", "log %s (0|[1-9][0-9]{0,9}) (0|[1-9][0-9]{0,9})")
 _TOLD = ("'postcopy-records 1': no recorder of this release wrote it", "'recording NAME'", "'log %s FIRST OPENING'")
 _LINE = re.compile("(0|[1-9][0-9]{0,9}) (.+)", re.ASCII)
 _LAST = re.compile("(end|next|lost) (0|[1-9][0-9]{0,9})", re.ASCII)
-_MACHINE = re.compile("pages ([1-9][0-9]{0,9}) ([1-9][0-9]{0,2})|page (0|[1-9][0-9]{0,9}) ((?:[0-9a-f]{16})+)", re.ASCII)
+_MACHINE = re.compile("pages ([1-9][0-9]{0,19}) ([1-9][0-9]{0,2})|page (0|[1-9][0-9]{0,19}) ((?:[0-9a-f]{16})+)", re.ASCII)
 
 
 class Unfit(ValueError):
@@ -205,7 +208,7 @@ def _machine(log: Optional[_Log]) -> Tuple[Session, List[str]]:
     pages, told = None, {}
     for number, text in sorted(log.texts.items()):
         match = _MACHINE.fullmatch(text)
-        if match is None:
+        if match is None or int(match[1] or 0) >= 2**63 or int(match[3] or 0) >= 2**64:
             raise Unfit(f"{log.place(number)}: found {_quoted(text)}; expected 'pages PAGES CELLS' or 'page PAGE CONTENTS'")
         if match[1] and pages is not None:
             raise Unfit(f"{log.place(number)}: a second {_quoted(text)}, beside {log.place(pages)}: {_quoted(log.texts[pages])}")
@@ -284,6 +287,9 @@ def recording_of(folders: Iterable[str]) -> Tuple[Session, List[str]]:
     except ValueError as fault:
         raise Unfit(str(fault)) from None
     missing = [log for log in LOGS if not session.logs[log] and log != "lane"]
+    # (the text stays one of the second version, or of the third, also where the record that makes it one is cut off)
+    session.has_lane |= any(record[0] == "pull" for record in session.logs["pager"])
+    session.is_large |= ("back",) in session.logs["source"]
     return session, said + session.cut(LOST, place) + [f"{log}: there is no record" for log in missing]
 
 
@@ -292,3 +298,29 @@ def session_of(folders: Iterable[str]) -> Tuple[Session, List[str]]:
     may have; and messages about what was left out or is missing. Raises as `recording_of` does."""
     session, said = recording_of(folders)
     return session, said + session.cut()
+
+
+def model_of(folders: Iterable[str]) -> Tuple[Optional[str], List[str]]:
+    """Returns the text of the recording, or None where the files make none, and what is said."""
+    try:
+        recording, said = recording_of(folders)
+        return "".join(recording.lines()), said
+    except ValueError as fault:
+        return None, [str(fault)]
+
+
+def told(lines: Iterable[str], is_ascii: bool = False) -> str:
+    """Returns what is told of these lines. Characters of ASCII that are not printable are escaped, or all of these."""
+    def shown(it: str) -> str:
+        return it if it.isprintable() or not (it.isascii() or is_ascii) else ascii(it)[1:-1]
+
+    return "".join(f"{PREFIX}{''.join(map(shown, line))}\n" for line in lines)
+
+
+def answer_of(text: Optional[str], said: List[str], is_cut: bool) -> Tuple[str, List[str], int]:
+    """Returns what `session` writes, the lines that it tells, and its status, where this is made of the folders."""
+    if text is None:
+        return "", said, 1
+    if said and not is_cut:
+        return "", [*said, NOTHING], 1
+    return text, said, 0
