@@ -89,19 +89,19 @@ NAMES = {
 }
 
 
-def random_text(rng):
+def random_text(rng, pages=None, lengths=(0, 3, 8, 16, 30), fitting=0.8):
     """A recording of random records. Most of them name one of the kind that they should, before or after their own."""
-    version, pages, cells = rng.choice((1, 2, 2, 3)), rng.randrange(1, 7), rng.choice((1, 1, 2))
+    version, pages, cells = rng.choice((1, 2, 2, 3)), pages or rng.randrange(1, 7), rng.choice((1, 1, 2))
     kinds = {}
     for log in logs_of(version):
         those = [kind for kind in text_judge.RECORDS[log] if version >= text_judge.SINCE.get(kind, 1)]
-        kinds[log] = [rng.choice(those) for _ in range(rng.choice((0, 3, 8, 16, 30)))]
+        kinds[log] = [rng.choice(those) for _ in range(rng.choice(lengths))]
 
     def field(kind, which):
         if which == "n":
-            log, fitting = NAMES[kind]
-            places = [place for place, other in enumerate(kinds.get(log, ())) if other in fitting.split()]
-            return str(rng.choice(places) if places and rng.random() < 0.8 else any_name(rng, len(kinds.get(log, ()))))
+            log, right = NAMES[kind]
+            places = [place for place, other in enumerate(kinds.get(log, ())) if other in right.split()]
+            return str(rng.choice(places) if places and rng.random() < fitting else any_name(rng, len(kinds.get(log, ()))))
         if which == "h":
             return "".join(f"{rng.choice((0, 1, 2**64 - 1)):016x}" for _ in range(cells))
         return str(rng.randrange({"v": 64, "p": pages, "c": cells, "x": 2**64}[which]))

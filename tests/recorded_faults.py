@@ -8,6 +8,7 @@ import os
 import re
 import resource
 import shutil
+import signal
 import stat
 import subprocess
 import sys
@@ -391,6 +392,7 @@ class Faults:
             ran = self.session(folder, "-o", "/dev/stdout", *words)
             self.tests.same("a pipe", (ran.returncode, ran.stdout), (0, wanted))
         self.of_two_writers(place)
+        self.of_ended_scripts()
 
     def of_two_writers(self, place):
         """Two at once: the file is what one of them wrote."""
@@ -403,6 +405,26 @@ class Faults:
             statuses = [writer.wait() for writer in writers]
             self.tests.same("two writers", (statuses, self.has(f"{place}/shared") in texts), ([0, 0], True))
         self.tests.same("two writers leave nothing", [name for name in os.listdir(place) if re.match(r"\.(session|postcopy-session)", name)], [])
+
+    def of_ended_scripts(self):
+        """A script that is ended while it writes: what is there is whole, and nothing else is."""
+        place, longer = self.folder(), self.recording(guest=[*MOVED["guest"], *["r 0 0 0 5"] * 100000])
+        os.makedirs(place)
+        wanted = {}
+        for words in (("--windows", "1", "-o", f"{place}/by"), ("--window", "0-0", "-o", f"{place}/one"), ("-o", f"{place}/all")):
+            self.tests.same("a script that is not ended", self.session(longer, *words).returncode, 0)
+        for name in ("by/0-0", "by/1-1", "one", "all"):
+            wanted[name] = self.has(f"{place}/{name}")
+        for number in range(12):
+            shutil.rmtree(f"{place}/by", ignore_errors=True)
+            words = (("--windows", "1", "-o", f"{place}/by"), ("--window", "0-0", "-o", f"{place}/one"), ("-o", f"{place}/all"))[number % 3]
+            ran = subprocess.Popen([sys.executable, f"{TOP}/recorders/session", longer, *words], env={**os.environ, "POSTCOPY": self.command}, stderr=subprocess.PIPE)
+            time.sleep(0.06 + 0.03 * number)
+            ran.terminate()
+            said = ran.communicate()[1]
+            self.tests.same("how it ends", (said, ran.returncode in (0, -signal.SIGTERM, 128 + signal.SIGTERM)), (b"", True))
+            found = [os.path.relpath(os.path.join(folder, name), place) for folder, _, names in os.walk(place) for name in names]
+            self.tests.same("what is there", [name for name in found if self.has(f"{place}/{name}") != wanted.get(name)], [])
 
     @staticmethod
     def mode(name):

@@ -4,8 +4,8 @@ The model is window_model.py, which refuses nothing: the line at which a recordi
 recordings of made_recordings.py, each through several windows; texts with a change in some line, cut short, or with numbers at
 their limits; and recordings with more pages, and more records in a log, than a session has. Where a session has the right shape
 and an order, the window of all its pages has to be judged as it is. Where no record names what is not there,
-bindings/python/postcopy/sessions.py has to cut the same, and so has recorders/session of the files that recorders write. A recording of some
-hundred megabytes is cut in memory of a small part of it.
+bindings/python/postcopy/sessions.py has to cut the same, and so has recorders/session of the files that recorders write, also where it cuts many
+windows out of larger ones. A recording of some hundred megabytes is cut in memory of a small part of it.
 
 What `explain --lines` says has to be what `explain` says, with each number after the word `line` or `Line` told by the table.
 """
@@ -14,14 +14,14 @@ import random
 import re
 import resource
 import subprocess
-import sys
 
 import pytest
 from cases import leave_out, same
 from expected_words import place_of, texts_of
 from made_recordings import GREATEST, known_texts, machine, pages_of, random_text, recorded_texts, refused_texts, some_windows
-from made_sessions import TOP, files_of, text_of
+from made_sessions import TOP, files_of, run_script, text_of
 from session_text import LOGS, SessionText
+from test_sessions import larger_text
 from text_judge import lines_refusal, refusal_line
 from window_model import lines_text, window
 
@@ -179,7 +179,7 @@ def cut_by_python(tests, rng, judged):
 
 
 def script(tests, *words):
-    return subprocess.run([sys.executable, f"{TOP}/recorders/session", *words], cwd=tests.room, capture_output=True, encoding="ascii")
+    return run_script(tests.program, *words, cwd=tests.room)
 
 
 def cut_by_the_recorders(tests, judged):
@@ -197,6 +197,22 @@ def cut_by_the_recorders(tests, judged):
             first, last = map(int, name.split("-"))
             cut = tests.run("window", "recording", first, last - first + 1)[0]
             tests.same(f"the window {name} of the files of {what}", cut, tests.has(f"{folder}/windows/{name}"))
+
+
+def many_windows(tests):
+    """recorders/session cuts so many windows that not each is cut out of the whole: records that name others of other pages too."""
+    rng, pages = random.Random(12), 80
+    texts = larger_text(pages, 2), *(random_text(rng, pages, (300, 500), 1) for _ in range(3))
+    for number, text in enumerate(texts):
+        files_of(SessionText(text), f"{tests.room}/many-{number}", 2, rng)
+        ran = script(tests, f"many-{number}", "--recording", "--cut")
+        tests.same(f"the recording of many windows {number}", (ran.returncode, ran.stdout.count("\n") > 300), (0, True))
+        recording = ran.stdout
+        for size in (1, 3):
+            ran = script(tests, f"many-{number}", "--windows", str(size), "--cut", "-o", f"by-{number}-{size}")
+            tests.same(f"many windows {number} of {size} pages", (ran.stdout, ran.returncode), ("", 0))
+            wanted = {f"{first}-{min(first + size, pages) - 1}": window(recording, first, min(size, pages - first))[0] for first in range(0, pages, size)}
+            tests.same(f"many windows {number} of {size} pages", {name: tests.has(f"by-{number}-{size}/{name}") for name in os.listdir(f"{tests.room}/by-{number}-{size}")}, wanted)
 
 
 # Texts that are refused, and words that are none.
@@ -416,7 +432,7 @@ def test_windows(tests):
 
 
 @pytest.mark.parametrize("part", (
-    pytest.param(wrong_words, marks=pytest.mark.cases(45)), pytest.param(pipes, marks=pytest.mark.cases(9)),
+    pytest.param(wrong_words, marks=pytest.mark.cases(45)), pytest.param(pipes, marks=pytest.mark.cases(9)), pytest.param(many_windows, marks=pytest.mark.cases(20)),
     pytest.param(memory, marks=pytest.mark.cases(2))), ids=lambda it: it.__name__)
 def test_alone(tests, part):
     part(tests)

@@ -1,7 +1,7 @@
 """Sessions in the making: logs of records, which are cut to what is whole, seen through a window, and written as a text.
 
-This is for programs that make sessions from recordings, as postcopy.recorded does from a recorder's files. Nothing here needs the
-library.
+This is for programs that make sessions from the traces of others. The program's command `session` makes those of a recorder's files.
+Nothing here needs the library.
 """
 from __future__ import annotations
 
