@@ -393,6 +393,7 @@ class Faults:
             self.tests.same("a pipe", (ran.returncode, ran.stdout), (0, wanted))
         self.of_two_writers(place)
         self.of_ended_scripts()
+        self.of_programs(folder, place, wanted)
 
     def of_two_writers(self, place):
         """Two at once: the file is what one of them wrote."""
@@ -425,6 +426,32 @@ class Faults:
             self.tests.same("how it ends", (said, ran.returncode in (0, -signal.SIGTERM, 128 + signal.SIGTERM)), (b"", True))
             found = [os.path.relpath(os.path.join(folder, name), place) for folder, _, names in os.walk(place) for name in names]
             self.tests.same("what is there", [name for name in found if self.has(f"{place}/{name}") != wanted.get(name)], [])
+
+    def of_programs(self, folder, place, wanted):
+        """The program that the script calls: the one that is named, the one beside the script, and one that is none."""
+        self.put(f"{place}/ended", "#!/bin/sh\nkill -9 $$\n")
+        self.put(f"{place}/told", f"#!/bin/sh\necho 'postcopy: built here' >&2\nexec '{self.command}' \"$@\"\n")
+        for name in ("ended", "told"):
+            os.chmod(f"{place}/{name}", 0o755)
+        for name, said, status in (
+            ("none", f"session: {place}/none: No such file or directory: the program, which the variable POSTCOPY may name\n", 2),
+            ("ended", "session: the program was ended by the signal 9\n", 2),
+            ("told", "postcopy: built here\n", 0),
+        ):
+            ran = run_script(f"{place}/{name}", folder)
+            self.tests.same(f"a program {name}", (ran.stdout, ran.stderr, ran.returncode), ("" if status else wanted, said, status))
+        ran = self.session(f"{place}/file of none")
+        self.tests.same("a folder whose name begins as a kind of failure", (ran.stderr, ran.returncode), (f"session: {place}/file of none: no such file or directory\n", 2))
+        ran = self.session("file of none", cwd=place)
+        self.tests.same("such a folder beside it", (ran.stderr, ran.returncode), ("session: file of none: no such file or directory\n", 2))
+        for name in ("bin", "share/postcopy/python"):
+            os.makedirs(f"{place}/prefix/{name}")
+        shutil.copy(f"{TOP}/recorders/session", f"{place}/prefix/bin/postcopy-session")
+        shutil.copytree(f"{TOP}/bindings/python/postcopy", f"{place}/prefix/share/postcopy/python/postcopy")
+        os.symlink(self.command, f"{place}/prefix/bin/postcopy")
+        env = {name: value for name, value in os.environ.items() if name != "POSTCOPY"}
+        ran = subprocess.run([f"{place}/prefix/bin/postcopy-session", folder], capture_output=True, encoding="ascii", env=env)
+        self.tests.same("the program beside the script", (ran.stdout, ran.stderr, ran.returncode), (wanted, "", 0))
 
     @staticmethod
     def mode(name):
