@@ -382,7 +382,7 @@ def test_recorders(program, room, cc):
 
 
 @pytest.mark.slow
-@pytest.mark.cases(230)
+@pytest.mark.cases(285)
 def test_faults(program, room, cc):
     tests = Tests(program)
     Faults(tests, room, program, Recorders(tests, room).program).run()
