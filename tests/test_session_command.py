@@ -120,3 +120,62 @@ def test_two_folders(program, room):
     for words in ((folder, other), (other, folder), ("--cut", folder, other), (f"{other}/", f"{folder}//")):
         ran = beside.by_command(*words)
         same("two folders", (ran.returncode, ran.stdout, ran.stderr), (0, wanted, ""))
+
+
+MOST_OF_A_SMALL_LOG = 1048576
+
+
+def greatest_recording(folder, records):
+    """A recording whose pager has so many records."""
+    os.mkdir(folder)
+    logs = {"machine": ["pages 1 1"], "guest": ["halt", "resume 1"], "source": ["halted 0", "state"], "pager": ["got-sent 1", "ready"]}
+    logs["pager"] += ["all"] * (records - len(logs["pager"]))
+    for party, log in logs.items():
+        with open(f"{folder}/{party}.1.0", "w", encoding="ascii") as file:
+            file.write(f"postcopy-records 1\nrecording greatest\nlog {party} 0 0\n")
+            file.writelines(f"{number} {record}\n" for number, record in enumerate(log))
+            file.write(f"end {len(log)}\n")
+
+
+@pytest.mark.cases(4)
+def test_greatest_logs(program, room):
+    """A log with as many records as the first version allows is of that version, and one with a record more of the third."""
+    for records, version in ((MOST_OF_A_SMALL_LOG, 1), (MOST_OF_A_SMALL_LOG + 1, 3)):
+        folder = f"{room}/{records}"
+        greatest_recording(folder, records)
+        text = subprocess.run([program, "session", folder], capture_output=True, encoding="ascii", timeout=60, check=True).stdout
+        same(f"the version of {records} records", text.split("\n", 1)[0], f"postcopy-session {version}")
+        ran = subprocess.run([program, "audit", "--quiet", folder], capture_output=True, encoding="ascii", timeout=60, check=False)
+        same(f"the verdict on {records} records", (ran.returncode, ran.stdout), (0, "clean\n"))
+
+
+@pytest.mark.quick
+@pytest.mark.cases(2)
+def test_control_characters(program, room):
+    """No control character of a folder's name is written as it is."""
+    for name, shown in (("a\x1bb", "a\\x1bb"), ("a\x7fb", "a\\x7fb")):
+        os.mkdir(f"{room}/{name}")
+        ran = subprocess.run([program, "session", name], cwd=room, capture_output=True, encoding="utf-8", timeout=60, check=False)
+        same("the words on such a folder", (ran.returncode, ran.stderr), (1, f"session: {shown}: there is no file of a recorder, PARTY.PROCESS.N\n"))
+
+
+# How many errors of the system the command has words for. It tells another one by its number.
+KNOWN_ERRORS = 33
+
+
+@pytest.mark.cases(136)
+def test_system_errors(program, room):
+    """Where a record was not written, the error has the words of the system, if the command has words for it."""
+    beside, known = Beside(room, program), 0
+    folder = beside.recording()
+    with open(f"{folder}/guest.1.0", encoding="ascii") as file:
+        head = file.readlines()[:3]
+    for number in range(1, 136):
+        with open(f"{folder}/guest.1.0", "w", encoding="ascii") as file:
+            file.writelines([*head, f"lost {number}\n"])
+        said = beside.by_command(folder).stderr
+        words, unknown = os.strerror(number), f"Unknown error {number}"
+        is_known = words != unknown and f"a record was not written: {words}\n" in said
+        known += is_known
+        same(f"the words on error {number}", is_known or f"a record was not written: {unknown}\n" in said, True)
+    same("errors with words", known, KNOWN_ERRORS)
