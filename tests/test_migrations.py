@@ -87,8 +87,8 @@ def window_script(window, has_lane):
 
 
 def full_script():
-    """More reads before `move` than a log has room for."""
-    return script_of(1, 1, 1, "--", [(["r 0 0"] * 65_536, [])] * 17)
+    """More reads before `move` than a log has room for, while another virtual processor is at its move and waits."""
+    return script_of(1, 1, 1, "--", [([], ["r 0 0"])] + [(["r 0 0"] * 65_536, [])] * 17)
 
 
 def ran(program, words, text):

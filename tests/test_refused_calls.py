@@ -67,7 +67,8 @@ NONE = {
     "merge_runs": "is_merging",
     "active_push": "SourceBook::source_log SourceBook::sent SourceBook::geometry",
     "link_book": "LinkBook::new LinkBook::offer_down LinkBook::offer_up LinkBook::head LinkBook::peek_down LinkBook::peek_up "
-                 "LinkBook::pop_down LinkBook::pop_up LinkBook::down_len LinkBook::quiet LinkBook::link_log",
+                 "LinkBook::pop_down LinkBook::pop_up LinkBook::down_len LinkBook::quiet LinkBook::link_log "
+                 "LinkBook::offer_lane LinkBook::lane_len LinkBook::peek_lane LinkBook::pop_lane",
     "target_side": "GuestBook::guest_log TargetBook::guest_log TargetBook::geometry TargetBook::into_parts PagerBook::pager_log "
                    "PagerBook::flush PagerBook::next_page",
 }

@@ -620,9 +620,37 @@ fn is_state(packet: &Packet, page: PageNo) -> bool {
     }
 }
 
+/// A packet goes over the lane.
+fn over_the_lane(refuser: Refuser) -> Option<()> {
+    let mut link = LinkBook::new(refuser.alloc());
+    room(refuser, &mut link)?;
+    let packet = Packet::All { number: 1 };
+    refuser.none(
+        "link_book::LinkBook::offer_lane",
+        || link.offer_lane(packet),
+    );
+    let len = refuser.none("link_book::LinkBook::lane_len", || link.lane_len());
+    refuser.right(len == 1);
+    let event = Event::LinkTurn {
+        direction: Direction::Lane,
+        fate: Fate::Deliver,
+    };
+    turn(refuser, &mut link, event)?;
+    let has_arrived = refuser.none("link_book::LinkBook::peek_lane", || {
+        link.peek_lane().is_some()
+    });
+    refuser.right(has_arrived);
+    let is_taken = refuser.none("link_book::LinkBook::pop_lane", || {
+        link.pop_lane().is_some()
+    });
+    refuser.right(is_taken && link.quiet());
+    Some(())
+}
+
 /// Makes the calls.
 pub fn make(refuser: Refuser, examples: &Examples) -> Option<()> {
     ticked(refuser, &examples.script("two-wait-for-a-page/script")?)?;
+    over_the_lane(refuser)?;
     for folder in [
         "two-wait-for-a-page",
         "released-and-pushed",
