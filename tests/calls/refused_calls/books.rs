@@ -7,7 +7,7 @@ use balloon_ledger::Ledger;
 use guest_script::Script;
 use link_book::LinkBook;
 use migration_events::{Direction, Event, Fate, Op};
-use migration_types::{Logs, PageNo, Seq, Session, Version};
+use migration_types::{Contents, Logs, PageNo, Seq, Session, Version};
 use page_store::Store;
 use page_stream::Packet;
 use session_log::write_session;
@@ -624,7 +624,11 @@ fn is_state(packet: &Packet, page: PageNo) -> bool {
 fn over_the_lane(refuser: Refuser) -> Option<()> {
     let mut link = LinkBook::new(refuser.alloc());
     room(refuser, &mut link)?;
-    let packet = Packet::All { number: 1 };
+    let packet = Packet::Page {
+        number: 1,
+        page: PageNo::new(0),
+        cells: Contents::one(5),
+    };
     refuser.none(
         "link_book::LinkBook::offer_lane",
         || link.offer_lane(packet),
