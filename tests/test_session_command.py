@@ -150,10 +150,10 @@ def test_greatest_logs(program, room):
 
 
 @pytest.mark.quick
-@pytest.mark.cases(2)
+@pytest.mark.cases(3)
 def test_control_characters(program, room):
-    """No control character of a folder's name is written as it is."""
-    for name, shown in (("a\x1bb", "a\\x1bb"), ("a\x7fb", "a\\x7fb")):
+    """No control character of a folder's name is written as it is, of one byte or of two."""
+    for name, shown in (("a\x1bb", "a\\x1bb"), ("a\x7fb", "a\\x7fb"), ("a\x9bb", "a\\x9bb")):
         os.mkdir(f"{room}/{name}")
         ran = subprocess.run([program, "session", name], cwd=room, capture_output=True, encoding="utf-8", timeout=60, check=False)
         same("the words on such a folder", (ran.returncode, ran.stderr), (1, f"session: {shown}: there is no file of a recorder, PARTY.PROCESS.N\n"))
@@ -179,3 +179,17 @@ def test_system_errors(program, room):
         known += is_known
         same(f"the words on error {number}", is_known or f"a record was not written: {unknown}\n" in said, True)
     same("errors with words", known, KNOWN_ERRORS)
+
+
+@pytest.mark.quick
+@pytest.mark.cases(2)
+def test_lone_halted_that_is_named(program, room):
+    """A `halted` that is alone is left out with the records that name it, and those that name these."""
+    for number, carried in enumerate(({"link": "down 0", "pager": "got 0"}, {"pager": "got-sent 0"})):
+        folder = f"{room}/lone-{number}"
+        os.mkdir(folder)
+        for party, record in ({"machine": "pages 1 1", "guest": "halt", "source": "halted 0"} | carried).items():
+            with open(f"{folder}/{party}.1.0", "w", encoding="ascii") as file:
+                file.write(f"postcopy-records 1\nrecording lone\nlog {party} 0 0\n0 {record}\nend 1\n")
+        text = subprocess.run([program, "session", "--cut", folder], capture_output=True, encoding="ascii", timeout=60, check=True).stdout
+        same("the text", text, "postcopy-session 1\npages 1\ncells 1\ninit 0\nguest 1\nhalt\nsource 0\nlink 0\npager 0\nend\n")
