@@ -120,16 +120,10 @@ class Session:
         reach = {log: _Reach(log, self.logs[log]) for log in LOGS}
         lengths = {log: min(len(self.logs[log]), most) for log in LOGS}
         lacking = {log: "" for log in LOGS if lengths[log] < len(self.logs[log])}
-        is_cut = True
-        while is_cut:
-            is_cut = False
-            for log in LOGS:
-                for other in reach[log].logs():
-                    end = reach[log].end(other, lengths[other])
-                    if end < lengths[log]:
-                        lengths[log], lacking[log], is_cut = end, other, True
+        _cut_further(reach, lengths, lacking)
         if lengths["source"] == 1 and self.logs["source"][0][0] == "halted":
             lengths["source"], lacking["source"] = 0, ""
+            _cut_further(reach, lengths, lacking)
         told = [f"{log}: {len(self.logs[log]) - lengths[log]} records left out: {self._lack(log, lengths[log], most, lacking[log], place)}"
                 for log in LOGS if log in lacking]
         for log in LOGS:
@@ -290,3 +284,15 @@ class _Reach:
         """Returns the first record that names a record of the other log beyond this length, or else the length of this log."""
         at = bisect_left(self._greatest[other], length)
         return self._first[other][at] if at < len(self._first[other]) else self._length
+
+
+def _cut_further(reach: Dict[str, _Reach], lengths: Dict[str, int], lacking: Dict[str, str]) -> None:
+    """Cuts each log before its first record that names a missing one, until there is none. Notes the log of the missing one."""
+    is_cut = True
+    while is_cut:
+        is_cut = False
+        for log in LOGS:
+            for other in reach[log].logs():
+                end = reach[log].end(other, lengths[other])
+                if end < lengths[log]:
+                    lengths[log], lacking[log], is_cut = end, other, True
