@@ -184,7 +184,7 @@ fault_there s reason Pager n f = go (slice_get s.pager n) refl f
 -- ---- reports
 
 module _ (s : Recorded) where
-  safe_if_clean : ((t : Recorded) → IsFaultless t → IsSafe t) → IsSession s → (report : Report) → IsReport s report → IsClean report → IsSafe s
+  pub safe_if_clean : ((t : Recorded) → IsFaultless t → IsSafe t) → IsSession s → (report : Report) → IsReport s report → IsClean report → IsSafe s
   safe_if_clean law fits (Clean cert) is clean = law s (record { is_session = fits; shape = is.0; clean = is.1.has_no_fault })
   safe_if_clean law fits (Shape fault) is clean = absurd clean
   safe_if_clean law fits (Knot left found) is clean = absurd clean
@@ -196,17 +196,8 @@ module _ (s : Recorded) where
   clean_if_safe law fits (Knot left found) is shape has safe = absurd (is.1.has_no_merging has)
   clean_if_safe law fits (Faulty line fault order many) is shape has safe = absurd ((law (session_fits s fits) shape has).0 safe fault.reason (fault.log, fault.place) is.1.is_first.is_fault)
 
-  safe_exactly : ((t : Recorded) → IsFaultless t → IsSafe t) → SafeExactlyIfClean s → IsSession s → (report : Report) → IsReport s report → IsRightShape s → HasMerging s → IsSafe s ↔ IsClean report
+  pub safe_exactly : ((t : Recorded) → IsFaultless t → IsSafe t) → SafeExactlyIfClean s → IsSession s → (report : Report) → IsReport s report → IsRightShape s → HasMerging s → IsSafe s ↔ IsClean report
   safe_exactly clean law fits report is shape has = (clean_if_safe law fits report is shape has, safe_if_clean clean fits report is)
-
-  -- as the audit has them
-  pub safe_of : ((t : Recorded) → IsFaultless t → IsSafe t) → IsSession s → (r : Result Report AllocError) → IfOk r (IsReport s) → IfOk r (λ report. IsClean report → IsSafe s)
-  safe_of law fits (Ok report) is = safe_if_clean law fits report is
-  safe_of law fits (Err e) is = tt
-
-  pub exactly_of : ((t : Recorded) → IsFaultless t → IsSafe t) → SafeExactlyIfClean s → IsSession s → (r : Result Report AllocError) → IfOk r (IsReport s) → IfOk r (λ report. IsRightShape s → HasMerging s → IsSafe s ↔ IsClean report)
-  exactly_of clean law fits (Ok report) is = safe_exactly clean law fits report is
-  exactly_of clean law fits (Err e) is = tt
 
   -- the text of a report's runs has room for them
   pub fits_text : (report : Report) → IsReport s report → ReportFits report
@@ -214,7 +205,3 @@ module _ (s : Recorded) where
   fits_text (Shape fault) is = tt
   fits_text (Knot left found) is = tt
   fits_text (Faulty line fault order many) is = are_widest s.version s.geometry.size order is.1.shows.are_runs
-
-  pub fits_of : (r : Result Report AllocError) → IfOk r (IsReport s) → IfOk r ReportFits
-  fits_of (Ok report) is = fits_text report is
-  fits_of (Err e) is = tt

@@ -11,19 +11,11 @@ use Rattle.audit_report.specs.ReportText.{first_line}
 
 -- the line of a page with a fault, as in "page 3 line 14 read"
 abbrev pub faulty_page_line : FaultyPage → List ℕ
-faulty_page_line f = codes "page " ++ decimal f.page ++ codes " line " ++ decimal f.line ++ 32 ∷ page_word f.fault.reason
+faulty_page_line f = codes "page " ++ decimal f.fault.page ++ codes " line " ++ decimal f.line ++ 32 ∷ page_word f.fault.reason
 
 -- the number of pages with a fault, as in "faulty-pages 2", and a line for each
 abbrev pub faulty_pages_lines : List FaultyPage → List (List ℕ)
 faulty_pages_lines pages = counted (codes "faulty-pages ") faulty_page_line pages []
-
--- The report judges the pages: the session has the right shape, and its logs have a merging. Otherwise a fault of a
--- page means nothing.
-abbrev pub JudgesPages : Report → Type 0
-JudgesPages (Shape fault) = ⊥
-JudgesPages (Knot left found) = ⊥
-JudgesPages (Faulty line fault order many) = Unit {0}
-JudgesPages (Clean cert) = Unit {0}
 
 -- what follows the first line
 abbrev pub pages_after : Report → List FaultyPage → List (List ℕ)

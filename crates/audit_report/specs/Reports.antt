@@ -21,6 +21,7 @@ use Rattle.audit_model.specs.FoundOrder.{IsFound}
 use Rattle.audit_model.specs.Delayed.{IsFirstPlacement, IsDelayedOrder}
 use Rattle.audit_model.specs.Laws.{BreaksAt}
 use Rattle.page_facts.specs.declared.page_fault.PageFault.{PageFault}
+use Rattle.page_facts.specs.PageFaults.{HasItsPage}
 use Rattle.faulty_pages.specs.FaultyPages.{AreManyFaulty}
 use Rattle.cert_check.specs.Verdicts.{IsShapeFault}
 use Rattle.cert_maker.specs.Orders.{IsTied}
@@ -79,10 +80,11 @@ pub record ShowsFault (s : Recorded) (reason : PageReason) (name : Name) (runs :
   pub breaks : BreaksAt s (spelled runs) name
   pub is_order : IsOrderFor s reason name (spelled runs)
 
--- the session's first fault of a page, with its line, runs that show it, and how many pages have a fault
+-- the session's first fault of a page, with its page and its line, runs that show it, and how many pages have a fault
 pub record IsFaulty (s : Recorded) (line : ℕ) (fault : PageFault) (runs : List Run) (many : ℕ) : Type 0 where
   pub is_line : line ≡ line_of s (fault.log, fault.place)
   pub is_first : IsFirstPageFault s fault.reason (fault.log, fault.place)
+  pub is_of : HasItsPage s fault
   pub shows : ShowsFault s fault.reason (fault.log, fault.place) runs
   pub are_many : AreManyFaulty s many
 
@@ -99,6 +101,14 @@ IsReport s (Shape fault) = IsShapeFault s fault
 IsReport s (Knot left found) = IsRightShape s × IsTied s left found
 IsReport s (Faulty line fault order many) = IsRightShape s × IsFaulty s line fault order many
 IsReport s (Clean cert) = IsRightShape s × IsCleanWith s cert
+
+-- The report judges the pages: the session has the right shape, and its logs have a merging. Otherwise a fault of a
+-- page means nothing.
+abbrev pub JudgesPages : Report → Type 0
+JudgesPages (Shape fault) = ⊥
+JudgesPages (Knot left found) = ⊥
+JudgesPages (Faulty line fault order many) = Unit {0}
+JudgesPages (Clean cert) = Unit {0}
 
 -- the report says that the session is clean
 abbrev pub IsClean : Report → Type 0

@@ -1,3 +1,4 @@
 -- Definitions that only proofs use.
 pub mod Cuts
+pub mod Full
 pub mod Parts

@@ -8,21 +8,23 @@ ghost use Rattle.audit_model.specs.World.{IsSafe};
 ghost use Rattle.audit_model.specs.Shape.{IsRightShape};
 ghost use Rattle.audit_model.specs.Faults.{HasNoPageFault};
 ghost use Rattle.audit_model.specs.FirstFault.{IsFirstPageFault};
-ghost use Rattle.page_facts.specs.PageFaults.{IsFirstFaultFrom};
-ghost use Rattle.faulty_pages.specs.FaultyPages.{AreManyFaulty, AreManyFrom};
+ghost use Rattle.page_facts.specs.PageFaults.{HasItsPage, IsFirstFault, IsFirstFaultFrom, IsClean as IsCleanPage};
+ghost use Rattle.faulty_pages.specs.FaultyPages.{AreFaultyPages, AreManyFaulty, AreManyFrom};
 ghost use Rattle.cert_maker.specs.Orders.{AreFoundRuns};
 ghost use Rattle.cert_maker.specs.inner.Entries.{AreMadeFrom, HasBarePage};
-ghost use Rattle.audit_report.specs.Reports.{IsReport, IsClean, ReportFits};
+ghost use Rattle.audit_report.specs.Reports.{IsReport, IsClean, JudgesPages, ReportFits};
+ghost use Rattle.audit_report.specs.inner.Full.{IsFullAudit, IsOrderOrReport};
 
+use crate::both::Both;
 use crate::orders::order_for;
-use crate::report::Report;
+use crate::report::{FullAudit, Report};
 use audit_model::{clean_is_certified, faults_are_unsafe};
 use cert_check::shape;
 use cert_maker::{MadeEntries, Order, find_order, make_over};
-use faulty_pages::{HowMany, many_of_pages_are_many};
+use faulty_pages::{Faults, FaultyPage, HowMany, many_of_pages_are_many};
 use migration_types::{Entry, PageNo, Run, Seq, Session, line_of};
 use page_facts::{
-    Findings, FirstFault, InThreads, Judges, PageFault, Question, answer_apart,
+    Findings, FirstFault, InThreads, Judges, PageFault, Question, answer_apart, fault_of,
     first_of_pages_is_first,
 };
 use std::alloc::{AllocError, Global};
@@ -38,6 +40,17 @@ pub struct AuditFacts {
     pub faulty: usize,
     /// The pages' entries in a certificate, or `None` if one of them has no right entry.
     pub entries: Option<Vec<Entry>>,
+}
+
+/// Returns how many pages have a fault, of this one with this first fault.
+fn many_in(_session: &Session, _page: PageNo, fault: &Option<PageFault>) -> usize
+    requires { MatchOption fault.now (IsCleanPage _session.now _page) (IsFirstFault _session.now _page) }
+    ensures { AreManyFrom _session.now _page 1 result }
+{
+    match fault {
+        Some(_) => 1,
+        None => 0,
+    }
 }
 
 /// The question for the first fault of the pages, how many have a fault, and their entries.
@@ -69,8 +82,10 @@ impl Question for FaultAndEntries {
         page: PageNo,
         findings: &Findings,
     ) -> Result<(), AllocError> {
-        FirstFault.take(&mut audited.fault, session, page, findings)?;
-        HowMany.take(&mut audited.faulty, session, page, findings)?;
+        let fault = fault_of(session, findings, page);
+        let many = many_in(session, page, &fault);
+        FirstFault.add(&mut audited.fault, fault)?;
+        HowMany.add(&mut audited.faulty, many)?;
         MadeEntries.take(&mut audited.entries, session, page, findings)?;
         Ok(())
     }
@@ -92,6 +107,19 @@ impl<R: Threads + Sync> Judges<FaultAndEntries> for InThreads<'_, R> {
         alloc: Global,
         session: &Session,
     ) -> Result<AuditFacts, AllocError> {
+        answer_apart(self.rt, question, alloc, session)
+    }
+}
+
+impl<R: Threads + Sync> Judges<Both<FaultAndEntries, Faults>> for InThreads<'_, R> {
+    ghost ready = { IsSync R.row };
+
+    fn ask(
+        &self,
+        question: &Both<FaultAndEntries, Faults>,
+        alloc: Global,
+        session: &Session,
+    ) -> Result<(AuditFacts, Vec<FaultyPage>), AllocError> {
         answer_apart(self.rt, question, alloc, session)
     }
 }
@@ -125,6 +153,7 @@ fn faulty(
     requires shape { IsRightShape session.now }
     requires found { AreFoundRuns session.now found }
     requires fault { IsFirstPageFault session.now fault.now.reason (fault.now.log, fault.now.place) }
+    requires of { HasItsPage session.now fault.now }
     requires many { AreManyFaulty session.now pages }
     ensures { IfOk result (IsReport session.now) }
 {
@@ -156,9 +185,39 @@ fn by_pages(
 {
     first_of_pages_is_first();
     many_of_pages_are_many();
-    match audited.fault {
-        Some(fault) => faulty(alloc, session, found, &fault, audited.faulty),
-        None => Ok(clean(session, audited.entries, found)),
+    let AuditFacts {
+        fault,
+        faulty: pages,
+        entries,
+    } = audited;
+    match fault {
+        Some(fault) => faulty(alloc, session, found, &fault, pages),
+        None => Ok(clean(session, entries, found)),
+    }
+}
+
+/// What an audit knows before it judges the pages.
+#[derive(Drop)]
+pub(crate) enum OrderOrReport {
+    /// The runs of the found order, with which the pages are judged.
+    Order(Seq<Run>),
+    /// The report, for which no page is judged.
+    Report(Report),
+}
+
+/// Returns the runs of a session's found order if the session has the right shape and a merging, and otherwise the
+/// report on it.
+fn order_or_report(alloc: Global, session: &Session) -> Result<OrderOrReport, AllocError>
+    requires limits { IsSession session.now }
+    ensures { IfOk result (IsOrderOrReport session.now) }
+{
+    let fault = shape(alloc, session)?;
+    if let Some(fault) = fault {
+        return Ok(OrderOrReport::Report(Report::Shape(fault)));
+    }
+    match find_order(alloc, session)? {
+        Order::Found(found) => Ok(OrderOrReport::Order(found)),
+        Order::Knot { left, found } => Ok(OrderOrReport::Report(Report::Knot { left, found })),
     }
 }
 
@@ -172,16 +231,55 @@ fn report<J: Judges<FaultAndEntries>>(
     requires limits { IsSession session.now }
     ensures { IfOk result (IsReport session.now) }
 {
-    let fault = shape(alloc, session)?;
-    if let Some(fault) = fault {
-        return Ok(Report::Shape(fault));
+    match order_or_report(alloc, session)? {
+        OrderOrReport::Report(report) => Ok(report),
+        OrderOrReport::Order(found) => {
+            let audited = judges.ask(&FaultAndEntries, alloc, session)?;
+            by_pages(alloc, session, found, audited)
+        }
     }
-    let found = match find_order(alloc, session)? {
-        Order::Found(found) => found,
-        Order::Knot { left, found } => return Ok(Report::Knot { left, found }),
+}
+
+/// Returns the report on a session of the right shape, over the runs of its found order, with each page that has a
+/// fault.
+fn full_by_pages<J: Judges<Both<FaultAndEntries, Faults>>>(
+    judges: &J,
+    alloc: Global,
+    session: &Session,
+    found: Seq<Run>,
+) -> Result<FullAudit, AllocError>
+    requires ready { J.ready }
+    requires limits { IsSession session.now }
+    requires shape { IsRightShape session.now }
+    requires found { AreFoundRuns session.now found }
+    ensures { IfOk result (IsFullAudit session.now) }
+{
+    let question = Both {
+        one: FaultAndEntries,
+        other: Faults,
     };
-    let audited = judges.ask(&FaultAndEntries, alloc, session)?;
-    by_pages(alloc, session, found, audited)
+    let (audited, pages) = judges.ask(&question, alloc, session)?;
+    let report = by_pages(alloc, session, found, audited)?;
+    Ok(FullAudit { report, pages })
+}
+
+/// Returns the report on a session, with each page that has a fault.
+fn full_report<J: Judges<Both<FaultAndEntries, Faults>>>(
+    judges: &J,
+    alloc: Global,
+    session: &Session,
+) -> Result<FullAudit, AllocError>
+    requires ready { J.ready }
+    requires limits { IsSession session.now }
+    ensures { IfOk result (IsFullAudit session.now) }
+{
+    match order_or_report(alloc, session)? {
+        OrderOrReport::Report(report) => Ok(FullAudit {
+            report,
+            pages: Vec::new(alloc),
+        }),
+        OrderOrReport::Order(found) => full_by_pages(judges, alloc, session, found),
+    }
 }
 
 /// Returns the report on a session that [`audit`] returns, whichever judges are used. It promises what `audit`
@@ -224,4 +322,24 @@ pub fn audit<R: Threads + Sync>(
     ensures fits { IfOk result ReportFits }
 {
     audit_by(&InThreads { rt }, alloc, session)
+}
+
+/// Returns the report on a session that [`audit`] returns, with each page that has a fault. It promises what `audit`
+/// promises, and asks the judges once. Besides what an audit by these judges allocates, it allocates memory for a few
+/// numbers for each faulty page. Fails only if memory runs out.
+pub fn audit_in_full<J: Judges<Both<FaultAndEntries, Faults>>>(
+    judges: &J,
+    alloc: Global,
+    session: &Session,
+) -> Result<FullAudit, AllocError>
+    requires ready { J.ready }
+    ensures report { IfOk result (λ full. IsReport session.now full.report) }
+    ensures pages { IfOk result (λ full. JudgesPages full.report → AreFaultyPages session.now full.pages.items) }
+    ensures safe { IfOk result (λ full. IsClean full.report → IsSafe session.now) }
+    ensures exactly { IfOk result (λ full. IsRightShape session.now → HasMerging session.now → (IsSafe session.now ↔ IsClean full.report)) }
+    ensures fits { IfOk result (λ full. ReportFits full.report) }
+{
+    session.keeps_limits();
+    faults_are_unsafe();
+    full_report(judges, alloc, session)
 }

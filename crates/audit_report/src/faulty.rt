@@ -17,7 +17,7 @@ fn push_faulty_page(out: &mut Vec<u8>, faulty: &FaultyPage) -> Result<(), AllocE
     ensures { OnOk result (out.new.items ≡ out.old.items ++ (faulty_page_line faulty.now ++ 10 ∷ [])) }
 {
     out.extend_from_slice(b"page ")?;
-    push_number(out, faulty.page.number())?;
+    push_number(out, faulty.fault.page.number())?;
     push_keyed_word(out, b" line ", faulty.line, faulty.fault.reason.word())
 }
 

@@ -5,6 +5,7 @@
 #![tactic(auto)]
 
 mod auditing;
+mod both;
 mod cuts;
 mod dependence;
 mod faulty;
@@ -16,7 +17,8 @@ mod placements;
 mod printing;
 mod report;
 
-pub use auditing::{AuditFacts, FaultAndEntries, audit, audit_by};
+pub use auditing::{AuditFacts, FaultAndEntries, audit, audit_by, audit_in_full};
+pub use both::Both;
 pub use dependence::depends_on;
 pub use faulty::{print_all_faults, push_faulty_pages};
 pub use lacking::{line_of_taken, push_missing};
@@ -26,4 +28,4 @@ pub use printing::{
     print_first_line, print_refused_session, print_report, push_first_line, push_first_line_by,
     push_refused_certificate, push_refused_session, push_refused_session_by, push_shape,
 };
-pub use report::Report;
+pub use report::{FullAudit, Report};

@@ -2,6 +2,7 @@
 
 use cert_check::ShapeFault;
 use cert_maker::{FirstLeft, FoundRuns};
+use faulty_pages::FaultyPage;
 use migration_types::{Cert, Run, Seq};
 use page_facts::PageFault;
 
@@ -26,4 +27,13 @@ pub enum Report {
         order: Seq<Run>,
         pages: usize,
     },
+}
+
+/// The report of an audit, with each page that has a fault.
+#[derive(Drop)]
+pub struct FullAudit {
+    /// The report.
+    pub report: Report,
+    /// If the report is clean or faulty: each page with a fault, in the order of pages. Otherwise none.
+    pub pages: Vec<FaultyPage>,
 }

@@ -138,7 +138,6 @@ module _ (s : Recorded) (c : Cursors) (front : IsFront s c) (halt : HasHalt s c)
       let name : Name = (f.log, f.place) in
       let inside = (faults_were s c front halt f.reason name still).0 in
       record {
-        page = first.page;
         is_among = first.is_among;
         is_of = same_page s c name inside ∙ first.is_of;
         is_reason = fewer_least (λ r. fault_test s r name) (λ r. fault_test (cut_to c s) r name) f.reason (test_was name) ((fault_Decides (cut_to c s) f.reason name).1 still) first.is_reason;
@@ -162,9 +161,8 @@ module _ (s : Recorded) (c : Cursors) (front : IsFront s c) (halt : HasHalt s c)
 
   pub first_faults_were : FirstFaultsWere s c
   first_faults_were page f first above =
-      let was = page_was s c (f.log, f.place) first.page first.is_of in
+      let was = page_was s c (f.log, f.place) f.page first.is_of in
       record {
-        page = first.page;
         is_among = first.is_among;
         is_of = was.1;
         is_reason = reason_was (f.log, f.place) f.reason was.0 first.is_reason;

@@ -80,9 +80,8 @@ module _ (s : Recorded) (page : ℕ) where
   abbrev AreNone : ℕ → Type 0
   AreNone i = (name : Name) → log_index name.0 < i → IsNone name
 
-  first_is : (i : ℕ) → i < 5 → AreNone i → (f : IsFirstIn (log_of i) (log_length s (log_of i))) → IsFirstFault s page (record { log = log_of i; place = f.place; reason = f.is_fault.reason })
+  first_is : (i : ℕ) → i < 5 → AreNone i → (f : IsFirstIn (log_of i) (log_length s (log_of i))) → IsFirstFault s page (record { page = page; log = log_of i; place = f.place; reason = f.is_fault.reason })
   first_is i few none f = record {
-    page = page;
     is_among = refl;
     is_of = f.is_fault.is_of;
     is_reason = f.is_fault.is_reason;
@@ -117,7 +116,7 @@ module _ (s : Recorded) (page : ℕ) where
     where
       go : HasFirst ⊎ AreNone i → IsFirstIn (log_of i) (log_length s (log_of i)) ⊎ ((n : ℕ) → n < log_length s (log_of i) → IsNone (log_of i, n)) → HasFirst ⊎ AreNone (suc i)
       go (inl first) here = inl first
-      go (inr none) (inl f) = inl (record { log = log_of i; place = f.place; reason = f.is_fault.reason }, first_is i (omega (arith, few)) none f)
+      go (inr none) (inl f) = inl (record { page = page; log = log_of i; place = f.place; reason = f.is_fault.reason }, first_is i (omega (arith, few)) none f)
       go (inr none) (inr here) = inr (none_more i (omega (arith, few)) none here)
 
   -- where a record has a fault of the page, the page has a first fault

@@ -22,19 +22,19 @@ module _ (s : Recorded) (c : Cursors) (front : IsFront s c) (halt : HasHalt s c)
   is_no_later page f first cut_first whole_first =
       by (cases_order (log_index first.log) (log_index f.log)) (cases_order first.place f.place)
     where
-      was : IsInFront c (f.log, f.place) × (page_at s (f.log, f.place) ≡ Some cut_first.page)
-      was = page_was s c (f.log, f.place) cut_first.page cut_first.is_of
+      was : IsInFront c (f.log, f.place) × (page_at s (f.log, f.place) ≡ Some f.page)
+      was = page_was s c (f.log, f.place) f.page cut_first.is_of
 
       reason : reason_at s (f.log, f.place) ≡ Some f.reason
       reason = reason_was s c front halt (f.log, f.place) f.reason was.0 cut_first.is_reason
 
       not_after : {A : Type 0} → Precedes (f.log, f.place) (first.log, first.place) → A
-      not_after before = has_reason s (f.log, f.place) f.reason (whole_first.is_first cut_first.page (f.log, f.place) cut_first.is_among was.1 before) (is_reason_of s (f.log, f.place) f.reason reason)
+      not_after before = has_reason s (f.log, f.place) f.reason (whole_first.is_first f.page (f.log, f.place) cut_first.is_among was.1 before) (is_reason_of s (f.log, f.place) f.reason reason)
 
       lacks : Precedes (first.log, first.place) (f.log, f.place) → HasStill s c first → ⊥
       lacks before still =
           let inside = (faults_were s c front halt first.reason (first.log, first.place) still).0 in
-          has_reason (cut_to c s) (first.log, first.place) first.reason (cut_first.is_first whole_first.page (first.log, first.place) whole_first.is_among (same_page s c (first.log, first.place) inside ∙ whole_first.is_of) before) still
+          has_reason (cut_to c s) (first.log, first.place) first.reason (cut_first.is_first first.page (first.log, first.place) whole_first.is_among (same_page s c (first.log, first.place) inside ∙ whole_first.is_of) before) still
 
       before_it : Precedes (first.log, first.place) (f.log, f.place) → IsNoLater s c f first
       before_it before = inr (before, lacks before)
@@ -52,10 +52,11 @@ module _ (s : Recorded) (c : Cursors) (front : IsFront s c) (halt : HasHalt s c)
           let at : Path Name (f.log, f.place) (first.log, first.place) = λ j. (l j, n j) in
           let two : Some f.reason ≡ Some first.reason = sym reason ∙ ap (reason_at s) at ∙ whole_first.is_reason in
           let r = same_reason two in
-          inl (λ j. record { log = l j; place = n j; reason = r j })
+          let p : f.page ≡ first.page = cut_first.is_among ∙ sym whole_first.is_among in
+          inl (λ j. record { page = p j; log = l j; place = n j; reason = r j })
 
   pub first_faults_are_later : FirstFaultsAreLater s c
   first_faults_are_later page f first =
-      let was = page_was s c (f.log, f.place) first.page first.is_of in
+      let was = page_was s c (f.log, f.place) f.page first.is_of in
       let found = has_first s page (f.log, f.place) f.reason (was.1 ∙ ap (λ (q : ℕ). Some q) first.is_among) (reason_was s c front halt (f.log, f.place) f.reason was.0 first.is_reason) in
       record { first = found.0; is_first = found.1; is_no_later = is_no_later page f found.0 first found.1 }

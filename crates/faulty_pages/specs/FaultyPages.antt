@@ -8,23 +8,23 @@ use Rattle.faulty_pages.specs.declared.FaultyPage.{FaultyPage}
 -- a page's first fault, with its line
 pub record IsFaultyPage (s : Recorded) (f : FaultyPage) : Type 0 where
   pub is_line : f.line ≡ line_of s (f.fault.log, f.fault.place)
-  pub is_first : IsFirstFault s f.page f.fault
+  pub is_first : IsFirstFault s f.fault.page f.fault
 
 -- Of the pages below a number, those with a fault, in ascending order, each with its first fault. A page that is not in
 -- the list is clean.
 pub record AreFaultyBelow (s : Recorded) (n : ℕ) (found : List FaultyPage) : Type 0 where
-  pub ascending : AllPairs (λ a b. a.page < b.page) found
-  pub within : All (λ f. f.page < n) found
+  pub ascending : AllPairs (λ a b. a.fault.page < b.fault.page) found
+  pub within : All (λ f. f.fault.page < n) found
   pub faulty : All (IsFaultyPage s) found
-  pub others : (page : ℕ) → page < n → All (λ f. f.page ≢ page) found → IsClean s page
+  pub others : (page : ℕ) → page < n → All (λ f. f.fault.page ≢ page) found → IsClean s page
 
 -- the faulty pages among this many from the first on
 pub record AreFaultyFrom (s : Recorded) (first count : ℕ) (found : List FaultyPage) : Type 0 where
-  pub ascending : AllPairs (λ a b. a.page < b.page) found
-  pub from : All (λ f. first ≤ f.page) found
-  pub within : All (λ f. f.page < first + count) found
+  pub ascending : AllPairs (λ a b. a.fault.page < b.fault.page) found
+  pub from : All (λ f. first ≤ f.fault.page) found
+  pub within : All (λ f. f.fault.page < first + count) found
   pub faulty : All (IsFaultyPage s) found
-  pub others : (page : ℕ) → first ≤ page → page < first + count → All (λ f. f.page ≢ page) found → IsClean s page
+  pub others : (page : ℕ) → first ≤ page → page < first + count → All (λ f. f.fault.page ≢ page) found → IsClean s page
 
 -- the faulty pages of the machine
 abbrev pub AreFaultyPages : Recorded → List FaultyPage → Type 0

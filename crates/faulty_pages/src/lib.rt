@@ -17,8 +17,6 @@ use std::thread::Threads;
 /// A page with a fault, and the first of its faults.
 #[derive(Clone, Copy, Debug, PartialEq, Eq)]
 pub struct FaultyPage {
-    /// The page.
-    pub page: PageNo,
     /// The line at which the session's text has the faulty record. Lines count from 1.
     pub line: u32,
     /// The fault of the page's records with the least line, and then the least reason.
@@ -26,13 +24,13 @@ pub struct FaultyPage {
 }
 
 /// Returns a page with its first fault and that fault's line.
-fn with_line(session: &Session, page: PageNo, fault: PageFault) -> FaultyPage
-    requires { IsFirstFault session.now page fault }
-    ensures page { result.page ≡ page }
+fn with_line(session: &Session, _page: PageNo, fault: PageFault) -> FaultyPage
+    requires { IsFirstFault session.now _page fault }
+    ensures page { result.fault.page ≡ _page }
     ensures first { IsFaultyPage session.now result }
 {
     let line = line_of(session, fault.log, fault.place);
-    FaultyPage { page, line, fault }
+    FaultyPage { line, fault }
 }
 
 /// The question for the pages that have a fault, with the first fault of each.

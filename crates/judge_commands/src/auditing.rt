@@ -4,7 +4,8 @@ ghost use Rattle.std.specs.Prelude.{◌≡◌, ℕ, List, IfOk};
 ghost use Rattle.std.specs.Thread.{IsSync};
 ghost use Rattle.text_lines.specs.Answer.{IsRead};
 ghost use Rattle.session_log.specs.Grammar.{SpellsSession};
-ghost use Rattle.session_answers.specs.Forms.{Tells};
+ghost use Rattle.audit_report.specs.Reports.{IsReport, ReportFits};
+ghost use Rattle.session_answers.specs.Forms.{ArePagesFor, Tells};
 ghost use Rattle.session_answers.specs.Judged.{IsJudgedTold, report_status};
 ghost use Rattle.judge_commands.specs.Answers.{how_much};
 ghost use Rattle.judge_commands.specs.Completed.{IsAnswered};
@@ -14,7 +15,7 @@ ghost use Rattle.judge_commands.specs.inner.Reported.{SaysRefusal, SaysReport};
 use crate::completing::held;
 use crate::forms::telling_beside;
 use crate::noting::note_on;
-use audit_report::{OwnLines, Report, audit};
+use audit_report::{FullAudit, OwnLines, Report, audit, audit_in_full};
 use command_texts::{Answer, Given, OnOne, REFUSED, Telling, given, status_where};
 use migration_types::Session;
 use page_facts::InThreads;
@@ -30,6 +31,28 @@ pub fn report_status(report: &Report) -> u8
     status_where(matches!(report, Report::Clean(_)))
 }
 
+/// Returns the audit of a session that this form needs: with each page that has a fault if the form lists them, and
+/// otherwise with none.
+fn audited<R: Threads + Sync>(
+    rt: &R,
+    form: AnswerForm,
+    alloc: Global,
+    session: &Session,
+) -> Result<FullAudit, AllocError>
+    ensures report { IfOk result (λ full. IsReport session.now full.report) }
+    ensures fits { IfOk result (λ full. ReportFits full.report) }
+    ensures pages { IfOk result (λ full. ArePagesFor form session.now full.report full.pages.items) }
+{
+    if form.lists_pages() {
+        return audit_in_full(&InThreads { rt }, alloc, session);
+    }
+    let report = audit(rt, alloc, session)?;
+    Ok(FullAudit {
+        report,
+        pages: Vec::new(alloc),
+    })
+}
+
 /// Returns the report on a session, in this form.
 fn reported<R: Threads + Sync>(
     rt: &R,
@@ -39,9 +62,9 @@ fn reported<R: Threads + Sync>(
 ) -> Result<Answer, AllocError>
     ensures { IfOk result (SaysReport (Tells form) session.now) }
 {
-    let report = audit(rt, alloc, session)?;
-    let text = print_told(&InThreads { rt }, alloc, session, &report, form)?;
-    let status = report_status(&report);
+    let full = audited(rt, form, alloc, session)?;
+    let text = print_told(alloc, session, &full.report, &full.pages, form)?;
+    let status = report_status(&full.report);
     Ok(Answer { text, status })
 }
 

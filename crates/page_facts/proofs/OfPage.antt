@@ -47,6 +47,7 @@ abbrev IsCleanIn : Recorded → ℕ → LogName → Type 0
 IsCleanIn s page log = (n : ℕ) → page_at s (log, n) ≡ Some page → reason_at s (log, n) ≡ None
 
 record IsFirstIn (s : Recorded) (page : ℕ) (log : LogName) (f : PageFault) : Type 0 where
+  is_page : f.page ≡ page
   is_log : f.log ≡ log
   is_of : page_at s (log, f.place) ≡ Some page
   is_reason : reason_at s (log, f.place) ≡ Some f.reason
@@ -72,9 +73,10 @@ module _ {A : Type 0} (s : Recorded) (page : ℕ) (name : LogName) (log : List A
   clear_at : (n : ℕ) → ((r : A) → slice_get log n ≡ Some r → of_page page_of page r ≡ true → why n r ≡ None) → page_at s (name, n) ≡ Some page → reason_at s (name, n) ≡ None
   clear_at n none at = let h = there_is page_of (slice_get log n) page (sym (is_at n) ∙ at) in least_is n h.0 h.1 h.2 ∙ none h.0 h.1 h.2
 
-  first_in : (o : Option PageFault) → FirstBy name log (of_page page_of page) why o → MatchOption o (IsCleanIn s page name) (IsFirstIn s page name)
+  first_in : (o : Option PageFault) → FirstBy page name log (of_page page_of page) why o → MatchOption o (IsCleanIn s page name) (IsFirstIn s page name)
   first_in None clear = λ n at. clear_at n (λ r is own. clear.each n r is own) at
   first_in (Some f) first = record {
+    is_page = first.is_page;
     is_log = first.is_log;
     is_of = is_at f.place ∙ is_there page_of (slice_get log f.place) page first.by first.stands first.is_own;
     is_reason = least_is f.place first.by first.stands first.is_own ∙ first.is_why;
@@ -158,10 +160,10 @@ module _ (s : Recorded) (page : ℕ) where
       go (See k) e = refl
 
   module _ (f : Findings) (are : IsFindings s page f) where
-    guest_in : MatchOption (guest_fault f) (IsCleanIn s page Guest) (IsFirstIn s page Guest)
-    guest_in = first_in s page Guest s.guest guest_page (λ n. refl) guest_why guest_least (guest_fault f)
-        (one_more Guest s.guest (of_page guest_page page) (reads_wrong s page) read_only (λ r. WrongRead) WrongRead f.wrong_read (sym are.wrong_read) (λ k r e is. refl) (or_also (comes_early s page) (λ r. Early) no_reason) (told Guest Early (early_of f))
-        (one_alone Guest s.guest (of_page guest_page page) (comes_early s page) early_only (λ r. Early) Early (early_of f) (early_is s page f are) (λ k r e is. refl)))
+    guest_in : MatchOption (guest_fault page f) (IsCleanIn s page Guest) (IsFirstIn s page Guest)
+    guest_in = first_in s page Guest s.guest guest_page (λ n. refl) guest_why guest_least (guest_fault page f)
+        (one_more page Guest s.guest (of_page guest_page page) (reads_wrong s page) read_only (λ r. WrongRead) WrongRead f.wrong_read (sym are.wrong_read) (λ k r e is. refl) (or_also (comes_early s page) (λ r. Early) no_reason) (told page Guest Early (early_of f))
+        (one_alone page Guest s.guest (of_page guest_page page) (comes_early s page) early_only (λ r. Early) Early (early_of f) (early_is s page f are) (λ k r e is. refl)))
 
     -- ---- the source's records
 
@@ -190,9 +192,9 @@ module _ (s : Recorded) (page : ℕ) where
         go Done e = absurd (cc)
         go Back e = absurd (cc)
 
-    source_in : MatchOption (source_fault f) (IsCleanIn s page Source) (IsFirstIn s page Source)
-    source_in = first_in s page Source s.source source_page (λ n. refl) source_why source_least (source_fault f)
-        (one_alone Source s.source (of_page source_page page) (is_wrong_send s page) (send_only s page) (λ r. sent_reason f.released) (sent_reason f.released) f.wrong_send (sym are.wrong_send) (λ k r e is. refl))
+    source_in : MatchOption (source_fault page f) (IsCleanIn s page Source) (IsFirstIn s page Source)
+    source_in = first_in s page Source s.source source_page (λ n. refl) source_why source_least (source_fault page f)
+        (one_alone page Source s.source (of_page source_page page) (is_wrong_send s page) (send_only s page) (λ r. sent_reason f.released) (sent_reason f.released) f.wrong_send (sym are.wrong_send) (λ k r e is. refl))
 
     -- ---- the pager's records
 
@@ -323,11 +325,11 @@ module _ (s : Recorded) (page : ℕ) where
     altered_told : (o : Option ℕ) (k : ℕ) (r : PagerRec) → o ≡ Some k → slice_get s.pager k ≡ Some r → altered_reason s o ≡ placed_reason r
     altered_told o k r e is = ap (λ x. altered_reason s x) e ∙ ap (λ x. reason_of x) is
 
-    pager_in : MatchOption (pager_fault s f) (IsCleanIn s page Pager) (IsFirstIn s page Pager)
-    pager_in = first_in s page Pager s.pager pager_page (λ n. refl) pager_why pager_least (pager_fault s f)
-        (one_more Pager s.pager (of_page pager_page page) (is_again s page) again_only (λ r. Twice) Twice f.again (sym are.again) (λ k r e is. refl) placed_why (least (told Pager (altered_reason s f.altered) f.altered) (told Pager Over (over_of f)))
-        (one_more Pager s.pager (of_page pager_page page) (is_placed_wrong s page) (altered_only s page) placed_reason (altered_reason s f.altered) f.altered (sym are.altered) (altered_told f.altered) over_why (told Pager Over (over_of f))
-        (one_alone Pager s.pager (of_page pager_page page) comes_over over_only (λ r. Over) Over (over_of f) over_first (λ k r e is. refl))))
+    pager_in : MatchOption (pager_fault s page f) (IsCleanIn s page Pager) (IsFirstIn s page Pager)
+    pager_in = first_in s page Pager s.pager pager_page (λ n. refl) pager_why pager_least (pager_fault s page f)
+        (one_more page Pager s.pager (of_page pager_page page) (is_again s page) again_only (λ r. Twice) Twice f.again (sym are.again) (λ k r e is. refl) placed_why (least (told page Pager (altered_reason s f.altered) f.altered) (told page Pager Over (over_of f)))
+        (one_more page Pager s.pager (of_page pager_page page) (is_placed_wrong s page) (altered_only s page) placed_reason (altered_reason s f.altered) f.altered (sym are.altered) (altered_told f.altered) over_why (told page Pager Over (over_of f))
+        (one_alone page Pager s.pager (of_page pager_page page) comes_over over_only (λ r. Over) Over (over_of f) over_first (λ k r e is. refl))))
 
     -- ---- the first of the three
 
@@ -347,9 +349,8 @@ module _ (s : Recorded) (page : ℕ) where
 
     found_in : (log : LogName) (x : PageFault) → CleanBefore log → IsFirstIn s page log x → IsFirstFault s page x
     found_in log x before first = record {
-      page = page;
-      is_among = refl;
-      is_of = ap (λ (l : LogName). page_at s (l, x.place)) first.is_log ∙ first.is_of;
+      is_among = first.is_page;
+      is_of = ap (λ (l : LogName). page_at s (l, x.place)) first.is_log ∙ first.is_of ∙ ap (λ (p : ℕ). Some p) (sym first.is_page);
       is_reason = ap (λ (l : LogName). reason_at s (l, x.place)) first.is_log ∙ first.is_reason;
       is_first = λ q name same at precedes. go name (at ∙ ap (λ k. Some k) same) precedes;
     }
@@ -363,8 +364,8 @@ module _ (s : Recorded) (page : ℕ) where
             let one : name.0 ≡ log = same_log name.0 x.log same.0 ∙ first.is_log in
             ap (λ (l : LogName). reason_at s (l, name.1)) one ∙ first.below name.1 same.1 (ap (λ (l : LogName). page_at s (l, name.1)) (sym one) ∙ at)
 
-    pub page_fault_is : MatchOption (page_fault s f) (IsClean s page) (IsFirstFault s page)
-    page_fault_is = go (guest_fault f) guest_in
+    pub page_fault_is : MatchOption (page_fault s page f) (IsClean s page) (IsFirstFault s page)
+    page_fault_is = go (guest_fault page f) guest_in
       where
         before_source : IsCleanIn s page Guest → CleanBefore Source
         before_source g (Guest, n) at lt = g n at
@@ -387,10 +388,10 @@ module _ (s : Recorded) (page : ℕ) where
         last g o None p = clean_in g o p
         last g o (Some x) p = found_in Pager x (before_pager g o) p
 
-        next : IsCleanIn s page Guest → (o : Option PageFault) → MatchOption o (IsCleanIn s page Source) (IsFirstIn s page Source) → MatchOption (or_next o (pager_fault s f)) (IsClean s page) (IsFirstFault s page)
-        next g None o = last g o (pager_fault s f) pager_in
+        next : IsCleanIn s page Guest → (o : Option PageFault) → MatchOption o (IsCleanIn s page Source) (IsFirstIn s page Source) → MatchOption (or_next o (pager_fault s page f)) (IsClean s page) (IsFirstFault s page)
+        next g None o = last g o (pager_fault s page f) pager_in
         next g (Some x) o = found_in Source x (before_source g) o
 
-        go : (o : Option PageFault) → MatchOption o (IsCleanIn s page Guest) (IsFirstIn s page Guest) → MatchOption (or_next o (or_next (source_fault f) (pager_fault s f))) (IsClean s page) (IsFirstFault s page)
-        go None g = next g (source_fault f) source_in
+        go : (o : Option PageFault) → MatchOption o (IsCleanIn s page Guest) (IsFirstIn s page Guest) → MatchOption (or_next o (or_next (source_fault page f) (pager_fault s page f))) (IsClean s page) (IsFirstFault s page)
+        go None g = next g (source_fault page f) source_in
         go (Some x) g = found_in Guest x before_guest g

@@ -1,6 +1,6 @@
 -- The first fault of one page more, and of all pages.
 use Rattle.std.proofs.Common.{◌≡◌, ℕ, ◌+◌, ◌<◌, ◌≤◌, ◌⊎◌, inl, inr, Bool, true, false, cond, Option, Some, None, refl, sym, ap, ◌∙◌, subst, arith, List}
-use Rattle.std.specs.Prelude.{slice_get}
+use Rattle.std.specs.Prelude.{slice_get, IfSome}
 use Rattle.std.specs.Option.{MatchOption}
 use Rattle.std.proofs.lemmas.Bool.{cases_lt}
 use Rattle.migration_types.specs.declared.records.LogName.{LogName}
@@ -22,7 +22,7 @@ use Rattle.migration_types.specs.Paged.{AreWithin}
 use Rattle.migration_types.specs.Paged.{guest_page, source_page, pager_page}
 use Rattle.page_facts.specs.declared.page_fault.PageFault.{PageFault}
 use Rattle.page_facts.specs.inner.FirstOfLog.{reason_at, IsCleanLog, IsFirstOfLog}
-use Rattle.page_facts.specs.PageFaults.{page_at, Precedes, AreClean, IsFirstFaultOf, IsClean, IsFirstFault, IsPageOf, IsFirstFaultFrom, precedes, least}
+use Rattle.page_facts.specs.PageFaults.{page_at, Precedes, AreClean, HasItsPage, IsFirstFaultOf, IsClean, IsFirstFault, IsPageOf, IsFirstFaultFrom, precedes, least}
 use Rattle.page_facts.proofs.FirstOfAll.{none_at, guest_first, moved_of_all}
 use Rattle.page_facts.proofs.Lines.{precedes_is, is_precedes, passes_on, before_both}
 use Rattle.page_facts.proofs.Within.{guest_within, source_within, pager_within}
@@ -41,8 +41,7 @@ module _ (s : Recorded) (Low High All : ℕ → Type 0) (low : (p : ℕ) → Low
 
   keeps : (f : PageFault) → IsFirstFaultOf s Low f → AreCleanIf High (λ name. Precedes name (f.log, f.place)) → IsFirstFaultOf s All f
   keeps f below above = record {
-    page = below.page;
-    is_among = low below.page below.is_among;
+    is_among = low f.page below.is_among;
     is_of = below.is_of;
     is_reason = below.is_reason;
     is_first = both (λ name. Precedes name (f.log, f.place)) below.is_first above;
@@ -50,8 +49,7 @@ module _ (s : Recorded) (Low High All : ℕ → Type 0) (low : (p : ℕ) → Low
 
   takes : (f : PageFault) → IsFirstFaultOf s High f → AreCleanIf Low (λ name. Precedes name (f.log, f.place)) → IsFirstFaultOf s All f
   takes f above below = record {
-    page = above.page;
-    is_among = high above.page above.is_among;
+    is_among = high f.page above.is_among;
     is_of = above.is_of;
     is_reason = above.is_reason;
     is_first = both (λ name. Precedes name (f.log, f.place)) below above.is_first;
@@ -202,3 +200,8 @@ module _ (s : Recorded) where
     pub all_is : (o : Option PageFault) → IsFirstFaultFrom s 0 s.geometry.pages o → MatchOption o (HasNoPageFault s) (λ f. IsFirstPageFault s f.reason (f.log, f.place))
     all_is None clean = moved_of_all s None (λ n. all_clean clean (Guest, n)) (λ n. all_clean clean (Source, n), λ n. all_clean clean (Pager, n))
     all_is (Some f) first = first_fault_is f first
+
+-- the first fault of all pages has its page
+pub has_page : (s : Recorded) (o : Option PageFault) → IsFirstFaultFrom s 0 s.geometry.pages o → IfSome o (HasItsPage s)
+has_page s None clean = tt
+has_page s (Some f) first = first.is_of

@@ -32,12 +32,15 @@ Precedes a b = (log_index a.0 < log_index b.0) ⊎ ((log_index a.0 ≡ log_index
 pub record AreClean (s : Recorded) (among : ℕ → Type 0) : Type 0 where
   pub each : (page : ℕ) (name : Name) → among page → page_at s name ≡ Some page → reason_at s name ≡ None
 
+-- the fault's page is that of its record
+abbrev pub HasItsPage : Recorded → PageFault → Type 0
+HasItsPage s f = page_at s (f.log, f.place) ≡ Some f.page
+
 -- A fault of one of these pages, and none of them has a fault of a lesser line. Its reason is the least that the record
 -- has.
 pub record IsFirstFaultOf (s : Recorded) (among : ℕ → Type 0) (f : PageFault) : Type 0 where
-  pub page : ℕ
-  pub is_among : among page
-  pub is_of : page_at s (f.log, f.place) ≡ Some page
+  pub is_among : among f.page
+  pub is_of : HasItsPage s f
   pub is_reason : reason_at s (f.log, f.place) ≡ Some f.reason
   pub is_first : (other : ℕ) (name : Name) → among other → page_at s name ≡ Some other → Precedes name (f.log, f.place) → reason_at s name ≡ None
 
@@ -58,8 +61,8 @@ IsFirstFaultFrom s first count fault = MatchOption fault (AreClean s (IsPageOf f
 
 -- ---- by a page's findings
 
-abbrev pub fault : LogName → ℕ → PageReason → PageFault
-fault log place reason = record { log = log; place = place; reason = reason }
+abbrev pub fault : ℕ → LogName → ℕ → PageReason → PageFault
+fault page log place reason = record { page = page; log = log; place = place; reason = reason }
 
 -- the first touch, if no look before it covers it
 abbrev pub uncovered_of : Option ℕ → Option ℕ → Option ℕ
@@ -78,10 +81,10 @@ over_at (Some touch) placement = placement
 abbrev pub over_of : Findings → Option ℕ
 over_of f = if f.releases then over_at (uncovered_of f.touch f.look) f.placement else None
 
--- the fault of this record, if there is one
-abbrev pub told : LogName → PageReason → Option ℕ → Option PageFault
-told log reason None = None
-told log reason (Some n) = Some (fault log n reason)
+-- the fault of this page's record, if there is one
+abbrev pub told : ℕ → LogName → PageReason → Option ℕ → Option PageFault
+told page log reason None = None
+told page log reason (Some n) = Some (fault page log n reason)
 
 -- whether a fault's line is less than the other's
 abbrev pub precedes : PageFault → PageFault → Bool
@@ -112,14 +115,16 @@ abbrev pub or_next : Option PageFault → Option PageFault → Option PageFault
 or_next None next = next
 or_next (Some f) next = Some f
 
-abbrev pub guest_fault : Findings → Option PageFault
-guest_fault f = least (told Guest WrongRead f.wrong_read) (told Guest Early (early_of f))
+abbrev pub guest_fault : ℕ → Findings → Option PageFault
+guest_fault page f = least (told page Guest WrongRead f.wrong_read) (told page Guest Early (early_of f))
 
-abbrev pub source_fault : Findings → Option PageFault
-source_fault f = told Source (sent_reason f.released) f.wrong_send
+abbrev pub source_fault : ℕ → Findings → Option PageFault
+source_fault page f = told page Source (sent_reason f.released) f.wrong_send
 
-abbrev pub pager_fault : Recorded → Findings → Option PageFault
-pager_fault s f = least (told Pager Twice f.again) (least (told Pager (altered_reason s f.altered) f.altered) (told Pager Over (over_of f)))
+abbrev pub pager_fault : Recorded → ℕ → Findings → Option PageFault
+pager_fault s page f =
+    least (told page Pager Twice f.again)
+    (least (told page Pager (altered_reason s f.altered) f.altered) (told page Pager Over (over_of f)))
 
-abbrev pub page_fault : Recorded → Findings → Option PageFault
-page_fault s f = or_next (guest_fault f) (or_next (source_fault f) (pager_fault s f))
+abbrev pub page_fault : Recorded → ℕ → Findings → Option PageFault
+page_fault s page f = or_next (guest_fault page f) (or_next (source_fault page f) (pager_fault s page f))

@@ -1,11 +1,11 @@
 //! The first fault of a session's pages.
 
-ghost use Rattle.std.specs.Prelude.{⊤, ◌≡◌, IfOk, MatchOption, Option};
+ghost use Rattle.std.specs.Prelude.{⊤, ◌≡◌, IfOk, IfSome, MatchOption, Option};
 ghost use Rattle.migration_types.specs.Sessions.{IsSession, Recorded};
 ghost use Rattle.audit_model.specs.Faults.{HasNoPageFault};
 ghost use Rattle.audit_model.specs.FirstFault.{IsFirstPageFault};
 ghost use Rattle.page_facts.specs.Findings.{IsFindings};
-ghost use Rattle.page_facts.specs.PageFaults.{told, precedes, least, or_next, page_fault, IsClean, IsFirstFault, IsFirstFaultFrom};
+ghost use Rattle.page_facts.specs.PageFaults.{told, precedes, least, or_next, page_fault, HasItsPage, IsClean, IsFirstFault, IsFirstFaultFrom};
 
 use crate::findings::{Findings, guest_fault, pager_fault, source_fault};
 use crate::question::{Question, answer_alone};
@@ -13,9 +13,11 @@ use audit_model::PageReason;
 use migration_types::{LogName, PageNo, Session};
 use std::alloc::{AllocError, Global};
 
-/// A fault of a page: the record that has it, and why.
+/// A fault of a page: the page, the record that has it, and why.
 #[derive(Clone, Copy, Debug, PartialEq, Eq)]
 pub struct PageFault {
+    /// The record's page.
+    pub page: PageNo,
     /// The record's log.
     pub log: LogName,
     /// The record's number in that log.
@@ -24,12 +26,22 @@ pub struct PageFault {
     pub reason: PageReason,
 }
 
-/// Returns the fault of this record, if there is one.
-pub(crate) fn told(log: LogName, reason: PageReason, place: Option<u32>) -> Option<PageFault>
-    ensures { result ≡ told log reason place }
+/// Returns the fault of this page's record, if there is one.
+pub(crate) fn told(
+    page: PageNo,
+    log: LogName,
+    reason: PageReason,
+    place: Option<u32>,
+) -> Option<PageFault>
+    ensures { result ≡ told page log reason place }
 {
     let place = place?;
-    Some(PageFault { log, place, reason })
+    Some(PageFault {
+        page,
+        log,
+        place,
+        reason,
+    })
 }
 
 /// Returns whether a fault's line is less than the other's.
@@ -69,11 +81,14 @@ fn or_next(first: Option<PageFault>, next: Option<PageFault>) -> Option<PageFaul
 }
 
 /// Returns the first fault of a page with these findings, going through the logs in their order.
-fn first_in_logs(session: &Session, findings: &Findings) -> Option<PageFault>
-    ensures { result ≡ page_fault session.now findings.now }
+fn first_in_logs(session: &Session, findings: &Findings, page: PageNo) -> Option<PageFault>
+    ensures { result ≡ page_fault session.now page findings.now }
 {
-    let moved = or_next(source_fault(findings), pager_fault(session, findings));
-    or_next(guest_fault(findings), moved)
+    let moved = or_next(
+        source_fault(findings, page),
+        pager_fault(session, findings, page),
+    );
+    or_next(guest_fault(findings, page), moved)
 }
 
 /// Returns the fault of a page with these findings that has the least line, and then the least reason, or `None` if no
@@ -82,7 +97,7 @@ pub fn fault_of(session: &Session, findings: &Findings, page: PageNo) -> Option<
     requires { IsFindings session.now page findings.now }
     ensures { MatchOption result (IsClean session.now page) (IsFirstFault session.now page) }
 {
-    first_in_logs(session, findings)
+    first_in_logs(session, findings, page)
 }
 
 /// The question for the pages' fault with the least line, and then the least reason.
@@ -130,7 +145,8 @@ pub fn first_of_pages_is_first()
 /// fault. Makes a few passes over each log, and allocates memory for some numbers for each page and for the cells of
 /// all pages. Fails only if memory runs out.
 pub fn first_page_fault(alloc: Global, session: &Session) -> Result<Option<PageFault>, AllocError>
-    ensures { IfOk result (λ fault. MatchOption fault (HasNoPageFault session.now) (λ f. IsFirstPageFault session.now f.reason (f.log, f.place))) }
+    ensures first { IfOk result (λ fault. MatchOption fault (HasNoPageFault session.now) (λ f. IsFirstPageFault session.now f.reason (f.log, f.place))) }
+    ensures page { IfOk result (λ fault. IfSome fault (HasItsPage session.now)) }
 {
     session.keeps_limits();
     answer_alone(&FirstFault, alloc, session)

@@ -3,7 +3,10 @@
 ghost use Rattle.std.specs.Prelude.{◌≡◌, ◌≢◌, length, IfOk};
 ghost use Rattle.std.specs.List.{AllZip, concat};
 ghost use Rattle.audit_model.specs.World.{IsSafe};
-ghost use Rattle.audit_report.specs.Reports.{IsReport, ReportFits};
+ghost use Rattle.faulty_pages.specs.FaultyPages.{AreFaultyPages};
+ghost use Rattle.audit_report.specs.Reports.{IsCleanWith, IsReport, JudgesPages, ReportFits};
+ghost use Rattle.session_answers.specs.Forms.{Tells};
+ghost use Rattle.session_answers.specs.Judged.{Reported};
 ghost use Rattle.judged_texts.specs.Checked.{SpellsOneSession, OfSpelled};
 ghost use Rattle.judged_texts.specs.Audited.{HasReport, FindsClean, FindsFault, IsSafeExactlyIf, IsUnsafe};
 ghost use Rattle.postcopy_c.specs.Numbers.{audited_numbers};
@@ -18,8 +21,9 @@ use crate::telling::put;
 use crate::texts::Texts;
 use audit_report::{OwnLines, Report, audit_by, print_first_line, print_refused_session};
 use completeness::Extent;
+use faulty_pages::{FaultyPage, clean_sessions_have_no_faulty_page, faulty_pages};
 use judged_texts::TextAudit;
-use migration_types::Session;
+use migration_types::{Cert, Session};
 use order_picture::print_picture_on;
 use page_facts::OneThread;
 use session_answers::{AnswerForm, LackForm, print_lack_of, print_refusal, print_told};
@@ -84,6 +88,50 @@ fn lack_by_report(
     }
 }
 
+/// Returns no page, because the session with this report is clean.
+fn no_pages(alloc: Global, _session: &Session, _cert: &Cert) -> Vec<FaultyPage>
+    requires { IsCleanWith _session.now _cert.now }
+    ensures { AreFaultyPages _session.now result.items }
+{
+    clean_sessions_have_no_faulty_page();
+    Vec::new(alloc)
+}
+
+/// Returns the pages with a fault, if the report judges the pages, and otherwise none.
+fn pages_of(
+    alloc: Global,
+    session: &Session,
+    report: &Report,
+) -> Result<Vec<FaultyPage>, AllocError>
+    requires { IsReport session.now report.now }
+    ensures { IfOk result (λ pages. JudgesPages report.now → AreFaultyPages session.now pages.items) }
+{
+    match report {
+        Report::Clean(cert) => Ok(no_pages(alloc, session, cert)),
+        Report::Faulty { .. } => faulty_pages(&OneThread, alloc, session),
+        Report::Shape(_) | Report::Knot { .. } => Ok(Vec::new(alloc)),
+    }
+}
+
+/// Returns the report on a session in this form.
+fn told_in(
+    alloc: Global,
+    session: &Session,
+    report: &Report,
+    form: AnswerForm,
+) -> Result<Vec<u8>, AllocError>
+    requires report { IsReport session.now report.now }
+    requires fits { ReportFits report.now }
+    ensures { IfOk result (λ text. Tells form (Reported session.now report.now) text.items) }
+{
+    if form.lists_pages() {
+        let pages = pages_of(alloc, session, report)?;
+        print_told(alloc, session, report, &pages, form)
+    } else {
+        print_told(alloc, session, report, &[], form)
+    }
+}
+
 /// Returns the text for a session with its report.
 fn text_of_report(
     alloc: Global,
@@ -96,7 +144,7 @@ fn text_of_report(
     ensures { IfOk result (λ text. IsShownReport shown_as session.now report.now text.items) }
 {
     match shown_as {
-        ShownAs::Told(form) => print_told(&OneThread, alloc, session, report, form),
+        ShownAs::Told(form) => told_in(alloc, session, report, form),
         ShownAs::Picture(topic) => print_picture_on(alloc, session, report, topic),
         ShownAs::Lack(extent) => lack_by_report(alloc, session, extent, report),
     }

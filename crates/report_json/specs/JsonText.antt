@@ -104,7 +104,7 @@ report_object s report = report_begun own s report ++ codes "}\n"
 
 -- a page with a fault, as in {"page":3,"line":14,"reason":"read"}
 unfoldable pub faulty_page : FaultyPage → List ℕ
-faulty_page f = codes "{\"page\":" ++ decimal f.page ++ number (codes "line") f.line ++ word (codes "reason") (page_word f.fault.reason) ++ codes "}"
+faulty_page f = codes "{\"page\":" ++ decimal f.fault.page ++ number (codes "line") f.line ++ word (codes "reason") (page_word f.fault.reason) ++ codes "}"
 
 -- the pages with a fault, if the report judges the pages
 abbrev pub pages_told : Report → List FaultyPage → List ℕ

@@ -37,7 +37,7 @@ impl Item for FaultyPage {
     #[tactic(auto, unfolding(crate::specs::JsonText::faulty_page))]
     fn push(&self, out: &mut Vec<u8>) -> Result<(), AllocError> {
         out.extend_from_slice(b"{\"page\":")?;
-        push_number(out, self.page.number())?;
+        push_number(out, self.fault.page.number())?;
         push_number_under(out, b"line", u64::from(self.line))?;
         push_word_under(out, b"reason", self.fault.reason.word())?;
         out.extend_from_slice(b"}")

@@ -1,10 +1,11 @@
 -- The forms of an answer about a session's text.
-use Rattle.std.specs.Prelude.{◌≡◌, ℕ, List, codes}
+use Rattle.std.specs.Prelude.{◌≡◌, ℕ, Bool, true, false, List, codes}
 use Rattle.migration_types.specs.Sessions.{Recorded}
 use Rattle.faulty_pages.specs.declared.FaultyPage.{FaultyPage}
 use Rattle.faulty_pages.specs.FaultyPages.{AreFaultyPages}
 use Rattle.audit_report.specs.declared.report.Report.{Report}
-use Rattle.audit_report.specs.FaultyPagesText.{JudgesPages, all_faults_text}
+use Rattle.audit_report.specs.FaultyPagesText.{all_faults_text}
+use Rattle.audit_report.specs.Reports.{JudgesPages}
 use Rattle.audit_report.specs.RefusalText.{refusal_text}
 use Rattle.audit_report.specs.ToldLines.{own}
 use Rattle.report_json.specs.JsonText.{all_faults_object, at_line, report_object}
@@ -62,6 +63,16 @@ TellsAllFaults (Reported s report) text = TellsPages (all_faults_text report) s 
 abbrev pub TellsAllFaultsObject : Judged → List ℕ → Type 0
 TellsAllFaultsObject (Refused line) text = TellsRefusalObject line text
 TellsAllFaultsObject (Reported s report) text = TellsPages (all_faults_object s report) s report text
+
+-- whether the form lists each page with a fault
+abbrev pub lists_pages : AnswerForm → Bool
+lists_pages AllFaults = true
+lists_pages AllFaultsObject = true
+lists_pages other = false
+
+-- these are the pages with a fault, if the form lists them and the report judges the pages
+abbrev pub ArePagesFor : AnswerForm → Recorded → Report → List FaultyPage → Type 0
+ArePagesFor form s report pages = lists_pages form ≡ true → JudgesPages report → AreFaultyPages s pages
 
 -- the text in this form, with the line numbers of the session's own text
 abbrev pub Tells : AnswerForm → Judged → List ℕ → Type 0

@@ -1,6 +1,7 @@
 //! The forms of an answer about a session.
 
 ghost use Rattle.std.specs.Prelude.{◌≡◌};
+ghost use Rattle.session_answers.specs.Forms.{lists_pages};
 ghost use Rattle.session_answers.specs.Lacks.{lack_form, story_lack};
 
 use completeness::Extent;
@@ -55,6 +56,13 @@ impl Story {
 }
 
 impl AnswerForm {
+    /// Returns whether the form lists each page with a fault.
+    pub fn lists_pages(self) -> bool
+        ensures { result ≡ lists_pages self }
+    {
+        matches!(self, AnswerForm::AllFaults | AnswerForm::AllFaultsObject)
+    }
+
     /// Returns the form of a lack that goes with this form.
     pub fn of_lack(self) -> LackForm
         ensures { result ≡ lack_form self }

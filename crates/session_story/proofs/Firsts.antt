@@ -45,7 +45,7 @@ some_faulty s fits reason name [] fault are = go (page_at s name) refl
     go : (o : Option ℕ) → page_at s name ≡ o → 0 < 0
     go None at = absurd (fault_paged s reason name fault at)
     go (Some page) at =
-        let clean : reason_at s name ≡ None = (are.others page (page_below s fits name page at) (All-nil (λ (f : FaultyPage). f.page ≢ page))).each page name refl at in
+        let clean : reason_at s name ≡ None = (are.others page (page_below s fits name page at) (All-nil (λ (f : FaultyPage). f.fault.page ≢ page))).each page name refl at in
         let test : fault_test s reason name ≡ true = (fault_Decides s reason name).1 fault in
         let none : fault_test s reason name ≡ false = (least_is (λ r. fault_test s r name)).none clean reason (least_rank reason) in
         absurd (cc)

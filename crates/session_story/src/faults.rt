@@ -4,7 +4,7 @@ ghost use Rattle.std.specs.Prelude.{◌≡◌, ◌<◌, ℕ, IfOk, Some};
 ghost use Rattle.migration_types.specs.Sessions.{log_length, line_of};
 ghost use Rattle.audit_model.specs.Faults.{IsPageFault};
 ghost use Rattle.audit_model.specs.FirstFault.{IsFirstPageFault};
-ghost use Rattle.page_facts.specs.PageFaults.{page_at};
+ghost use Rattle.page_facts.specs.PageFaults.{page_at, HasItsPage};
 ghost use Rattle.audit_report.specs.Reports.{IsReport};
 ghost use Rattle.cert_check.specs.Verdicts.{IsShapeFault};
 ghost use Rattle.session_story.specs.Pages.{IsPageStory, below, sent_before};
@@ -158,8 +158,9 @@ pub(crate) fn story_of_fault(
     ensures story { IfOk result (IsFaultStory session.now) }
 {
     session.keeps_limits();
-    let PageFault { log, place, reason } = *fault;
-    let detail = detail_of(alloc, session, reason, log, place, page)?;
+    let place = fault.place;
+    let reason = fault.reason;
+    let detail = detail_of(alloc, session, reason, fault.log, place, page)?;
     let cause = cause_of(alloc, session, reason, place, page)?;
     Ok(FaultStory {
         fault: *fault,
@@ -181,13 +182,11 @@ pub(crate) fn fault_at(
 ) -> Result<FaultStory, AllocError>
     requires report { IsReport session.now report.now }
     requires first { IsFirstPageFault session.now fault.now.reason (fault.now.log, fault.now.place) }
+    requires of { HasItsPage session.now fault.now }
     ensures { IfOk result (λ story. (line : ℕ) → line ≡ line_of session.now (fault.now.log, fault.now.place) → IsReportedStory session.now line fault.now story) }
 {
     session.keeps_limits();
-    let Some(page) = page_at(session, fault.log, fault.place) else {
-        unreachable!()
-    };
-    let story = story_of(alloc, session, page)?;
+    let story = story_of(alloc, session, fault.page)?;
     story_of_fault(alloc, session, report, fault, &story)
 }
 

@@ -79,10 +79,9 @@ module _ (marks : List Bool) (s : Recorded) (thin : IsThinning marks s) where
   keeps_first_faults page f first = (
     kept,
     record {
-      page = first.page;
       is_among = first.is_among;
       is_of = ap (page_at (thinned marks s)) at ∙ same_page marks s thin (f.log, f.place) kept ∙ first.is_of;
-      is_reason = ap (reason_at (thinned marks s)) at ∙ same_reason (f.log, f.place) kept (free_by (f.log, f.place) first.page first.is_of (λ name. first.is_first first.page name first.is_among)) ∙ first.is_reason;
+      is_reason = ap (reason_at (thinned marks s)) at ∙ same_reason (f.log, f.place) kept (free_by (f.log, f.place) f.page first.is_of (λ name. first.is_first f.page name first.is_among)) ∙ first.is_reason;
       is_first = λ other name among mine before.
           let old = was_kept marks s thin name other mine in
           let was : page_at s old.0 ≡ Some other = sym (same_page marks s thin old.0 old.1) ∙ ap (page_at (thinned marks s)) old.2 ∙ mine in
@@ -98,13 +97,13 @@ module _ (marks : List Bool) (s : Recorded) (thin : IsThinning marks s) where
       at = sym (renamed marks f.log f.place)
 
       kept : IsKept marks (f.log, f.place)
-      kept = go (stays_or_goes marks s thin (f.log, f.place) first.page first.is_of)
+      kept = go (stays_or_goes marks s thin (f.log, f.place) f.page first.is_of)
         where
           go : IsKept marks (f.log, f.place) ⊎ Goes marks (f.log, f.place) → IsKept marks (f.log, f.place)
           go (inl mark) = mark
           go (inr gone) =
-              let mine : page_at s (Guest, gone.place) ≡ Some first.page = sym (ap (page_at s) gone.is) ∙ first.is_of in
-              let none = clean_gone gone.place first.page gone.is_gone mine (λ k lt mark own. first.is_first first.page (Guest, k) first.is_among own (subst (λ b. Precedes (Guest, k) b) (sym gone.is) (inr (refl, lt)))) in
+              let mine : page_at s (Guest, gone.place) ≡ Some f.page = sym (ap (page_at s) gone.is) ∙ first.is_of in
+              let none = clean_gone gone.place f.page gone.is_gone mine (λ k lt mark own. first.is_first f.page (Guest, k) first.is_among own (subst (λ b. Precedes (Guest, k) b) (sym gone.is) (inr (refl, lt)))) in
               let some : reason_at s (Guest, gone.place) ≡ Some f.reason = sym (ap (reason_at s) gone.is) ∙ first.is_reason in
               absurd (cc)
 
@@ -126,25 +125,24 @@ module _ (marks : List Bool) (s : Recorded) (thin : IsThinning marks s) where
 
   pub first_faults_were : FirstFaultsWere marks s
   first_faults_were page f first =
-      let old = was_kept marks s thin (f.log, f.place) first.page first.is_of in
+      let old = was_kept marks s thin (f.log, f.place) f.page first.is_of in
       found old.0 old.1 old.2
     where
       found : (old : Name) → IsKept marks old → thin_name marks old ≡ (f.log, f.place) → (was : PageFault) × IsFirstFault s page was × (f ≡ thin_fault marks was)
       found old kept same = (
-        record { log = old.0; place = old.1; reason = f.reason },
+        record { page = f.page; log = old.0; place = old.1; reason = f.reason },
         record {
-          page = first.page;
           is_among = first.is_among;
           is_of = mine;
-          is_reason = sym (same_reason old kept (free_by_thin old first.page mine (λ name mark own lt. clean first.page first.is_among name mark own lt))) ∙ ap (reason_at (thinned marks s)) same ∙ first.is_reason;
+          is_reason = sym (same_reason old kept (free_by_thin old f.page mine (λ name mark own lt. clean f.page first.is_among name mark own lt))) ∙ ap (reason_at (thinned marks s)) same ∙ first.is_reason;
           is_first = λ other name among own lt. each_clean other (λ a. Precedes a old) (λ a b less here. passes_on a b old less here) (clean other among) name own lt;
         },
         (let e : f.log ≡ old.0 = sym (ap (λ (n : Name). n.0) same) ∙ same_log marks old in
             let g : f.place ≡ (thin_name marks old).1 = sym (ap (λ (n : Name). n.1) same) in
-            λ j. record { log = e j; place = g j; reason = f.reason }),
+            λ j. record { page = f.page; log = e j; place = g j; reason = f.reason }),
       )
         where
-          mine : page_at s old ≡ Some first.page
+          mine : page_at s old ≡ Some f.page
           mine = sym (same_page marks s thin old kept) ∙ ap (page_at (thinned marks s)) same ∙ first.is_of
 
           clean : (other : ℕ) → other ≡ page → (name : Name) → IsKept marks name → page_at s name ≡ Some other → Precedes name old → reason_at (thinned marks s) (thin_name marks name) ≡ None

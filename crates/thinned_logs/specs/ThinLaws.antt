@@ -47,7 +47,7 @@ FaultsAreLater marks s =
 
 -- the fault with its record's new number
 abbrev pub thin_fault : List Bool → PageFault → PageFault
-thin_fault marks f = record { log = f.log; place = (thin_name marks (f.log, f.place)).1; reason = f.reason }
+thin_fault marks f = record { page = f.page; log = f.log; place = (thin_name marks (f.log, f.place)).1; reason = f.reason }
 
 -- each page's first fault is at a record that is kept, and stays the page's first
 abbrev pub KeepsFirstFaults : List Bool → Recorded → Type 0

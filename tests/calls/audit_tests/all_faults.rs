@@ -1,7 +1,7 @@
 //! Reports with each page that has a fault, as lines and as objects.
 
 use crate::texts::{HANDOVER, changed};
-use audit_report::{Report, audit, print_all_faults};
+use audit_report::{Report, audit, audit_in_full, print_all_faults};
 use faulty_pages::{FaultyPage, faulty_pages};
 use migration_types::Session;
 use page_facts::OneThread;
@@ -74,7 +74,9 @@ fn is_reported<R: Threads + Sync>(rt: &R, alloc: Global, case: &Case) -> Result<
     };
     let report = audit(rt, alloc, &session)?;
     let pages = faulty_pages(&OneThread, alloc, &session)?;
-    is_told(alloc, &session, &report, &pages, case)
+    let full = audit_in_full(&OneThread, alloc, &session)?;
+    let is_told_in_full = is_told(alloc, &session, &full.report, &full.pages, case)?;
+    Ok(is_told_in_full && is_told(alloc, &session, &report, &pages, case)?)
 }
 
 #[test]

@@ -53,8 +53,8 @@ enum Said {
     Facts(u32, PageFacts),
     /// For the page of this number the entry is right, or not.
     Entry(u32, Entry, bool),
-    /// The first fault of a page: its log, its number there, and why.
-    FirstFault(Option<PageFault>),
+    /// The first fault of a page: the page, the log of its record, the number there, and why.
+    FirstFault(Option<(u32, LogName, u32, PageReason)>),
 }
 
 /// The logs of a session, and what is said of it.
@@ -244,11 +244,7 @@ static CASES: [Case; 34] = [
             link: "",
             pager: "place 0 0 0000000000000005\n",
         },
-        said: Said::FirstFault(Some(PageFault {
-            log: LogName::Guest,
-            place: 2,
-            reason: PageReason::Read,
-        })),
+        said: Said::FirstFault(Some((0, LogName::Guest, 2, PageReason::Read))),
     },
     Case {
         is: "a look that stands before the use",
@@ -258,11 +254,7 @@ static CASES: [Case; 34] = [
             link: "",
             pager: "place 0 0 0000000000000005\nplace 1 0 0000000000000000\n",
         },
-        said: Said::FirstFault(Some(PageFault {
-            log: LogName::Guest,
-            place: 4,
-            reason: PageReason::Early,
-        })),
+        said: Said::FirstFault(Some((1, LogName::Guest, 4, PageReason::Early))),
     },
     Case {
         is: "given before stale",
@@ -272,11 +264,7 @@ static CASES: [Case; 34] = [
             link: "",
             pager: "",
         },
-        said: Said::FirstFault(Some(PageFault {
-            log: LogName::Source,
-            place: 1,
-            reason: PageReason::Given,
-        })),
+        said: Said::FirstFault(Some((0, LogName::Source, 1, PageReason::Given))),
     },
     Case {
         is: "sends, which are judged at the halt",
@@ -286,11 +274,7 @@ static CASES: [Case; 34] = [
             link: "",
             pager: "place 0 0 0000000000000009\n",
         },
-        said: Said::FirstFault(Some(PageFault {
-            log: LogName::Source,
-            place: 1,
-            reason: PageReason::Stale,
-        })),
+        said: Said::FirstFault(Some((0, LogName::Source, 1, PageReason::Stale))),
     },
     Case {
         is: "a fault of the guest, which stands at an earlier line",
@@ -300,11 +284,7 @@ static CASES: [Case; 34] = [
             link: "",
             pager: "",
         },
-        said: Said::FirstFault(Some(PageFault {
-            log: LogName::Guest,
-            place: 1,
-            reason: PageReason::Read,
-        })),
+        said: Said::FirstFault(Some((0, LogName::Guest, 1, PageReason::Read))),
     },
     Case {
         is: "twice before altered",
@@ -314,11 +294,7 @@ static CASES: [Case; 34] = [
             link: "",
             pager: "place 0 0 0000000000000005\nplace 1 0 0000000000000000\nplace 0 0 0000000000000006\n",
         },
-        said: Said::FirstFault(Some(PageFault {
-            log: LogName::Pager,
-            place: 2,
-            reason: PageReason::Twice,
-        })),
+        said: Said::FirstFault(Some((0, LogName::Pager, 2, PageReason::Twice))),
     },
     Case {
         is: "altered contents of two pages",
@@ -328,11 +304,7 @@ static CASES: [Case; 34] = [
             link: "",
             pager: "place 1 0 0000000000000008\nplace 0 0 0000000000000006\n",
         },
-        said: Said::FirstFault(Some(PageFault {
-            log: LogName::Pager,
-            place: 0,
-            reason: PageReason::Altered,
-        })),
+        said: Said::FirstFault(Some((1, LogName::Pager, 0, PageReason::Altered))),
     },
     Case {
         is: "zeros for a released page",
@@ -352,11 +324,7 @@ static CASES: [Case; 34] = [
             link: "",
             pager: "ready\nzero 0\n",
         },
-        said: Said::FirstFault(Some(PageFault {
-            log: LogName::Pager,
-            place: 1,
-            reason: PageReason::Unfit,
-        })),
+        said: Said::FirstFault(Some((0, LogName::Pager, 1, PageReason::Unfit))),
     },
     Case {
         is: "a page that is released at the target",
@@ -425,11 +393,7 @@ static CASES: [Case; 34] = [
     Case {
         is: "a placement over a release",
         logs: PLACED_OVER,
-        said: Said::FirstFault(Some(PageFault {
-            log: LogName::Pager,
-            place: 3,
-            reason: PageReason::Over,
-        })),
+        said: Said::FirstFault(Some((0, LogName::Pager, 3, PageReason::Over))),
     },
     Case {
         is: "a placement that was seen before the release",
@@ -444,11 +408,7 @@ static CASES: [Case; 34] = [
             link: "",
             pager: "place 0 0 0000000000000006\n",
         },
-        said: Said::FirstFault(Some(PageFault {
-            log: LogName::Pager,
-            place: 0,
-            reason: PageReason::Altered,
-        })),
+        said: Said::FirstFault(Some((0, LogName::Pager, 0, PageReason::Altered))),
     },
 ];
 
@@ -475,10 +435,25 @@ fn is_entry_judged(
     }
 }
 
+/// A fault: its page, its record and its reason.
+fn told_fault(fault: Option<PageFault>) -> Option<(u32, LogName, u32, PageReason)> {
+    let fault = fault?;
+    Some((
+        fault.page.number(),
+        fault.log,
+        fault.place,
+        fault.reason,
+    ))
+}
+
 /// Whether this is the first fault of a session's pages.
-fn is_first_fault(alloc: Global, session: &Session, fault: Option<PageFault>) -> bool {
+fn is_first_fault(
+    alloc: Global,
+    session: &Session,
+    fault: Option<(u32, LogName, u32, PageReason)>,
+) -> bool {
     match first_page_fault(alloc, session) {
-        Ok(told) => told == fault,
+        Ok(told) => told_fault(told) == fault,
         Err(_) => false,
     }
 }

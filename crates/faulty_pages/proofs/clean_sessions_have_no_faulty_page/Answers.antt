@@ -8,7 +8,7 @@ use Rattle.faulty_pages.proofs.clean_sessions_have_no_faulty_page.Goals as goal
 pub returns : goal.returns
 returns c = λ s clean. record {
   ascending = λ i j d lt within. absurd (omega arith);
-  within = All-nil (λ (f : FaultyPage). f.page < s.geometry.pages);
+  within = All-nil (λ (f : FaultyPage). f.fault.page < s.geometry.pages);
   faulty = All-nil (IsFaultyPage s);
   others = λ page lt none. record { each = λ other name among at. none_at s name (λ r f. clean r name f) };
 }

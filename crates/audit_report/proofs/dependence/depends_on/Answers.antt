@@ -1,4 +1,4 @@
-use Rattle.std.proofs.Common.{◌≡◌, ◌≤◌, arith}
+use Rattle.std.proofs.Common.{arith}
 use Rattle.std.proofs.lemmas.Bool.{leb-true, le-leb}
 use Rattle.merge_runs.specs.Taken.{cursors_of}
 use Rattle.audit_report.proofs.Depending.{never_before, above_if_never}

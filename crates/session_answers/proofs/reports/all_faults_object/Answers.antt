@@ -3,8 +3,8 @@ use Rattle.report_json.specs.JsonText.{all_faults_object}
 use Rattle.session_answers.proofs.reports.all_faults_object.Goals as goal
 
 pub returns : goal.returns
-returns g c = record {
-  pages = c.deref.result.now;
-  are_faulty = rw c.deref.ensures.value c.in_ok-pages.ensures;
-  is_text = c.in_ok-push_all_faults.ensures ∙ ap (λ (t : List ℕ). t ++ all_faults_object c.args.session.now c.args.report.now c.deref.result.now) c.new-object.ensures.items;
+returns c = record {
+  pages = c.args.pages.now;
+  are_faulty = c.requires;
+  is_text = c.in_ok-push_all_faults.ensures ∙ ap (λ (t : List ℕ). t ++ all_faults_object c.args.session.now c.args.report.now c.args.pages.now) c.new-object.ensures.items;
 }

@@ -1,4 +1,4 @@
-use Rattle.std.proofs.Common.{◌≡◌, ℕ, ◌+◌, ◌<◌, true, false, Option, length, sym, ◌∙◌, subst, arith}
+use Rattle.std.proofs.Common.{ℕ, ◌+◌, ◌<◌, true, false, Option, length, sym, ◌∙◌, subst, arith}
 use Rattle.std.proofs.lemmas.Option.{MatchOption-at_none}
 use Rattle.page_facts.specs.Entries.{AreRight, IsFirstWrong, AreJudged}
 use Rattle.page_facts.specs.inner.EntryAt.{IsRightAt}
