@@ -510,7 +510,7 @@ def many_files(tests):
     compared(tests, "2,000 files of a log", ["of-one"])
     limit = lambda: resource.setrlimit(resource.RLIMIT_NOFILE, (256, 256))
     output, errors, status = tests.run("of-one", "--cut", preexec_fn=limit)
-    is_told = re.fullmatch(r"file (of-one/guest\.1\.[0-9]+)\n\1: the file was not read to its end, or has changed since\n", errors) is not None
+    is_told = re.fullmatch(r"file (of-one/guest\.1\.[0-9]+)\n\1: too many open files\n", errors) is not None
     tests.same("2,000 files of a log, of which 256 may be open", (output, is_told, status), ("", True, 3))
 
 

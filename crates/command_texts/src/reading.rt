@@ -1,6 +1,7 @@
 //! Reading texts to their ends, piece by piece.
 
-ghost use Rattle.std.specs.Prelude.{◌≡◌, ℕ, List, [], Option, Some, None, IfOk, OnOk, IfSome, MatchOption, vec_len};
+ghost use Rattle.std.specs.Prelude.{◌≡◌, ℕ, List, [], Option, Some, None, IfOk, OnOk, IfSome, MatchOption, map, string_bytes, vec_len};
+ghost use Rattle.std.specs.List.Sorted.{IsPermutation};
 ghost use Rattle.command_texts.specs.Reasons.{line_of};
 ghost use Rattle.command_texts.specs.Told.{AreRead};
 ghost use Rattle.command_texts.specs.inner.Takings.{Fills, Takes, TakesAll};
@@ -23,6 +24,9 @@ pub trait TextSource {
     /// The bytes that a name stands for, if they are known.
     ghost bytes_of: { Self → List ℕ → Option (List ℕ) } = { λ _ _. None };
 
+    /// The names of what is in a folder, if they are known.
+    ghost names_in: { Self → List ℕ → Option (List (List ℕ)) } = { λ _ _. None };
+
     /// Opens the text under a name.
     fn text(&self, name: &str) -> io::Result<Self::Text>
         ensures { IfOk result (λ t. IfSome (bytes_of self.now name.now) (λ xs. Self.Text.remaining t ≡ Some xs)) };
@@ -33,8 +37,12 @@ pub trait TextSource {
     }
 
     /// Returns the names of what is in a folder, in no order. Names that are not UTF-8 are left out. A source has no
-    /// folders unless it says so. No proof depends on it.
-    fn names(&self, _alloc: Global, _folder: &str) -> io::Result<Vec<String>> {
+    /// folders unless it says so.
+    fn names(&self, alloc: Global, folder: &str) -> io::Result<Vec<String>>
+        ensures { IfOk result (λ names. IfSome (names_in self.now folder.now) (λ known. IsPermutation known (map string_bytes names.items))) }
+    {
+        let _ = alloc;
+        let _ = folder;
         Err(io::Error::from(ErrorKind::NotADirectory))
     }
 

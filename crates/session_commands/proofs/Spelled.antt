@@ -1,13 +1,28 @@
 -- The text of a session, as it is made and written.
-use Rattle.std.proofs.Common.{ℕ, List, Option, refl}
-use Rattle.recordings.specs.declared.machine.WideMachine.{WideMachine}
-use Rattle.recordings.specs.declared.wide.WideInit.{WideInit}
-use Rattle.recorded_files.specs.declared.fronts.Front.{Front}
+use Rattle.std.proofs.Common.{◌≡◌, ℕ, List, Option, refl}
+use Rattle.std.specs.Prelude.{IsTrue}
+use Rattle.command_words.specs.declared.requests.Lacking.{Lacking}
+use Rattle.command_words.specs.declared.requests.Lacking.TheVariants.{Refused}
 use Rattle.walked_logs.specs.Walks.{IsRecordingOf}
 use Rattle.written_recordings.specs.Written.{text_of, Writes}
 use Rattle.session_commands.specs.declared.found.FoundLogs.{FoundLogs}
-use Rattle.session_commands.specs.Files.{WritesSession, bytes_in}
+use Rattle.session_commands.specs.declared.making.Known.{Known}
+use Rattle.session_commands.specs.Files.{WritesText, bytes_in}
+use Rattle.session_commands.specs.inner.Seen.{IsKnown}
 
 -- what was appended is the text of a session
-pub written : (files : List ℕ → Option (List ℕ)) (logs : FoundLogs) (machine : WideMachine) (init : List WideInit) (front : Front) (count : ℕ) (old new : Option (List ℕ)) → Writes (λ s. IsRecordingOf machine init (bytes_in files logs) s) old new front count → WritesSession files old new
-written files logs machine init front count old new w = (text_of front w.s, record { logs = logs; machine = machine; init = init; front = front; s = w.s; made = w.is; spelled = refl }, w.text)
+pub written : (lacking : Lacking) (files : List ℕ → Option (List ℕ)) (logs : FoundLogs) (known : Known) (count : ℕ) (old new : Option (List ℕ)) → IsKnown files logs known → (lacking ≡ Refused → IsTrue known.is_whole) → Writes (λ s. IsRecordingOf known.machine known.init.items (bytes_in files logs) s) old new known.front count → WritesText files logs lacking old new
+written lacking files logs known count old new is asked w = (
+  text_of known.front w.s,
+  record {
+    machine = known.machine;
+    init = known.init.items;
+    front = known.front;
+    chosen = is.chosen;
+    whole = λ refused. is.whole (asked refused);
+    s = w.s;
+    made = w.is;
+    spelled = refl;
+  },
+  w.text,
+)

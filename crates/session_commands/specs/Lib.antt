@@ -1,1 +1,4 @@
 pub mod Files
+pub mod Found
+pub mod Texts
+pub mod inner

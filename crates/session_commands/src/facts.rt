@@ -1,11 +1,23 @@
 //! What is to be known of a recording before its text is written.
 
+ghost use Rattle.std.specs.Prelude.{◌≡◌, ◌≤◌, ◌↔◌, ◌==◌, ◌&&◌, ◌||◌, ◌++◌, [], ◌∷◌, List, IsTrue, None, length};
+ghost use Rattle.std.specs.List.{list_any};
+ghost use Rattle.migration_types.specs.declared.records.GuestRec.{GuestRec};
+ghost use Rattle.migration_types.specs.declared.records.PagerRec.{PagerRec};
+ghost use Rattle.migration_types.specs.declared.records.SourceRec.{SourceRec};
+ghost use Rattle.migration_types.specs.declared.records.LogName.{LogName as Log};
+ghost use Rattle.recorded_files.specs.Fronts.{cursors_of};
+ghost use Rattle.migration_types.specs.Sessions.{Recorded};
 ghost use Rattle.recorded_files.specs.Named.{IsBlank};
+ghost use Rattle.recordings.specs.Wide.{guest_of, pager_of, source_of};
+ghost use Rattle.session_commands.specs.Files.{begins_halted, is_back, is_halted, is_pull, is_release, is_resume, HasLane, IsFormOf, IsSmall, IsWrittenFront, NeedsLarge, NeedsTwo};
+ghost use Rattle.session_commands.specs.inner.Seen.{HasNone, IsBefore, IsFacts, IsFirstLate};
 
+use crate::found::FoundLog;
 use crate::names::{
     LOST, named_by_guest, named_by_lane, named_by_link, named_by_pager, named_by_source,
 };
-use migration_types::{LogName, MOST_CELLS, Size, Version};
+use migration_types::{LogName, Size, Version};
 use recorded_files::{Front, Naming};
 use recordings::{
     Visitor, WideGuest, WideInit, WideLane, WideLink, WideMachine, WidePager, WideSource,
@@ -16,15 +28,15 @@ use std::alloc::{AllocError, Global};
 #[derive(Drop)]
 pub(crate) struct Facts {
     pub(crate) naming: Naming,
-    /// The first record of the source that tells that it started the guest again.
-    back: Option<u64>,
+    /// Whether the source tells that it started the guest again.
+    has_back: bool,
     /// Whether the pager took a packet of the lane.
     has_pull: bool,
     /// The guest's first halt.
     halt: Option<u64>,
-    /// The guest's first resume.
-    resume: Option<u64>,
-    /// The guest's first release after its resume.
+    /// Whether the guest has a resume.
+    has_resume: bool,
+    /// The guest's first release behind its resume.
     late: Option<u64>,
     /// Whether the guest's last record is a halt.
     halts_at_last: bool,
@@ -34,10 +46,20 @@ pub(crate) struct Facts {
     pub(crate) beyond: Option<(LogName, u64)>,
 }
 
-/// Keeps the first of some numbers.
-fn keep_first(first: &mut Option<u64>, number: u64) {
-    if first.is_none() {
-        *first = Some(number);
+/// Returns whether a record of the guest is a halt.
+fn is_halt(rec: &WideGuest) -> bool {
+    match rec {
+        WideGuest::Halt => true,
+        _ => false,
+    }
+}
+
+/// Returns the guest's first halt, with one more record, whose number this is.
+fn with_halt(halt: Option<u64>, number: u64, rec: &WideGuest) -> Option<u64> {
+    if halt.is_none() && is_halt(rec) {
+        Some(number)
+    } else {
+        halt
     }
 }
 
@@ -56,24 +78,154 @@ fn keep_beyond(
 }
 
 /// Returns whether a record is there, and in the first so many.
-fn is_before(record: Option<u64>, count: u64) -> bool {
-    match record {
+fn is_before(place: Option<u64>, count: u64) -> bool
+    ensures { IsTrue result ↔ IsBefore place count }
+{
+    match place {
         Some(number) => number < count,
         None => false,
     }
 }
 
+/// Returns whether a record of the source tells that the guest was halted.
+fn is_halted(rec: &WideSource) -> bool
+    ensures { result ≡ is_halted (source_of rec.now) }
+{
+    match rec {
+        WideSource::Halted { .. } => true,
+        _ => false,
+    }
+}
+
+/// Returns whether a record of the source tells that it started the guest again.
+fn is_back(rec: &WideSource) -> bool
+    ensures { result ≡ is_back (source_of rec.now) }
+{
+    match rec {
+        WideSource::Back => true,
+        _ => false,
+    }
+}
+
+/// Returns whether a record of the pager takes a packet of the lane.
+fn is_pull(rec: &WidePager) -> bool
+    ensures { result ≡ is_pull (pager_of rec.now) }
+{
+    match rec {
+        WidePager::Pull { .. } => true,
+        _ => false,
+    }
+}
+
+/// Returns whether a record of the guest is a resume.
+fn is_resume(rec: &WideGuest) -> bool
+    ensures { result ≡ is_resume (guest_of rec.now) }
+{
+    match rec {
+        WideGuest::Resume { .. } => true,
+        _ => false,
+    }
+}
+
+/// Returns whether a record of the guest is a release.
+fn is_release(rec: &WideGuest) -> bool
+    ensures { result ≡ is_release (guest_of rec.now) }
+{
+    match rec {
+        WideGuest::Release { .. } => true,
+        _ => false,
+    }
+}
+
+/// Returns whether the source's first record tells that the guest was halted, with one more record, whose number this is.
+fn with_halted(begins: bool, number: u64, rec: &WideSource) -> bool
+    ensures { (source : List SourceRec) → length source ≡ number → begins ≡ begins_halted source → result ≡ begins_halted (source ++ source_of rec.now ∷ []) }
+{
+    if number == 0 { is_halted(rec) } else { begins }
+}
+
+/// Returns whether the source tells that it started the guest again, with one more record.
+#[tactic(auto, using(crate::proofs::Pushed::any_push))]
+fn with_back(has_back: bool, rec: &WideSource) -> bool
+    ensures { (source : List SourceRec) → has_back ≡ list_any is_back source → result ≡ list_any is_back (source ++ source_of rec.now ∷ []) }
+{
+    has_back || is_back(rec)
+}
+
+/// Returns whether the pager took a packet of the lane, with one more record.
+#[tactic(auto, using(crate::proofs::Pushed::any_push))]
+fn with_pull(has_pull: bool, rec: &WidePager) -> bool
+    ensures { (pager : List PagerRec) → has_pull ≡ list_any is_pull pager → result ≡ list_any is_pull (pager ++ pager_of rec.now ∷ []) }
+{
+    has_pull || is_pull(rec)
+}
+
+/// Returns whether the guest has a resume, with one more record.
+#[tactic(auto, using(crate::proofs::Pushed::any_push))]
+fn with_resume(has_resume: bool, rec: &WideGuest) -> bool
+    ensures { (guest : List GuestRec) → has_resume ≡ list_any is_resume guest → result ≡ list_any is_resume (guest ++ guest_of rec.now ∷ []) }
+{
+    has_resume || is_resume(rec)
+}
+
+/// Returns the number of a record of the guest, if it is a release behind a resume. No record in front of it is one.
+fn first_late(has_resume: bool, number: u64, rec: &WideGuest) -> Option<u64>
+    ensures { (guest : List GuestRec) → length guest ≡ number → has_resume ≡ list_any is_resume guest → IsFirstLate None guest → IsFirstLate result (guest ++ guest_of rec.now ∷ []) }
+{
+    if !has_resume {
+        return None;
+    }
+    if is_release(rec) {
+        return Some(number);
+    }
+    None
+}
+
+/// Returns the first release behind the resume, with one more record of the guest, whose number this is.
+fn with_late(late: Option<u64>, has_resume: bool, number: u64, rec: &WideGuest) -> Option<u64>
+    ensures { (guest : List GuestRec) → length guest ≡ number → has_resume ≡ list_any is_resume guest → IsFirstLate late guest → IsFirstLate result (guest ++ guest_of rec.now ∷ []) }
+{
+    match late {
+        Some(first) => Some(first),
+        None => first_late(has_resume, number, rec),
+    }
+}
+
+/// Returns whether no log has more records in a front than this.
+fn are_few(front: Front, most: u64) -> bool
+    ensures { IsTrue result ↔ ((log : Log) → cursors_of front log ≤ most) }
+{
+    let greatest = front
+        .guest
+        .max(front.source)
+        .max(front.link)
+        .max(front.lane)
+        .max(front.pager);
+    greatest <= most
+}
+
+/// Returns whether a machine and the first records of its logs are within the limits of the small size.
+fn is_small(front: Front, pages: u64, cells: u32) -> bool
+    ensures { IsTrue result ↔ IsSmall pages cells front }
+{
+    let limits = Size::Small.limits();
+    pages <= u64::from(limits.pages)
+        && pages.saturating_mul(u64::from(cells)) <= u64::from(limits.cells)
+        && are_few(front, u64::from(limits.records))
+}
+
 impl Facts {
     /// Returns a visitor that has met nothing.
     pub(crate) fn new(alloc: Global) -> Self
-        ensures { IsBlank result.naming }
+        ensures naming { IsBlank result.naming }
+        ensures none { HasNone result }
     {
         Facts {
             naming: Naming::new(alloc),
-            back: None,
+            has_back: false,
             has_pull: false,
             halt: None,
-            resume: None,
+            has_resume: false,
             late: None,
             halts_at_last: false,
             begins_halted: false,
@@ -83,7 +235,9 @@ impl Facts {
 
     /// Returns how many records of each log are written: those of the greatest front, without a `halted` of the source
     /// that is alone.
-    pub(crate) fn written_front(&self) -> Front {
+    pub(crate) fn written_front(&self) -> Front
+        ensures { (s : Recorded) → IsFacts self.now s → IsWrittenFront s result }
+    {
         let front = self.naming.greatest_front();
         if self.is_lone(front) {
             Front { source: 0, ..front }
@@ -93,125 +247,128 @@ impl Facts {
     }
 
     /// Returns whether the source has one record in a front, and that tells that the guest was halted.
-    pub(crate) fn is_lone(&self, front: Front) -> bool {
+    pub(crate) fn is_lone(&self, front: Front) -> bool
+        ensures { (s : Recorded) → IsFacts self.now s → result ≡ ((front.source == 1) && begins_halted s.source) }
+    {
         front.source == 1 && self.begins_halted
     }
 
     /// Returns the guest's first halt, if it runs after that and there is no resume.
     pub(crate) fn unresumed(&self) -> Option<u64> {
-        if self.resume.is_some() || self.halts_at_last {
+        if self.has_resume || self.halts_at_last {
             return None;
         }
         self.halt
     }
 
-    /// Returns the version and the size of the text that has these first records of the logs, given how many pages and
-    /// cells the machine has, and whether the lane has a file.
+    /// Returns whether only a text of the large size has a machine of these pages and cells and these first records.
+    fn needs_large(&self, front: Front, pages: u64, cells: u32) -> bool
+        ensures { (s : Recorded) → IsFacts self.now s → IsTrue result ↔ NeedsLarge pages cells s front }
+    {
+        self.has_back || !is_small(front, pages, cells)
+    }
+
+    /// Returns whether there is something of the lane: a file, a record, or a packet that the pager took of it.
+    fn has_lane(&self, front: Front, lane: &FoundLog) -> bool
+        ensures { (s : Recorded) → IsFacts self.now s → IsTrue result ↔ HasLane lane.now s front }
+    {
+        if !lane.is_empty() {
+            return true;
+        }
+        if front.lane > 0 {
+            return true;
+        }
+        self.has_pull
+    }
+
+    /// Returns whether only a text of the second version has these first records.
+    fn needs_two(&self, front: Front, lane: &FoundLog) -> bool
+        ensures { (s : Recorded) → IsFacts self.now s → IsTrue result ↔ NeedsTwo lane.now s front }
+    {
+        if self.has_lane(front, lane) {
+            return true;
+        }
+        is_before(self.late, front.guest)
+    }
+
+    /// Returns the version and the size of the text that has these first records of the logs, given the machine and the
+    /// files of the lane.
     pub(crate) fn form(
         &self,
         front: Front,
-        pages: u64,
-        cells: u32,
-        has_lane: bool,
-    ) -> (Version, Size) {
-        if self.back.is_some() || !is_small(front, pages, cells) {
+        machine: &WideMachine,
+        lane: &FoundLog,
+    ) -> (Version, Size)
+        ensures { (s : Recorded) → IsFacts self.now s → IsFormOf lane.now s front (record (machine.now) { version = result.0; size = result.1 }) }
+    {
+        if self.needs_large(front, machine.pages, machine.cells) {
             return (Version::Two, Size::Large);
         }
-        let is_carried = has_lane || front.lane > 0 || self.has_pull;
-        if is_carried || is_before(self.late, front.guest) {
-            (Version::Two, Size::Small)
-        } else {
-            (Version::One, Size::Small)
+        if self.needs_two(front, lane) {
+            return (Version::Two, Size::Small);
         }
+        (Version::One, Size::Small)
     }
-}
-
-/// Returns whether a machine and the first records of its logs are within the limits of the small size.
-fn is_small(front: Front, pages: u64, cells: u32) -> bool {
-    let limits = Size::Small.limits();
-    let most = u64::from(limits.records);
-    if pages > u64::from(limits.pages) || cells > MOST_CELLS {
-        return false;
-    }
-    if pages.saturating_mul(u64::from(cells)) > u64::from(limits.cells) {
-        return false;
-    }
-    front.guest <= most
-        && front.source <= most
-        && front.link <= most
-        && front.lane <= most
-        && front.pager <= most
 }
 
 impl Visitor for Facts {
-    ghost use Rattle.recorded_files.specs.Named.{IsBlank, IsNaming};
+    ghost use Rattle.recorded_files.specs.Named.{IsBlank};
+    ghost use Rattle.session_commands.specs.inner.Seen.{HasNone, IsFacts};
 
-    ghost IsNew = { λ a. IsBlank a.naming };
+    ghost IsNew = { λ a. IsBlank a.naming × HasNone a };
 
-    ghost Met = { λ a s. IsNaming a.naming s };
+    ghost Met = { IsFacts };
 
     fn machine(&mut self, machine: &WideMachine) -> Result<(), AllocError> {
-        self.naming.machine(machine)
+        self.naming.machine(machine)?;
+        Ok(())
     }
 
     fn init(&mut self, page: WideInit) -> Result<(), AllocError> {
-        self.naming.init(page)
+        self.naming.init(page)?;
+        Ok(())
     }
 
     fn guest(&mut self, number: u64, rec: WideGuest) -> Result<(), AllocError> {
-        self.halts_at_last = false;
-        match rec {
-            WideGuest::Halt => {
-                self.halts_at_last = true;
-                keep_first(&mut self.halt, number);
-            }
-            WideGuest::Resume { .. } => keep_first(&mut self.resume, number),
-            WideGuest::Release { .. } => {
-                if self.resume.is_some() {
-                    keep_first(&mut self.late, number);
-                }
-            }
-            _ => {}
-        }
+        self.halts_at_last = is_halt(&rec);
+        self.halt = with_halt(self.halt, number, &rec);
+        self.late = with_late(self.late, self.has_resume, number, &rec);
+        self.has_resume = with_resume(self.has_resume, &rec);
         let named = named_by_guest(&rec);
         keep_beyond(&mut self.beyond, LogName::Guest, number, named);
-        self.naming.guest(number, rec)
+        self.naming.guest(number, rec)?;
+        Ok(())
     }
 
     fn source(&mut self, number: u64, rec: WideSource) -> Result<(), AllocError> {
-        match &rec {
-            WideSource::Halted { .. } => {
-                if number == 0 {
-                    self.begins_halted = true;
-                }
-            }
-            WideSource::Back => keep_first(&mut self.back, number),
-            _ => {}
-        }
+        self.begins_halted = with_halted(self.begins_halted, number, &rec);
+        self.has_back = with_back(self.has_back, &rec);
         let named = named_by_source(&rec);
         keep_beyond(&mut self.beyond, LogName::Source, number, named);
-        self.naming.source(number, rec)
+        self.naming.source(number, rec)?;
+        Ok(())
     }
 
     fn link(&mut self, number: u64, rec: WideLink) -> Result<(), AllocError> {
         let named = named_by_link(&rec);
         keep_beyond(&mut self.beyond, LogName::Link, number, named);
-        self.naming.link(number, rec)
+        self.naming.link(number, rec)?;
+        Ok(())
     }
 
     fn lane(&mut self, number: u64, rec: WideLane) -> Result<(), AllocError> {
         let named = named_by_lane(&rec);
         keep_beyond(&mut self.beyond, LogName::Lane, number, named);
-        self.naming.lane(number, rec)
+        self.naming.lane(number, rec)?;
+        Ok(())
     }
 
     fn pager(&mut self, number: u64, rec: WidePager) -> Result<(), AllocError> {
-        if let WidePager::Pull { .. } = &rec {
-            self.has_pull = true;
-        }
+        self.has_pull = with_pull(self.has_pull, &rec);
         let named = named_by_pager(&rec);
         keep_beyond(&mut self.beyond, LogName::Pager, number, named);
-        self.naming.pager(number, rec)
+        self.naming.pager(number, rec)?;
+        Ok(())
     }
 }
 

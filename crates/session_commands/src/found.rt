@@ -1,7 +1,11 @@
 //! The files of recorders in folders.
 
-ghost use Rattle.std.specs.Prelude.{◌≡◌};
+ghost use Rattle.std.specs.Prelude.{◌≡◌, ◌↔◌, ℕ, [], List, Option, IfOk, IsTrue, OnOk, map, string_bytes};
+ghost use Rattle.std.specs.List.{Contains};
+ghost use Rattle.command_texts.specs.Several.{names_of};
 ghost use Rattle.session_commands.specs.Files.{log_in};
+ghost use Rattle.session_commands.specs.Found.{log_of, path_in, slash_behind};
+ghost use Rattle.session_commands.specs.inner.Finding.{AddsFolder, AddsNames, AreFound, AreLogsOf, IsNothing};
 
 use crate::stops::{Stop, add, unread};
 use crate::words::push;
@@ -55,7 +59,9 @@ pub(crate) struct FoundLogs {
 
 impl FoundLog {
     /// Returns a log of no files.
-    fn new(alloc: Global) -> Self {
+    fn new(alloc: Global) -> Self
+        ensures { IsNothing result }
+    {
         FoundLog {
             paths: Vec::new(alloc),
             surveyed: Vec::new(alloc),
@@ -65,7 +71,9 @@ impl FoundLog {
     }
 
     /// Returns whether it has no file.
-    pub(crate) fn is_empty(&self) -> bool {
+    pub(crate) fn is_empty(&self) -> bool
+        ensures { IsTrue result ↔ (self.now.names.items ≡ []) }
+    {
         self.names.is_empty()
     }
 
@@ -81,7 +89,9 @@ impl FoundLog {
 
 impl FoundLogs {
     /// Returns logs of no files.
-    pub(crate) fn new(alloc: Global) -> Self {
+    pub(crate) fn new(alloc: Global) -> Self
+        ensures { (bytes_of : List ℕ → Option (List ℕ)) → AreLogsOf bytes_of [] result }
+    {
         FoundLogs {
             machine: FoundLog::new(alloc),
             guest: FoundLog::new(alloc),
@@ -106,7 +116,9 @@ impl FoundLogs {
     }
 
     /// Returns the log of a party.
-    pub(crate) fn log(&self, party: Party) -> &FoundLog {
+    pub(crate) fn log(&self, party: Party) -> &FoundLog
+        ensures { result.now ≡ log_of self.now party }
+    {
         match party {
             Party::Machine => &self.machine,
             Party::Of(LogName::Guest) => &self.guest,
@@ -116,26 +128,24 @@ impl FoundLogs {
             Party::Of(LogName::Pager) => &self.pager,
         }
     }
+}
 
-    /// Returns the log of a party, to be changed.
-    pub(crate) fn log_mut(&mut self, party: Party) -> &mut FoundLog {
-        match party {
-            Party::Machine => &mut self.machine,
-            Party::Of(LogName::Guest) => &mut self.guest,
-            Party::Of(LogName::Source) => &mut self.source,
-            Party::Of(LogName::Link) => &mut self.link,
-            Party::Of(LogName::Lane) => &mut self.lane,
-            Party::Of(LogName::Pager) => &mut self.pager,
-        }
+/// Returns what stands between the name of a folder and that of what is in it.
+fn slash_behind(folder: &str) -> &'static str
+    ensures { result.now ≡ slash_behind folder.now }
+{
+    match folder.as_bytes().last() {
+        Some(byte) => { if *byte == b'/' { "" } else { "/" } }
+        None => "",
     }
 }
 
 /// Returns the path of what has this name in a folder.
-fn joined(alloc: Global, folder: &str, name: &str) -> Result<String, AllocError> {
+fn joined(alloc: Global, folder: &str, name: &str) -> Result<String, AllocError>
+    ensures { IfOk result (λ path. string_bytes path ≡ path_in folder.now name.now) }
+{
     let mut path = String::from_str(alloc, folder)?;
-    if !folder.is_empty() && !folder.ends_with('/') {
-        path.push('/')?;
-    }
+    path.push_str(slash_behind(folder))?;
     path.push_str(name)?;
     Ok(path)
 }
@@ -157,6 +167,27 @@ fn copied(alloc: Global, bytes: &[u8]) -> Result<Vec<u8>, AllocError> {
     Ok(copy)
 }
 
+/// Returns the file of a party that has this name in a folder, whose place among the folders this is.
+fn found_file(
+    alloc: Global,
+    folder: &str,
+    place: usize,
+    name: &str,
+    party: Party,
+    digits: &[u8],
+    process: usize,
+) -> Result<FoundFile, AllocError>
+    ensures { IfOk result (λ file. (file.party ≡ party) × (string_bytes file.path ≡ path_in folder.now name.now)) }
+{
+    Ok(FoundFile {
+        path: joined(alloc, folder, name)?,
+        party,
+        folder: place,
+        digits: copied(alloc, digits)?,
+        process,
+    })
+}
+
 /// Adds what has this name in a folder, if it is a recorder's file.
 fn push_file(
     alloc: Global,
@@ -164,19 +195,33 @@ fn push_file(
     folder: &str,
     place: usize,
     name: &str,
-) -> Result<(), AllocError> {
-    let Some((party, digits)) = read_file_name(name.as_bytes()) else {
-        return Ok(());
-    };
-    let process = process_of(files.as_slice(), place, digits);
-    let file = FoundFile {
-        path: joined(alloc, folder, name)?,
-        party,
-        folder: place,
-        digits: copied(alloc, digits)?,
-        process,
-    };
-    add(files, file)
+) -> Result<(), AllocError>
+    ensures { OnOk result (AddsNames (λ n. n ≡ name.now) folder.now files.old.items files.new.items) }
+{
+    match read_file_name(name.as_bytes()) {
+        Some((party, digits)) => {
+            let process = process_of(files.as_slice(), place, digits);
+            let file = found_file(alloc, folder, place, name, party, digits, process)?;
+            add(files, file)
+        }
+        None => Ok(()),
+    }
+}
+
+/// Adds what has these names in a folder, if it is a recorder's file.
+fn push_named(
+    alloc: Global,
+    files: &mut Vec<FoundFile>,
+    folder: &str,
+    place: usize,
+    names: &[String],
+) -> Result<(), AllocError>
+    ensures { OnOk result (AddsNames (Contains (map string_bytes names.now)) folder.now files.old.items files.new.items) }
+{
+    for name in names {
+        push_file(alloc, files, folder, place, name.as_str())?;
+    }
+    Ok(())
 }
 
 /// Returns why a folder was not listed.
@@ -197,15 +242,15 @@ fn push_files<S: TextSource>(
     files: &mut Vec<FoundFile>,
     folder: &str,
     place: usize,
-) -> Result<(), Stop> {
+) -> Result<(), Stop>
+    ensures { OnOk result (AddsFolder (S.names_in texts.now folder.now) folder.now files.old.items files.new.items) }
+{
     let mut names = match texts.names(alloc, folder) {
         Ok(names) => names,
         Err(error) => return Err(unlisted(alloc, folder, &error)),
     };
     names.sort()?;
-    for name in names.iter() {
-        push_file(alloc, files, folder, place, name.as_str())?;
-    }
+    push_named(alloc, files, folder, place, names.as_slice())?;
     Ok(())
 }
 
@@ -251,13 +296,16 @@ pub(crate) fn find_files<S: TextSource>(
     alloc: Global,
     texts: &S,
     folders: &[&str],
-) -> Result<Vec<FoundFile>, Stop> {
+) -> Result<Vec<FoundFile>, Stop>
+    ensures { IfOk result (λ files. AreFound (S.names_in texts.now) (names_of folders.now) files.items) }
+{
     let mut files = Vec::new(alloc);
     for place in 0..folders.len() {
+        let folder = folders[place];
         if is_named_twice(texts, folders, place) {
-            return Err(twice(alloc, folders[place])?);
+            return Err(twice(alloc, folder)?);
         }
-        push_files(alloc, texts, &mut files, folders[place], place)?;
+        push_files(alloc, texts, &mut files, folder, place)?;
     }
     if files.is_empty() {
         return Err(none(alloc, folders)?);

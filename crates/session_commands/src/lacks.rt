@@ -2,7 +2,7 @@
 
 use crate::faults::{GONE_ON, part_stop, push_last_place, push_path, twice_stop};
 use crate::found::FoundLog;
-use crate::places::{name_of, open_file};
+use crate::places::{name_of, open_file, open_text};
 use crate::stops::{NOT_READ, Stop, add};
 use crate::words::{party_word, push, push_count, push_message};
 use command_texts::TextSource;
@@ -316,6 +316,38 @@ pub(crate) fn unread_file(alloc: Global, log: &FoundLog, file: usize) -> Stop {
     match String::from_str(alloc, path) {
         Ok(path) => Stop::File(path, NOT_READ),
         Err(_) => Stop::Memory,
+    }
+}
+
+/// Opens the first files of a log, up to this one, and keeps them open. Returns why one was not opened.
+fn open_up_to<S: TextSource>(
+    alloc: Global,
+    texts: &S,
+    log: &FoundLog,
+    file: usize,
+) -> Result<(), Stop> {
+    let mut opened = Vec::new(alloc);
+    for place in 0..log.paths.len() {
+        if place <= file {
+            add(
+                &mut opened,
+                open_text(alloc, texts, log.paths[place].as_str())?,
+            )?;
+        }
+    }
+    Ok(())
+}
+
+/// Returns why a file of a log was not read beside those in front of it: it is not opened, or else it has changed.
+pub(crate) fn unopened_file<S: TextSource>(
+    alloc: Global,
+    texts: &S,
+    log: &FoundLog,
+    file: usize,
+) -> Stop {
+    match open_up_to(alloc, texts, log, file) {
+        Ok(()) => unread_file(alloc, log, file),
+        Err(stop) => stop,
     }
 }
 

@@ -1,5 +1,12 @@
 //! The machine that its log describes, and why it describes none, in words.
 
+ghost use Rattle.std.specs.Prelude.{◌≡◌, ◌++◌, List, IfOk, OnOk};
+ghost use Rattle.migration_types.specs.declared.size.Size.{Size as MachineSize};
+ghost use Rattle.recordings.specs.Recordings.{IsMachine};
+ghost use Rattle.surveyed_logs.specs.Machine.{FileTells};
+ghost use Rattle.surveyed_logs.specs.declared.machine_log.MachineEntry.{MachineEntry as Entry};
+ghost use Rattle.session_commands.specs.Files.{known_in, Describe, TellMachine};
+
 use crate::faults::twice_stop;
 use crate::found::FoundLog;
 use crate::places::{find_record, find_record_from, name_of, open_file, push_place, push_placed};
@@ -254,13 +261,11 @@ fn take_file<S: TextSource>(
     alloc: Global,
     texts: &S,
     log: &FoundLog,
-    file: usize,
+    path: &str,
     taken: &mut MachineLog,
-) -> Result<(), Stop> {
-    if file >= log.paths.len() {
-        return Ok(());
-    }
-    let path = log.paths[file].as_str();
+) -> Result<(), Stop>
+    ensures { OnOk result ((entries : List Entry) × FileTells (S.bytes_of texts.now path.now) entries × (taken.new ≡ taken.old ++ entries)) }
+{
     let mut reader = open_file(alloc, texts, Party::Machine, path)?;
     match taken.take(alloc, &mut reader) {
         Ok(()) => Ok(()),
@@ -274,19 +279,31 @@ fn take_file<S: TextSource>(
     }
 }
 
+/// Takes the records of all files of the machine's log.
+fn take_files<S: TextSource>(alloc: Global, texts: &S, log: &FoundLog) -> Result<MachineLog, Stop>
+    ensures { IfOk result (λ taken. TellMachine (known_in (S.bytes_of texts.now) log.now) taken) }
+{
+    let mut taken = MachineLog::new(alloc);
+    let paths = log.paths.as_slice();
+    for place in 0..paths.len() {
+        take_file(alloc, texts, log, paths[place].as_str(), &mut taken)?;
+    }
+    Ok(taken)
+}
+
 /// Returns the machine that its log describes.
 pub(crate) fn describe<S: TextSource>(
     alloc: Global,
     texts: &S,
     log: &FoundLog,
-) -> Result<Description, Stop> {
+) -> Result<Description, Stop>
+    ensures described { IfOk result (λ d. Describe (known_in (S.bytes_of texts.now) log.now) d) }
+    ensures machine { IfOk result (λ d. (size : MachineSize) → IsMachine (record { size = size; pages = d.pages; cells = d.cells })) }
+{
     if log.is_empty() {
         return Err(no_machine(alloc)?);
     }
-    let mut taken = MachineLog::new(alloc);
-    for file in 0..log.paths.len() {
-        take_file(alloc, texts, log, file, &mut taken)?;
-    }
+    let taken = take_files(alloc, texts, log)?;
     match taken.describe(alloc) {
         Ok(description) => Ok(description),
         Err(fault) => Err(match describe_words(alloc, texts, log, fault) {

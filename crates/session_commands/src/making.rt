@@ -1,19 +1,27 @@
 //! The command `session`, pass by pass.
 
-ghost use Rattle.std.specs.Prelude.{◌≡◌, ◌<◌, ◌⊎◌, Ok, IfOk, OnOk};
-ghost use Rattle.command_texts.specs.Several.{IsListStatus, TellsOneUnread};
+ghost use Rattle.std.specs.Prelude.{◌≡◌, ◌↔◌, ◌<◌, ◌⊎◌, [], Ok, IfOk, IsTrue, OnOk};
+ghost use Rattle.command_words.specs.declared.requests.Lacking.TheVariants.{Refused};
+ghost use Rattle.recordings.specs.Recordings.{IsMachine};
+ghost use Rattle.recordings.specs.Wide.{extent_of};
+ghost use Rattle.walked_logs.specs.Walks.{HasNoHole, WalksFiles};
+ghost use Rattle.command_texts.specs.Several.{IsListStatus, TellsOneUnread, names_of};
 ghost use Rattle.command_texts.specs.Written.{BothGain, Gains};
-ghost use Rattle.session_commands.specs.Files.{WritesSession};
+ghost use Rattle.session_commands.specs.Files.{bytes_in, WritesText};
+ghost use Rattle.session_commands.specs.Texts.{WritesSession};
+ghost use Rattle.session_commands.specs.inner.Seen.{HasFacts, HasSeen, IsKnown};
 
 use crate::ends::{Ends, tell_cuts};
 use crate::facts::Facts;
 use crate::fields::record_words;
 use crate::files::OpenedLogs;
 use crate::found::{FoundLogs, find_files};
-use crate::lacks::{Hole, count_of, find_hole, line_on, tell_lacks, tell_missing, unread_file};
+use crate::lacks::{
+    Hole, count_of, find_hole, line_on, tell_lacks, tell_missing, unopened_file, unread_file,
+};
 use crate::machines::describe;
 use crate::places::{find_record, push_place, push_placed};
-use crate::recording::{FileRecording, is_machine};
+use crate::recording::FileRecording;
 use crate::stops::Stop;
 use crate::surveys::survey_files;
 use crate::words::{push, push_message, push_spelled};
@@ -24,7 +32,7 @@ use command_words::Lacking;
 use gathered_logs::{GatherFault, LogFault};
 use migration_types::{LOGS, LogName, Size, Version};
 use recorded_files::{FileFault, Front, Party};
-use recordings::{WideInit, WideMachine};
+use recordings::{Visitor, WideInit, WideMachine};
 use std::alloc::{AllocError, Global};
 use std::io::Write;
 use surveyed_logs::Description;
@@ -147,7 +155,7 @@ fn log_stop<S: TextSource>(
         LogFault::Files(GatherFault::File(_, FileFault::Memory))
         | LogFault::Files(GatherFault::Memory)
         | LogFault::Memory => Ok(Stop::Memory),
-        LogFault::Files(GatherFault::File(file, _)) => Ok(unread_file(alloc, log, file)),
+        LogFault::Files(GatherFault::File(file, _)) => Ok(unopened_file(alloc, texts, log, file)),
         LogFault::Files(GatherFault::Missing(_)) => Ok(unread_file(alloc, log, 0)),
     }
 }
@@ -212,16 +220,6 @@ fn walk_stop<S: TextSource>(
     match stop {
         Ok(stop) | Err(stop) => stop,
     }
-}
-
-/// Returns the words on a machine that no recording may have.
-fn no_machine_words(alloc: Global) -> Result<Stop, AllocError> {
-    let mut words = Vec::new(alloc);
-    push(
-        &mut words,
-        "machine: a recording has at least one page and one cell, and at most 512 cells a page",
-    )?;
-    Ok(Stop::Unfit(words))
 }
 
 /// Checks that each log was gone through to the first number that no record has.
@@ -297,21 +295,37 @@ fn tell_empty(said: &mut Vec<u8>, alloc: Global, counts: Front) -> Result<(), Al
     Ok(())
 }
 
-/// Goes through the logs, and returns what is to be known of them.
+/// Goes through the logs with a visitor. Returns whether no log has a hole.
+fn walk<S: TextSource, V: Visitor>(
+    alloc: Global,
+    machine: &WideMachine,
+    files: &OpenedLogs<'_, S>,
+    messages: &Messages,
+    visitor: &mut V,
+) -> Result<bool, Stop>
+    requires new { V.IsNew visitor.old }
+    requires machine { IsMachine (extent_of machine.now) }
+    ensures { IfOk result (λ is_whole. (w : WalksFiles V.Met machine.now [] (bytes_in (S.bytes_of files.now.texts.now) files.now.logs.now) visitor.new) × (IsTrue is_whole ↔ HasNoHole w.made)) }
+{
+    match walk_logs(alloc, machine, Vec::new(alloc), files, messages, visitor) {
+        Ok(is_whole) => Ok(is_whole),
+        Err(fault) => Err(walk_stop(alloc, files.texts, machine, files.logs, fault)),
+    }
+}
+
+/// Goes through the logs. Returns what is to be known of them, and whether no log has a hole.
 fn facts_of<S: TextSource>(
     alloc: Global,
     machine: &WideMachine,
     files: &OpenedLogs<'_, S>,
     messages: &Messages,
-) -> Result<Facts, Stop> {
-    if !is_machine(machine) {
-        return Err(no_machine_words(alloc)?);
-    }
+) -> Result<(Facts, bool), Stop>
+    requires { IsMachine (extent_of machine.now) }
+    ensures { IfOk result (λ found. HasFacts machine.now (bytes_in (S.bytes_of files.now.texts.now) files.now.logs.now) found.0 found.1) }
+{
     let mut facts = Facts::new(alloc);
-    match walk_logs(alloc, machine, Vec::new(alloc), files, messages, &mut facts) {
-        Ok(()) => Ok(facts),
-        Err(fault) => Err(walk_stop(alloc, files.texts, machine, files.logs, fault)),
-    }
+    let has_all = walk(alloc, machine, files, messages, &mut facts)?;
+    Ok((facts, has_all))
 }
 
 /// Goes through the logs once more, and returns the records in front of which they are cut.
@@ -321,15 +335,12 @@ fn ends_of<S: TextSource>(
     files: &OpenedLogs<'_, S>,
     messages: &Messages,
     front: Front,
-) -> Result<Ends, Stop> {
-    if !is_machine(machine) {
-        return Err(no_machine_words(alloc)?);
-    }
+) -> Result<Ends, Stop>
+    requires { IsMachine (extent_of machine.now) }
+{
     let mut ends = Ends::new(alloc, front);
-    match walk_logs(alloc, machine, Vec::new(alloc), files, messages, &mut ends) {
-        Ok(()) => Ok(ends),
-        Err(fault) => Err(walk_stop(alloc, files.texts, machine, files.logs, fault)),
-    }
+    let _ = walk(alloc, machine, files, messages, &mut ends)?;
+    Ok(ends)
 }
 
 /// Notes the messages in the logs.
@@ -337,10 +348,9 @@ fn messages_of<S: TextSource>(
     alloc: Global,
     machine: &WideMachine,
     files: &OpenedLogs<'_, S>,
-) -> Result<Messages, Stop> {
-    if !is_machine(machine) {
-        return Err(no_machine_words(alloc)?);
-    }
+) -> Result<Messages, Stop>
+    requires { IsMachine (extent_of machine.now) }
+{
     match note_messages(alloc, machine, files) {
         Ok(messages) => Ok(messages),
         Err(fault) => Err(walk_stop(alloc, files.texts, machine, files.logs, fault)),
@@ -355,7 +365,9 @@ fn tell_facts<S: TextSource>(
     files: &OpenedLogs<'_, S>,
     messages: &Messages,
     facts: &Facts,
-) -> Result<(), Stop> {
+) -> Result<(), Stop>
+    requires { IsMachine (extent_of machine.now) }
+{
     let counts = facts.naming.counts();
     let front = facts.written_front();
     tell_unresumed(said, alloc, files.texts, files.logs, facts)?;
@@ -369,51 +381,113 @@ fn tell_facts<S: TextSource>(
 
 /// A recording that was gone through, and is not yet written.
 #[derive(Drop)]
-struct Known {
+pub(crate) struct Known {
     machine: WideMachine,
     init: Vec<WideInit>,
     messages: Messages,
     /// How many records of each log are written.
     front: Front,
+    /// Whether these are all.
+    is_whole: bool,
     /// What is lacking, in lines.
     said: Vec<u8>,
 }
 
-/// Returns the machine as the logs are gone through before the version of the text is known.
-fn any_machine(pages: u64, cells: u32) -> WideMachine {
-    WideMachine {
-        version: Version::Two,
-        size: Size::Large,
-        pages,
-        cells,
-    }
+/// Checks that the logs were gone through as they were surveyed, and adds what is said of their records.
+fn check_facts<S: TextSource>(
+    said: &mut Vec<u8>,
+    alloc: Global,
+    machine: &WideMachine,
+    files: &OpenedLogs<'_, S>,
+    messages: &Messages,
+    facts: &Facts,
+    expected: Front,
+) -> Result<(), Stop>
+    requires { IsMachine (extent_of machine.now) }
+{
+    check_counts(
+        alloc,
+        files.texts,
+        files.logs,
+        facts.naming.counts(),
+        expected,
+    )?;
+    check_numbers(alloc, files.texts, machine, files.logs, facts)?;
+    tell_facts(said, alloc, machine, files, messages, facts)
+}
+
+/// What the records of the logs tell before they are written.
+#[derive(Drop)]
+pub(crate) struct Seen {
+    messages: Messages,
+    front: Front,
+    is_whole: bool,
+    version: Version,
+    size: Size,
+}
+
+/// Returns whether nothing is left out: no log has a hole, and the front has as many records as there are.
+fn is_all(has_all: bool, counts: Front, front: Front) -> bool
+    ensures { IsTrue result → IsTrue has_all × (counts ≡ front) }
+{
+    has_all && counts == front
+}
+
+/// Goes through the records of the logs, and adds what is said of them.
+fn see<S: TextSource>(
+    said: &mut Vec<u8>,
+    alloc: Global,
+    machine: &WideMachine,
+    files: &OpenedLogs<'_, S>,
+    expected: Front,
+) -> Result<Seen, Stop>
+    requires { IsMachine (extent_of machine.now) }
+    ensures { IfOk result (λ seen. HasSeen machine.now (bytes_in (S.bytes_of files.now.texts.now) files.now.logs.now) files.now.logs.now.lane seen) }
+{
+    let messages = messages_of(alloc, machine, files)?;
+    let found = facts_of(alloc, machine, files, &messages)?;
+    let facts = &found.0;
+    check_facts(said, alloc, machine, files, &messages, facts, expected)?;
+    let front = facts.written_front();
+    let counts = facts.naming.counts();
+    let is_whole = is_all(found.1, counts, front);
+    let form = facts.form(front, machine, &files.logs.lane);
+    Ok(Seen {
+        messages,
+        front,
+        is_whole,
+        version: form.0,
+        size: form.1,
+    })
 }
 
 /// Goes through the files, up to what is to be known before the text is written.
-fn know<S: TextSource>(alloc: Global, texts: &S, logs: &FoundLogs) -> Result<Known, Stop> {
+fn know<S: TextSource>(alloc: Global, texts: &S, logs: &FoundLogs) -> Result<Known, Stop>
+    ensures { IfOk result (λ known. IsKnown (S.bytes_of texts.now) logs.now known) }
+{
     check_logs(alloc, texts, logs)?;
     let description = describe(alloc, texts, &logs.machine)?;
     let mut said = Vec::new(alloc);
     tell_machine(&mut said, alloc, logs, &description)?;
     let expected = tell_logs(&mut said, alloc, texts, logs)?;
-    let machine = any_machine(description.pages, description.cells);
+    let machine = WideMachine {
+        version: Version::Two,
+        size: Size::Large,
+        pages: description.pages,
+        cells: description.cells,
+    };
     let files = OpenedLogs { texts, logs };
-    let messages = messages_of(alloc, &machine, &files)?;
-    let facts = facts_of(alloc, &machine, &files, &messages)?;
-    check_counts(alloc, texts, logs, facts.naming.counts(), expected)?;
-    check_numbers(alloc, texts, &machine, logs, &facts)?;
-    tell_facts(&mut said, alloc, &machine, &files, &messages, &facts)?;
-    let front = facts.written_front();
-    let (version, size) = facts.form(front, machine.pages, machine.cells, !logs.lane.is_empty());
+    let seen = see(&mut said, alloc, &machine, &files, expected)?;
     Ok(Known {
         machine: WideMachine {
-            version,
-            size,
+            version: seen.version,
+            size: seen.size,
             ..machine
         },
         init: description.init,
-        messages,
-        front,
+        messages: seen.messages,
+        front: seen.front,
+        is_whole: seen.is_whole,
         said,
     })
 }
@@ -434,18 +508,33 @@ fn write_stop<S: TextSource>(
     }
 }
 
+/// Returns whether a text that leaves nothing out, or does, may be written.
+fn may_write(lacking: Lacking, is_whole: bool) -> bool
+    ensures { IsTrue result → lacking ≡ Refused → IsTrue is_whole }
+{
+    match lacking {
+        Lacking::Refused => is_whole,
+        Lacking::Cut => true,
+    }
+}
+
 /// Writes the text of a recording as its files are read.
 fn write<S: TextSource, O: Write>(
     alloc: Global,
     texts: &S,
+    lacking: Lacking,
     logs: &FoundLogs,
     known: Known,
     output: &mut O,
 ) -> Result<u8, Stop>
+    requires { IsKnown (S.bytes_of texts.now) logs.now known }
     ensures status { IfOk result (λ status. status ≡ 0) }
-    ensures written { OnOk result (WritesSession (S.bytes_of texts.now) (O.contents output.old) (O.contents output.new)) }
+    ensures written { OnOk result (WritesText (S.bytes_of texts.now) logs.now lacking (O.contents output.old) (O.contents output.new)) }
     ensures gains { Gains (O.contents output.old) (O.contents output.new) }
 {
+    if !may_write(lacking, known.is_whole) {
+        return Err(changed(alloc, logs));
+    }
     let Known {
         machine,
         init,
@@ -489,18 +578,19 @@ fn settle<S: TextSource, O: Write, E: Write>(
     output: &mut O,
     errors: &mut E,
 ) -> Result<u8, Stop>
+    requires { IsKnown (S.bytes_of texts.now) logs.now known }
     ensures few { IfOk result (λ status. status < 2) }
-    ensures written { IfOk result (λ status. status ≡ 0 → WritesSession (S.bytes_of texts.now) (O.contents output.old) (O.contents output.new)) }
+    ensures written { IfOk result (λ status. status ≡ 0 → WritesText (S.bytes_of texts.now) logs.now lacking (O.contents output.old) (O.contents output.new)) }
     ensures gains { BothGain (O.contents output.old, E.contents errors.old) (O.contents output.new, E.contents errors.new) }
 {
     if known.said.is_empty() {
-        return write(alloc, texts, logs, known, output);
+        return write(alloc, texts, lacking, logs, known, output);
     }
     match lacking {
         Lacking::Refused => refuse(known.said, errors),
         Lacking::Cut => {
             write_whole(errors, known.said.as_slice());
-            write(alloc, texts, logs, known, output)
+            write(alloc, texts, lacking, logs, known, output)
         }
     }
 }
@@ -516,11 +606,11 @@ fn make<S: TextSource, O: Write, E: Write>(
     errors: &mut E,
 ) -> Result<u8, Stop>
     ensures few { IfOk result (λ status. status < 2) }
-    ensures written { IfOk result (λ status. status ≡ 0 → WritesSession (S.bytes_of texts.now) (O.contents output.old) (O.contents output.new)) }
+    ensures written { IfOk result (λ status. status ≡ 0 → WritesSession (S.names_in texts.now) (S.bytes_of texts.now) (names_of folders.now) lacking (O.contents output.old) (O.contents output.new)) }
     ensures gains { BothGain (O.contents output.old, E.contents errors.old) (O.contents output.new, E.contents errors.new) }
 {
     let files = find_files(alloc, texts, folders)?;
-    let logs = survey_files(alloc, texts, files)?;
+    let logs = survey_files(alloc, texts, files.as_slice())?;
     let known = know(alloc, texts, &logs)?;
     settle(alloc, texts, lacking, &logs, known, output, errors)
 }
@@ -564,7 +654,7 @@ pub fn perform_session<'a, R, S: TextSource, I, O: Write, E: Write>(
 ) -> Result<u8, Fault<'a>>
     ensures known { IfOk result IsListStatus }
     ensures unread { IfOk result (λ status. status ≡ 3 → TellsOneUnread (E.contents console.old.errors) (E.contents console.new.errors)) }
-    ensures written { result ≡ Ok 0 → WritesSession (S.bytes_of console.old.texts.now) (O.contents console.old.output) (O.contents console.new.output) }
+    ensures written { result ≡ Ok 0 → WritesSession (S.names_in console.old.texts.now) (S.bytes_of console.old.texts.now) (names_of folders.now) lacking (O.contents console.old.output) (O.contents console.new.output) }
     ensures gains { BothGain (O.contents console.old.output, E.contents console.old.errors) (O.contents console.new.output, E.contents console.new.errors) }
 {
     let alloc = console.alloc;

@@ -1,5 +1,8 @@
 //! The lines of files, found again where words need them.
 
+ghost use Rattle.std.specs.Prelude.{◌≡◌, Some, IfOk, IfSome, []};
+ghost use Rattle.recorded_files.specs.Said.{CameTo};
+
 use crate::found::FoundLog;
 use crate::stops::{NOT_READ, NOT_THE_SAME, Stop, unread};
 use crate::words::{push_at, push_record};
@@ -42,7 +45,9 @@ pub(crate) fn open_text<S: TextSource>(
     alloc: Global,
     texts: &S,
     path: &str,
-) -> Result<S::Text, Stop> {
+) -> Result<S::Text, Stop>
+    ensures { IfOk result (λ text. IfSome (S.bytes_of texts.now path.now) (λ bytes. S.Text.remaining text ≡ Some bytes)) }
+{
     let Ok(name) = String::from_str(alloc, path) else {
         return Err(Stop::Memory);
     };
@@ -56,12 +61,15 @@ pub(crate) fn open_text<S: TextSource>(
 }
 
 /// Opens a file of a log that has a head.
+#[tactic(auto, using(crate::proofs::Opened::came_known))]
 pub(crate) fn open_file<S: TextSource>(
     alloc: Global,
     texts: &S,
     party: Party,
     path: &str,
-) -> Result<FileReader<S::Text>, Stop> {
+) -> Result<FileReader<S::Text>, Stop>
+    ensures { IfOk result (λ file. CameTo party (S.bytes_of texts.now path.now) file []) }
+{
     let text = open_text(alloc, texts, path)?;
     match FileReader::open(alloc, party, text) {
         Ok(Some(file)) => Ok(file),

@@ -48,6 +48,9 @@ impl<S: TextSource> Visited for FileRecording<'_, S> {
         if !is_machine(&machine) {
             return Err(WalkFault::Changed);
         }
-        walk_logs(alloc, &machine, init, &files, messages, visitor)
+        match walk_logs(alloc, &machine, init, &files, messages, visitor) {
+            Ok(_) => Ok(()),
+            Err(fault) => Err(fault),
+        }
     }
 }

@@ -1,5 +1,7 @@
 //! Why no session is made.
 
+ghost use Rattle.std.specs.Prelude.{◌≡◌, ◌∷◌, ◌++◌, [], OnOk};
+
 use command_texts::cause_of;
 use std::alloc::AllocError;
 use std::io;
@@ -31,7 +33,9 @@ pub(crate) const NOT_THE_SAME: &str =
     "it is read several times and has to be the same each time, as a pipe is not";
 
 /// Adds an item to a list.
-pub(crate) fn add<T: Drop>(items: &mut Vec<T>, item: T) -> Result<(), AllocError> {
+pub(crate) fn add<T: Drop>(items: &mut Vec<T>, item: T) -> Result<(), AllocError>
+    ensures { OnOk result (items.new.items ≡ items.old.items ++ item ∷ []) }
+{
     items.push(item)?;
     Ok(())
 }

@@ -1,14 +1,22 @@
 //! The first pass: each file is read to its end by itself.
 
+ghost use Rattle.std.specs.Prelude.{◌≡◌, ◌∷◌, ◌++◌, ℕ, [], List, Option, IfOk, OnOk, string_bytes};
+ghost use Rattle.recorded_files.specs.declared.lines.Party.{Party as Writer};
+ghost use Rattle.recorded_files.specs.Said.{CameTo};
+ghost use Rattle.surveyed_logs.specs.Surveys.{IsSurveyOf};
+ghost use Rattle.session_commands.specs.Found.{IsFoundIn};
+ghost use Rattle.session_commands.specs.inner.Finding.{AreFound, GetsFile, IsReadAs, TakesFile};
+
 use crate::faults::{Surveying, file_stop};
-use crate::found::{FoundFile, FoundLogs};
+use crate::found::{FoundFile, FoundLog, FoundLogs};
 use crate::places::open_text;
 use crate::stops::{Stop, add};
 use crate::words::push;
 use command_texts::TextSource;
-use recorded_files::FileReader;
+use migration_types::LogName;
+use recorded_files::{FileReader, Party};
 use std::alloc::{AllocError, Global};
-use surveyed_logs::survey;
+use surveyed_logs::{Surveyed, survey};
 
 /// The name of the recording, and the last file that had it.
 #[derive(Drop)]
@@ -63,52 +71,185 @@ fn take_name(
     Ok(())
 }
 
-/// Reads a file to its end, and adds it to its log.
+/// Reads a file that has a head to its end.
+fn survey_records<S: TextSource>(
+    alloc: Global,
+    texts: &S,
+    party: Party,
+    path: &str,
+    surveying: Surveying<'_>,
+    reader: &mut FileReader<S::Text>,
+) -> Result<Surveyed, Stop>
+    ensures { IfOk result (λ found. (known : Option (List ℕ)) → CameTo party known reader.old [] → IsSurveyOf party known found) }
+{
+    match survey(surveying.process, reader) {
+        Ok(surveyed) => Ok(surveyed),
+        Err(fault) => Err(file_stop(alloc, texts, party, path, surveying, fault)),
+    }
+}
+
+/// Reads a party's file to its end. Returns `None` if it ends within its head.
+fn survey_text<S: TextSource>(
+    alloc: Global,
+    texts: &S,
+    party: Party,
+    path: &str,
+    surveying: Surveying<'_>,
+    recording: &mut Option<Recording>,
+) -> Result<Option<Surveyed>, Stop>
+    ensures { IfOk result (IsReadAs party (S.bytes_of texts.now path.now)) }
+{
+    let text = open_text(alloc, texts, path)?;
+    match FileReader::open(alloc, party, text) {
+        Ok(Some(reader)) => {
+            let mut reader = reader;
+            take_name(alloc, recording, reader.name(), path)?;
+            let found = survey_records(alloc, texts, party, path, surveying, &mut reader)?;
+            Ok(Some(found))
+        }
+        Ok(None) => Ok(None),
+        Err(fault) => Err(file_stop(alloc, texts, party, path, surveying, fault)),
+    }
+}
+
+/// Adds a file that has a head, with what was surveyed of it.
+fn push_read(log: &mut FoundLog, path: String, surveyed: Surveyed) -> Result<(), AllocError>
+    ensures { OnOk result ((log.new.paths.items ≡ log.old.paths.items ++ path ∷ []) × (log.new.surveyed.items ≡ log.old.surveyed.items ++ surveyed ∷ []) × (log.new.headless.items ≡ log.old.headless.items) × (log.new.names.items ≡ log.old.names.items)) }
+{
+    add(&mut log.surveyed, surveyed)?;
+    add(&mut log.paths, path)?;
+    Ok(())
+}
+
+/// Adds a file to a log, with what was surveyed of it, if it has a head.
+fn push_surveyed(
+    alloc: Global,
+    log: &mut FoundLog,
+    path: &str,
+    found: Option<Surveyed>,
+) -> Result<(), AllocError>
+    ensures { OnOk result ((bytes_of : List ℕ → Option (List ℕ)) (party : Writer) → IsReadAs party (bytes_of path.now) found → GetsFile bytes_of party path.now log.old log.new) }
+{
+    let name = String::from_str(alloc, path)?;
+    add(&mut log.names, name)?;
+    let again = String::from_str(alloc, path)?;
+    match found {
+        Some(surveyed) => push_read(log, again, surveyed),
+        None => add(&mut log.headless, again),
+    }
+}
+
+/// Reads a party's file to its end, and adds it to its log.
+fn survey_onto<S: TextSource>(
+    alloc: Global,
+    texts: &S,
+    party: Party,
+    path: &str,
+    process: usize,
+    log: &mut FoundLog,
+    recording: &mut Option<Recording>,
+) -> Result<(), Stop>
+    ensures { OnOk result (GetsFile (S.bytes_of texts.now) party path.now log.old log.new) }
+{
+    let surveying = Surveying {
+        before: log.surveyed.as_slice(),
+        process,
+    };
+    let found = survey_text(alloc, texts, party, path, surveying, recording)?;
+    push_surveyed(alloc, log, path, found)?;
+    Ok(())
+}
+
+/// Reads a file of one of the five logs to its end, and adds it to the log.
+fn survey_of<S: TextSource>(
+    alloc: Global,
+    texts: &S,
+    file: &FoundFile,
+    log: LogName,
+    logs: &mut FoundLogs,
+    recording: &mut Option<Recording>,
+) -> Result<(), Stop>
+    requires { file.now.party ≡ Writer.Of log }
+    ensures { OnOk result (TakesFile (S.bytes_of texts.now) file.now logs.old logs.new) }
+{
+    let party = file.party;
+    let path = file.path.as_str();
+    let process = file.process;
+    match log {
+        LogName::Guest => survey_onto(
+            alloc,
+            texts,
+            party,
+            path,
+            process,
+            &mut logs.guest,
+            recording,
+        ),
+        LogName::Source => survey_onto(
+            alloc,
+            texts,
+            party,
+            path,
+            process,
+            &mut logs.source,
+            recording,
+        ),
+        LogName::Link => survey_onto(
+            alloc,
+            texts,
+            party,
+            path,
+            process,
+            &mut logs.link,
+            recording,
+        ),
+        LogName::Lane => survey_onto(
+            alloc,
+            texts,
+            party,
+            path,
+            process,
+            &mut logs.lane,
+            recording,
+        ),
+        LogName::Pager => survey_onto(
+            alloc,
+            texts,
+            party,
+            path,
+            process,
+            &mut logs.pager,
+            recording,
+        ),
+    }
+}
+
+/// Reads a file to its end, and adds it to the log of its party.
 fn survey_file<S: TextSource>(
     alloc: Global,
     texts: &S,
-    file: FoundFile,
+    file: &FoundFile,
     logs: &mut FoundLogs,
     recording: &mut Option<Recording>,
-) -> Result<(), Stop> {
-    let FoundFile {
-        path,
-        party,
-        process,
-        ..
-    } = file;
-    let name = String::from_str(alloc, path.as_str())?;
-    add(&mut logs.log_mut(party).names, name)?;
-    let text = open_text(alloc, texts, path.as_str())?;
-    let mut reader = match FileReader::open(alloc, party, text) {
-        Ok(Some(reader)) => reader,
-        Ok(None) => {
-            add(&mut logs.log_mut(party).headless, path)?;
-            return Ok(());
-        }
-        Err(fault) => {
-            let surveying = Surveying {
-                before: logs.log(party).surveyed.as_slice(),
+) -> Result<(), Stop>
+    ensures { OnOk result (TakesFile (S.bytes_of texts.now) file.now logs.old logs.new) }
+{
+    let party = file.party;
+    let path = file.path.as_str();
+    let process = file.process;
+    match party {
+        Party::Machine => {
+            survey_onto(
+                alloc,
+                texts,
+                party,
+                path,
                 process,
-            };
-            return Err(file_stop(alloc, texts, party, path.as_str(), surveying, fault));
+                &mut logs.machine,
+                recording,
+            )
         }
-    };
-    take_name(alloc, recording, reader.name(), path.as_str())?;
-    match survey(process, &mut reader) {
-        Ok(surveyed) => {
-            let log = logs.log_mut(party);
-            add(&mut log.surveyed, surveyed)?;
-            add(&mut log.paths, path)?;
-            Ok(())
-        }
-        Err(fault) => {
-            let surveying = Surveying {
-                before: logs.log(party).surveyed.as_slice(),
-                process,
-            };
-            Err(file_stop(alloc, texts, party, path.as_str(), surveying, fault))
-        }
+        Party::Of(log) => survey_of(alloc, texts, file, log, logs, recording),
     }
 }
 
@@ -116,8 +257,10 @@ fn survey_file<S: TextSource>(
 pub(crate) fn survey_files<S: TextSource>(
     alloc: Global,
     texts: &S,
-    files: Vec<FoundFile>,
-) -> Result<FoundLogs, Stop> {
+    files: &[FoundFile],
+) -> Result<FoundLogs, Stop>
+    ensures { IfOk result (λ logs. (folders : List (List ℕ)) → AreFound (S.names_in texts.now) folders files.now → IsFoundIn (S.names_in texts.now) (S.bytes_of texts.now) folders logs) }
+{
     let mut logs = FoundLogs::new(alloc);
     let mut recording = None;
     for file in files {

@@ -1,6 +1,6 @@
 -- What a visitor met, once the files of the logs were read.
 use Rattle.std.proofs.Common.{◌≡◌, ℕ, zero, suc, ◌≤◌, true, false, ◌⊎◌, inl, inr, List, [], ◌++◌, length, take, Option, refl, sym, ap, subst, ◌∙◌, arith, append-nil}
-use Rattle.std.specs.Prelude.{map}
+use Rattle.std.specs.Prelude.{◌↔◌, Bool, IsTrue, map}
 use Rattle.std.proofs.Math.Seq.{take-length}
 use Rattle.migration_types.specs.Sessions.{Recorded}
 use Rattle.recordings.specs.Seen.{BeforeLane, BeforePager}
@@ -20,7 +20,7 @@ use Rattle.walked_logs.specs.declared.takers.LaneTaker.{LaneTaker}
 use Rattle.walked_logs.specs.declared.takers.SourceTaker.{SourceTaker}
 use Rattle.walked_logs.specs.declared.takers.PagerTaker.{PagerTaker}
 use Rattle.walked_logs.specs.declared.cursors.Cursor.{Cursor}
-use Rattle.walked_logs.specs.Walks.{AreNumbered, Bytes, IsDown, IsUp, TellLane, TellLink, TellPager, TellSource, WalksFiles, lane_delivery, link_delivery}
+use Rattle.walked_logs.specs.Walks.{AreNumbered, Bytes, HasNoHole, IsDown, IsUp, IsWhole, TellLane, TellLink, TellPager, TellSource, WalksFiles, lane_delivery, link_delivery}
 use Rattle.walked_logs.specs.inner.Passing.{HasPassed}
 use Rattle.walked_logs.specs.inner.Meeting.{MeetsLane, MeetsLink, MeetsPager, MeetsSource, with_guests, with_lanes, with_links, with_pagers, with_sources}
 use Rattle.walked_logs.specs.inner.Walking.{WalksGuest, WalksLane, WalksLink, WalksPager, WalksSource, begun_with, with_lane_log, with_link_log}
@@ -45,10 +45,11 @@ passed_to first now messages numbers place end told over passed at le =
 end_of : (first now : Cursor) (messages : List Message) (numbers : List (Option ℕ)) (place : ℕ) (told : List Message) → IsOver first messages numbers place → HasPassed first now told → now.place ≡ length now.messages.now → now.place ≡ length messages
 end_of first now messages numbers place told over passed at = at ∙ ap (λ (ms : List Message). length ms) (passed.messages ∙ over.messages_are)
 
-pub walks_source : {V : Type 0} (Met : V → Recorded → Type 0) (machine : WideMachine) (bytes : Bytes) (messages : Delivered) (first now : SourceTaker) (from onto : V) (records : List RawSource) → IsOver first.link messages.link_messages.items messages.link.numbers.items messages.packets → TellSource machine bytes records → MeetsSource Met first from now onto records → now.link.place ≡ length now.link.messages.now → WalksSource Met machine bytes messages from onto
-walks_source Met machine bytes messages first now from onto records over tell meets at = record {
+pub walks_source : {V : Type 0} (Met : V → Recorded → Type 0) (machine : WideMachine) (bytes : Bytes) (messages : Delivered) (first now : SourceTaker) (from onto : V) (records : List RawSource) (is_whole : Bool) → IsOver first.link messages.link_messages.items messages.link.numbers.items messages.packets → (tell : TellSource machine bytes records) → IsTrue is_whole ↔ IsWhole tell → MeetsSource Met first from now onto records → now.link.place ≡ length now.link.messages.now → WalksSource Met machine bytes messages from onto is_whole
+walks_source Met machine bytes messages first now from onto records is_whole over tell whole meets at = record {
   records = records;
   tell = tell;
+  whole = whole;
   told = λ le.
       let end = end_of first.link now.link messages.link_messages.items messages.link.numbers.items messages.packets (told_from request 0 records) over meets.passed at in
       sym (take-length messages.link_messages.items) ∙ passed_to first.link now.link messages.link_messages.items messages.link.numbers.items messages.packets (length messages.link_messages.items) (told_from request 0 records) over meets.passed end le;
@@ -57,40 +58,44 @@ walks_source Met machine bytes messages first now from onto records over tell me
 
 -- ---- the link and the lane
 
-pub walks_link_own : {V : Type 0} (Met : V → Recorded → Type 0) (machine : WideMachine) (bytes : Bytes) (messages : Delivered) (first now : LinkTaker) (from onto : V) (records : List WideLink) → (first.is_told ≡ false → messages.link_messages.items ≡ []) → TellLink machine bytes records → MeetsLink Met first from now onto records → now.is_met ≡ true → WalksLink Met machine bytes messages from onto
-walks_link_own Met machine bytes messages first now from onto records untold tell meets is_met = record {
+pub walks_link_own : {V : Type 0} (Met : V → Recorded → Type 0) (machine : WideMachine) (bytes : Bytes) (messages : Delivered) (first now : LinkTaker) (from onto : V) (records : List WideLink) (is_whole : Bool) → (first.is_told ≡ false → messages.link_messages.items ≡ []) → (tell : TellLink machine bytes records) → IsTrue is_whole ↔ IsWhole tell → MeetsLink Met first from now onto records → now.is_met ≡ true → WalksLink Met machine bytes messages from onto is_whole
+walks_link_own Met machine bytes messages first now from onto records is_whole untold tell whole meets is_met = record {
   records = records;
   tell = tell;
+  whole = whole;
   one = inr (untold (meets.own is_met));
   met = λ d before none start empty.
       let log : map link_of records ++ map link_delivery messages.link.log.items ≡ map link_of records = ap (λ ms. map link_of records ++ map link_delivery ms) (empty (untold (meets.own is_met))) ∙ append-nil (map link_of records) in
       subst (λ ls. Met onto (with_link_log d ls)) (sym log) (meets.met d before none start);
 }
 
-pub walks_link_delivered : {V : Type 0} (Met : V → Recorded → Type 0) (machine : WideMachine) (bytes : Bytes) (messages : Delivered) (first now : LinkTaker) (from mid onto : V) (records : List WideLink) → TellLink machine bytes records → MeetsLink Met first from now mid records → now.is_met ≡ false → ((d : Recorded) → BeforeLane d → d.link ≡ [] → Met mid d → Met onto (with_link_log d (map link_delivery messages.link.log.items))) → WalksLink Met machine bytes messages from onto
-walks_link_delivered Met machine bytes messages first now from mid onto records tell meets unmet next = record {
+pub walks_link_delivered : {V : Type 0} (Met : V → Recorded → Type 0) (machine : WideMachine) (bytes : Bytes) (messages : Delivered) (first now : LinkTaker) (from mid onto : V) (records : List WideLink) (is_whole : Bool) → (tell : TellLink machine bytes records) → IsTrue is_whole ↔ IsWhole tell → MeetsLink Met first from now mid records → now.is_met ≡ false → ((d : Recorded) → BeforeLane d → d.link ≡ [] → Met mid d → Met onto (with_link_log d (map link_delivery messages.link.log.items))) → WalksLink Met machine bytes messages from onto is_whole
+walks_link_delivered Met machine bytes messages first now from mid onto records is_whole tell whole meets unmet next = record {
   records = records;
   tell = tell;
+  whole = whole;
   one = inl (meets.none unmet);
   met = λ d before none start empty.
       let log : map link_of records ++ map link_delivery messages.link.log.items ≡ map link_delivery messages.link.log.items = ap (λ (rs : List WideLink). map link_of rs ++ map link_delivery messages.link.log.items) (meets.none unmet) in
       subst (λ ls. Met onto (with_link_log d ls)) (sym log) (next (with_links d records) before (ap (λ (rs : List WideLink). map link_of rs) (meets.none unmet)) (meets.met d before none start));
 }
 
-pub walks_lane_own : {V : Type 0} (Met : V → Recorded → Type 0) (machine : WideMachine) (bytes : Bytes) (messages : Delivered) (first now : LaneTaker) (from onto : V) (records : List WideLane) → (first.is_told ≡ false → messages.lane_messages.items ≡ []) → TellLane machine bytes records → MeetsLane Met first from now onto records → now.is_met ≡ true → WalksLane Met machine bytes messages from onto
-walks_lane_own Met machine bytes messages first now from onto records untold tell meets is_met = record {
+pub walks_lane_own : {V : Type 0} (Met : V → Recorded → Type 0) (machine : WideMachine) (bytes : Bytes) (messages : Delivered) (first now : LaneTaker) (from onto : V) (records : List WideLane) (is_whole : Bool) → (first.is_told ≡ false → messages.lane_messages.items ≡ []) → (tell : TellLane machine bytes records) → IsTrue is_whole ↔ IsWhole tell → MeetsLane Met first from now onto records → now.is_met ≡ true → WalksLane Met machine bytes messages from onto is_whole
+walks_lane_own Met machine bytes messages first now from onto records is_whole untold tell whole meets is_met = record {
   records = records;
   tell = tell;
+  whole = whole;
   one = inr (untold (meets.own is_met));
   met = λ d before none start empty.
       let log : map lane_of records ++ map lane_delivery messages.lane.log.items ≡ map lane_of records = ap (λ ms. map lane_of records ++ map lane_delivery ms) (empty (untold (meets.own is_met))) ∙ append-nil (map lane_of records) in
       subst (λ ls. Met onto (with_lane_log d ls)) (sym log) (meets.met d before none start);
 }
 
-pub walks_lane_delivered : {V : Type 0} (Met : V → Recorded → Type 0) (machine : WideMachine) (bytes : Bytes) (messages : Delivered) (first now : LaneTaker) (from mid onto : V) (records : List WideLane) → TellLane machine bytes records → MeetsLane Met first from now mid records → now.is_met ≡ false → ((d : Recorded) → BeforePager d → d.lane ≡ [] → Met mid d → Met onto (with_lane_log d (map lane_delivery messages.lane.log.items))) → WalksLane Met machine bytes messages from onto
-walks_lane_delivered Met machine bytes messages first now from mid onto records tell meets unmet next = record {
+pub walks_lane_delivered : {V : Type 0} (Met : V → Recorded → Type 0) (machine : WideMachine) (bytes : Bytes) (messages : Delivered) (first now : LaneTaker) (from mid onto : V) (records : List WideLane) (is_whole : Bool) → (tell : TellLane machine bytes records) → IsTrue is_whole ↔ IsWhole tell → MeetsLane Met first from now mid records → now.is_met ≡ false → ((d : Recorded) → BeforePager d → d.lane ≡ [] → Met mid d → Met onto (with_lane_log d (map lane_delivery messages.lane.log.items))) → WalksLane Met machine bytes messages from onto is_whole
+walks_lane_delivered Met machine bytes messages first now from mid onto records is_whole tell whole meets unmet next = record {
   records = records;
   tell = tell;
+  whole = whole;
   one = inl (meets.none unmet);
   met = λ d before none start empty.
       let log : map lane_of records ++ map lane_delivery messages.lane.log.items ≡ map lane_delivery messages.lane.log.items = ap (λ (rs : List WideLane). map lane_of rs ++ map lane_delivery messages.lane.log.items) (meets.none unmet) in
@@ -99,10 +104,11 @@ walks_lane_delivered Met machine bytes messages first now from mid onto records 
 
 -- ---- the pager
 
-pub walks_pager : {V : Type 0} (Met : V → Recorded → Type 0) (machine : WideMachine) (bytes : Bytes) (messages : Delivered) (first now : PagerTaker) (from onto : V) (records : List RawPager) → IsOver first.link messages.link_messages.items messages.link.numbers.items 0 → IsOver first.lane messages.lane_messages.items messages.lane.numbers.items 0 → TellPager machine bytes records → MeetsPager Met first from now onto records → now.link.place ≡ messages.packets → now.lane.place ≡ length now.lane.messages.now → now.count ≡ messages.pager → WalksPager Met machine bytes messages from onto
-walks_pager Met machine bytes messages first now from onto records over over_lane tell meets at at_lane count = record {
+pub walks_pager : {V : Type 0} (Met : V → Recorded → Type 0) (machine : WideMachine) (bytes : Bytes) (messages : Delivered) (first now : PagerTaker) (from onto : V) (records : List RawPager) (is_whole : Bool) → IsOver first.link messages.link_messages.items messages.link.numbers.items 0 → IsOver first.lane messages.lane_messages.items messages.lane.numbers.items 0 → (tell : TellPager machine bytes records) → IsTrue is_whole ↔ IsWhole tell → MeetsPager Met first from now onto records → now.link.place ≡ messages.packets → now.lane.place ≡ length now.lane.messages.now → now.count ≡ messages.pager → WalksPager Met machine bytes messages from onto is_whole
+walks_pager Met machine bytes messages first now from onto records is_whole over over_lane tell whole meets at at_lane count = record {
   records = records;
   tell = tell;
+  whole = whole;
   packets = passed_to first.link now.link messages.link_messages.items messages.link.numbers.items 0 messages.packets (told_from link_packet 0 records) over meets.link at (omega arith);
   pulls =
       let end = end_of first.lane now.lane messages.lane_messages.items messages.lane.numbers.items 0 (told_from lane_packet 0 records) over_lane meets.lane at_lane in
@@ -117,8 +123,8 @@ delivered_none : (n : ℕ) → delivered [] n ≡ []
 delivered_none zero = refl
 delivered_none (suc n) = append-nil (delivered [] n) ∙ delivered_none n
 
-pub walks_files : {V : Type 0} (Met : V → Recorded → Type 0) (machine : WideMachine) (init : List WideInit) (bytes : Bytes) (messages : Delivered) (begun guest source link lane pager : V) → Follow messages → Met begun (begun_with machine init) → WalksGuest Met machine bytes begun guest → WalksSource Met machine bytes messages guest source → WalksLink Met machine bytes messages source link → WalksLane Met machine bytes messages link lane → WalksPager Met machine bytes messages lane pager → WalksFiles Met machine init bytes pager
-walks_files Met machine init bytes messages begun guest source link lane pager follow start g s l n p =
+pub walks_files : {V : Type 0} (Met : V → Recorded → Type 0) (machine : WideMachine) (init : List WideInit) (bytes : Bytes) (messages : Delivered) (begun guest source link lane pager : V) (of_guest of_source of_link of_lane of_pager whole : Bool) → IsTrue whole ↔ (IsTrue of_guest × IsTrue of_source × IsTrue of_link × IsTrue of_lane × IsTrue of_pager) → Follow messages → Met begun (begun_with machine init) → WalksGuest Met machine bytes begun guest of_guest → WalksSource Met machine bytes messages guest source of_source → WalksLink Met machine bytes messages source link of_link → WalksLane Met machine bytes messages link lane of_lane → WalksPager Met machine bytes messages lane pager of_pager → (w : WalksFiles Met machine init bytes pager) × (IsTrue whole ↔ HasNoHole w.made)
+walks_files Met machine init bytes messages begun guest source link lane pager of_guest of_source of_link of_lane of_pager whole are_all follow start g s l n p =
     let lm = messages.link_messages.items in
     let link_log = messages.link.log.items in
     let lane_log = messages.lane.log.items in
@@ -141,7 +147,7 @@ walks_files Met machine init bytes messages begun guest source link lane pager f
     let sources : AreNumbered numbered_source (IsUp (delivered (link_messages p.records s.records) (length p.records)) (length p.records)) s.records ws.0 = subst (λ (log : List Message). AreNumbered numbered_source (IsUp log (length p.records)) s.records ws.0) is_link (subst (λ m. AreNumbered numbered_source (IsUp link_log m) s.records ws.0) p.count ws.1) in
     let counted : AreNumbered numbered_pager (IsDown link_log lane_log (length p.records)) p.records wp.0 = subst (λ m. AreNumbered numbered_pager (IsDown link_log lane_log m) p.records wp.0) p.count wp.1 in
     let pagers : AreNumbered numbered_pager (IsDown (delivered (link_messages p.records s.records) (length p.records)) (delivered (lane_messages p.records) (length p.records)) (length p.records)) p.records wp.0 = subst (λ (log : List Message). AreNumbered numbered_pager (IsDown log (delivered (lane_messages p.records) (length p.records)) (length p.records)) p.records wp.0) is_link (subst (λ (log : List Message). AreNumbered numbered_pager (IsDown link_log log (length p.records)) p.records wp.0) is_lane counted) in
-    record {
+    (record {
       s = with_pagers d4 wp.0;
       made = record {
         guest = g.records;
@@ -166,7 +172,9 @@ walks_files Met machine init bytes messages begun guest source link lane pager f
         pagers = pagers;
       };
       met = wp.2;
-    }
+    }, ((λ so.
+      let each = are_all.0 so in
+      record { guest = g.whole.0 each.0; source = s.whole.0 each.1; link = l.whole.0 each.2; lane = n.whole.0 each.3; pager = p.whole.0 each.4 }), (λ none. are_all.1 (g.whole.1 none.guest, s.whole.1 none.source, l.whole.1 none.link, n.whole.1 none.lane, p.whole.1 none.pager))))
   where
     one_of : (A : Type 0) (some others : List Message) → some ≡ others → A ⊎ (some ≡ []) → A ⊎ (others ≡ [])
     one_of A some others same (inl a) = inl a

@@ -1,5 +1,5 @@
 -- The recording that the files of its logs make.
-use Rattle.std.specs.Prelude.{◌≡◌, ◌≤◌, ◌⊎◌, ℕ, List, [], ◌∷◌, ◌++◌, Option, Some, IfSome, length, map, slice_get}
+use Rattle.std.specs.Prelude.{◌≡◌, ◌≤◌, ◌⊎◌, ℕ, List, [], ◌∷◌, ◌++◌, Option, Some, None, IfSome, length, map, slice_get}
 use Rattle.std.specs.List.{AllByRecursion}
 use Rattle.migration_types.specs.declared.records.LogName.{LogName}
 use Rattle.migration_types.specs.declared.records.LogName.TheVariants.{Guest, Source, Link, Lane, Pager}
@@ -42,6 +42,10 @@ pub record TellLog {X : Type 0} (line : X → List ℕ) (IsOf : X → Type 0) (p
   pub gathering : Gathering
   pub hole : Option ℕ
   pub say : SayUpTo line IsOf party knowns gathering hole records
+
+-- the log has no hole: its files say it to its end
+abbrev pub IsWhole : {X : Type 0} {line : X → List ℕ} {IsOf : X → Type 0} {party : Party} {knowns : List (Option (List ℕ))} {records : List X} → TellLog line IsOf party knowns records → Type 0
+IsWhole tell = tell.hole ≡ None
 
 abbrev pub TellGuest : WideMachine → Bytes → List WideGuest → Type 0
 TellGuest machine bytes = TellLog (λ r. guest_line (guest_of r)) (λ r. IsGuestRecOf (extent_of machine) (guest_of r)) (Of Guest) (bytes Guest)
@@ -119,6 +123,14 @@ pub record IsRecordingOf (machine : WideMachine) (initial : List WideInit) (byte
   pub links : s.link ≡ map link_of link ++ map link_delivery (delivered (link_messages pager source) (length pager))
   pub lanes : s.lane ≡ map lane_of lane ++ map lane_delivery (delivered (lane_messages pager) (length pager))
   pub pagers : AreNumbered numbered_pager (IsDown (delivered (link_messages pager source) (length pager)) (delivered (lane_messages pager) (length pager)) (length pager)) pager s.pager
+
+-- No log has a hole: the recording is all that its files have.
+pub record HasNoHole {machine : WideMachine} {initial : List WideInit} {bytes : Bytes} {s : Recorded} (made : IsRecordingOf machine initial bytes s) : Type 0 where
+  pub guest : IsWhole made.tell_guest
+  pub source : IsWhole made.tell_source
+  pub link : IsWhole made.tell_link
+  pub lane : IsWhole made.tell_lane
+  pub pager : IsWhole made.tell_pager
 
 -- a visitor met the recording that the files of the logs make
 pub record WalksFiles {V : Type 0} (Met : V → Recorded → Type 0) (machine : WideMachine) (init : List WideInit) (bytes : Bytes) (visitor : V) : Type 0 where

@@ -1,12 +1,12 @@
 //! The files of a recording's logs.
 
-ghost use Rattle.std.specs.Prelude.{◌≡◌, ℕ, List, [], Option, IfOk, IfErr, OnOk};
+ghost use Rattle.std.specs.Prelude.{◌≡◌, ◌↔◌, ℕ, List, [], Option, IfOk, IfErr, IsTrue};
 ghost use Rattle.recordings.specs.Recordings.{IsMachine};
 ghost use Rattle.recordings.specs.Wide.{extent_of};
 ghost use Rattle.migration_types.specs.declared.records.LogName.{LogName as Log};
 ghost use Rattle.recorded_files.specs.declared.lines.Party.{Party as Writer};
 ghost use Rattle.gathered_logs.specs.Logs.{AreBegun};
-ghost use Rattle.walked_logs.specs.Walks.{TellLog};
+ghost use Rattle.walked_logs.specs.Walks.{IsWhole, TellLog};
 ghost use Rattle.walked_logs.specs.inner.Refusing.{IsPlain, IsTakeFault};
 
 use gathered_logs::{
@@ -76,8 +76,8 @@ fn fault_of(log: LogName, fault: LogFault) -> WalkFault
     }
 }
 
-/// Takes the records of a log from its files, up to its end or to the first number that no file has. Where a record is not for the
-/// taker, the fault is `unfit`.
+/// Takes the records of a log from its files, up to its end or to the first number that no file has. Returns whether it came to the
+/// end. Where a record is not for the taker, the fault is `unfit`.
 pub(crate) fn take_log<F: LogFiles, K: LogRecord, S, T: RecordTaker<K, S>>(
     alloc: Global,
     machine: &WideMachine,
@@ -86,9 +86,9 @@ pub(crate) fn take_log<F: LogFiles, K: LogRecord, S, T: RecordTaker<K, S>>(
     unfit: WalkFault,
     taker: &mut T,
     onto: &mut S,
-) -> Result<(), WalkFault>
+) -> Result<bool, WalkFault>
     requires { IsMachine (extent_of machine.now) }
-    ensures taken { OnOk result ((records : List K) × TellLog K.line (K.IsOf machine.now) (Writer.Of log) (F.bytes_of files.now log) records × ((first : T) (from : S) → T.Takes first from taker.old onto.old [] → T.Takes first from taker.new onto.new records)) }
+    ensures taken { IfOk result (λ whole. (records : List K) × (tell : TellLog K.line (K.IsOf machine.now) (Writer.Of log) (F.bytes_of files.now log) records) × (IsTrue whole ↔ IsWhole tell) × ((first : T) (from : S) → T.Takes first from taker.old onto.old [] → T.Takes first from taker.new onto.new records)) }
     ensures refused { IfErr result (IsTakeFault K.line (K.IsOf machine.now) T.Takes T.IsUnfit log (Writer.Of log) (F.bytes_of files.now log) taker.old onto.old unfit) }
 {
     let opened = match files.open(alloc, log) {
@@ -100,7 +100,7 @@ pub(crate) fn take_log<F: LogFiles, K: LogRecord, S, T: RecordTaker<K, S>>(
         Err(fault) => return Err(fault_of(log, LogFault::Files(fault))),
     };
     match take_records::<K, S, T, F::File>(alloc, machine, &mut gatherer, taker, onto) {
-        Ok(_) => Ok(()),
+        Ok(hole) => Ok(hole.is_none()),
         Err(TakingFault::Log(fault)) => Err(fault_of(log, fault)),
         Err(TakingFault::Unfit(_)) => Err(unfit),
     }

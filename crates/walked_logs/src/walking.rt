@@ -1,12 +1,12 @@
 //! A recording, gone through as the files of its logs are read.
 
-ghost use Rattle.std.specs.Prelude.{◌≡◌, ◌↔◌, [], false, IfErr, OnOk, map};
+ghost use Rattle.std.specs.Prelude.{◌≡◌, ◌↔◌, [], false, IfErr, IfOk, IsTrue, OnOk, map};
 ghost use Rattle.migration_types.specs.Sessions.{Recorded};
 ghost use Rattle.recordings.specs.Recordings.{IsMachine};
 ghost use Rattle.recordings.specs.Seen.{BeforeLane, BeforePager};
 ghost use Rattle.recordings.specs.Wide.{extent_of, lane_of, link_of};
 ghost use Rattle.recorded_files.specs.declared.messages.Delivered.{Delivered as Noted};
-ghost use Rattle.walked_logs.specs.Walks.{IsWalkFault, WalksFiles, lane_delivery, link_delivery};
+ghost use Rattle.walked_logs.specs.Walks.{HasNoHole, IsWalkFault, WalksFiles, lane_delivery, link_delivery};
 ghost use Rattle.walked_logs.specs.inner.Refusing.{IsTaking, IsTakingOne};
 ghost use Rattle.walked_logs.specs.inner.Walking.{WalksGuest, WalksLane, WalksLink, WalksPager, WalksSource, begun_with, with_lane_log, with_link_log};
 
@@ -37,15 +37,15 @@ fn walk_start<V: Visitor>(
     Ok(())
 }
 
-/// Meets the guest's records.
+/// Meets the guest's records. Returns whether the log has no hole.
 fn walk_guest<F: LogFiles, V: Visitor>(
     alloc: Global,
     machine: &WideMachine,
     files: &F,
     visitor: &mut V,
-) -> Result<(), WalkFault>
+) -> Result<bool, WalkFault>
     requires { IsMachine (extent_of machine.now) }
-    ensures walked { OnOk result (WalksGuest V.Met machine.now (F.bytes_of files.now) visitor.old visitor.new) }
+    ensures walked { IfOk result (λ whole. WalksGuest V.Met machine.now (F.bytes_of files.now) visitor.old visitor.new whole) }
     ensures refused { IfErr result (λ fault. (messages : Noted) → IsWalkFault machine.now (F.bytes_of files.now) messages fault) }
 {
     let mut taker = GuestTaker;
@@ -60,16 +60,16 @@ fn walk_guest<F: LogFiles, V: Visitor>(
     )
 }
 
-/// Meets the source's records.
+/// Meets the source's records. Returns whether the log has no hole.
 fn walk_source<F: LogFiles, V: Visitor>(
     alloc: Global,
     machine: &WideMachine,
     files: &F,
     messages: &Delivered,
     visitor: &mut V,
-) -> Result<(), WalkFault>
+) -> Result<bool, WalkFault>
     requires { IsMachine (extent_of machine.now) }
-    ensures walked { OnOk result (WalksSource V.Met machine.now (F.bytes_of files.now) messages.now visitor.old visitor.new) }
+    ensures walked { IfOk result (λ whole. WalksSource V.Met machine.now (F.bytes_of files.now) messages.now visitor.old visitor.new whole) }
     ensures refused { IfErr result (IsWalkFault machine.now (F.bytes_of files.now) messages.now) }
 {
     let mut taker = SourceTaker {
@@ -79,7 +79,7 @@ fn walk_source<F: LogFiles, V: Visitor>(
             messages.packets,
         ),
     };
-    take_log::<F, RawSource, V, SourceTaker<'_>>(
+    let whole = take_log::<F, RawSource, V, SourceTaker<'_>>(
         alloc,
         machine,
         files,
@@ -89,7 +89,7 @@ fn walk_source<F: LogFiles, V: Visitor>(
         visitor,
     )?;
     if taker.link.is_at_end() {
-        Ok(())
+        Ok(whole)
     } else {
         Err(WalkFault::Changed)
     }
@@ -149,16 +149,16 @@ fn walk_link_deliveries<V: Visitor>(
     Ok(())
 }
 
-/// Meets the link's records: those of its own files, or the deliveries.
+/// Meets the link's records: those of its own files, or the deliveries. Returns whether its own files have no hole.
 fn walk_link<F: LogFiles, V: Visitor>(
     alloc: Global,
     machine: &WideMachine,
     files: &F,
     messages: &Delivered,
     visitor: &mut V,
-) -> Result<(), WalkFault>
+) -> Result<bool, WalkFault>
     requires { IsMachine (extent_of machine.now) }
-    ensures walked { OnOk result (WalksLink V.Met machine.now (F.bytes_of files.now) messages.now visitor.old visitor.new) }
+    ensures walked { IfOk result (λ whole. WalksLink V.Met machine.now (F.bytes_of files.now) messages.now visitor.old visitor.new whole) }
     ensures refused { IfErr result (IsWalkFault machine.now (F.bytes_of files.now) messages.now) }
 {
     let mut taker = LinkTaker {
@@ -170,7 +170,7 @@ fn walk_link<F: LogFiles, V: Visitor>(
         messages.link_messages.as_slice(),
         messages.packets,
     );
-    take_log::<F, WideLink, V, LinkTaker>(
+    let whole = take_log::<F, WideLink, V, LinkTaker>(
         alloc,
         machine,
         files,
@@ -180,10 +180,10 @@ fn walk_link<F: LogFiles, V: Visitor>(
         visitor,
     )?;
     if taker.is_met {
-        return Ok(());
+        return Ok(whole);
     }
     walk_link_deliveries(messages.link.log.as_slice(), visitor)?;
-    Ok(())
+    Ok(whole)
 }
 
 /// Returns the record of the lane for the delivery of a message.
@@ -208,16 +208,16 @@ fn walk_lane_deliveries<V: Visitor>(
     Ok(())
 }
 
-/// Meets the lane's records: those of its own files, or the deliveries.
+/// Meets the lane's records: those of its own files, or the deliveries. Returns whether its own files have no hole.
 fn walk_lane<F: LogFiles, V: Visitor>(
     alloc: Global,
     machine: &WideMachine,
     files: &F,
     messages: &Delivered,
     visitor: &mut V,
-) -> Result<(), WalkFault>
+) -> Result<bool, WalkFault>
     requires { IsMachine (extent_of machine.now) }
-    ensures walked { OnOk result (WalksLane V.Met machine.now (F.bytes_of files.now) messages.now visitor.old visitor.new) }
+    ensures walked { IfOk result (λ whole. WalksLane V.Met machine.now (F.bytes_of files.now) messages.now visitor.old visitor.new whole) }
     ensures refused { IfErr result (IsWalkFault machine.now (F.bytes_of files.now) messages.now) }
 {
     let mut taker = LaneTaker {
@@ -225,7 +225,7 @@ fn walk_lane<F: LogFiles, V: Visitor>(
         is_met: false,
     };
     let unfit = own_log(LogName::Lane, messages.lane_messages.as_slice(), 0);
-    take_log::<F, WideLane, V, LaneTaker>(
+    let whole = take_log::<F, WideLane, V, LaneTaker>(
         alloc,
         machine,
         files,
@@ -235,22 +235,22 @@ fn walk_lane<F: LogFiles, V: Visitor>(
         visitor,
     )?;
     if taker.is_met {
-        return Ok(());
+        return Ok(whole);
     }
     walk_lane_deliveries(messages.lane.log.as_slice(), visitor)?;
-    Ok(())
+    Ok(whole)
 }
 
-/// Meets the pager's records.
+/// Meets the pager's records. Returns whether the log has no hole.
 fn walk_pager<F: LogFiles, V: Visitor>(
     alloc: Global,
     machine: &WideMachine,
     files: &F,
     messages: &Delivered,
     visitor: &mut V,
-) -> Result<(), WalkFault>
+) -> Result<bool, WalkFault>
     requires { IsMachine (extent_of machine.now) }
-    ensures walked { OnOk result (WalksPager V.Met machine.now (F.bytes_of files.now) messages.now visitor.old visitor.new) }
+    ensures walked { IfOk result (λ whole. WalksPager V.Met machine.now (F.bytes_of files.now) messages.now visitor.old visitor.new whole) }
     ensures refused { IfErr result (IsWalkFault machine.now (F.bytes_of files.now) messages.now) }
 {
     let mut taker = PagerTaker {
@@ -266,7 +266,7 @@ fn walk_pager<F: LogFiles, V: Visitor>(
         ),
         count: 0,
     };
-    take_log::<F, RawPager, V, PagerTaker<'_>>(
+    let whole = take_log::<F, RawPager, V, PagerTaker<'_>>(
         alloc,
         machine,
         files,
@@ -279,16 +279,24 @@ fn walk_pager<F: LogFiles, V: Visitor>(
         && taker.lane.is_at_end()
         && taker.count == messages.pager
     {
-        Ok(())
+        Ok(whole)
     } else {
         Err(WalkFault::Changed)
     }
 }
 
+/// Returns whether each of the five is so.
+fn are_all(guest: bool, source: bool, link: bool, lane: bool, pager: bool) -> bool
+    ensures { IsTrue result ↔ (IsTrue guest × IsTrue source × IsTrue link × IsTrue lane × IsTrue pager) }
+{
+    guest && source && link && lane && pager
+}
+
 /// Goes through the recording that the files of its logs make, with a visitor. The visitor meets the machine, the initial pages, and
 /// each log as its files are read, up to its end or to the first number that no file has. A record of the source or of the pager has
 /// the number of the message that it takes. The link and the lane are those of their own files, or, where no file has a record of
-/// one, the deliveries of the messages. Memory is taken for one record at a time.
+/// one, the deliveries of the messages. Memory is taken for one record at a time. Returns whether no log has a hole: whether the
+/// files of each were read to their ends.
 ///
 /// # Errors
 ///
@@ -301,17 +309,18 @@ pub fn walk_logs<F: LogFiles, V: Visitor>(
     files: &F,
     messages: &Messages,
     visitor: &mut V,
-) -> Result<(), WalkFault>
+) -> Result<bool, WalkFault>
     requires new { V.IsNew visitor.old }
     requires machine { IsMachine (extent_of machine.now) }
-    ensures walked { OnOk result (WalksFiles V.Met machine.now init.items (F.bytes_of files.now) visitor.new) }
+    ensures walked { IfOk result (λ whole. (w : WalksFiles V.Met machine.now init.items (F.bytes_of files.now) visitor.new) × (IsTrue whole ↔ HasNoHole w.made)) }
     ensures refused { IfErr result (IsWalkFault machine.now (F.bytes_of files.now) messages.now) }
 {
     let delivered = &messages.delivered;
     walk_start(machine, init, visitor)?;
-    walk_guest(alloc, machine, files, visitor)?;
-    walk_source(alloc, machine, files, delivered, visitor)?;
-    walk_link(alloc, machine, files, delivered, visitor)?;
-    walk_lane(alloc, machine, files, delivered, visitor)?;
-    walk_pager(alloc, machine, files, delivered, visitor)
+    let guest = walk_guest(alloc, machine, files, visitor)?;
+    let source = walk_source(alloc, machine, files, delivered, visitor)?;
+    let link = walk_link(alloc, machine, files, delivered, visitor)?;
+    let lane = walk_lane(alloc, machine, files, delivered, visitor)?;
+    let pager = walk_pager(alloc, machine, files, delivered, visitor)?;
+    Ok(are_all(guest, source, link, lane, pager))
 }

@@ -1,11 +1,13 @@
-use Rattle.std.proofs.Common.{◌≡◌, ℕ, List, None}
+use Rattle.std.proofs.Common.{◌≡◌, ℕ, List, None, Ok, subst}
+use Rattle.std.specs.Borrow.{Bor}
+use Rattle.clap.specs.Words.{Text}
 use Rattle.command_words.specs.Table.{asked_names, several_names}
-use Rattle.command_texts.specs.Several.{IsListStatus}
+use Rattle.command_texts.specs.Several.{IsListStatus, names_of}
 use Rattle.command_texts.specs.Written.{Streams}
 use Rattle.command_texts.proofs.Fronts.{both_gain}
 use Rattle.commands.specs.Told.{EndsAsked, EndsSeveral, HasLines}
 use Rattle.commands.proofs.Settled.{kept_lines, known, known_list, settled, settled_as, told_at_last, told_of_list, well_lines}
-use Rattle.session_commands.specs.Files.{WritesSession}
+use Rattle.session_commands.specs.Texts.{WritesSession}
 use Rattle.commands.proofs.program.grant.Goals as goal
 
 pub returns-in-Job-clause-known : goal.returns-in-Job-clause-known
@@ -56,4 +58,10 @@ pub returns-in-Folders-clause-fault : goal.returns-in-Folders-clause-fault
 returns-in-Folders-clause-fault g c = told_of_list c.perform_session-done.result c.settle-in-Folders.result _ _ _ c.perform_session-done.ensures.known c.perform_session-done.ensures.unread c.perform_session-done.ensures.gains.1 c.settle-in-Folders.ensures.settled
 
 pub returns-in-Folders-clause-folders : goal.returns-in-Folders-clause-folders
-returns-in-Folders-clause-folders g c = rw c.in-Folders.is (well_lines (WritesSession (g.S.TextSource.bytes_of c.args.console.now.texts.now) (g.O.Write.contents c.args.console.now.output) (g.O.Write.contents c.perform_session-done.new.console.output)) c.perform_session-done.result c.settle-in-Folders.result _ _ c.settle-in-Folders.ensures.settled c.perform_session-done.ensures.written)
+returns-in-Folders-clause-folders g c =
+    let texts = c.args.console.now.texts.now in
+    let done = c.perform_session-done in
+    let folders = c.in-Folders.folders in
+    let Written = λ (names : List (Bor Text)). WritesSession (g.S.TextSource.names_in texts) (g.S.TextSource.bytes_of texts) (names_of names) folders.lacking (g.O.Write.contents c.args.console.now.output) (g.O.Write.contents done.new.console.output) in
+    let written = subst (λ (names : List (Bor Text)). done.result ≡ Ok 0 → Written names) c.as_slice.ensures.value done.ensures.written in
+    rw c.in-Folders.is (well_lines (Written folders.names.items) done.result c.settle-in-Folders.result _ _ c.settle-in-Folders.ensures.settled written)

@@ -5,7 +5,7 @@ use Rattle.command_words.specs.declared.requests.Request.TheVariants.{Two}
 use Rattle.command_words.specs.declared.requests.TwoTexts.TheVariants.{Check}
 use Rattle.command_words.specs.declared.requests.Lacking.{Lacking}
 use Rattle.command_words.specs.declared.requests.Lists.{Lists}
-use Rattle.session_commands.specs.Files.{WritesSession}
+use Rattle.session_commands.specs.Texts.{WritesSession}
 use Rattle.command_words.specs.Table.{folders_of, job_of, plain, several_of}
 use Rattle.command_words.specs.Words.{asked, asked_by, clashing, folders_asked, several_asked}
 use Rattle.command_words.proofs.Clashes.{asked_alike, folders_asked_alike, several_asked_alike}
@@ -24,7 +24,7 @@ returns-in-Ok-Some-clause-several g c = λ taken. some_told (several_of c.in-Ok-
     (ap (option_and_then several_of) (sym c.in-Ok-Some.field-0-is) ∙ c.in-Ok-Some.ensures.several) c.grant.ensures.several
 
 pub returns-in-Ok-Some-clause-folders : goal.returns-in-Ok-Some-clause-folders
-returns-in-Ok-Some-clause-folders g c = λ taken. some_told (folders_of c.in-Ok-Some.intent) (folders_asked c.args.reading) (λ (asked : Lacking × List Text). c.grant.result ≡ 0 → WritesSession (g.S.TextSource.bytes_of c.args.console.now.texts.now) (g.O.Write.contents c.args.console.now.output) (g.O.Write.contents c.grant.new.console.output))
+returns-in-Ok-Some-clause-folders g c = λ taken. some_told (folders_of c.in-Ok-Some.intent) (folders_asked c.args.reading) (λ (asked : Lacking × List Text). c.grant.result ≡ 0 → WritesSession (g.S.TextSource.names_in c.args.console.now.texts.now) (g.S.TextSource.bytes_of c.args.console.now.texts.now) asked.1 asked.0 (g.O.Write.contents c.args.console.now.output) (g.O.Write.contents c.grant.new.console.output))
     (ap (option_and_then folders_of) (sym c.in-Ok-Some.field-0-is) ∙ c.in-Ok-Some.ensures.folders) c.grant.ensures.folders
 
 pub returns-in-Ok-Some-clause-plain : goal.returns-in-Ok-Some-clause-plain

@@ -1,14 +1,21 @@
-use Rattle.std.proofs.Common.{inr, refl}
+use Rattle.std.proofs.Common.{◌≡◌, Bool, true, false, not, Option, Some, None, inr, refl}
+use Rattle.std.specs.Prelude.{◌↔◌, is_some, IsTrue}
 use Rattle.recorded_files.specs.declared.lines.Party.TheVariants.{Of}
 use Rattle.walked_logs.proofs.Refusing.{unfits}
 use Rattle.walked_logs.proofs.files.take_log.Goals as goal
+
+none_is : {X : Type 0} (o : Option X) (is_none : Bool) → is_some o ≡ not is_none → IsTrue is_none ↔ (o ≡ None)
+none_is None true e = (λ _. refl, λ _. refl)
+none_is None false e = absurd cc
+none_is (Some x) true e = absurd cc
+none_is (Some x) false e = (λ is. absurd cc, λ is. absurd cc)
 
 pub returns-in-Ok-take_records-clause-taken : goal.returns-in-Ok-take_records-clause-taken
 returns-in-Ok-take_records-clause-taken g c =
     let log = c.args.log in
     let bytes = g.F.LogFiles.bytes_of c.args.files.now log in
     let t = c.in-Ok-take_records.ensures.taken (Of log) bytes (c.in-Ok-new.ensures.begun (Of log) bytes c.in-Ok.ensures) in
-    (t.0, record { gathering = c.take_records.new.files; hole = c.in-Ok-take_records.field-0; say = t.1 }, t.2)
+    (t.0, record { gathering = c.take_records.new.files; hole = c.in-Ok-take_records.hole; say = t.1 }, none_is c.in-Ok-take_records.hole c.is_none.result c.is_none.ensures, t.2)
 
 pub returns-clause-refused : goal.returns-clause-refused
 returns-clause-refused g c =

@@ -17,8 +17,8 @@ pub returns-in-Ok-clause-noted : goal.returns-in-Ok-clause-noted
 returns-in-Ok-clause-noted g c =
     let p = c.in_ok-take_log.ensures.taken in
     let s = c.in_ok-take_log-2.ensures.taken in
-    let one : Tells c.take_log.new.onto p.0 [] = p.2 (record {}) c.new-told.result (λ source tells. tells) [] c.new-told.ensures in
-    let two : Tells c.take_log-2.new.onto p.0 s.0 = s.2 (record {}) c.take_log.new.onto (λ pager tells. tells) p.0 one in
+    let one : Tells c.take_log.new.onto p.0 [] = p.3 (record {}) c.new-told.result (λ source tells. tells) [] c.new-told.ensures in
+    let two : Tells c.take_log-2.new.onto p.0 s.0 = s.3 (record {}) c.take_log.new.onto (λ pager tells. tells) p.0 one in
     record { pager = p.0; source = s.0; tell_pager = p.1; tell_source = s.1; has = c.in-Ok.ensures.told p.0 s.0 two }
 
 pub returns-in_err-take_log-clause-refused : goal.returns-in_err-take_log-clause-refused
