@@ -18,11 +18,12 @@ use Rattle.session_commands.specs.declared.found.FoundLogs.{FoundLogs}
 abbrev pub IsNameOf : Party → List ℕ → Type 0
 IsNameOf party name = (process number : List ℕ) × AreDigits process × AreDigits number × (name ≡ file_name party process number)
 
--- what stands between the name of a folder and that of what is in it: a slash (47), unless the folder's is empty or ends in one
+-- a slash (47), unless a name has no last byte, or this last one is a slash
 abbrev pub slash_after : Option ℕ → List ℕ
 slash_after None = []
 slash_after (Some last) = if last == 47 then [] else (47 ∷ [])
 
+-- what stands between the name of a folder and that of what is in it: a slash, unless the folder's is empty or ends in one
 abbrev pub slash_behind : List ℕ → List ℕ
 slash_behind folder = slash_after (slice_get folder (length folder - 1))
 

@@ -124,7 +124,7 @@ pub record IsRecordingOf (machine : WideMachine) (initial : List WideInit) (byte
   pub lanes : s.lane ≡ map lane_of lane ++ map lane_delivery (delivered (lane_messages pager) (length pager))
   pub pagers : AreNumbered numbered_pager (IsDown (delivered (link_messages pager source) (length pager)) (delivered (lane_messages pager) (length pager)) (length pager)) pager s.pager
 
--- No log has a hole: the recording is all that its files have.
+-- No log has a hole: the files of each say it to its end.
 pub record HasNoHole {machine : WideMachine} {initial : List WideInit} {bytes : Bytes} {s : Recorded} (made : IsRecordingOf machine initial bytes s) : Type 0 where
   pub guest : IsWhole made.tell_guest
   pub source : IsWhole made.tell_source
