@@ -24,7 +24,7 @@ use Rattle.session_commands.specs.declared.found.FoundLogs.{FoundLogs}
 use Rattle.std.specs.Io.KnownBytes.{Appends}
 use Rattle.recordings.specs.declared.machine.WideMachine.{WideMachine}
 use Rattle.recordings.specs.declared.wide.WideInit.{WideInit}
-use Rattle.recorded_files.specs.Fronts.{cursors_of, IsGreatestFront}
+use Rattle.recorded_files.specs.Fronts.{cursors_of, IsGreatestFront, IsGreatestFrontWithin}
 use Rattle.recorded_files.specs.declared.fronts.Front.{Front}
 use Rattle.written_recordings.specs.Written.{text_of}
 use Rattle.session_commands.specs.declared.recording.FileRecording.{FileRecording}
@@ -89,15 +89,20 @@ abbrev pub begins_halted : List SourceRec → Bool
 begins_halted [] = false
 begins_halted (rec ∷ records) = is_halted rec
 
--- A front, without the source's only record in it if that tells that the guest was halted: alone, it tells nothing.
-abbrev pub without_lone_halted : Recorded → Front → Front
-without_lone_halted s front = if (front.source == 1) && begins_halted s.source then record front { source = 0 } else front
+-- the source's only record in a front tells that the guest was halted
+abbrev pub has_lone_halted : Recorded → Front → Bool
+has_lone_halted s front = (front.source == 1) && begins_halted s.source
 
--- The front of a recording that is written: the greatest, without a `halted` of the source that is alone.
+abbrev pub without_source : Front → Front
+without_source front = record front { source = 0 }
+
+-- The front of a recording that is written: the greatest. Where a `halted` of the source is alone in that, it tells nothing: then it is
+-- the greatest front within that one which has no record of the source.
 pub record IsWrittenFront (s : Recorded) (front : Front) : Type 0 where
   pub greatest : Front
   pub is_greatest : IsGreatestFront s (cursors_of greatest)
-  pub is : front ≡ without_lone_halted s greatest
+  pub as_it_is : has_lone_halted s greatest ≡ false → front ≡ greatest
+  pub without : has_lone_halted s greatest ≡ true → IsGreatestFrontWithin s (cursors_of (without_source greatest)) (cursors_of front)
 
 -- ---- the version and the size of the text
 

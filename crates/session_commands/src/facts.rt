@@ -10,7 +10,7 @@ ghost use Rattle.recorded_files.specs.Fronts.{cursors_of};
 ghost use Rattle.migration_types.specs.Sessions.{Recorded};
 ghost use Rattle.recorded_files.specs.Named.{IsBlank};
 ghost use Rattle.recordings.specs.Wide.{guest_of, pager_of, source_of};
-ghost use Rattle.session_commands.specs.Files.{begins_halted, is_back, is_halted, is_pull, is_release, is_resume, HasLane, IsFormOf, IsSmall, IsWrittenFront, NeedsLarge, NeedsTwo};
+ghost use Rattle.session_commands.specs.Files.{begins_halted, has_lone_halted, is_back, is_halted, is_pull, is_release, is_resume, HasLane, IsFormOf, IsSmall, IsWrittenFront, NeedsLarge, NeedsTwo};
 ghost use Rattle.session_commands.specs.inner.Seen.{HasNone, IsBefore, IsFacts, IsFirstLate};
 
 use crate::found::FoundLog;
@@ -233,14 +233,14 @@ impl Facts {
         }
     }
 
-    /// Returns how many records of each log are written: those of the greatest front, without a `halted` of the source
-    /// that is alone.
+    /// Returns how many records of each log are written: those of the greatest front. If a `halted` of the source is
+    /// alone in that, it is left out, with what names it.
     pub(crate) fn written_front(&self) -> Front
         ensures { (s : Recorded) → IsFacts self.now s → IsWrittenFront s result }
     {
         let front = self.naming.greatest_front();
         if self.is_lone(front) {
-            Front { source: 0, ..front }
+            self.naming.front_within(Front { source: 0, ..front })
         } else {
             front
         }
@@ -248,7 +248,7 @@ impl Facts {
 
     /// Returns whether the source has one record in a front, and that tells that the guest was halted.
     pub(crate) fn is_lone(&self, front: Front) -> bool
-        ensures { (s : Recorded) → IsFacts self.now s → result ≡ ((front.source == 1) && begins_halted s.source) }
+        ensures { (s : Recorded) → IsFacts self.now s → result ≡ has_lone_halted s front }
     {
         front.source == 1 && self.begins_halted
     }

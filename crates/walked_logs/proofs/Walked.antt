@@ -146,35 +146,40 @@ walks_files Met machine init bytes messages begun guest source link lane pager o
     let wp = p.met d4 refl m4 link_log lane_log count follow.link.numbers follow.lane.numbers in
     let sources : AreNumbered numbered_source (IsUp (delivered (link_messages p.records s.records) (length p.records)) (length p.records)) s.records ws.0 = subst (λ (log : List Message). AreNumbered numbered_source (IsUp log (length p.records)) s.records ws.0) is_link (subst (λ m. AreNumbered numbered_source (IsUp link_log m) s.records ws.0) p.count ws.1) in
     let counted : AreNumbered numbered_pager (IsDown link_log lane_log (length p.records)) p.records wp.0 = subst (λ m. AreNumbered numbered_pager (IsDown link_log lane_log m) p.records wp.0) p.count wp.1 in
-    let pagers : AreNumbered numbered_pager (IsDown (delivered (link_messages p.records s.records) (length p.records)) (delivered (lane_messages p.records) (length p.records)) (length p.records)) p.records wp.0 = subst (λ (log : List Message). AreNumbered numbered_pager (IsDown log (delivered (lane_messages p.records) (length p.records)) (length p.records)) p.records wp.0) is_link (subst (λ (log : List Message). AreNumbered numbered_pager (IsDown link_log log (length p.records)) p.records wp.0) is_lane counted) in
-    (record {
-      s = with_pagers d4 wp.0;
-      made = record {
-        guest = g.records;
-        source = s.records;
-        link = l.records;
-        lane = n.records;
-        pager = p.records;
-        tell_guest = g.tell;
-        tell_source = s.tell;
-        tell_link = l.tell;
-        tell_lane = n.tell;
-        tell_pager = p.tell;
-        one_link = one_of (l.records ≡ []) lm (link_messages p.records s.records) whole_link l.one;
-        one_lane = one_of (n.records ≡ []) messages.lane_messages.items (lane_messages p.records) p.pulls n.one;
-        version = refl;
-        geometry = refl;
-        init = refl;
-        guests = refl;
-        sources = sources;
-        links = ap (λ ms. map link_of l.records ++ map link_delivery ms) is_link;
-        lanes = ap (λ ms. map lane_of n.records ++ map lane_delivery ms) is_lane;
-        pagers = pagers;
-      };
-      met = wp.2;
-    }, ((λ so.
-      let each = are_all.0 so in
-      record { guest = g.whole.0 each.0; source = s.whole.0 each.1; link = l.whole.0 each.2; lane = n.whole.0 each.3; pager = p.whole.0 each.4 }), (λ none. are_all.1 (g.whole.1 none.guest, s.whole.1 none.source, l.whole.1 none.link, n.whole.1 none.lane, p.whole.1 none.pager))))
+    let pagers : AreNumbered numbered_pager (IsDown (delivered (link_messages p.records s.records) (length p.records)) (delivered (lane_messages p.records) (length p.records)) (length p.records)) p.records wp.0 = subst (λ (log : List Message). AreNumbered numbered_pager (IsDown log (delivered (lane_messages p.records) (length p.records)) (length p.records)) p.records wp.0) is_link (subst (λ (log : List Message). AreNumbered numbered_pager (IsDown link_log log (length p.records)) p.records wp.0) is_lane counted) in (
+      record {
+        s = with_pagers d4 wp.0;
+        made = record {
+          guest = g.records;
+          source = s.records;
+          link = l.records;
+          lane = n.records;
+          pager = p.records;
+          tell_guest = g.tell;
+          tell_source = s.tell;
+          tell_link = l.tell;
+          tell_lane = n.tell;
+          tell_pager = p.tell;
+          one_link = one_of (l.records ≡ []) lm (link_messages p.records s.records) whole_link l.one;
+          one_lane = one_of (n.records ≡ []) messages.lane_messages.items (lane_messages p.records) p.pulls n.one;
+          version = refl;
+          geometry = refl;
+          init = refl;
+          guests = refl;
+          sources = sources;
+          links = ap (λ ms. map link_of l.records ++ map link_delivery ms) is_link;
+          lanes = ap (λ ms. map lane_of n.records ++ map lane_delivery ms) is_lane;
+          pagers = pagers;
+        };
+        met = wp.2;
+      },
+      (
+        (λ so.
+            let each = are_all.0 so in
+            record { guest = g.whole.0 each.0; source = s.whole.0 each.1; link = l.whole.0 each.2; lane = n.whole.0 each.3; pager = p.whole.0 each.4 }),
+        (λ none. are_all.1 (g.whole.1 none.guest, s.whole.1 none.source, l.whole.1 none.link, n.whole.1 none.lane, p.whole.1 none.pager)),
+      ),
+    )
   where
     one_of : (A : Type 0) (some others : List Message) → some ≡ others → A ⊎ (some ≡ []) → A ⊎ (others ≡ [])
     one_of A some others same (inl a) = inl a
