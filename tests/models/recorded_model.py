@@ -310,9 +310,10 @@ def model_of(folders: Iterable[str]) -> Tuple[Optional[str], List[str]]:
 
 
 def told(lines: Iterable[str], is_ascii: bool = False) -> str:
-    """Returns what is told of these lines. Characters of ASCII that are not printable are escaped, or all of these."""
+    """Returns what is told of these lines. Control characters are escaped, or all that are not printable."""
     def shown(it: str) -> str:
-        return it if it.isprintable() or not (it.isascii() or is_ascii) else ascii(it)[1:-1]
+        is_escaped = not it.isprintable() if is_ascii else it < " " or "\x7f" <= it < "\xa0"
+        return ascii(it)[1:-1] if is_escaped else it
 
     return "".join(f"{PREFIX}{''.join(map(shown, line))}\n" for line in lines)
 
