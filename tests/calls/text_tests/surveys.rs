@@ -4,7 +4,7 @@ use migration_types::LogName;
 use recorded_files::{FileFault, FileReader, Last, Opening, Party};
 use std::alloc::Global;
 use surveyed_logs::{
-    DescribeFault, Lack, Left, MachineLog, MachineLogFault, Part, PartFault, Surveyed,
+    DescribeFault, LogLack, PartEnd, MachineLog, MachineLogFault, LogPart, PartFault, Surveyed,
     count_records, find_lacks, find_parts, read_file_name, survey,
 };
 
@@ -86,11 +86,11 @@ fn finds_the_parts_of_a_log_and_what_it_lacks(rt: HostRuntime) {
     assert!(rt; parts.len() == 3);
     assert!(rt;
         parts[0]
-            == Part {
+            == LogPart {
                 file: 0,
                 first: 0,
                 count: 4,
-                left: Some(Left {
+                left: Some(PartEnd {
                     file: 2,
                     last: Last::Next(4)
                 })
@@ -98,11 +98,11 @@ fn finds_the_parts_of_a_log_and_what_it_lacks(rt: HostRuntime) {
     );
     assert!(rt;
         parts[1]
-            == Part {
+            == LogPart {
                 file: 1,
                 first: 5,
                 count: 9,
-                left: Some(Left {
+                left: Some(PartEnd {
                     file: 1,
                     last: Last::Lost(28)
                 })
@@ -110,7 +110,7 @@ fn finds_the_parts_of_a_log_and_what_it_lacks(rt: HostRuntime) {
     );
     assert!(rt;
         parts[2]
-            == Part {
+            == LogPart {
                 file: 3,
                 first: 10,
                 count: 10,
@@ -123,17 +123,17 @@ fn finds_the_parts_of_a_log_and_what_it_lacks(rt: HostRuntime) {
         return;
     };
     assert!(rt; lacks.len() == 4);
-    assert!(rt; lacks[0] == Lack::Heir { file: 2, count: 4 });
+    assert!(rt; lacks[0] == LogLack::Heir { file: 2, count: 4 });
     assert!(rt;
         lacks[1]
-            == Lack::Begin {
+            == LogLack::Begin {
                 file: 1,
                 first: 5,
                 front: 4
             }
     );
-    assert!(rt; lacks[2] == Lack::Record { file: 1, errno: 28 });
-    assert!(rt; lacks[3] == Lack::End { file: 3 });
+    assert!(rt; lacks[2] == LogLack::Record { file: 1, errno: 28 });
+    assert!(rt; lacks[3] == LogLack::End { file: 3 });
 }
 
 /// Why two files make no parts.
