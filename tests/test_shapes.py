@@ -19,7 +19,7 @@ TOP = os.path.dirname(os.path.dirname(os.path.realpath(__file__)))
 SOURCES = f"{TOP}/crates/order_picture/src"
 
 NAME = r"(?:guest|source|link|lane|pager) \d+"
-ROW = r"row \d+: line \d+, " + NAME
+ROW = r"box \d+: line \d+, " + NAME
 DONE = r"[^|]+ \| [^;]+"
 
 # Each kind of shape, and what it may say, with the form of its line.
@@ -28,7 +28,7 @@ FORMS = {
         "Title": r"title: \w.*", "Summary": r"told: \w.*\.", "Order": r"order: \w.*",
         "Facts": r"facts: \d+ pages? of \d+ cells?, \d+ records?: \w+ \d+.*", "Column": r"column lane",
         "Arrow": rf"(?:arrow|tie)\b.* from {NAME} to {NAME}", "Stub": rf"end of an arrow to {NAME} from the (?:left|right)",
-        "Record": ROW + ".*", "Fold": r"row \d+: fold of \d+ records: .*", "Legend": r"legend: .*"}},
+        "Record": ROW + ".*", "Fold": r"box \d+: fold of \d+ records: .*", "Legend": r"legend: .*"}},
     "arrows.rt": {"ArrowKind": {
         "Received": rf"arrow from {NAME} to {NAME}", "OfPage": rf"arrow of the page from {NAME} to {NAME}",
         "Tied": rf"tie from {NAME} to {NAME}", "TiedBehind": rf"tie behind from {NAME} to {NAME}"}},

@@ -1,6 +1,6 @@
 """The shapes of a picture as lines of text, one for each, read back from the picture: so a case can be written by hand.
 
-A row is told with its number, the line in the margin, the record, what the box says, its label, and the title behind the place of the
+The box of a row is told with the number of the row, the line in the margin, the record, what the box says, its label, and the title behind the place of the
 record. Arrows are told by the records at whose boxes they begin and end.
 """
 import re
@@ -27,14 +27,14 @@ def row_line(drawing, box):
     at = (box.middle - drawing.rows[0].middle) // ROW
     texts = box.row.findall(SVG + "text")
     if is_fold(box.row):
-        return f"row {at}: fold of {words(texts[0])}"
+        return f"box {at}: fold of {words(texts[0])}"
     margin, label = (next((text for text in texts if text.get("text-anchor") == end), None) for end in ("end", None))
     number, done = (words(part) for part in label.findall(SVG + "tspan"))
     log, place = name_of(box.row)
     title = re.sub(r"^line \d+ \(\w+ \d+\): ", "", box.row.find(SVG + "title").text)
     behind = ", behind" if "behind" in box.row.get("class").split() else ""
     where = "no line" if margin is None else f"line {words(margin)}"
-    return f"row {at}: {where}, {log} {number if int(number) == place else (number, place)}, {BOXES[box.rect.get('class')]}{behind}: {done} | {title}"
+    return f"box {at}: {where}, {log} {number if int(number) == place else (number, place)}, {BOXES[box.rect.get('class')]}{behind}: {done} | {title}"
 
 
 def arrow_line(drawing, line):
