@@ -1,5 +1,5 @@
 -- The pages of a range at the next record of the guest.
-use Rattle.std.proofs.Common.{◌≡◌, ◌≢◌, ℕ, zero, suc, ◌+◌, ◌<◌, ◌≤◌, Bool, true, false, cond, ◌&&◌, List, [], ◌∷◌, length, Option, Some, refl, sym, ap, ◌∙◌, subst, arith, eq-eqb}
+use Rattle.std.proofs.Common.{◌≡◌, ◌≢◌, ℕ, zero, suc, ◌+◌, ◌<◌, ◌≤◌, Bool, true, false, cond, ◌&&◌, List, [], ◌∷◌, length, Option, Some, None, refl, sym, ap, ◌∙◌, subst, arith, eq-eqb}
 use Rattle.std.specs.Prelude.{slice_get, slice_set, ◌==◌}
 use Rattle.std.proofs.lemmas.Bool.{eqb-true}
 use Rattle.migration_types.specs.declared.records.GuestRec.{GuestRec}
@@ -18,7 +18,9 @@ use Rattle.page_facts.specs.Tables.{or_here, first_before}
 use Rattle.page_facts.specs.Judged.{is_late_touch}
 use Rattle.page_facts.specs.declared.range.PageState.{PageState}
 use Rattle.page_facts.specs.declared.range.Range.{Range}
-use Rattle.page_facts.specs.Ranges.{cells_by, released_by, wrong_at, IsSeen, IsSeenOn, touch_at, memory_by, IsStepOn, AreSeen}
+use Rattle.page_facts.specs.Machines.{late_after}
+use Rattle.page_facts.specs.Ranges.{cells_by, released_by, wrong_at, IsSeen, IsSeenOn, touch_at, memory_by, IsStepOn, AreSeen, IsRange}
+use Rattle.page_facts.proofs.Judging.{late_next}
 use Rattle.page_facts.proofs.Framing.{flat_same, ledger_same, wrong_same, flat_on, ledger_on, wrong_on}
 
 -- ---- lists with an item given anew
@@ -189,3 +191,12 @@ module _ (s : Recorded) (n : ℕ) (r : GuestRec) (is : slice_get s.guest n ≡ S
 -- a record of one page is of no other
 pub none_of : (r : GuestRec) (p q : ℕ) → guest_page r ≡ Some p → p ≢ q → of_page guest_page q r ≡ false
 none_of r p q of ne = ap (λ o. is_page o q) of ∙ unlike p q ne
+
+-- a record that uses no page
+pub range_past : (s : Recorded) (n : ℕ) (r : GuestRec) → slice_get s.guest n ≡ Some r → (g : Range) (late : Bool) → guest_page r ≡ None → late ≡ late_after r g.late → IsRange s n g → IsRange s (n + 1) (record g { late = late })
+range_past s n r is g late pageless now was =
+    let seen = range_same s n r is g (λ k lt. ap (λ o. is_page o (g.first + k)) pageless) was.seen in
+    record {
+      late = now ∙ late_next s n r g.late is was.late;
+      seen = record { pages = seen.pages; cells = seen.cells; within = seen.within; each = seen.each };
+    }
