@@ -339,6 +339,17 @@ def a_long_answer(run):
     yield "no other files", sorted(os.listdir(run.room)), ["link", "long", "new", "null", "old"]
 
 
+def a_long_list(run):
+    """A list of which a session cannot be read goes to standard output however long it is, as without the option."""
+    run.put("session", open(f"{TOP}/examples/handover/session", "rb").read())
+    names = ["./" * 400 + "session"] * 1400 + ["not-there"]
+    plain = run("audit", *names)
+    yield "without the option", (plain[0], plain[2], len(plain[1]) > 1 << 20), (3, b"file not-there\nnot-there: no such file or directory\n", True)
+    yield "with it", run("audit", "-o", "new", *names), plain
+    yield "no file of it", run.has("new"), None
+    yield "a folder that is not there", run("audit", "-o", "not-there/new", *names), (3, b"", plain[2] + b"output\nnot-there/new: no such file or directory\n")
+
+
 def a_long_answer_in_little_memory(run):
     """A long answer that goes to a file takes hardly more memory than one that goes to standard output."""
     folder = recorded(run, "long", 100000)
@@ -373,12 +384,12 @@ def other_commands(run):
 
 
 ALL = (a_new_file, an_old_file, the_users_own, who_may_read, who_owns_it, a_link, many_links, two_writers, two_names, a_limit_on_files, lines_of_nothing, refused_memory,
-       one_file_without_memory, a_refused_script, no_text, no_place, a_device, a_long_answer, a_long_answer_in_little_memory,
+       one_file_without_memory, a_refused_script, no_text, no_place, a_device, a_long_answer, a_long_list, a_long_answer_in_little_memory,
        a_migration, other_commands)
 
 
 # How many cases each has at least.
-LEAST = {other_commands: 28, a_link: 14, two_writers: 62, two_names: 23, who_may_read: 21, the_users_own: 8, a_new_file: 11, refused_memory: 750, one_file_without_memory: 40, a_device: 6, a_long_answer: 11}
+LEAST = {other_commands: 28, a_link: 14, two_writers: 62, two_names: 23, who_may_read: 21, the_users_own: 8, a_new_file: 11, refused_memory: 750, one_file_without_memory: 40, a_device: 6, a_long_answer: 11, a_long_list: 4}
 
 
 @pytest.mark.parametrize("tested", [pytest.param(it, marks=pytest.mark.cases(LEAST.get(it, 1)), id=it.__name__) for it in ALL])

@@ -25,7 +25,7 @@ mod saving;
 use crate::folders::WithFolders;
 use crate::saving::{Draft, Saved, is_one_file};
 use command_texts::{
-    Closable, Console, Fault, STANDARD_OUTPUT, TextSource, USAGE, cause_of, tell, write_or_why,
+    Closable, Console, Fault, STANDARD_OUTPUT, TextSource, USAGE, cause_of, tell,
 };
 use commands::{Reading, Targets, read_words, run};
 use refusal_words::push_quote;
@@ -231,11 +231,17 @@ fn keep<'a, R: Files>(rt: &R, name: &'a str, draft: Draft) -> Result<(), Fault<'
     }
 }
 
-// Writes a text to the output.
-fn write<O: Write>(text: &[u8], output: &mut O) -> Result<(), Fault<'static>> {
-    match write_or_why(output, text) {
+// Writes an answer that goes to no file to the output. It may be in a draft by then.
+fn write<'a, R: Files + RandomSource, O: Write>(
+    text: &Saved<'a, R>,
+    output: &mut O,
+) -> Result<(), Fault<'a>> {
+    if let Some((name, error)) = text.fault() {
+        return Err(put_fault(name, error));
+    }
+    match text.write_to(output) {
         Ok(()) => Ok(()),
-        Err(cause) => Err(Fault::Output(STANDARD_OUTPUT, cause.words())),
+        Err(error) => Err(put_fault(STANDARD_OUTPUT, &error)),
     }
 }
 
@@ -247,7 +253,9 @@ fn keep_or_write<'a, R: Files + RandomSource, O: Write>(
     output: &mut O,
 ) -> Result<(), Fault<'a>> {
     let Some(name) = name else {
-        return write(text.end_unnamed().as_slice(), output);
+        let written = write(&text, output);
+        text.discard();
+        return written;
     };
     match text.end(name) {
         Ok(draft) => keep(rt, name, draft),
@@ -272,7 +280,7 @@ fn put<'a, R: Files + RandomSource, O: Write>(
     let table = match draft(rt, alloc, name, table) {
         Ok(table) => table,
         Err(fault) => {
-            let _ = text.end_unnamed();
+            text.discard();
             return Err(fault);
         }
     };

@@ -216,6 +216,13 @@ fn finish_part<F: Files>(files: &F, part: Part<F::File>, rest: &[u8]) -> io::Res
     }
 }
 
+// Writes a file to an output.
+fn copy_file<F: Files, O: Write>(files: &F, name: &PathBuf, output: &mut O) -> io::Result<()> {
+    let mut file = fs::open(files, name.as_str())?;
+    io::copy(&mut file, output)?;
+    Ok(())
+}
+
 /// A text that has been written, and gets its name with [`Draft::keep`].
 #[derive(Drop)]
 pub enum Draft {
@@ -358,22 +365,27 @@ impl<'a, F: Files + RandomSource> Saved<'a, F> {
         }
     }
 
-    /// Ends the text, which gets no name. Returns it, if all of it was held. Nothing is left of a longer text.
-    pub fn end_unnamed(self) -> Vec<u8> {
-        let Saved {
-            files,
-            alloc,
-            held,
-            part,
-            ..
-        } = self;
-        match part {
-            Some(part) => {
-                let _ = fs::remove_file(files, part.draft.as_str());
-                Vec::new(alloc)
-            }
-            None => held,
+    /// Returns the name that the text was to get, and what kept it from being written, if something did.
+    pub fn fault(&self) -> Option<(&'a str, &io::Error)> {
+        match (self.name, &self.fault) {
+            (Some(name), Some(fault)) => Some((name, fault)),
+            _ => None,
         }
+    }
+
+    /// Removes the text, which gets no name.
+    pub fn discard(self) {
+        if let Some(part) = &self.part {
+            let _ = fs::remove_file(self.files, part.draft.as_str());
+        }
+    }
+
+    /// Writes the text to an output.
+    pub fn write_to<O: Write>(&self, output: &mut O) -> io::Result<()> {
+        if let Some(part) = &self.part {
+            copy_file(self.files, &part.draft, output)?;
+        }
+        output.write_all(self.held.as_slice())
     }
 }
 
