@@ -241,6 +241,18 @@ def one_file_without_memory(run):
         yield f"growths {first} to {last} where both names are of one file", (output, errors, run.has("new")), (b"", told.get(status), b"as it was\n")
 
 
+def a_folder_without_memory(run):
+    """Where a growth is refused, a command on a folder does what it is asked for, or memory ran out: no file is blamed for that."""
+    folder, statuses = recorded(run, "whole", 50), set()
+    for words in (("session", folder, "-o", "new"), ("audit", folder)):
+        plain = run(*words)
+        for n in range(1, run.refusing("-", *words)[1] + 1):
+            found, _ = run.refusing(f"memory {n} {n} memory", *words)
+            yield f"growth {n} of {words[0]}", found in (plain, (4, b"", b"out of memory\n")), True
+            statuses.add(found[0])
+    yield "the statuses", statuses, {0, 4}
+
+
 def a_refused_script(run):
     run.put("kept", b"as it was\n")
     run.put("no-script", b"nothing\n")
@@ -384,12 +396,12 @@ def other_commands(run):
 
 
 ALL = (a_new_file, an_old_file, the_users_own, who_may_read, who_owns_it, a_link, many_links, two_writers, two_names, a_limit_on_files, lines_of_nothing, refused_memory,
-       one_file_without_memory, a_refused_script, no_text, no_place, a_device, a_long_answer, a_long_list, a_long_answer_in_little_memory,
+       one_file_without_memory, a_folder_without_memory, a_refused_script, no_text, no_place, a_device, a_long_answer, a_long_list, a_long_answer_in_little_memory,
        a_migration, other_commands)
 
 
 # How many cases each has at least.
-LEAST = {other_commands: 28, a_link: 14, two_writers: 62, two_names: 23, who_may_read: 21, the_users_own: 8, a_new_file: 11, refused_memory: 750, one_file_without_memory: 40, a_device: 6, a_long_answer: 11, a_long_list: 4}
+LEAST = {other_commands: 28, a_link: 14, two_writers: 62, two_names: 23, who_may_read: 21, the_users_own: 8, a_new_file: 11, refused_memory: 750, one_file_without_memory: 40, a_device: 6, a_long_answer: 11, a_long_list: 4, a_folder_without_memory: 300}
 
 
 @pytest.mark.parametrize("tested", [pytest.param(it, marks=pytest.mark.cases(LEAST.get(it, 1)), id=it.__name__) for it in ALL])

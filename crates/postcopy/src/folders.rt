@@ -50,7 +50,8 @@ fn session_of(rt: &HostRuntime, disk: &Disk<'_, HostRuntime>, folder: &str) -> i
     };
     match perform_session(&mut console, Lacking::Refused, &[folder]) {
         Ok(0) => Ok(console.output),
-        Err(Fault::Memory) => Err(io::Error::from(ErrorKind::OutOfMemory)),
+        // The text is held, so its output fails only if memory runs out.
+        Err(Fault::Memory | Fault::Output(_, _)) => Err(io::Error::from(ErrorKind::OutOfMemory)),
         Ok(_) | Err(_) => Err(io::Error::from(ErrorKind::InvalidData)),
     }
 }

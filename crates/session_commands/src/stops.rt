@@ -5,6 +5,7 @@ ghost use Rattle.std.specs.Prelude.{◌≡◌, ◌∷◌, ◌++◌, [], OnOk};
 use command_texts::cause_of;
 use std::alloc::AllocError;
 use std::io;
+use std::io::ErrorKind;
 
 /// Why no session is made.
 #[derive(Drop)]
@@ -42,5 +43,8 @@ pub(crate) fn add<T: Drop>(items: &mut Vec<T>, item: T) -> Result<(), AllocError
 
 /// Returns why a file was not read.
 pub(crate) fn unread(path: String, error: &io::Error) -> Stop {
-    Stop::File(path, cause_of(error).words())
+    match error.kind() {
+        ErrorKind::OutOfMemory => Stop::Memory,
+        _ => Stop::File(path, cause_of(error).words()),
+    }
 }
