@@ -14,7 +14,7 @@ import pytest
 TOP = os.path.dirname(os.path.dirname(os.path.abspath(__file__)))
 FOLDERS = [os.path.relpath(it, TOP).rstrip("/") for kind in ("examples", "tests/cases") for it in sorted(glob.glob(f"{TOP}/{kind}/*/"))]
 # So many folders there are at least.
-LEAST = 335
+LEAST = 390
 
 pytestmark = pytest.mark.quick
 

@@ -75,10 +75,14 @@ def folders():
             yield f"{TOP}/{kind}/{name}"
 
 
+def words_of(folder):
+    with open(f"{folder}/args", encoding="utf-8") as file:
+        return file.read().splitlines()
+
+
 def ran(program, folder, output):
     """The status and the errors of a folder's words, with this output."""
-    with open(f"{folder}/args", encoding="utf-8") as file:
-        words = file.read().splitlines()
+    words = words_of(folder)
     given = f"{folder}/stdin" if os.path.exists(f"{folder}/stdin") else os.devnull
     with open(given, "rb") as file:
         child = subprocess.run([program, *words], cwd=folder, stdin=file, stdout=output, stderr=subprocess.PIPE)
@@ -94,10 +98,8 @@ def with_no_reader(program, folder):
         os.close(writer)
 
 
-def is_of_several(folder):
-    """Whether a folder's words name several sessions: why one of them is refused is told as it is read, before the answer is written."""
-    with open(f"{folder}/args", encoding="utf-8") as file:
-        words = file.read().splitlines()
+def is_of_several(words, folder):
+    """Whether words name several sessions: why one of them is refused is told as it is read, before the answer is written."""
     return words[:1] == ["audit"] and sum(os.path.exists(f"{folder}/{word}") for word in words[1:]) > 1
 
 
@@ -108,8 +110,11 @@ def wrong_folder(program, folder):
         return f"{folder}: {gone} with no reader, and {plain} with one"
     with open("/dev/full", "wb") as full:
         found = ran(program, folder, full)
-    has_answer = plain[0] < 2 or is_of_several(folder)
-    wanted = (3, b"output\nstandard output: no space left on the device\n") if has_answer else plain
+    words = words_of(folder)
+    wanted = (3, b"output\nstandard output: no space left on the device\n") if plain[0] < 2 or is_of_several(words, folder) else plain
+    if words[:1] == ["session"]:
+        # (what recorders' files lack is told first, and only where they lack nothing, or are cut, is there an answer)
+        wanted = (3, plain[1] + wanted[1]) if plain[0] == 0 else plain
     return None if found == wanted else f"{folder}: {found} on a full disk, not {wanted}"
 
 

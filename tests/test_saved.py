@@ -3,8 +3,10 @@
 What goes to a file is what goes to standard output without the option, and for a migration, whose records depend on its
 threads, what `check` says `yes` to.
 """
+import errno
 import os
 import resource
+import shutil
 import signal
 import stat
 import subprocess
@@ -37,14 +39,19 @@ class Run:
         child = subprocess.run([self.program, *words], cwd=self.room, input=stdin, capture_output=True, **more)
         return child.returncode, child.stdout, child.stderr
 
-    def refusing(self, what, *words):
-        """What comes of words where these calls of the system are refused, and how many calls for memory there were."""
+    def counted(self, what, *words):
+        """What comes of words where these calls of the system are refused, and how many calls of each kind there were."""
         with open(f"{self.room}/counts", "w+b") as counts:
             os.dup2(counts.fileno(), COUNTS)
             found = self(*words, env={"LD_PRELOAD": self.library, "REFUSING": what}, pass_fds=(COUNTS,))
             os.close(COUNTS)
             counts.seek(0)
-            return found, int((counts.read().split() or [b"0"])[0])
+            return found, [int(word) for word in counts.read().split()]
+
+    def refusing(self, what, *words):
+        """The same, with how many calls for memory there were."""
+        found, counts = self.counted(what, *words)
+        return found, (counts or [0])[0]
 
     def has(self, name):
         """What a file of the room has; None where it is not there."""
@@ -123,6 +130,39 @@ def who_owns_it(run):
     yield "over another's file", run(*steps_words("-o", "old")), (0, b"", b"")
     found = os.stat(f"{run.room}/old")
     yield "another's file", (found.st_uid, found.st_gid, stat.S_IMODE(found.st_mode)), (12345, 23456, 0o640)
+
+
+def by_another(run, mode):
+    """What comes of an answer to a file of the superuser's, in a folder of this mode, by another user, who is also of the file's group."""
+    program = shutil.copy(run.program, f"{run.room}/program")
+    for name in ("script", "events"):
+        shutil.copy(f"{STEPS}/{name}", run.room)
+    os.mkdir(f"{run.room}/all")
+    run.put("all/old", b"as it was\n")
+    os.chown(f"{run.room}/all/old", 0, 23456)
+    for name, bits in ((".", 0o755), ("all", mode), ("all/old", 0o664)):
+        os.chmod(f"{run.room}/{name}", bits)
+    other = {"user": 65534, "group": 65534, "extra_groups": [23456]}
+    child = subprocess.run([program, "steps", "-o", "all/old", "script", "events"], cwd=run.room, capture_output=True, **other)
+    return child.returncode, child.stdout, child.stderr
+
+
+def whose_group_it_is(run):
+    """Where the process may not give the owner of a file that is there, it gives the group, if it is of that."""
+    if os.geteuid() != 0:
+        return
+    yield "over a file of the superuser's", by_another(run, 0o777), (0, b"", b"")
+    found = os.stat(f"{run.room}/all/old")
+    yield "its owner, its group and its mode", (found.st_uid, found.st_gid, stat.S_IMODE(found.st_mode)), (65534, 23456, 0o664)
+
+
+def a_name_that_is_not_given(run):
+    """A text that may not get its name, as nobody else's file may be replaced in a folder such as /tmp, is gone."""
+    if os.geteuid() != 0:
+        return
+    yield "over the superuser's file in such a folder", by_another(run, 0o1777), (3, b"", b"output\nall/old: permission denied\n")
+    yield "the file that stays", run.has("all/old"), b"as it was\n"
+    yield "no other files there", os.listdir(f"{run.room}/all"), ["old"]
 
 
 def a_link(run):
@@ -362,6 +402,37 @@ def a_long_list(run):
     yield "a folder that is not there", run("audit", "-o", "not-there/new", *names), (3, b"", plain[2] + b"output\nnot-there/new: no such file or directory\n")
 
 
+def a_write_that_fails(run):
+    """Where one write of a long answer fails, whichever it is, and those after it do not, the file stays as it was."""
+    folder = recorded(run, "long", 20000)
+    plain, found = run("session", folder, "-o", "new"), run.has("new")
+    _, (_, _, writes, *_) = run.counted("-", "session", folder, "-o", "new")
+    yield "the writes of a long answer", (plain, writes > 3), ((0, b"", b""), True)
+    for number in range(1, writes + 1):
+        run.put("new", b"as it was\n")
+        yield f"write {number}", run.refusing(f"write {number} {number} {errno.ENOSPC}", "session", folder, "-o", "new")[0], (3, b"", b"output\nnew: no space left on the device\n")
+        yield f"the file of write {number}", run.has("new"), b"as it was\n"
+        yield f"write {number} that is interrupted", (run.refusing(f"write {number} {number} {errno.EINTR}", "session", folder, "-o", "new")[0], run.has("new")), ((0, b"", b""), found)
+    yield "no other files", sorted(os.listdir(run.room)), ["counts", "long", "new"]
+
+
+def a_long_answer_that_gets_no_name(run):
+    """Nothing is left of a long answer where its lines go nowhere, and where a session of several cannot be read."""
+    writes = b"".join(b"w 0 0 0 %d\n" % value for value in range(100_000))
+    run.put("recording", RECORDING + b"guest 100000\n" + writes + b"source 0\nlink 0\npager 0\nend\n")
+    plain = run("window", "recording", "0", "1")
+    yield "a long window", (plain[0], len(plain[1]) > 1 << 20), (0, True)
+    run.put("new", b"as it was\n")
+    for lines, why in (("not-there/lines", "no such file or directory"), (run.link("full"), "no space left on the device")):
+        found = run("window", "--lines", lines, "-o", "new", "recording", "0", "1")
+        yield f"a long window whose lines are to go to {lines}", (found, run.has("new")), ((3, b"", f"output\n{lines}: {why}\n".encode()), b"as it was\n")
+    name = f"{'./' * 45}session"
+    shutil.copy(f"{TOP}/examples/handover/session", f"{run.room}/session")
+    status, _, errors = run("audit", "-o", "new", *[name] * 12_000, "not-there")
+    yield "many sessions, and one that is not there", (status, errors, run.has("new")), (3, b"file not-there\nnot-there: no such file or directory\n", b"as it was\n")
+    yield "no other files", sorted(os.listdir(run.room)), ["full", "new", "recording", "session"]
+
+
 def a_long_answer_in_little_memory(run):
     """A long answer that goes to a file takes hardly more memory than one that goes to standard output."""
     folder = recorded(run, "long", 100000)
@@ -395,13 +466,14 @@ def other_commands(run):
     yield "no file of no session", run.has("new"), None
 
 
-ALL = (a_new_file, an_old_file, the_users_own, who_may_read, who_owns_it, a_link, many_links, two_writers, two_names, a_limit_on_files, lines_of_nothing, refused_memory,
-       one_file_without_memory, a_folder_without_memory, a_refused_script, no_text, no_place, a_device, a_long_answer, a_long_list, a_long_answer_in_little_memory,
+ALL = (a_new_file, an_old_file, the_users_own, who_may_read, who_owns_it, whose_group_it_is, a_name_that_is_not_given, a_link, many_links, two_writers, two_names, a_limit_on_files, lines_of_nothing, refused_memory,
+       one_file_without_memory, a_folder_without_memory, a_refused_script, no_text, no_place, a_device, a_long_answer, a_write_that_fails, a_long_answer_that_gets_no_name, a_long_list,
+       a_long_answer_in_little_memory,
        a_migration, other_commands)
 
 
 # How many cases each has at least.
-LEAST = {other_commands: 28, a_link: 14, two_writers: 62, two_names: 23, who_may_read: 21, the_users_own: 8, a_new_file: 11, refused_memory: 750, one_file_without_memory: 40, a_device: 6, a_long_answer: 11, a_long_list: 4, a_folder_without_memory: 300}
+LEAST = {other_commands: 28, a_link: 14, two_writers: 62, two_names: 23, who_may_read: 21, the_users_own: 8, a_new_file: 11, refused_memory: 750, one_file_without_memory: 40, a_device: 6, a_long_answer: 11, a_write_that_fails: 13, a_long_answer_that_gets_no_name: 5, a_long_list: 4, a_folder_without_memory: 300}
 
 
 @pytest.mark.parametrize("tested", [pytest.param(it, marks=pytest.mark.cases(LEAST.get(it, 1)), id=it.__name__) for it in ALL])
