@@ -9,3 +9,4 @@ pub mod Reaching
 pub mod Circling
 pub mod Knotting
 pub mod Wording
+pub mod Setting

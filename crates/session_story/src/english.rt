@@ -43,7 +43,7 @@ struct Teller<'a, L> {
 }
 
 /// A part of a sentence.
-enum Part<'a> {
+enum Phrase<'a> {
     /// The place of a record, as in "line 13 (guest 6)", or only its log and its number if it does not exist.
     Place(Name),
     /// The place of a record and what it says, without contents, as in "line 8 (guest 1): the guest is halted at the
@@ -64,16 +64,16 @@ impl<L: Lines> English<'_, L> {
     }
 
     /// Appends the words of a part of a sentence. Fails only if memory runs out.
-    fn push_part(
+    fn push_phrase(
         &self,
         out: &mut String,
         session: &Session,
-        part: Part<'_>,
+        phrase: Phrase<'_>,
     ) -> Result<(), AllocError>
         ensures { OnOk result (IsBehind (string_bytes out.old) (string_bytes out.new)) }
     {
         let mut words = String::new(*out.allocator());
-        self.teller(session).push_part(&mut words, part)?;
+        self.teller(session).push_phrase(&mut words, phrase)?;
         out.push_str(&words)
     }
 }
@@ -98,11 +98,11 @@ impl<L: Lines> Writer for English<'_, L> {
 
 impl<L: Lines> Teller<'_, L> {
     /// Appends the words of a part of a sentence.
-    fn push_part(&self, out: &mut String, part: Part<'_>) -> Result<(), AllocError> {
-        match part {
-            Part::Place(name) => self.push_place(out, name),
-            Part::Record(name) => self.push_record(out, name),
-            Part::Wait(waiting, next) => self.push_wait(out, waiting, next),
+    fn push_phrase(&self, out: &mut String, phrase: Phrase<'_>) -> Result<(), AllocError> {
+        match phrase {
+            Phrase::Place(name) => self.push_place(out, name),
+            Phrase::Record(name) => self.push_record(out, name),
+            Phrase::Wait(waiting, next) => self.push_wait(out, waiting, next),
         }
     }
 
@@ -243,7 +243,7 @@ pub fn push_place(
 ) -> Result<(), AllocError>
     ensures { OnOk result (IsBehind (string_bytes out.old) (string_bytes out.new)) }
 {
-    BY_OWN_LINES.push_part(out, session, Part::Place((log, place)))
+    BY_OWN_LINES.push_phrase(out, session, Phrase::Place((log, place)))
 }
 
 /// Appends the place of a record and what it says, without contents, as in "line 8 (guest 1): the guest is halted at
@@ -257,7 +257,7 @@ pub fn push_record(
 ) -> Result<(), AllocError>
     ensures { OnOk result (IsBehind (string_bytes out.old) (string_bytes out.new)) }
 {
-    BY_OWN_LINES.push_part(out, session, Part::Record((log, place)))
+    BY_OWN_LINES.push_phrase(out, session, Phrase::Record((log, place)))
 }
 
 /// Appends the record that a waiting one must come after, with the line numbers of the session's own text. If that is
@@ -270,5 +270,5 @@ pub fn push_wait(
 ) -> Result<(), AllocError>
     ensures { OnOk result (IsBehind (string_bytes out.old) (string_bytes out.new)) }
 {
-    BY_OWN_LINES.push_part(out, session, Part::Wait(waiting, next))
+    BY_OWN_LINES.push_phrase(out, session, Phrase::Wait(waiting, next))
 }

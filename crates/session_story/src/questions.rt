@@ -127,6 +127,7 @@ impl RecordQuestion for GuestQuestion {
 
     ghost holds = { asks_guest };
 
+    #[inline(always)]
     fn holds(&self, _session: &Session, n: usize, rec: &GuestRec) -> bool {
         match *self {
             GuestQuestion::Halt => is_halt(rec),

@@ -5,7 +5,7 @@ ghost use Rattle.migration_types.specs.declared.records.GuestRec.TheVariants.{Re
 ghost use Rattle.migration_types.specs.Memory.{initial};
 ghost use Rattle.audit_model.specs.Flat.{cell_after, flat, at_halt};
 ghost use Rattle.session_story.specs.Values.{IsHeld, IsInstead, IsOther};
-ghost use Rattle.session_story.specs.inner.Cells.{AreSame, IsFirstOther, IsPage};
+ghost use Rattle.session_story.specs.inner.Cells.{AreSame, IsFirstOther, IsPage, set_by};
 
 use crate::questions::GuestQuestion;
 use crate::scans::last_of;
@@ -91,29 +91,44 @@ fn cells_before(
     Ok(cells)
 }
 
-/// Returns what the page with these values has in a cell, before this record of the guest.
-fn held_in(session: &Session, cells: &[u64], page: PageNo, cell: u16, to: usize) -> CellValue
-    requires cell { cell < session.now.geometry.cells }
-    requires within { to ≤ length session.now.guest }
-    requires cells { IsPage cells.now (flat session.now to page) session.now.geometry.cells }
-    ensures cell { result.cell ≡ cell }
-    ensures held { IsHeld session.now to page result }
+/// Returns the value that the guest's record of this number, which sets a cell, gives it: what a write has, and zero for
+/// a release.
+fn set_by(guest: &[GuestRec], n: u32) -> u64
+    ensures { result ≡ set_by (slice_get guest.now n) }
 {
-    session.keeps_limits();
-    CellValue {
-        cell,
-        value: cells[cell as usize],
-        by: last_of(
-            session,
-            &GuestQuestion::Sets(page, cell),
-            session.guest(),
-            to,
-        ),
+    match guest.get(n as usize) {
+        Some(GuestRec::Write { value, .. }) => *value,
+        _ => 0,
     }
 }
 
+/// Returns what a page has in a cell on one machine that never moved, before this record of the guest. Searches the
+/// guest's log backwards, and allocates memory for one page. Fails only if memory runs out.
+fn held_at(
+    alloc: Global,
+    session: &Session,
+    page: PageNo,
+    cell: u16,
+    to: usize,
+) -> Result<CellValue, AllocError>
+    requires page { page < session.now.geometry.pages }
+    requires cell { cell < session.now.geometry.cells }
+    requires within { to ≤ length session.now.guest }
+    ensures cell { IfOk result (λ held. held.cell ≡ cell) }
+    ensures held { IfOk result (IsHeld session.now to page) }
+{
+    session.keeps_limits();
+    let guest = session.guest();
+    let by = last_of(session, &GuestQuestion::Sets(page, cell), guest, to);
+    let value = match by {
+        Some(n) => set_by(guest, n),
+        None => cells_at_start(alloc, session, page)?[cell as usize],
+    };
+    Ok(CellValue { cell, value, by })
+}
+
 /// Returns what one machine that never moved gives instead of a read, which is the guest's record of this number, or
-/// `None` if that is not a read. Makes one pass over the guest's log, and allocates memory for one page. Fails only if
+/// `None` if that is not a read. Searches the guest's log backwards, and allocates memory for one page. Fails only if
 /// memory runs out.
 pub(crate) fn instead_of(
     alloc: Global,
@@ -127,8 +142,7 @@ pub(crate) fn instead_of(
     let GuestRec::Read { page, cell, .. } = session.guest()[n] else {
         return Ok(None);
     };
-    let cells = cells_before(alloc, session, page, n)?;
-    Ok(Some(held_in(session, &cells, page, cell, n)))
+    Ok(Some(held_at(alloc, session, page, cell, n)?))
 }
 
 /// Returns the first cell in which these contents differ from the values of a page.
@@ -164,7 +178,7 @@ pub(crate) fn other_of(
     let halt = halt_place(session.guest());
     let cells = cells_before(alloc, session, page, halt)?;
     match first_other(session, contents, &cells) {
-        Some(cell) => Ok(Some(held_in(session, &cells, page, cell, halt))),
+        Some(cell) => Ok(Some(held_at(alloc, session, page, cell, halt)?)),
         None => Ok(None),
     }
 }
