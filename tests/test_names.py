@@ -1,4 +1,5 @@
-"""Files with names that would forge a line or reach into a terminal: each name that is told is told as it is, or in quotation marks.
+"""Files and folders with names that would forge a line or reach into a terminal: each name that is told is told as it is, or in
+quotation marks, or with escapes where the sentences of `session` tell it.
 
 Told are names in the list of several sessions and in their objects, of files that cannot be read, and before the words on why a
 text is refused or a certificate does not fit. What is told has to be the line that is wanted, it has to have no control character,
@@ -11,7 +12,9 @@ import subprocess
 import unicodedata
 
 import pytest
-from cases import same
+from cases import leave_out, same
+from made_sessions import numbered, text_of_file
+from recorded_faults import MOVED
 
 TOP = os.path.dirname(os.path.dirname(os.path.realpath(__file__)))
 EXAMPLES = {"clean": "examples/handover/session", "faulty": "examples/early-access/session",
@@ -121,3 +124,55 @@ def test_names(program, room, monkeypatch):
     of_several(tests, names())
     # No two names are told alike.
     same("how many names are told", len({shown(name) for name in names()}), len(names()))
+
+
+# The escapes of `session` that have a letter; any other control character is told by two digits.
+LETTERS = {"\n": "\\n", "\r": "\\r", "\t": "\\t"}
+NO_RECORDER = "there is no file of a recorder, PARTY.PROCESS.N"
+
+
+def escaped(name):
+    return "".join(LETTERS.get(it, f"\\x{ord(it):02x}") if unicodedata.category(it) == "Cc" else it for it in name)
+
+
+@pytest.mark.cases(290)
+def test_folders(program, room):
+    """The sentences of `session` on folders: control characters are escaped, and no other character is."""
+    tests = Tests(program, room)
+    for name in names():
+        os.mkdir(f"{room}/{name}")
+        same(f"what is told of a folder {shown(name)}", tests.run("session", name), (1, "", f"session: {escaped(name)}: {NO_RECORDER}\n"))
+    same("what is told of two", tests.run("session", "a b", "\x85next"), (1, "", f"session: a b, \\x85next: {NO_RECORDER}\n"))
+
+
+def recorded(folder):
+    os.mkdir(folder)
+    for log, records in MOVED.items():
+        with open(f"{folder}/{log}.1.0", "w", encoding="ascii") as file:
+            file.write(text_of_file(log, numbered(records), last=f"end {len(records)}"))
+
+
+@pytest.mark.cases(3)
+def test_beside(program, room):
+    """Whatever else is in a folder changes nothing: names that are not UTF-8, and more names than the system tells at a time."""
+    tests = Tests(program, room)
+    recorded(f"{room}/plain")
+    wanted = tests.run("session", "plain")
+    same("a recording", wanted[::2], (0, ""))
+    for what, found in (("odd", [b"\xff%d" % it for it in range(200)]), ("many", [b"%0100d" % it for it in range(3000)])):
+        os.mkdir(f"{room}/{what}")
+        for name in found:
+            with open(f"{room}/{what}/".encode() + name, "wb"):
+                pass
+        for name in os.listdir(f"{room}/plain"):
+            os.link(f"{room}/plain/{name}", f"{room}/{what}/{name}")
+        same(f"a recording among {what} names", tests.run("session", what), wanted)
+
+
+def test_two_folders_of_one_number(program, room):
+    """Two folders of two file systems are two, also where both have the same number there."""
+    found = [os.stat(name) for name in ("/proc", "/sys")]
+    if found[0].st_ino != found[1].st_ino or found[0].st_dev == found[1].st_dev:
+        leave_out("two folders of one number, of which none are known here")
+        return
+    same("two folders of one number", Tests(program, room).run("session", "/proc", "/sys"), (1, "", f"session: /proc, /sys: {NO_RECORDER}\n"))
