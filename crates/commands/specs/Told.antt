@@ -50,7 +50,7 @@ use Rattle.command_texts.specs.Reasons.{IsFirstRefused, IsRefusedAt, TellsBeside
 use Rattle.command_texts.specs.Several.{IsListStatus, StopsSeveral, Style, TellsSeveral}
 use Rattle.command_texts.specs.Told.{AreNamed, AreOfInput, Ends, IsNamed}
 use Rattle.command_texts.specs.Written.{AppendsFront, Gains, Streams}
-use Rattle.judge_commands.specs.Answers.{AddsMisfitOf, how_much, table_telling, verdict_telling}
+use Rattle.judge_commands.specs.Answers.{AddsMisfitOf, how_much, story_telling, verdict_telling}
 use Rattle.judge_commands.specs.ByTables.{IsExplainedByTable}
 use Rattle.judge_commands.specs.Completed.{IsAnswered, IsChecked}
 use Rattle.judge_commands.specs.Noted.{TellsNoUse}
@@ -113,7 +113,7 @@ abbrev pub IsTwoAnswer : TwoTexts → List ℕ × List ℕ → List ℕ → ℕ 
 IsTwoAnswer (Check checks) texts = IsAnswerTold (verdict_telling checks.form) (IsFirstRefused (IsRefusedAt SpellsSession) (IsRefusedAt SpellsCert)) (IsChecked checks.form (extent_of checks.demand)) texts
 IsTwoAnswer Replay texts = IsReplayAnswer texts.0 texts.1
 IsTwoAnswer Steps texts = IsStepsAnswer texts.0 texts.1
-IsTwoAnswer (two.Explain explains) texts = IsAnswerTold (table_telling (story_form explains.form)) (IsFirstRefused (IsRefusedAt SpellsSession) (IsRefusedAt SpellsTable)) (IsExplainedByTable (story_form explains.form) (extent_of explains.demand)) texts
+IsTwoAnswer (two.Explain explains) texts = IsAnswerTold (story_telling (story_form explains.form)) (IsFirstRefused (IsRefusedAt SpellsSession) (IsRefusedAt SpellsTable)) (IsExplainedByTable (story_form explains.form) (extent_of explains.demand)) texts
 
 -- the answer if there are no words: that of `check` without options
 abbrev pub IsPlainCheck : List ℕ × List ℕ → List ℕ → ℕ → Type 0

@@ -8,6 +8,7 @@ use Rattle.command_texts.specs.declared.answer.Answer.{Answer}
 use Rattle.command_texts.specs.Answers.{Says}
 use Rattle.window_commands.specs.Tables.{SpellsTable}
 use Rattle.session_answers.specs.declared.forms.Story.{Story}
+use Rattle.session_answers.specs.Lacks.{story_lack}
 use Rattle.judge_commands.specs.ByTables.{IsExplainedByTable, refused_table}
 use Rattle.judge_commands.specs.Completed.{IsExplained}
 
@@ -16,6 +17,6 @@ module _ (story : Story) (complete : Option Extent) (first second : List ℕ) wh
   by_table table (Ok a) spelled told = inl (table, spelled, told)
   by_table table (Err e) spelled told = tt
 
-  pub table_refused : (line : ℕ) (found : Result Answer AllocError) → IsRefusalLine SpellsTable second line → IfOk found (λ a. Says a (refused_table story line) 1) → IfOk found (λ a. IsExplainedByTable story complete (first, second) a.text.items a.status)
+  pub table_refused : (line : ℕ) (found : Result Answer AllocError) → IsRefusalLine SpellsTable second line → IfOk found (λ a. Says a (refused_table (story_lack story) line) 1) → IfOk found (λ a. IsExplainedByTable story complete (first, second) a.text.items a.status)
   table_refused line (Ok a) refused says = inr (record { line = line; is_line = refused; is_text = says.0; is_status = says.1 })
   table_refused line (Err e) refused says = tt

@@ -16,9 +16,8 @@ use Rattle.command_words.specs.declared.requests.VerdictForm.TheVariants.{Line, 
 use Rattle.session_answers.specs.Judged.{IsJudgedTold}
 use Rattle.session_answers.specs.Forms.{TellsWanted}
 use Rattle.session_answers.specs.declared.forms.AnswerForm.{AnswerForm}
-use Rattle.session_answers.specs.declared.forms.AnswerForm.TheVariants as form
 use Rattle.session_answers.specs.declared.forms.Story.{Story}
-use Rattle.session_answers.specs.declared.forms.Story.TheVariants as story
+use Rattle.session_answers.specs.Lacks.{lack_form, story_lack}
 use Rattle.session_answers.specs.declared.forms.LackForm.{LackForm}
 use Rattle.session_answers.specs.declared.forms.LackForm.TheVariants as lack
 
@@ -63,24 +62,19 @@ AddsMisfitOf texts name before after = (verdict : Verdict) × IsTextVerdict text
 abbrev pub IsAuditAnswer : AuditPart → List ℕ → List ℕ → ℕ → Type 0
 IsAuditAnswer wanted = IsJudgedTold (TellsWanted wanted)
 
--- how much is said about a text that is refused: more if the story of the session is told in words, and fields of the
--- answer if this is an object
-abbrev pub story_telling : Story → Telling
-story_telling (story.Words topic) = Full
-story_telling story.Object = Fields
+-- how much is said about a text that is refused, by the form in which an answer says what a session lacks: more beside
+-- words, and fields of the answer if this is an object
+abbrev pub telling_by : LackForm → Telling
+telling_by lack.Line = Short
+telling_by lack.Words = Full
+telling_by lack.Object = Fields
 
+-- the same for the form of a report, of a story, and of a verdict
 abbrev pub how_much : AnswerForm → Telling
-how_much (form.Lines wanted) = Short
-how_much form.AllFaults = Short
-how_much form.Object = Fields
-how_much form.AllFaultsObject = Fields
-how_much (form.Story told) = story_telling told
+how_much form = telling_by (lack_form form)
+
+abbrev pub story_telling : Story → Telling
+story_telling story = telling_by (story_lack story)
 
 abbrev pub verdict_telling : VerdictForm → Telling
-verdict_telling Line = Short
-verdict_telling Object = Fields
-
--- of two texts, a session and a table, no more than one line is said if the story is told in words
-abbrev pub table_telling : Story → Telling
-table_telling (story.Words topic) = Short
-table_telling story.Object = Fields
+verdict_telling form = telling_by (verdict_lack form)

@@ -13,7 +13,7 @@ ghost use Rattle.judge_commands.specs.Noted.{TellsNoUse};
 ghost use Rattle.judge_commands.specs.inner.Reported.{SaysRefusal, SaysReport};
 
 use crate::completing::held;
-use crate::forms::telling_beside;
+use crate::forms::telling_by;
 use crate::noting::note_on;
 use audit_report::{FullAudit, OwnLines, Report, audit, audit_in_full};
 use command_texts::{Answer, Given, OnOne, REFUSED, Telling, given, status_where};
@@ -134,7 +134,7 @@ impl<R: Threads + Sync> OnOne for AuditCommand<'_, R> {
     ghost has_note = { λ _. TellsNoUse };
 
     fn telling(&self) -> Telling {
-        telling_beside(self.ask.form)
+        telling_by(self.ask.form.of_lack())
     }
 
     fn answer(&self, alloc: Global, session: &Result<Session, u32>) -> Given {

@@ -12,7 +12,7 @@ ghost use Rattle.judge_commands.specs.Completed.{IsChecked};
 ghost use Rattle.judge_commands.specs.Noted.{TellsNoUse};
 
 use crate::completing::held;
-use crate::forms::{lack_beside, push_told, verdict_telling};
+use crate::forms::{lack_beside, push_told, telling_by};
 use crate::misfit_words::push_misfit;
 use crate::noting::note_on;
 use audit_report::{OwnLines, push_refused_certificate, push_refused_session, push_shape};
@@ -128,7 +128,7 @@ impl<R: Threads + Sync> OnTwo for CheckCommand<'_, R> {
     ghost has_note = { λ _ texts. TellsNoUse texts.0 };
 
     fn telling(&self, _session: &Result<Session, u32>, _cert: &Result<Cert, u32>) -> Telling {
-        verdict_telling(self.form)
+        telling_by(lack_beside(self.form))
     }
 
     fn answer(

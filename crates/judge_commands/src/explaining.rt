@@ -8,7 +8,7 @@ ghost use Rattle.session_answers.specs.Forms.{TellsStory};
 ghost use Rattle.session_answers.specs.Judged.{IsJudgedTold};
 ghost use Rattle.window_commands.specs.Tables.{SpellsTable};
 ghost use Rattle.command_texts.specs.Answers.{Says};
-ghost use Rattle.judge_commands.specs.Answers.{table_telling};
+ghost use Rattle.judge_commands.specs.Answers.{story_telling};
 ghost use Rattle.judge_commands.specs.ByTables.{IsExplainedByTable, refused_table};
 ghost use Rattle.judge_commands.specs.Completed.{IsExplained};
 ghost use Rattle.judge_commands.specs.Noted.{TellsNoUse};
@@ -16,14 +16,14 @@ ghost use Rattle.judge_commands.specs.inner.Reported.{SaysRefusal, SaysReport};
 
 use crate::auditing::report_status;
 use crate::completing::held;
-use crate::forms::table_telling;
+use crate::forms::telling_by;
 use crate::noting::note_on;
 use audit_report::{Lines, audit};
 use command_texts::{Answer, Fault, Gathered, OnTwo, REFUSED, Telling, given_alone, refused};
 use completeness::Extent;
 use migration_types::{Seq, Session};
 use report_json::push_refused_table;
-use session_answers::{Story, print_story, print_story_refusal};
+use session_answers::{LackForm, Story, print_story, print_story_refusal};
 use session_log::{SessionReader, session_texts_are_unambiguous};
 use std::alloc::{AllocError, Global};
 use std::thread::Threads;
@@ -93,13 +93,13 @@ fn explained<R: Threads + Sync, L: Lines>(
     held(lines, story.of_lack(), complete, alloc, session, answer)
 }
 
-/// Returns the answer to a table that is refused at this line, in this form.
-fn table_refused(alloc: Global, story: Story, line: u32) -> Result<Answer, AllocError>
-    ensures { IfOk result (λ answer. Says answer (refused_table story line) 1) }
+/// Returns the answer to a table that is refused at this line, by the form of what a session lacks.
+fn table_refused(alloc: Global, form: LackForm, line: u32) -> Result<Answer, AllocError>
+    ensures { IfOk result (λ answer. Says answer (refused_table form line) 1) }
 {
-    match story {
-        Story::Words(_) => refused(alloc, b"lines-text line ", line),
-        Story::Object => {
+    match form {
+        LackForm::Line | LackForm::Words => refused(alloc, b"lines-text line ", line),
+        LackForm::Object => {
             let mut text = Vec::new(alloc);
             push_refused_table(&mut text, line)?;
             Ok(Answer {
@@ -124,7 +124,7 @@ fn explained_by<R: Threads + Sync>(
 {
     match table {
         Ok(table) => explained(rt, table, story, complete, alloc, session),
-        Err(line) => table_refused(alloc, story, *line),
+        Err(line) => table_refused(alloc, story.of_lack(), *line),
     }
 }
 
@@ -153,7 +153,7 @@ impl<R: Threads + Sync> OnTwo for ExplainByTable<'_, R> {
 
     ghost adds_more = { λ _ _ _ before after. after ≡ before };
 
-    ghost how_much = { λ command. table_telling command.story };
+    ghost how_much = { λ command. story_telling command.story };
 
     ghost has_note = { λ _ texts. TellsNoUse texts.0 };
 
@@ -161,7 +161,7 @@ impl<R: Threads + Sync> OnTwo for ExplainByTable<'_, R> {
         if session.is_err() && table.is_err() {
             return Telling::Short;
         }
-        table_telling(self.story)
+        telling_by(self.story.of_lack())
     }
 
     fn answer(

@@ -1,14 +1,14 @@
 //! The form of a verdict, and how much is said beside an answer.
 
 ghost use Rattle.std.specs.Prelude.{◌≡◌, ◌++◌, OnOk};
-ghost use Rattle.judge_commands.specs.Answers.{how_much, story_telling, table_telling, verdict_lack, verdict_telling, verdict_text};
+ghost use Rattle.judge_commands.specs.Answers.{telling_by, verdict_lack, verdict_text};
 
 use crate::checking::push_verdict;
 use cert_check::Verdict;
 use command_texts::Telling;
 use command_words::VerdictForm;
 use report_json::push_verdict as push_verdict_object;
-use session_answers::{AnswerForm, LackForm, Story};
+use session_answers::LackForm;
 use std::alloc::AllocError;
 
 /// Appends the text of a verdict in this form. Fails only if memory runs out.
@@ -35,43 +35,13 @@ pub(crate) fn lack_beside(form: VerdictForm) -> LackForm
     }
 }
 
-/// Returns how much is said about a text that is refused, if the story of the session is told in this form.
-fn story_telling(story: Story) -> Telling
-    ensures { result ≡ story_telling story }
-{
-    match story {
-        Story::Words(_) => Telling::Full,
-        Story::Object => Telling::Fields,
-    }
-}
-
-/// Returns how much is said about a text that is refused, if the report is told in this form.
-pub(crate) fn telling_beside(form: AnswerForm) -> Telling
-    ensures { result ≡ how_much form }
+/// Returns how much is said about a text that is refused, by the form in which an answer says what a session lacks.
+pub(crate) fn telling_by(form: LackForm) -> Telling
+    ensures { result ≡ telling_by form }
 {
     match form {
-        AnswerForm::Lines(_) | AnswerForm::AllFaults => Telling::Short,
-        AnswerForm::Object | AnswerForm::AllFaultsObject => Telling::Fields,
-        AnswerForm::Story(story) => story_telling(story),
-    }
-}
-
-/// Returns how much is said about a text that is refused, if a verdict is told in this form.
-pub(crate) fn verdict_telling(form: VerdictForm) -> Telling
-    ensures { result ≡ verdict_telling form }
-{
-    match form {
-        VerdictForm::Line => Telling::Short,
-        VerdictForm::Object => Telling::Fields,
-    }
-}
-
-/// Returns how much is said about a session and a table of lines, if one is refused and the story is told in this form.
-pub(crate) fn table_telling(story: Story) -> Telling
-    ensures { result ≡ table_telling story }
-{
-    match story {
-        Story::Words(_) => Telling::Short,
-        Story::Object => Telling::Fields,
+        LackForm::Line => Telling::Short,
+        LackForm::Words => Telling::Full,
+        LackForm::Object => Telling::Fields,
     }
 }

@@ -8,4 +8,4 @@ pub returns-in-Ok : goal.returns-in-Ok
 returns-in-Ok g c = λ first second session table. by_table c.args.story c.args.complete first second c.in-Ok.table c.explained.result (subst (λ (r : Result (List ℕ) ℕ). IsRead SpellsTable second r) c.in-Ok.is table) (c.explained.ensures first session)
 
 pub returns-in-Err : goal.returns-in-Err
-returns-in-Err g c = λ first second session table. table_refused c.args.story c.args.complete first second c.in-Err.line c.table_refused.result (subst (λ (r : Result (List ℕ) ℕ). IsRead SpellsTable second r) c.in-Err.is table) c.table_refused.ensures
+returns-in-Err g c = λ first second session table. table_refused c.args.story c.args.complete first second c.in-Err.line c.table_refused.result (subst (λ (r : Result (List ℕ) ℕ). IsRead SpellsTable second r) c.in-Err.is table) (rw c.of_lack.ensures at c.table_refused.ensures)
