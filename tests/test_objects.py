@@ -3,7 +3,7 @@
 The texts are those of the example folders and of the test cases, with and without `--complete`. Of each answer in lines of text
 an object is made here, by docs/FORMATS.md and the session's own lines; the program has to write that object, on one line with no
 space, with the same status and the same words on standard error. The object of an explanation is that of the audit with records, each
-of a kind that its role has, and named in the words of the explanation.
+of a kind that its role has, and named in the words of the explanation. About a page or a line, its topic says what these words say.
 """
 import glob
 import itertools
@@ -16,6 +16,7 @@ import pytest
 from cases import same
 
 from session_text import SessionText
+from told_topics import steps_of, topic_of
 
 TOP = os.path.dirname(os.path.dirname(os.path.realpath(__file__)))
 
@@ -29,8 +30,9 @@ REFUSED = ("verdict", "line", "column", "found", "expected", "reason")
 # What the first word of a record of each role is, where the role says it.
 ROLES = {
     "changed": ("w", "z"), "halt": ("halt",), "sent": ("send",), "delivered": ("down",), "taken": ("got", "pull"),
-    "placed": ("place", "zero"), "placed-again": ("place", "zero"), "look": ("see",), "touch": ("r", "w", "z"), "resume": ("resume",), "faulty": None, "waits": None,
+    "placed": ("place", "zero"), "placed-again": ("place", "zero"), "look": ("see",), "touch": ("r", "w", "z"), "resume": ("resume",), "faulty": None, "waits": None, "named": None,
 }
+
 
 
 def record_of(session, line):
@@ -124,7 +126,7 @@ class Tests:
 
     def __init__(self, program, room):
         self.program, self.room = program, room
-        self.seen, self.roles = set(), set()
+        self.seen, self.roles, self.reasons = set(), set(), set()
 
     def ran(self, *words):
         child = subprocess.run([self.program, *words], cwd=self.room, stdin=subprocess.DEVNULL, capture_output=True)
@@ -149,19 +151,61 @@ class Tests:
         else:
             self.same(f"the object of {what}", list(found.items()), list(object_of(text, session_bytes).items()))
 
-    def story(self, what, session_bytes):
-        """The object of an explanation, beside that of the audit and the words."""
-        status, output, errors = self.ran("explain", "--format", "json", "session")
-        report = json.loads(self.ran("audit", "--format", "json", "session")[1])
-        words = self.ran("explain", "session")
+    def told(self, what, options, report):
+        """The object of an explanation with these options, beside that of the audit: its topic and its records, and the words."""
+        status, output, errors = self.ran("explain", "--format", "json", *options, "session")
+        words = self.ran("explain", *options, "session")
         self.same(f"the status of the story of {what}", status, words[0])
+        self.same(f"the first line beside the story of {what}", errors.split(b"\n")[0], words[2].split(b"\n")[0])
         found = json.loads(output)
         self.same(f"the line of the story of {what}", output.decode(), json.dumps(found, separators=(",", ":")) + "\n")
-        records = found.pop("records", [])
+        names = list(found)
+        topic, records = found.pop("topic", None), found.pop("records", None)
         self.same(f"the story of {what}", list(found.items()), list(report.items()))
-        if not records:
+        self.same(f"the last fields of the story of {what}", names[len(found):], [name for name, it in (("topic", topic), ("records", records)) if it is not None])
+        return topic, records, words[1].decode()
+
+    def story(self, what, session_bytes):
+        """The object of an explanation, beside that of the audit and the words."""
+        report = json.loads(self.ran("audit", "--format", "json", "session")[1])
+        topic, records, told = self.told(what, (), report)
+        self.same(f"the topic of {what}", topic, None)
+        if records:
+            self.records(what, SessionText(session_bytes.decode()), records, told)
+
+    def topics(self, what, session_bytes):
+        """The objects of explanations about pages and lines."""
+        report = json.loads(self.ran("audit", "--format", "json", "session")[1])
+        if report["verdict"] == "session-text":
+            self.same(f"the topic of {what}", self.told(what, ("--page", "0"), report)[:2], (None, None))
             return
-        session, told = SessionText(session_bytes.decode()), words[1].decode()
+        session = SessionText(session_bytes.decode())
+        reasons = {(it["page"], it["line"]): it["reason"] for it in json.loads(self.ran("audit", "--all", "--format", "json", "session")[1]).get("pages", [])}
+        lines = {report.get("line", 1), 7, session_bytes.count(b"\n") // 2}
+        for option, number in [("--page", 0), ("--page", 1), *(("--line", line) for line in sorted(lines))]:
+            asked = f"{what} {option} {number}"
+            topic, records, told = self.told(asked, (option, str(number)), report)
+            wanted = topic_of(told)
+            if "fault" in wanted:
+                given = topic.get("fault", {}).get("reason")
+                self.reasons.add(given)
+                at = wanted["page"], wanted["fault"]["line"]
+                wanted["fault"]["reason"] = reasons.get(at, given) if report["verdict"] in ("shape", "knot") else reasons.get(at)
+            self.same(f"the topic of {asked}", json.dumps(topic), json.dumps(wanted))
+            self.records(asked, session, records, told)
+            named = [(record["line"], record["log"], record["record"]) for record in records]
+            steps = steps_of(told)
+            self.same(f"the steps of {asked}", [step for step in steps if step not in named], [])
+            first = [named[0]] if "log" in topic else []
+            self.same(f"the record of {asked}", [it for it, record in zip(named, records) if record["role"] == "named"], first)
+            self.same(f"the line of {asked}", [(topic["line"], topic["log"], topic["record"])] if first else [], first)
+            faults = [topic["fault"]] if "fault" in topic else []
+            if report["verdict"] != "shape":
+                faulty = [{name: record[name] for name in ("line", "log", "record")} for record in records if record["role"] == "faulty"]
+                self.same(f"the faulty record of {asked}", faulty, [{name: it[name] for name in ("line", "log", "record")} for it in faults])
+
+    def records(self, what, session, records, told):
+        """The records of a story, of which each has the kind of its role, and is named in the words."""
         for record in records:
             line, log, n = (record[name] for name in ("line", "log", "record"))
             self.same(f"the line of {record} of {what}", session.line(log, n), line)
@@ -180,6 +224,7 @@ class Tests:
         for more in ((), ("--complete",)):
             self.one(f"{what} {' '.join(more)}", ["audit", *more, "session"], text)
         self.story(what, text)
+        self.topics(what, text)
 
     def pair(self, what, text, certificate):
         self.write("session", text)
@@ -198,7 +243,7 @@ def texts(folder):
 
 
 @pytest.mark.quick
-@pytest.mark.cases(5600)
+@pytest.mark.cases(20000)
 def test_objects(program, room):
     tests = Tests(program, room)
     for folder in sorted(glob.glob(f"{TOP}/examples/*") + glob.glob(f"{TOP}/tests/cases/*")):
@@ -209,7 +254,9 @@ def test_objects(program, room):
             if certificate is not None:
                 tests.pair(what, session, certificate)
     reasons = {reason for verdict, reason in tests.seen if verdict == "faulty"}
-    same("the faults that were met", sorted(reasons), ["altered", "early", "given", "over", "read", "stale", "twice", "unfit"])
+    every = ["altered", "early", "given", "over", "read", "stale", "twice", "unfit"]
+    same("the faults that were met", sorted(reasons), every)
+    same("the faults of topics that were met", sorted(tests.reasons), every)
     verdicts = {verdict for verdict, _ in tests.seen}
     every = ["certificate-text", "clean", "faulty", "incomplete", "knot", "page", "pages", "runs", "session-text", "shape", "yes"]
     same("the verdicts that were met", sorted(verdicts), every)

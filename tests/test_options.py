@@ -13,6 +13,7 @@ import subprocess
 
 import pytest
 from cases import count, same
+from told_topics import topic_of
 
 TOP = os.path.dirname(os.path.dirname(os.path.realpath(__file__)))
 SESSIONS = [f"{TOP}/{name}" for name in ("examples/handover/session", "examples/early-access/session", "examples/stale-page/session",
@@ -71,6 +72,13 @@ class Tests:
             return alone[JSON][0], told
         if (one, other) == (QUIET, JSON):
             return alone[JSON]
+        if other == JSON:
+            topic = topic_of(alone[one][1])
+            told = {name: it for name, it in json.loads(alone[JSON][1]).items() if name != "records"}
+            reason = re.search(rf"^page {topic.get('page')} line \d+ (.+)$", self.run("audit", *ALL, *names)[1], re.M)
+            if "fault" in topic:
+                topic["fault"]["reason"] = reason[1]
+            return alone[JSON][0], told if told["verdict"] == "session-text" else {**told, "topic": topic}
         if other == self.lines:
             status, text = alone[one]
             return status, self.moved(text, '"line":' if one == JSON else r"\b[Ll]ine ")
@@ -87,10 +95,10 @@ class Tests:
 
 
 @pytest.mark.quick
-@pytest.mark.cases(650)
+@pytest.mark.cases(630)
 def test_options(program, room):
     tests = Tests(program, room)
-    clashes = {"audit": {(ALL, QUIET)}, "explain": {(PAGE, LINE), (PAGE, JSON), (LINE, JSON)}, "check": set()}
+    clashes = {"audit": {(ALL, QUIET)}, "explain": {(PAGE, LINE)}, "check": set()}
     options = {"audit": (WHOLE, PAGES, ALL, QUIET, JSON), "explain": (WHOLE, PAGES, PAGE, LINE, JSON, tests.lines), "check": (WHOLE, PAGES, JSON)}
     for session, command in itertools.product(SESSIONS, options):
         names = [session]

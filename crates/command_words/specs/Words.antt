@@ -303,7 +303,7 @@ topic_in rows otherwise = unwrap_or (option_map Line (number_in (codes "line") r
 
 -- the form of a story, and what an explanation asks
 abbrev pub story_form_in : List Row → StoryForm
-story_form_in rows = if wants_object rows then story.Object else story.Words (topic_in rows topic.Report)
+story_form_in rows = if wants_object rows then story.Object (topic_in rows topic.Report) else story.Words (topic_in rows topic.Report)
 
 abbrev pub explains_in : List Row → Explains
 explains_in rows = record { demand = demand_in rows; form = story_form_in rows }
@@ -365,10 +365,9 @@ sessions_in rows = option_and_then several (all_of (codes "SESSION") rows)
 abbrev pub has : Text → List Row → Bool
 has option rows = is_some (first_of option rows)
 
--- A page and a line clash with each other. Each of them clashes with an object, because an object is about the report.
+-- a page and a line clash with each other
 abbrev pub topics_clash : List Row → Bool
-topics_clash rows =
-    (has (codes "page") rows && has (codes "line") rows) || ((has (codes "page") rows || has (codes "line") rows) && wants_object rows)
+topics_clash rows = has (codes "page") rows && has (codes "line") rows
 
 -- The faults of all pages clash with the first line alone. That line is asked for by an option, or because there are
 -- several sessions, with a line for each.

@@ -242,10 +242,11 @@ fn topic_given(otherwise: NamedTopic, matches: &ArgMatches<'_>) -> NamedTopic
 fn story_form(matches: &ArgMatches<'_>) -> StoryForm
     ensures { result ≡ story_form_in (rows_of (found_of matches.now)) }
 {
+    let topic = topic_given(NamedTopic::Report, matches);
     if wants_object(matches) {
-        StoryForm::Object
+        StoryForm::Object(topic)
     } else {
-        StoryForm::Words(topic_given(NamedTopic::Report, matches))
+        StoryForm::Words(topic)
     }
 }
 

@@ -22,9 +22,6 @@ use std::alloc::{AllocError, Global};
 
 const PAGE_WITH_LINE: &str = "the argument '--page <NUMBER>' cannot be used with '--line <NUMBER>'";
 
-const TOPIC_IN_OBJECT: &str =
-    "the arguments '--page <NUMBER>' and '--line <NUMBER>' cannot be used with '--format json', whose object is about the report";
-
 const ALL_IN_A_LINE: &str = "the argument '--all' cannot be used with '--quiet'";
 
 const ALL_OF_SEVERAL: &str =
@@ -47,19 +44,15 @@ fn sessions_given<'m, 'a>(matches: &'m ArgMatches<'a>) -> Option<&'m [&'a str]>
     }
 }
 
-// Returns the message on the options for topics that clash, if some do.
+// Returns the message on why the options for topics clash, if they do.
 fn clash_of_topics(matches: &ArgMatches<'_>) -> Option<&'static str>
     ensures { is_some result ≡ topics_clash (rows_of (found_of matches.now)) }
 {
-    let page = is_named(PAGE, matches);
-    let line = is_named(LINE, matches);
-    if page && line {
-        return Some(PAGE_WITH_LINE);
+    if is_named(PAGE, matches) && is_named(LINE, matches) {
+        Some(PAGE_WITH_LINE)
+    } else {
+        None
     }
-    if (page || line) && wants_object(matches) {
-        return Some(TOPIC_IN_OBJECT);
-    }
-    None
 }
 
 // Returns the message on why the option for the faults of all pages clashes with the others, if it does.

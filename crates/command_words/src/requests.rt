@@ -106,8 +106,8 @@ pub enum NamedTopic {
 pub enum StoryForm {
     /// Words, about this topic.
     Words(NamedTopic),
-    /// An object, about what the report is about.
-    Object,
+    /// An object, about this topic.
+    Object(NamedTopic),
 }
 
 /// What an explanation asks.

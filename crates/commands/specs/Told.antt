@@ -86,7 +86,7 @@ list_form list.AllFaultsObjects = form.AllFaultsObject
 
 abbrev pub story_form : StoryForm → Story
 story_form (story.Words topic) = tells.Words (told_topic topic)
-story_form story.Object = tells.Object
+story_form (story.Object topic) = tells.Object (told_topic topic)
 
 -- what an audit asks about a session, what an explanation asks, and what an audit of several sessions asks about each
 abbrev pub audit_ask : Audits → Ask

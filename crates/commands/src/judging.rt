@@ -55,7 +55,7 @@ pub(crate) fn story_form(form: StoryForm) -> Story
 {
     match form {
         StoryForm::Words(topic) => Story::Words(told_topic(topic)),
-        StoryForm::Object => Story::Object,
+        StoryForm::Object(topic) => Story::Object(told_topic(topic)),
     }
 }
 

@@ -31,7 +31,7 @@ pub record IsAsked (question : PostcopyQuestion) (asked : Option ShownAs) : Type
   pub draw_page : question.asks ≡ 10 → asked ≡ Some (Picture (topic.Page question.about))
   pub audit_object : question.asks ≡ 11 → asked ≡ Some (Told form.Object)
   pub audit_all_object : question.asks ≡ 12 → asked ≡ Some (Told form.AllFaultsObject)
-  pub explain_object : question.asks ≡ 13 → asked ≡ Some (Told (form.Story story.Object))
+  pub explain_object : question.asks ≡ 13 → asked ≡ Some (Told (form.Story (story.Object topic.Report)))
   pub none : (question.asks ≡ 0) ⊎ (13 < question.asks) → asked ≡ None
 
 -- what each of these questions asks to be shown, in order

@@ -47,7 +47,7 @@ fn asked_by(question: &PostcopyQuestion) -> Option<ShownAs>
         DRAW_PAGE => ShownAs::Picture(Topic::Page(about)),
         AUDIT_OBJECT => ShownAs::Told(AnswerForm::Object),
         AUDIT_ALL_OBJECT => ShownAs::Told(AnswerForm::AllFaultsObject),
-        EXPLAIN_OBJECT => ShownAs::Told(AnswerForm::Story(Story::Object)),
+        EXPLAIN_OBJECT => ShownAs::Told(AnswerForm::Story(Story::Object(Topic::Report))),
         _ => return None,
     })
 }

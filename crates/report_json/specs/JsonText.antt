@@ -33,6 +33,10 @@ word name w = codes ",\"" ++ name ++ codes "\":\"" ++ w ++ codes "\""
 abbrev pub run : Run → List ℕ
 run r = codes "[\"" ++ log_word r.log ++ codes "\"," ++ decimal r.count ++ codes "]"
 
+-- what begins an object inside another: a number under a name, as in {"page":3
+unfoldable pub opened : List ℕ → ℕ → List ℕ
+opened name n = codes "{\"" ++ name ++ codes "\":" ++ decimal n
+
 -- more items, each after a comma
 abbrev pub after_commas : {X : Type 0} → (X → List ℕ) → List X → List ℕ
 after_commas written xs = flat_map (λ x. codes "," ++ written x) xs
@@ -70,9 +74,12 @@ at_line name line = object name (number (codes "line") line)
 abbrev pub table_object : ℕ → List ℕ
 table_object line = at_line (codes "lines-text") line
 
--- a record: its line in the session's text, its log and its number there
+-- a record: its log and its number there; with its line in the session's text before them
+unfoldable pub record_in : LogName → ℕ → List ℕ
+record_in log place = word (codes "log") (log_word log) ++ number (codes "record") place
+
 unfoldable pub record_at : ℕ → LogName → ℕ → List ℕ
-record_at line log place = number (codes "line") line ++ word (codes "log") (log_word log) ++ number (codes "record") place
+record_at line log place = number (codes "line") line ++ record_in log place
 
 -- a page, if there is one
 unfoldable pub page_of : Option ℕ → List ℕ
@@ -104,7 +111,7 @@ report_object s report = report_begun own s report ++ codes "}\n"
 
 -- a page with a fault, as in {"page":3,"line":14,"reason":"read"}
 unfoldable pub faulty_page : FaultyPage → List ℕ
-faulty_page f = codes "{\"page\":" ++ decimal f.fault.page ++ number (codes "line") f.line ++ word (codes "reason") (page_word f.fault.reason) ++ codes "}"
+faulty_page f = opened (codes "page") f.fault.page ++ number (codes "line") f.line ++ word (codes "reason") (page_word f.fault.reason) ++ codes "}"
 
 -- the pages with a fault, if the report judges the pages
 abbrev pub pages_told : Report → List FaultyPage → List ℕ

@@ -1,3 +1,5 @@
 -- The result of an audit or a check, as a JSON object.
 pub mod JsonText
 pub mod RecordsText
+pub mod TopicsText
+pub mod inner

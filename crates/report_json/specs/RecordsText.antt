@@ -12,13 +12,16 @@ use Rattle.session_story.specs.declared.faults.FaultStory.{FaultStory}
 use Rattle.session_story.specs.declared.faults.ShapeStory.{ShapeStory}
 use Rattle.session_story.specs.declared.pages.Handover.{Handover}
 use Rattle.session_story.specs.declared.pages.PageStory.{PageStory}
+use Rattle.session_story.specs.declared.topics.FullPageStory.{FullPageStory}
+use Rattle.session_story.specs.declared.topics.LineStory.{LineStory}
+use Rattle.session_story.specs.declared.topics.TopicStory.{TopicStory}
+use Rattle.session_story.specs.declared.topics.TopicStory.TheVariants as topic
 use Rattle.session_story.specs.declared.waits.Waiting.{Waiting}
 use Rattle.session_story.specs.Concerned.{resumed_by}
-use Rattle.audit_report.specs.declared.report.Report.{Report}
 use Rattle.report_json.specs.declared.records.Role.{Role}
 use Rattle.report_json.specs.declared.records.Role.TheVariants as role
 use Rattle.report_json.specs.declared.records.ToldRecord.{ToldRecord}
-use Rattle.report_json.specs.JsonText.{listed, number, report_begun, word}
+use Rattle.report_json.specs.JsonText.{number, word}
 
 abbrev pub role_word : Role → List ℕ
 role_word role.Faulty = codes "faulty"
@@ -33,6 +36,7 @@ role_word role.Look = codes "look"
 role_word role.Touch = codes "touch"
 role_word role.Resume = codes "resume"
 role_word role.Waits = codes "waits"
+role_word role.Named = codes "named"
 
 -- a record with its role, as in {"role":"faulty","log":"guest","record":4,"line":13}
 unfoldable pub told_record : ToldRecord → List ℕ
@@ -55,9 +59,17 @@ later_records tell s page =
     told tell s role.Placed Pager page.found.placement ++ told tell s role.PlacedAgain Pager page.found.again
     ++ told tell s role.Look Guest page.found.look ++ told tell s role.Touch Guest page.found.touch
 
+-- how a page came to the target, and what became of it there
+abbrev pub page_records : (ℕ → ℕ) → Recorded → PageStory → Handover → List ToldRecord
+page_records tell s page handover = sent_records tell s page handover ++ later_records tell s page
+
+-- the record that has a fault of a page
+abbrev pub faulty_record : (ℕ → ℕ) → Recorded → FaultStory → List ToldRecord
+faulty_record tell s f = told tell s role.Faulty f.fault.log (Some f.fault.place)
+
 -- the fault of a page, and the page's story
 abbrev pub fault_records : (ℕ → ℕ) → Recorded → FaultStory → List ToldRecord
-fault_records tell s f = told tell s role.Faulty f.fault.log (Some f.fault.place) ++ sent_records tell s f.page f.handover ++ later_records tell s f.page
+fault_records tell s f = faulty_record tell s f ++ page_records tell s f.page f.handover
 
 -- the record that does not have the right shape, and the first sending of its page, or the resume of its guest
 abbrev pub shape_records : (ℕ → ℕ) → Recorded → ShapeStory → List ToldRecord
@@ -67,12 +79,33 @@ shape_records tell s t = told tell s role.Faulty t.fault.log (Some t.fault.place
 abbrev pub waiting_records : (ℕ → ℕ) → Recorded → List Waiting → List ToldRecord
 waiting_records tell s waits = flat_map (λ w. told tell s role.Waits w.log (Some w.place)) waits
 
-abbrev pub records_of : (ℕ → ℕ) → Recorded → Explanation → List ToldRecord
-records_of tell s (story.Shape t) = shape_records tell s t
-records_of tell s (story.Knot knot) = waiting_records tell s knot.waits.items
-records_of tell s (story.Faulty f more) = fault_records tell s f
-records_of tell s (story.Clean counts) = []
+-- the story of the report
+abbrev pub report_records : (ℕ → ℕ) → Recorded → Explanation → List ToldRecord
+report_records tell s (story.Shape t) = shape_records tell s t
+report_records tell s (story.Knot knot) = waiting_records tell s knot.waits.items
+report_records tell s (story.Faulty f more) = fault_records tell s f
+report_records tell s (story.Clean counts) = []
 
--- the object of a report with the records of its story
-abbrev pub explained_object : (ℕ → ℕ) → Recorded → Report → Explanation → List ℕ
-explained_object tell s report e = report_begun tell s report ++ listed (codes "records") told_record (records_of tell s e) ++ codes "}\n"
+-- the first fault of a page, if it has one, and the page's story
+abbrev pub first_records : (ℕ → ℕ) → Recorded → Option FaultStory → List ToldRecord
+first_records tell s None = []
+first_records tell s (Some f) = faulty_record tell s f
+
+abbrev pub full_records : (ℕ → ℕ) → Recorded → Option FullPageStory → List ToldRecord
+full_records tell s None = []
+full_records tell s (Some t) = first_records tell s t.fault ++ page_records tell s t.story t.handover
+
+-- the record at a line, what its shape concerns if the report names it for that, and the story of its page
+abbrev pub misshapen_records : (ℕ → ℕ) → Recorded → Option ShapeStory → List ToldRecord
+misshapen_records tell s None = []
+misshapen_records tell s (Some t) = shape_records tell s t
+
+abbrev pub line_records : (ℕ → ℕ) → Recorded → Option LineStory → List ToldRecord
+line_records tell s None = []
+line_records tell s (Some t) = told tell s role.Named t.log (Some t.place) ++ misshapen_records tell s t.shape ++ full_records tell s t.page
+
+-- the records of the story on a topic
+abbrev pub records_of : (ℕ → ℕ) → Recorded → TopicStory → List ToldRecord
+records_of tell s (topic.Report e) = report_records tell s e
+records_of tell s (topic.Page number t) = full_records tell s t
+records_of tell s (topic.Line line t) = line_records tell s t

@@ -1,7 +1,7 @@
 //! Objects and their fields. Each field begins with its comma, because the verdict comes before it.
 
 ghost use Rattle.std.specs.Prelude.{◌≡◌, [], ◌++◌, codes, OnOk};
-ghost use Rattle.report_json.specs.JsonText.{begun, number, object, opening, page_of, record_at, word};
+ghost use Rattle.report_json.specs.JsonText.{begun, number, object, opened, opening, page_of, record_at, record_in, word};
 
 use migration_types::{LogName, PageNo};
 use std::alloc::AllocError;
@@ -63,6 +63,26 @@ pub(crate) fn push_word_under(out: &mut Vec<u8>, name: &[u8], w: &[u8]) -> Resul
     out.extend_from_slice(b"\"")
 }
 
+/// Begins an object inside another: a number under a name, without a comma.
+#[tactic(auto, unfolding(crate::specs::JsonText::opened))]
+pub(crate) fn open(out: &mut Vec<u8>, name: &[u8], n: u64) -> Result<(), AllocError>
+    ensures { OnOk result (out.new.items ≡ out.old.items ++ opened name.now n) }
+{
+    out.extend_from_slice(b"{\"")?;
+    out.extend_from_slice(name)?;
+    out.extend_from_slice(b"\":")?;
+    push_number(out, n)
+}
+
+/// Appends a record: its log and its number.
+#[tactic(auto, unfolding(crate::specs::JsonText::record_in))]
+pub(crate) fn push_record_in(out: &mut Vec<u8>, log: LogName, place: u32) -> Result<(), AllocError>
+    ensures { OnOk result (out.new.items ≡ out.old.items ++ record_in log place) }
+{
+    push_word_under(out, b"log", log.word().as_bytes())?;
+    push_number_under(out, b"record", u64::from(place))
+}
+
 /// Appends a record: its line, its log and its number.
 #[tactic(auto, unfolding(crate::specs::JsonText::record_at))]
 pub(crate) fn push_record(
@@ -74,8 +94,7 @@ pub(crate) fn push_record(
     ensures { OnOk result (out.new.items ≡ out.old.items ++ record_at line log place) }
 {
     push_number_under(out, b"line", line)?;
-    push_word_under(out, b"log", log.word().as_bytes())?;
-    push_number_under(out, b"record", u64::from(place))
+    push_record_in(out, log, place)
 }
 
 /// Appends a page, if there is one.

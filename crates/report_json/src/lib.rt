@@ -6,8 +6,9 @@ mod fields;
 mod lists;
 mod objects;
 mod records;
+mod topics;
 
 pub use objects::{
-    push_all_faults, push_explained, push_missing, push_refused, push_refused_table, push_report,
+    push_all_faults, push_missing, push_refused, push_refused_table, push_report, push_told,
     push_verdict,
 };

@@ -3,7 +3,7 @@
 ghost use Rattle.std.specs.Prelude.{◌≡◌, ◌++◌, ℕ, List, codes, OnOk};
 ghost use Rattle.report_json.specs.JsonText.{after_commas, faulty_page, listed, run, runs, with_commas};
 
-use crate::fields::{push_number_under, push_word_under};
+use crate::fields::{open, push_number_under, push_word_under};
 use faulty_pages::FaultyPage;
 use migration_types::Run;
 use std::alloc::AllocError;
@@ -36,8 +36,7 @@ impl Item for FaultyPage {
 
     #[tactic(auto, unfolding(crate::specs::JsonText::faulty_page))]
     fn push(&self, out: &mut Vec<u8>) -> Result<(), AllocError> {
-        out.extend_from_slice(b"{\"page\":")?;
-        push_number(out, self.fault.page.number())?;
+        open(out, b"page", u64::from(self.fault.page.number()))?;
         push_number_under(out, b"line", u64::from(self.line))?;
         push_word_under(out, b"reason", self.fault.reason.word())?;
         out.extend_from_slice(b"}")

@@ -3,20 +3,21 @@
 ghost use Rattle.std.specs.Prelude.{◌≡◌, ◌++◌, codes, OnOk};
 ghost use Rattle.completeness.specs.Complete.{IsFirstMissing};
 ghost use Rattle.report_json.specs.JsonText.{all_faults_object, at_line, begun, fault_told, missing_object, missing_told, number, pages_told, record_at, report_begun, report_object, shape_object, shape_told, table_object, verdict_object, word};
-ghost use Rattle.report_json.specs.RecordsText.{explained_object};
+ghost use Rattle.report_json.specs.TopicsText.{IsStory, told_object};
 
 use crate::fields::{
     begin, end, push_bare, push_number_under, push_page, push_record, push_word_under,
 };
 use crate::lists::{push_list_under, push_runs};
 use crate::records::records_of;
+use crate::topics::push_topic;
 use audit_report::{Lines, OwnLines, Report, line_of_taken};
 use cert_check::{ShapeFault, Verdict};
 use completeness::Lack;
 use faulty_pages::FaultyPage;
 use migration_types::{LogName, PageNo, Run, Session};
 use page_facts::PageFault;
-use session_story::{Explanation, page_at};
+use session_story::{TopicStory, page_at};
 use std::alloc::{AllocError, Global};
 
 /// Appends the object of a verdict at a line of a text.
@@ -145,22 +146,25 @@ pub fn push_all_faults(
     end(out)
 }
 
-/// Appends the object of the report on a session with the records of its story, each with its role, and with the line
-/// numbers from `lines`. For a fault, these are the faulty record and the records of its page's story; for a fault of
-/// shape, the record and the first sending of its page; for a knot, the records that wait for one another, in order;
-/// and for a clean session, none. Fails only if memory runs out.
-pub fn push_explained<L: Lines>(
+/// Appends the object of the report on a session with the story on a topic: the topic, unless it is the report, and the
+/// records of the story, each with its role. Line numbers are from `lines`. Of the report, these are the records that
+/// led to what it names, and for a clean session none. Of a page, they are the record of its first fault, if it has one,
+/// and those of the page's story. Of a line, they are its record and those of the page that this is about. Fails only if
+/// memory runs out.
+pub fn push_told<L: Lines>(
     alloc: Global,
     out: &mut Vec<u8>,
     lines: &L,
     session: &Session,
     report: &Report,
-    explanation: &Explanation,
+    told: &TopicStory,
 ) -> Result<(), AllocError>
-    ensures { OnOk result (out.new.items ≡ out.old.items ++ explained_object (L.tell lines.now) session.now report.now explanation.now) }
+    requires { IsStory session.now report.now told.now }
+    ensures { OnOk result (out.new.items ≡ out.old.items ++ told_object (L.tell lines.now) session.now report.now told.now) }
 {
-    let records = records_of(alloc, session, lines, explanation)?;
+    let records = records_of(alloc, session, lines, told)?;
     begin_report(out, lines, session, report)?;
+    push_topic(out, lines, session, told)?;
     push_list_under(out, b"records", &records)?;
     end(out)
 }

@@ -1,14 +1,15 @@
 //! The records that the story of a session names, each with its role.
 
 ghost use Rattle.std.specs.Prelude.{◌≡◌, ◌++◌, Some, IfOk, OnOk};
-ghost use Rattle.report_json.specs.RecordsText.{fault_records, later_records, records_of, role_word, sent_records, shape_records, told, told_record, waiting_records};
+ghost use Rattle.report_json.specs.RecordsText.{fault_records, faulty_record, first_records, full_records, later_records, line_records, misshapen_records, page_records, records_of, report_records, role_word, sent_records, shape_records, told, told_record, waiting_records};
 
 use crate::fields::{push_number_under, push_word_under};
 use crate::lists::Item;
 use audit_report::Lines;
 use migration_types::{LogName, Session};
 use session_story::{
-    Explanation, FaultStory, Handover, PageStory, ShapeStory, Waiting, line_at, resumed_by,
+    Explanation, FaultStory, FullPageStory, Handover, LineStory, PageStory, ShapeStory, TopicStory,
+    Waiting, line_at, resumed_by,
 };
 use std::alloc::{AllocError, Global};
 
@@ -39,6 +40,8 @@ pub(crate) enum Role {
     Resume,
     /// A record that waits for the next one of a knot.
     Waits,
+    /// The record at the line that the story is about.
+    Named,
 }
 
 impl Role {
@@ -59,6 +62,7 @@ impl Role {
             Role::Touch => b"touch",
             Role::Resume => b"resume",
             Role::Waits => b"waits",
+            Role::Named => b"named",
         }
     }
 }
@@ -232,14 +236,28 @@ fn take_later<L: Lines>(
     )
 }
 
-/// Adds the records of a fault and of its page.
-fn take_fault<L: Lines>(
+/// Adds the records that say how a page came to the target, and what became of it there.
+fn take_page<L: Lines>(
+    records: &mut Vec<ToldRecord>,
+    session: &Session,
+    lines: &L,
+    page: &PageStory,
+    handover: &Handover,
+) -> Result<(), AllocError>
+    ensures { OnOk result (records.new.items ≡ records.old.items ++ page_records (L.tell lines.now) session.now page.now handover.now) }
+{
+    take_sent(records, session, lines, page, handover)?;
+    take_later(records, session, lines, page)
+}
+
+/// Adds the record that has a fault of a page.
+fn take_faulty<L: Lines>(
     records: &mut Vec<ToldRecord>,
     session: &Session,
     lines: &L,
     story: &FaultStory,
 ) -> Result<(), AllocError>
-    ensures { OnOk result (records.new.items ≡ records.old.items ++ fault_records (L.tell lines.now) session.now story.now) }
+    ensures { OnOk result (records.new.items ≡ records.old.items ++ faulty_record (L.tell lines.now) session.now story.now) }
 {
     let fault = &story.fault;
     take(
@@ -249,9 +267,20 @@ fn take_fault<L: Lines>(
         Role::Faulty,
         fault.log,
         Some(fault.place),
-    )?;
-    take_sent(records, session, lines, &story.page, &story.handover)?;
-    take_later(records, session, lines, &story.page)
+    )
+}
+
+/// Adds the records of a fault and of its page.
+fn take_fault<L: Lines>(
+    records: &mut Vec<ToldRecord>,
+    session: &Session,
+    lines: &L,
+    story: &FaultStory,
+) -> Result<(), AllocError>
+    ensures { OnOk result (records.new.items ≡ records.old.items ++ fault_records (L.tell lines.now) session.now story.now) }
+{
+    take_faulty(records, session, lines, story)?;
+    take_page(records, session, lines, &story.page, &story.handover)
 }
 
 /// Adds the record that does not have the right shape, and the first sending of its page, or the resume of its guest.
@@ -312,21 +341,109 @@ fn take_waits<L: Lines>(
     Ok(())
 }
 
-/// Returns the records that the story of a session names. Fails only if memory runs out.
+/// Adds the records of the story of the report.
+fn take_report<L: Lines>(
+    records: &mut Vec<ToldRecord>,
+    session: &Session,
+    lines: &L,
+    explanation: &Explanation,
+) -> Result<(), AllocError>
+    ensures { OnOk result (records.new.items ≡ records.old.items ++ report_records (L.tell lines.now) session.now explanation.now) }
+{
+    match explanation {
+        Explanation::Shape(story) => take_shape(records, session, lines, story),
+        Explanation::Knot(knot) => take_waits(records, session, lines, &knot.waits),
+        Explanation::Faulty { story, .. } => take_fault(records, session, lines, story),
+        Explanation::Clean(_) => Ok(()),
+    }
+}
+
+/// Adds the record of a page's first fault, if it has one.
+fn take_first<L: Lines>(
+    records: &mut Vec<ToldRecord>,
+    session: &Session,
+    lines: &L,
+    fault: &Option<FaultStory>,
+) -> Result<(), AllocError>
+    ensures { OnOk result (records.new.items ≡ records.old.items ++ first_records (L.tell lines.now) session.now fault.now) }
+{
+    match fault {
+        Some(story) => take_faulty(records, session, lines, story),
+        None => Ok(()),
+    }
+}
+
+/// Adds the records of a page with its first fault, if there is a page.
+fn take_full<L: Lines>(
+    records: &mut Vec<ToldRecord>,
+    session: &Session,
+    lines: &L,
+    told: &Option<FullPageStory>,
+) -> Result<(), AllocError>
+    ensures { OnOk result (records.new.items ≡ records.old.items ++ full_records (L.tell lines.now) session.now told.now) }
+{
+    match told {
+        Some(page) => {
+            take_first(records, session, lines, &page.fault)?;
+            take_page(records, session, lines, &page.story, &page.handover)
+        }
+        None => Ok(()),
+    }
+}
+
+/// Adds what the shape of a record concerns, if the story has that.
+fn take_misshapen<L: Lines>(
+    records: &mut Vec<ToldRecord>,
+    session: &Session,
+    lines: &L,
+    shape: &Option<ShapeStory>,
+) -> Result<(), AllocError>
+    ensures { OnOk result (records.new.items ≡ records.old.items ++ misshapen_records (L.tell lines.now) session.now shape.now) }
+{
+    match shape {
+        Some(story) => take_shape(records, session, lines, story),
+        None => Ok(()),
+    }
+}
+
+/// Adds the record at a line, and the records of its story, if there is a record.
+fn take_line<L: Lines>(
+    records: &mut Vec<ToldRecord>,
+    session: &Session,
+    lines: &L,
+    told: &Option<LineStory>,
+) -> Result<(), AllocError>
+    ensures { OnOk result (records.new.items ≡ records.old.items ++ line_records (L.tell lines.now) session.now told.now) }
+{
+    let Some(line) = told else {
+        return Ok(());
+    };
+    take(
+        records,
+        session,
+        lines,
+        Role::Named,
+        line.log,
+        Some(line.place),
+    )?;
+    take_misshapen(records, session, lines, &line.shape)?;
+    take_full(records, session, lines, &line.page)
+}
+
+/// Returns the records of the story on a topic. Fails only if memory runs out.
 pub(crate) fn records_of<L: Lines>(
     alloc: Global,
     session: &Session,
     lines: &L,
-    explanation: &Explanation,
+    told: &TopicStory,
 ) -> Result<Vec<ToldRecord>, AllocError>
-    ensures { IfOk result (λ records. records.items ≡ records_of (L.tell lines.now) session.now explanation.now) }
+    ensures { IfOk result (λ records. records.items ≡ records_of (L.tell lines.now) session.now told.now) }
 {
     let mut records = Vec::new(alloc);
-    match explanation {
-        Explanation::Shape(story) => take_shape(&mut records, session, lines, story)?,
-        Explanation::Knot(knot) => take_waits(&mut records, session, lines, &knot.waits)?,
-        Explanation::Faulty { story, .. } => take_fault(&mut records, session, lines, story)?,
-        Explanation::Clean(_) => {}
+    match told {
+        TopicStory::Report(explanation) => take_report(&mut records, session, lines, explanation)?,
+        TopicStory::Page(_, page) => take_full(&mut records, session, lines, page)?,
+        TopicStory::Line(_, line) => take_line(&mut records, session, lines, line)?,
     }
     Ok(records)
 }

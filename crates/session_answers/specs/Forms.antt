@@ -11,10 +11,11 @@ use Rattle.audit_report.specs.ToldLines.{own}
 use Rattle.report_json.specs.JsonText.{all_faults_object, at_line, report_object}
 use Rattle.judged_texts.specs.AuditedText.{wanted_text}
 use Rattle.judged_texts.specs.declared.audit_part.AuditPart.{AuditPart}
-use Rattle.report_json.specs.RecordsText.{explained_object}
-use Rattle.session_story.specs.Explained.{IsExplanation}
+use Rattle.report_json.specs.TopicsText.{told_object}
 use Rattle.session_story.specs.Told.{IsRefusedText, IsToldText}
-use Rattle.session_story.specs.declared.explaining.Explanation.{Explanation}
+use Rattle.session_story.specs.Topics.{IsTold}
+use Rattle.session_story.specs.declared.topics.Topic.{Topic}
+use Rattle.session_story.specs.declared.topics.TopicStory.{TopicStory}
 use Rattle.session_answers.specs.Judged.{Judged, Refused, Reported}
 use Rattle.session_answers.specs.declared.forms.AnswerForm.{AnswerForm}
 use Rattle.session_answers.specs.declared.forms.AnswerForm.TheVariants.{Lines, AllFaults, Object, AllFaultsObject}
@@ -35,18 +36,18 @@ abbrev pub TellsObject : Judged → List ℕ → Type 0
 TellsObject (Refused line) text = TellsRefusalObject line text
 TellsObject (Reported s report) text = text ≡ report_object s report
 
--- an object, with the records of the story, and its line numbers mapped
-pub record TellsRecords (tell : ℕ → ℕ) (s : Recorded) (report : Report) (text : List ℕ) : Type 0 where
-  pub explanation : Explanation
-  pub is_explanation : IsExplanation s report explanation
-  pub is_text : text ≡ explained_object tell s report explanation
+-- an object, with the records of the story on this topic, and its line numbers mapped
+pub record TellsRecords (tell : ℕ → ℕ) (s : Recorded) (report : Report) (topic : Topic) (text : List ℕ) : Type 0 where
+  pub told : TopicStory
+  pub is_told : IsTold s report topic told
+  pub is_text : text ≡ told_object tell s report told
 
--- the story, with its line numbers mapped: words on a topic, after the first line, or an object
+-- the story on a topic, with its line numbers mapped: words, after the first line, or an object
 abbrev pub TellsStory : (ℕ → ℕ) → Story → Judged → List ℕ → Type 0
 TellsStory tell (story.Words topic) (Refused line) text = IsRefusedText (tell line) text
 TellsStory tell (story.Words topic) (Reported s report) text = IsToldText tell s report topic text
-TellsStory tell story.Object (Refused line) text = TellsRefusalObject (tell line) text
-TellsStory tell story.Object (Reported s report) text = TellsRecords tell s report text
+TellsStory tell (story.Object topic) (Refused line) text = TellsRefusalObject (tell line) text
+TellsStory tell (story.Object topic) (Reported s report) text = TellsRecords tell s report topic text
 
 -- the text that these words make of the pages with a fault, if the report judges the pages
 pub record TellsPages (words : List FaultyPage → List ℕ) (s : Recorded) (report : Report) (text : List ℕ) : Type 0 where

@@ -31,7 +31,7 @@ TellsLack tell Object s m text = text ≡ object_of tell s m
 -- the form of a lack that goes with this form of a story
 abbrev pub story_lack : Story → LackForm
 story_lack (story.Words topic) = Words
-story_lack story.Object = Object
+story_lack (story.Object topic) = Object
 
 -- the form of a lack that goes with this form of a report
 abbrev pub lack_form : AnswerForm → LackForm

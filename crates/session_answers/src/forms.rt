@@ -13,8 +13,8 @@ use session_story::Topic;
 pub enum Story {
     /// Words on this topic, after the first line of the report.
     Words(Topic),
-    /// The object of the report, with the records of the story, each with its role.
-    Object,
+    /// The object of the report, with this topic and the records of its story, each with its role.
+    Object(Topic),
 }
 
 /// The form in which the report on a session is written.
@@ -50,7 +50,7 @@ impl Story {
     {
         match self {
             Story::Words(_) => LackForm::Words,
-            Story::Object => LackForm::Object,
+            Story::Object(_) => LackForm::Object,
         }
     }
 }

@@ -8,24 +8,25 @@ ghost use Rattle.session_answers.specs.Forms.{TellsRecords, TellsRefusalObject, 
 use crate::forms::Story;
 use audit_report::{Lines, Report};
 use migration_types::Session;
-use report_json::{push_explained, push_refused};
-use session_story::{explain, print_refused, print_topic};
+use report_json::{push_refused, push_told};
+use session_story::{Topic, print_refused, print_topic, tell};
 use std::alloc::{AllocError, Global};
 
-/// Returns the object of the report with the records of the story, with its line numbers from `lines`. Fails only if
-/// memory runs out.
+/// Returns the object of the report with the records of the story on a topic, with its line numbers from `lines`. Fails
+/// only if memory runs out.
 fn object_of_story<L: Lines>(
     alloc: Global,
     lines: &L,
     session: &Session,
     report: &Report,
+    topic: Topic,
 ) -> Result<Vec<u8>, AllocError>
     requires { IsReport session.now report.now }
-    ensures { IfOk result (λ text. TellsRecords (L.tell lines.now) session.now report.now text.items) }
+    ensures { IfOk result (λ text. TellsRecords (L.tell lines.now) session.now report.now topic text.items) }
 {
-    let explanation = explain(alloc, session, report)?;
+    let told = tell(alloc, session, report, topic)?;
     let mut object = Vec::new(alloc);
-    push_explained(alloc, &mut object, lines, session, report, &explanation)?;
+    push_told(alloc, &mut object, lines, session, report, &told)?;
     Ok(object)
 }
 
@@ -43,7 +44,7 @@ pub fn print_story<L: Lines>(
 {
     match story {
         Story::Words(topic) => print_topic(alloc, lines, session, report, topic),
-        Story::Object => object_of_story(alloc, lines, session, report),
+        Story::Object(topic) => object_of_story(alloc, lines, session, report, topic),
     }
 }
 
@@ -73,6 +74,6 @@ pub fn print_story_refusal<L: Lines>(
 {
     match story {
         Story::Words(_) => print_refused(alloc, lines, line),
-        Story::Object => object_of_refusal(alloc, lines, line),
+        Story::Object(_) => object_of_refusal(alloc, lines, line),
     }
 }
