@@ -70,7 +70,7 @@ SENTENCES = {
     "a cell outside": rf"{PLACE}, .*: there is no cell \d+: a page has \d+ cells, from 0 on",
     "other cells": rf"{PLACE}, .*: contents of \d+ cells, where a page of the machine has \d+",
     "receipts beside a log": rf"{PLACE}, .*: the (link|lane) has a log of its own, whose number '\w+' names",
-    "too many cells": r"\d+ cells are too many: a page has at most 512",
+    "too many cells": rf"{PLACE}: \d+ cells are too many: a page has at most 512",
     "the end of a head": rf"\w+: {PATHS} ends in its head: its process died as it began the file",
     "a late part": rf"\w+: {PATHS} begins with record \d+, where the log has \d+ in front of it: a log is gone on with from .*",
     "no end": rf"\w+: {PATHS} has no end: its process died, or did not close the log .*",
@@ -408,6 +408,8 @@ def long_lines(tests):
 
 def great_numbers(tests):
     """Numbers at the limits of those that there are, in each place, and beyond."""
+    for cells in (512, 513, 999, 1000):
+        compared(tests, f"{cells} cells", [base(f"great-page-{cells}", machine=[f"pages 2 {cells}"])])
     for number in (2**32 - 2, 2**32 - 1, 2**32, 2**63, 2**64 - 1, 2**64, 2**64 + 5, 10**19, 10**30):
         for what, changed in (
             ("a record's number", {"guest": body("guest", f"{number} r 0 0 0 5\n".encode(), last=False)}),

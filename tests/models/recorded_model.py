@@ -21,7 +21,7 @@ import os
 import re
 from typing import Dict, Iterable, Iterator, List, Optional, Tuple
 
-from postcopy.records import LOGS, LOST, RECORDS, read_record
+from postcopy.records import LOGS, LOST, MOST_CELLS, RECORDS, read_record
 from postcopy.sessions import Session
 
 # What stands before each line that is told, and the last line where something is missing.
@@ -210,6 +210,8 @@ def _machine(log: Optional[_Log]) -> Tuple[Session, List[str]]:
         match = _MACHINE.fullmatch(text)
         if match is None or int(match[1] or 0) >= 2**63 or int(match[3] or 0) >= 2**64:
             raise Unfit(f"{log.place(number)}: found {_quoted(text)}; expected 'pages PAGES CELLS' or 'page PAGE CONTENTS'")
+        if match[2] and int(match[2]) > MOST_CELLS:
+            raise Unfit(f"{log.place(number)}: {match[2]} cells are too many: a page has at most {MOST_CELLS}")
         if match[1] and pages is not None:
             raise Unfit(f"{log.place(number)}: a second {_quoted(text)}, beside {log.place(pages)}: {_quoted(log.texts[pages])}")
         if match[1]:

@@ -8,4 +8,5 @@ pub mod Seen
 pub mod Spelled
 pub mod Surveying
 pub mod Told
+pub mod Unsaid
 pub mod Walked

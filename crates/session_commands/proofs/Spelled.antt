@@ -1,6 +1,5 @@
 -- The text of a session, as it is made and written.
-use Rattle.std.proofs.Common.{◌≡◌, ℕ, List, Option, refl}
-use Rattle.std.specs.Prelude.{IsTrue}
+use Rattle.std.proofs.Common.{◌≡◌, ℕ, List, [], Option, refl}
 use Rattle.command_words.specs.declared.requests.Lacking.{Lacking}
 use Rattle.command_words.specs.declared.requests.Lacking.TheVariants.{Refused}
 use Rattle.walked_logs.specs.Walks.{IsRecordingOf}
@@ -11,7 +10,7 @@ use Rattle.session_commands.specs.Files.{WritesText, bytes_in}
 use Rattle.session_commands.specs.inner.Seen.{IsKnown}
 
 -- what was appended is the text of a session
-pub written : (lacking : Lacking) (files : List ℕ → Option (List ℕ)) (logs : FoundLogs) (known : Known) (count : ℕ) (old new : Option (List ℕ)) → IsKnown files logs known → (lacking ≡ Refused → IsTrue known.is_whole) → Writes (λ s. IsRecordingOf known.machine known.init.items (bytes_in files logs) s) old new known.front count → WritesText files logs lacking old new
+pub written : (lacking : Lacking) (files : List ℕ → Option (List ℕ)) (logs : FoundLogs) (known : Known) (count : ℕ) (old new : Option (List ℕ)) → IsKnown files logs known → (lacking ≡ Refused → known.said.items ≡ []) → Writes (λ s. IsRecordingOf known.machine known.init.items (bytes_in files logs) s) old new known.front count → WritesText files logs lacking old new
 written lacking files logs known count old new is asked w = (
   text_of known.front w.s,
   record {

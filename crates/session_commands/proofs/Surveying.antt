@@ -12,7 +12,8 @@ use Rattle.recorded_files.specs.declared.lines.Party.{Party}
 use Rattle.recorded_files.specs.declared.lines.Party.TheVariants.{Machine, Of}
 use Rattle.surveyed_logs.specs.Surveys.{IsSurveyOf}
 use Rattle.surveyed_logs.specs.declared.surveying.Surveyed.{Surveyed}
-use Rattle.session_commands.specs.Found.{AreFilesOf, IsFoundIn, IsSurveyed, log_of, path_in}
+use Rattle.session_commands.specs.Files.{log_of}
+use Rattle.session_commands.specs.Found.{AreFilesOf, IsFoundIn, IsSurveyed, path_in}
 use Rattle.session_commands.specs.inner.Finding.{AreFound, AreLogsOf, GetsFile, IsNothing, TakesFile, told_of}
 use Rattle.session_commands.specs.declared.found.FoundFile.{FoundFile}
 use Rattle.session_commands.specs.declared.found.FoundLog.{FoundLog}

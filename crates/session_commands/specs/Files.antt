@@ -1,5 +1,5 @@
 -- The recording that recorders' files make, and its text.
-use Rattle.std.specs.Prelude.{◌≡◌, ◌≢◌, ℕ, ◌*◌, ◌<◌, ◌≤◌, ◌⊎◌, ◌↔◌, ◌==◌, ◌&&◌, Bool, true, false, if◌then◌else◌, IsTrue, List, [], ◌∷◌, Option, Some, map, flat_map, slice_get, string_bytes, take}
+use Rattle.std.specs.Prelude.{◌≡◌, ◌≢◌, ℕ, ◌*◌, ◌<◌, ◌≤◌, ◌⊎◌, ◌↔◌, ◌==◌, ◌&&◌, Bool, true, false, if◌then◌else◌, IsTrue, List, [], ◌∷◌, Option, Some, None, map, flat_map, slice_get, string_bytes, sum_by, take}
 use Rattle.std.specs.List.{AllZip, list_any}
 use Rattle.migration_types.specs.declared.records.LogName.{LogName}
 use Rattle.migration_types.specs.declared.records.LogName.TheVariants.{Guest, Source, Link, Lane, Pager}
@@ -15,6 +15,11 @@ use Rattle.migration_types.specs.declared.version.Version.TheVariants.{Two}
 use Rattle.migration_types.specs.Sessions.{Recorded, log_length}
 use Rattle.command_words.specs.declared.requests.Lacking.{Lacking}
 use Rattle.command_words.specs.declared.requests.Lacking.TheVariants.{Refused}
+use Rattle.recorded_files.specs.declared.lines.Party.{Party}
+use Rattle.recorded_files.specs.declared.lines.Party.TheVariants.{Machine, Of}
+use Rattle.surveyed_logs.specs.Lacks.{lacks, record_count}
+use Rattle.surveyed_logs.specs.Parts.{AllFit, ArePartsOf}
+use Rattle.surveyed_logs.specs.declared.parts.LogPart.{LogPart}
 use Rattle.surveyed_logs.specs.Machine.{FileTells, IsDescribed}
 use Rattle.surveyed_logs.specs.declared.machine_log.MachineEntry.{MachineEntry}
 use Rattle.surveyed_logs.specs.declared.describing.Description.{Description}
@@ -38,6 +43,11 @@ log_in logs Source = logs.source
 log_in logs Link = logs.link
 log_in logs Lane = logs.lane
 log_in logs Pager = logs.pager
+
+-- the log of a party
+abbrev pub log_of : FoundLogs → Party → FoundLog
+log_of logs Machine = logs.machine
+log_of logs (Of log) = log_in logs log
 
 -- the bytes of each file of a log, where they are known
 abbrev pub known_in : (List ℕ → Option (List ℕ)) → FoundLog → List (Option (List ℕ))
@@ -164,20 +174,48 @@ pub record IsChosen (files : List ℕ → Option (List ℕ)) (logs : FoundLogs) 
   pub written : IsWrittenFront seen front
   pub form : IsFormOf logs.lane seen front machine
 
--- Nothing of what the files make is left out: the front has each record, and no log has a hole.
+-- Nothing of what the files make is left out: the front has each record, no log has a hole, and each but the lane has a record.
 pub record LeavesNothing {machine : WideMachine} {initial : List WideInit} {bytes : Bytes} {s : Recorded} (made : IsRecordingOf machine initial bytes s) (front : Front) : Type 0 where
   pub all : (log : LogName) → cursors_of front log ≡ log_length s log
   pub no_hole : HasNoHole made
+  pub some : (log : LogName) → log ≢ Lane → 0 < log_length s log
+
+-- ---- what is lost
+
+-- how many records the files of a log have
+abbrev pub records_in : FoundLog → ℕ
+records_in log = sum_by (λ s. s.records) log.surveyed.items
+
+-- The files of a log lack nothing, and tell of so many records: each has its head, those of one part fit together, and the parts
+-- lack nothing.
+pub record LacksNothing (log : FoundLog) (count : ℕ) : Type 0 where
+  pub heads : log.headless.items ≡ []
+  pub fit : AllFit log.surveyed.items
+  pub parts : List LogPart
+  pub are_parts : ArePartsOf log.surveyed.items parts
+  pub lacks_none : lacks parts ≡ []
+  pub counted : count ≡ record_count parts
+
+-- nothing of a log is lost: its files lack nothing, and have each record that they tell of
+abbrev pub HasAll : FoundLog → Type 0
+HasAll log = LacksNothing log (records_in log)
+
+-- Nothing of what the recorders wrote is lost: no log of a party lacks anything, no number is missing in the machine's, and nothing
+-- of what the files make is left out.
+pub record LosesNothing {files : List ℕ → Option (List ℕ)} {logs : FoundLogs} {machine : WideMachine} {initial : List WideInit} {front : Front} (chosen : IsChosen files logs machine initial front) : Type 0 where
+  pub has_all : (party : Party) → HasAll (log_of logs party)
+  pub no_hole : chosen.described.d.behind ≡ None
+  pub leaves : LeavesNothing chosen.made front
 
 -- ---- the text
 
--- This is the text of the recording that the files of these logs make, cut to its front. Nothing is left out, unless it may be cut.
+-- This is the text of the recording that the files of these logs make, cut to its front. Nothing is lost, unless it may be cut.
 pub record IsTextOf (files : List ℕ → Option (List ℕ)) (logs : FoundLogs) (lacking : Lacking) (text : List ℕ) : Type 0 where
   pub machine : WideMachine
   pub init : List WideInit
   pub front : Front
   pub chosen : IsChosen files logs machine init front
-  pub whole : lacking ≡ Refused → LeavesNothing chosen.made front
+  pub whole : lacking ≡ Refused → LosesNothing chosen
   pub s : Recorded
   pub made : IsRecordingOf machine init (bytes_in files logs) s
   pub spelled : text ≡ text_of front s

@@ -5,10 +5,9 @@ use Rattle.std.specs.List.Sorted.{IsPermutation}
 use Rattle.migration_types.specs.declared.records.LogName.{LogName}
 use Rattle.recorded_files.specs.Said.{Says}
 use Rattle.recorded_files.specs.declared.lines.Party.{Party}
-use Rattle.recorded_files.specs.declared.lines.Party.TheVariants.{Machine, Of}
 use Rattle.surveyed_logs.specs.Names.{AreDigits, file_name}
 use Rattle.surveyed_logs.specs.Surveys.{IsSurveyOf}
-use Rattle.session_commands.specs.Files.{log_in}
+use Rattle.session_commands.specs.Files.{log_of}
 use Rattle.session_commands.specs.declared.found.FoundLog.{FoundLog}
 use Rattle.session_commands.specs.declared.found.FoundLogs.{FoundLogs}
 
@@ -46,11 +45,6 @@ pub record AreFilesOf (names_in : List ℕ → Option (List (List ℕ))) (folder
   pub all : (folder name : List ℕ) (names : List (List ℕ)) → Contains folders folder → names_in folder ≡ Some names → Contains names name → IsNameOf party name → Contains paths (path_in folder name)
 
 -- ---- what they are
-
--- the log of a party
-abbrev pub log_of : FoundLogs → Party → FoundLog
-log_of logs Machine = logs.machine
-log_of logs (Of log) = log_in logs log
 
 -- Each file of a log has a head, and this was surveyed of it; or it ends within its head.
 pub record IsSurveyed (bytes_of : List ℕ → Option (List ℕ)) (party : Party) (log : FoundLog) : Type 0 where

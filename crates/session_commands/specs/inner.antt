@@ -1,3 +1,4 @@
 -- Definitions that only proofs use.
 pub mod Finding
 pub mod Seen
+pub mod Telling

@@ -1,6 +1,10 @@
 //! Where logs are cut, and why, in words.
 
-ghost use Rattle.std.specs.Prelude.{⊤};
+ghost use Rattle.std.specs.Prelude.{◌≤◌, ⊤, OnOk};
+ghost use Rattle.migration_types.specs.Sessions.{Recorded, log_length};
+ghost use Rattle.recorded_files.specs.Fronts.{cursors_of};
+ghost use Rattle.recorded_files.specs.Named.{IsNaming};
+ghost use Rattle.session_commands.specs.inner.Telling.{ReachIn, SaysUnless};
 
 use crate::facts::{Facts, left_out};
 use crate::found::FoundLogs;
@@ -12,7 +16,7 @@ use crate::places::push_place;
 use crate::stops::{Stop, add};
 use crate::words::{push, push_count, push_message, push_spelled};
 use command_texts::TextSource;
-use migration_types::{LOGS, LogName};
+use migration_types::LogName;
 use recorded_files::{Front, Party};
 use recordings::{
     Visitor, WideGuest, WideInit, WideLane, WideLink, WideMachine, WidePager, WideSource,
@@ -213,46 +217,78 @@ fn push_end<S: TextSource>(
     Ok(())
 }
 
-/// Adds what is said of a log that is cut.
-fn tell_cut<S: TextSource>(
-    said: &mut Vec<u8>,
+/// Returns what is said of a log that is cut to a front, which leaves out so many of its records.
+fn cut_line<S: TextSource>(
     alloc: Global,
     texts: &S,
     logs: &FoundLogs,
     facts: &Facts,
+    front: Front,
     ends: &Ends,
     log: LogName,
-) -> Result<(), Stop> {
-    let counts = facts.naming.counts();
+    count: u64,
+) -> Result<Vec<u8>, Stop> {
     let greatest = facts.naming.greatest_front();
-    let front = facts.written_front();
-    let count = left_out(counts, front, log);
-    if count == 0 {
-        return Ok(());
-    }
     let mut line = line_on(alloc, Party::Of(log))?;
     push_count(&mut line, count)?;
     push(&mut line, " records left out: ")?;
     if log == LogName::Source && facts.is_lone(greatest) {
         push(&mut line, "a halted that is alone tells nothing")?;
     } else if let Some(end) = ends.end(log) {
+        let counts = facts.naming.counts();
         push_end(&mut line, alloc, texts, logs, end, front.of(log), counts)?;
     }
+    Ok(line)
+}
+
+/// Adds what is said of a log that is cut to a front.
+fn tell_cut<S: TextSource>(
+    said: &mut Vec<u8>,
+    alloc: Global,
+    texts: &S,
+    logs: &FoundLogs,
+    facts: &Facts,
+    front: Front,
+    ends: &Ends,
+    log: LogName,
+) -> Result<(), Stop>
+    ensures { OnOk result ((s : Recorded) → IsNaming facts.now.naming s → SaysUnless said.old.items said.new.items (log_length s log ≤ cursors_of front log)) }
+{
+    let counts = facts.naming.counts();
+    let count = left_out(counts, front, log);
+    if count == 0 {
+        return Ok(());
+    }
+    let line = cut_line(alloc, texts, logs, facts, front, ends, log, count)?;
     push_message(said, line.as_slice())?;
     Ok(())
 }
 
-/// Adds what is said of the logs that are cut.
+/// Adds what is said of the logs that are cut to a front.
 pub(crate) fn tell_cuts<S: TextSource>(
     said: &mut Vec<u8>,
     alloc: Global,
     texts: &S,
     logs: &FoundLogs,
     facts: &Facts,
+    front: Front,
     ends: &Ends,
-) -> Result<(), Stop> {
-    for log in LOGS {
-        tell_cut(said, alloc, texts, logs, facts, ends, log)?;
-    }
+) -> Result<(), Stop>
+    ensures { OnOk result ((s : Recorded) → IsNaming facts.now.naming s → SaysUnless said.old.items said.new.items (ReachIn s front)) }
+{
+    tell_cut(said, alloc, texts, logs, facts, front, ends, LogName::Guest)?;
+    tell_cut(
+        said,
+        alloc,
+        texts,
+        logs,
+        facts,
+        front,
+        ends,
+        LogName::Source,
+    )?;
+    tell_cut(said, alloc, texts, logs, facts, front, ends, LogName::Link)?;
+    tell_cut(said, alloc, texts, logs, facts, front, ends, LogName::Lane)?;
+    tell_cut(said, alloc, texts, logs, facts, front, ends, LogName::Pager)?;
     Ok(())
 }

@@ -1,6 +1,6 @@
 //! What is to be known of a recording before its text is written.
 
-ghost use Rattle.std.specs.Prelude.{◌≡◌, ◌≤◌, ◌↔◌, ◌==◌, ◌&&◌, ◌||◌, ◌++◌, [], ◌∷◌, List, IsTrue, None, length};
+ghost use Rattle.std.specs.Prelude.{◌≡◌, ◌≤◌, ◌-◌, ◌↔◌, ◌==◌, ◌&&◌, ◌||◌, ◌++◌, [], ◌∷◌, List, IsTrue, None, length};
 ghost use Rattle.std.specs.List.{list_any};
 ghost use Rattle.migration_types.specs.declared.records.GuestRec.{GuestRec};
 ghost use Rattle.migration_types.specs.declared.records.PagerRec.{PagerRec};
@@ -373,6 +373,8 @@ impl Visitor for Facts {
 }
 
 /// Returns how many records of a log come behind a front.
-pub(crate) fn left_out(counts: Front, front: Front, log: LogName) -> u64 {
+pub(crate) fn left_out(counts: Front, front: Front, log: LogName) -> u64
+    ensures { result ≡ cursors_of counts log - cursors_of front log }
+{
     counts.of(log).saturating_sub(front.of(log))
 }

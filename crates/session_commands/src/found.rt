@@ -3,8 +3,8 @@
 ghost use Rattle.std.specs.Prelude.{◌≡◌, ◌↔◌, ℕ, [], List, Option, IfOk, IsTrue, OnOk, map, string_bytes};
 ghost use Rattle.std.specs.List.{Contains};
 ghost use Rattle.command_texts.specs.Several.{names_of};
-ghost use Rattle.session_commands.specs.Files.{log_in};
-ghost use Rattle.session_commands.specs.Found.{log_of, path_in, slash_behind};
+ghost use Rattle.session_commands.specs.Files.{log_in, log_of, records_in};
+ghost use Rattle.session_commands.specs.Found.{path_in, slash_behind};
 ghost use Rattle.session_commands.specs.inner.Finding.{AddsFolder, AddsNames, AreFound, AreLogsOf, IsNothing};
 
 use crate::stops::{Stop, add, unread};
@@ -78,12 +78,18 @@ impl FoundLog {
     }
 
     /// Returns how many records its files have.
-    pub(crate) fn records(&self) -> u64 {
+    ///
+    /// # Errors
+    ///
+    /// There are 2^64 or more: more than any memory can count.
+    pub(crate) fn records(&self) -> Result<u64, AllocError>
+        ensures { IfOk result (λ count. count ≡ records_in self.now) }
+    {
         let mut records: u64 = 0;
-        for file in self.surveyed.iter() {
-            records = records.saturating_add(file.records);
+        for file in &self.surveyed {
+            records = records.checked_add(file.records).ok_or(AllocError)?;
         }
-        records
+        Ok(records)
     }
 }
 

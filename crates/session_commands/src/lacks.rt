@@ -1,9 +1,16 @@
 //! What logs lack, in words.
 
+ghost use Rattle.std.specs.Prelude.{◌≡◌, ◌≢◌, [], IfOk, OnOk};
+ghost use Rattle.surveyed_logs.specs.Lacks.{lacks};
+ghost use Rattle.surveyed_logs.specs.Parts.{AllFit, ArePartsOf};
+ghost use Rattle.session_commands.specs.Files.{LacksNothing};
+ghost use Rattle.session_commands.specs.inner.Telling.{SaysUnless};
+
 use crate::faults::{GONE_ON, part_stop, push_last_place, push_path, twice_stop};
 use crate::found::FoundLog;
 use crate::places::{name_of, open_file, open_text};
 use crate::stops::{NOT_READ, Stop, add};
+use crate::system_errors::push_system_error;
 use crate::words::{party_word, push, push_count, push_message};
 use command_texts::TextSource;
 use recorded_files::{FileReader, Party, Turn, next_turn};
@@ -16,158 +23,6 @@ use surveyed_logs::{LogLack, LogPart, count_records, find_lacks, find_parts};
 pub(crate) struct Hole {
     pub(crate) first: u64,
     pub(crate) behind: Option<u64>,
-}
-
-/// A system error that a recorder may meet, and its words.
-struct SystemError {
-    number: u32,
-    words: &'static str,
-}
-
-static SYSTEM_ERRORS: [SystemError; 33] = [
-    SystemError {
-        number: 1,
-        words: "Operation not permitted",
-    },
-    SystemError {
-        number: 2,
-        words: "No such file or directory",
-    },
-    SystemError {
-        number: 4,
-        words: "Interrupted system call",
-    },
-    SystemError {
-        number: 5,
-        words: "Input/output error",
-    },
-    SystemError {
-        number: 6,
-        words: "No such device or address",
-    },
-    SystemError {
-        number: 9,
-        words: "Bad file descriptor",
-    },
-    SystemError {
-        number: 11,
-        words: "Resource temporarily unavailable",
-    },
-    SystemError {
-        number: 12,
-        words: "Cannot allocate memory",
-    },
-    SystemError {
-        number: 13,
-        words: "Permission denied",
-    },
-    SystemError {
-        number: 14,
-        words: "Bad address",
-    },
-    SystemError {
-        number: 17,
-        words: "File exists",
-    },
-    SystemError {
-        number: 19,
-        words: "No such device",
-    },
-    SystemError {
-        number: 20,
-        words: "Not a directory",
-    },
-    SystemError {
-        number: 21,
-        words: "Is a directory",
-    },
-    SystemError {
-        number: 22,
-        words: "Invalid argument",
-    },
-    SystemError {
-        number: 23,
-        words: "Too many open files in system",
-    },
-    SystemError {
-        number: 24,
-        words: "Too many open files",
-    },
-    SystemError {
-        number: 26,
-        words: "Text file busy",
-    },
-    SystemError {
-        number: 27,
-        words: "File too large",
-    },
-    SystemError {
-        number: 28,
-        words: "No space left on device",
-    },
-    SystemError {
-        number: 30,
-        words: "Read-only file system",
-    },
-    SystemError {
-        number: 32,
-        words: "Broken pipe",
-    },
-    SystemError {
-        number: 36,
-        words: "File name too long",
-    },
-    SystemError {
-        number: 40,
-        words: "Too many levels of symbolic links",
-    },
-    SystemError {
-        number: 75,
-        words: "Value too large for defined data type",
-    },
-    SystemError {
-        number: 95,
-        words: "Operation not supported",
-    },
-    SystemError {
-        number: 103,
-        words: "Software caused connection abort",
-    },
-    SystemError {
-        number: 110,
-        words: "Connection timed out",
-    },
-    SystemError {
-        number: 116,
-        words: "Stale file handle",
-    },
-    SystemError {
-        number: 117,
-        words: "Structure needs cleaning",
-    },
-    SystemError {
-        number: 121,
-        words: "Remote I/O error",
-    },
-    SystemError {
-        number: 122,
-        words: "Disk quota exceeded",
-    },
-    SystemError {
-        number: 133,
-        words: "Memory page has hardware error",
-    },
-];
-
-/// Appends the words on a system error.
-fn push_system_error(out: &mut Vec<u8>, number: u32) -> Result<(), AllocError> {
-    for i in 0..SYSTEM_ERRORS.len() {
-        if SYSTEM_ERRORS[i].number == number {
-            return push(out, SYSTEM_ERRORS[i].words);
-        }
-    }
-    push(out, "Unknown error ")?;
-    push_count(out, u64::from(number))
 }
 
 /// Appends what is lacking of a log.
@@ -211,27 +66,40 @@ pub(crate) fn line_on(alloc: Global, party: Party) -> Result<Vec<u8>, AllocError
     Ok(line)
 }
 
+/// Adds what is said of a file that ends within its head.
+fn tell_file(said: &mut Vec<u8>, alloc: Global, party: Party, path: &str) -> Result<(), AllocError>
+    ensures { OnOk result (said.new.items ≢ []) }
+{
+    let mut line = line_on(alloc, party)?;
+    push(&mut line, path)?;
+    push(
+        &mut line,
+        " ends in its head: its process died as it began the file",
+    )?;
+    push_message(said, line.as_slice())
+}
+
 /// Adds what is said of the files that end within their head.
 fn tell_headless(
     said: &mut Vec<u8>,
     alloc: Global,
     party: Party,
     log: &FoundLog,
-) -> Result<(), AllocError> {
-    for path in log.headless.iter() {
-        let mut line = line_on(alloc, party)?;
-        push(&mut line, path.as_str())?;
-        push(
-            &mut line,
-            " ends in its head: its process died as it began the file",
-        )?;
-        push_message(said, line.as_slice())?;
+) -> Result<(), AllocError>
+    ensures { OnOk result (SaysUnless said.old.items said.new.items (log.now.headless.items ≡ [])) }
+{
+    let paths = log.headless.as_slice();
+    for place in 0..paths.len() {
+        tell_file(said, alloc, party, paths[place].as_str())?;
     }
     Ok(())
 }
 
 /// Returns the parts of a log.
-fn parts_of(alloc: Global, party: Party, log: &FoundLog) -> Result<Vec<LogPart>, Stop> {
+fn parts_of(alloc: Global, party: Party, log: &FoundLog) -> Result<Vec<LogPart>, Stop>
+    ensures fit { OnOk result (AllFit log.now.surveyed.items) }
+    ensures parts { IfOk result (λ parts. ArePartsOf log.now.surveyed.items parts.items) }
+{
     match find_parts(alloc, log.surveyed.as_slice()) {
         Ok(parts) => Ok(parts),
         Err(fault) => Err(part_stop(alloc, party, log, fault)),
@@ -244,21 +112,51 @@ pub(crate) fn count_of(alloc: Global, party: Party, log: &FoundLog) -> Result<u6
     Ok(count_records(parts.as_slice()))
 }
 
-/// Adds what is said of a log's parts. Returns how many records the log has by them.
+/// Adds what is lacking of a log.
+fn tell_lack(
+    said: &mut Vec<u8>,
+    alloc: Global,
+    party: Party,
+    log: &FoundLog,
+    lack: LogLack,
+) -> Result<(), AllocError>
+    ensures { OnOk result (said.new.items ≢ []) }
+{
+    let mut line = line_on(alloc, party)?;
+    push_lack(&mut line, log, lack)?;
+    push_message(said, line.as_slice())
+}
+
+/// Adds what the parts of a log lack.
+fn tell_parts(
+    said: &mut Vec<u8>,
+    alloc: Global,
+    party: Party,
+    log: &FoundLog,
+    parts: &[LogPart],
+) -> Result<(), AllocError>
+    ensures { OnOk result (SaysUnless said.old.items said.new.items (lacks parts.now ≡ [])) }
+{
+    let found = find_lacks(alloc, parts)?;
+    let lacks = found.as_slice();
+    for place in 0..lacks.len() {
+        tell_lack(said, alloc, party, log, lacks[place])?;
+    }
+    Ok(())
+}
+
+/// Adds what is said of a log's files and of its parts. Returns how many records the log has by its parts.
 pub(crate) fn tell_lacks(
     said: &mut Vec<u8>,
     alloc: Global,
     party: Party,
     log: &FoundLog,
-) -> Result<u64, Stop> {
+) -> Result<u64, Stop>
+    ensures { IfOk result (λ count. SaysUnless said.old.items said.new.items (LacksNothing log.now count)) }
+{
     tell_headless(said, alloc, party, log)?;
     let parts = parts_of(alloc, party, log)?;
-    let lacks = find_lacks(alloc, parts.as_slice())?;
-    for lack in lacks.iter() {
-        let mut line = line_on(alloc, party)?;
-        push_lack(&mut line, log, *lack)?;
-        push_message(said, line.as_slice())?;
-    }
+    tell_parts(said, alloc, party, log, parts.as_slice())?;
     Ok(count_records(parts.as_slice()))
 }
 
@@ -277,8 +175,32 @@ fn push_missing(out: &mut Vec<u8>, first: u64, end: u64) -> Result<(), AllocErro
     push(out, " are missing")
 }
 
-/// Adds what is said of the records that are missing in a log that has so many by its parts, if some are. `rest` is what
-/// is said behind it.
+/// Returns which records are missing in a log that has so many by its parts. `rest` is what is said behind it.
+fn missing_line(
+    alloc: Global,
+    party: Party,
+    log: &FoundLog,
+    count: u64,
+    hole: Hole,
+    rest: &str,
+) -> Result<Vec<u8>, AllocError> {
+    let end = match hole.behind {
+        Some(behind) => behind,
+        None => count,
+    };
+    let mut line = line_on(alloc, party)?;
+    let left_out = log.records()?.saturating_sub(hole.first);
+    if left_out > 0 && party != Party::Machine {
+        push_count(&mut line, left_out)?;
+        push(&mut line, " records left out: ")?;
+    }
+    push_missing(&mut line, hole.first, end)?;
+    push(&mut line, rest)?;
+    Ok(line)
+}
+
+/// Adds what is said of the records that are missing in a log: it does not have as many as by its parts. If none is missing any
+/// more, the files have changed. `rest` is what is said behind it.
 pub(crate) fn tell_missing(
     said: &mut Vec<u8>,
     alloc: Global,
@@ -287,23 +209,15 @@ pub(crate) fn tell_missing(
     count: u64,
     hole: Hole,
     rest: &str,
-) -> Result<(), AllocError> {
+) -> Result<(), Stop>
+    ensures { OnOk result (said.new.items ≢ []) }
+{
     if hole.first >= count {
-        return Ok(());
+        return Err(unread_file(alloc, log, 0));
     }
-    let end = match hole.behind {
-        Some(behind) => behind,
-        None => count,
-    };
-    let mut line = line_on(alloc, party)?;
-    let left_out = log.records().saturating_sub(hole.first);
-    if left_out > 0 && party != Party::Machine {
-        push_count(&mut line, left_out)?;
-        push(&mut line, " records left out: ")?;
-    }
-    push_missing(&mut line, hole.first, end)?;
-    push(&mut line, rest)?;
-    push_message(said, line.as_slice())
+    let line = missing_line(alloc, party, log, count, hole, rest)?;
+    push_message(said, line.as_slice())?;
+    Ok(())
 }
 
 /// Returns why a file of a log was not read.

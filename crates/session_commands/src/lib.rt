@@ -16,6 +16,9 @@ mod places;
 mod recording;
 mod stops;
 mod surveys;
+mod system_errors;
+mod telling;
+mod walk_stops;
 mod words;
 
 pub use making::perform_session;

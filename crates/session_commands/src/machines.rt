@@ -45,6 +45,20 @@ fn many_cells(text: &[u8]) -> Option<u64> {
     }
 }
 
+/// Appends why a text is none of a record of the machine's.
+fn push_no_record(out: &mut Vec<u8>, alloc: Global, text: &[u8]) -> Result<(), AllocError> {
+    if let Some(cells) = many_cells(text) {
+        push_count(out, cells)?;
+        return push(out, " cells are too many: a page has at most 512");
+    }
+    push(out, "found ")?;
+    push_quoted(out, alloc, text)?;
+    push(
+        out,
+        "; expected 'pages PAGES CELLS' or 'page PAGE CONTENTS'",
+    )
+}
+
 /// Returns the words on a record that is none of the machine's.
 fn record_words<S: TextSource>(
     alloc: Global,
@@ -54,22 +68,11 @@ fn record_words<S: TextSource>(
 ) -> Result<Vec<u8>, Stop> {
     let mut words = Vec::new(alloc);
     let placed = find_record(alloc, texts, Party::Machine, log, number)?;
-    if let Some(placed) = &placed {
-        if let Some(cells) = many_cells(placed.text.as_slice()) {
-            push_count(&mut words, cells)?;
-            push(&mut words, " cells are too many: a page has at most 512")?;
-            return Ok(words);
-        }
-    }
     push_placed(&mut words, Party::Machine, log, number, &placed)?;
-    push(&mut words, ": found ")?;
+    push(&mut words, ": ")?;
     if let Some(placed) = &placed {
-        push_quoted(&mut words, alloc, placed.text.as_slice())?;
+        push_no_record(&mut words, alloc, placed.text.as_slice())?;
     }
-    push(
-        &mut words,
-        "; expected 'pages PAGES CELLS' or 'page PAGE CONTENTS'",
-    )?;
     Ok(words)
 }
 

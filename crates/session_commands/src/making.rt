@@ -2,298 +2,44 @@
 
 ghost use Rattle.std.specs.Prelude.{◌≡◌, ◌↔◌, ◌<◌, ◌⊎◌, [], Ok, IfOk, IsTrue, OnOk};
 ghost use Rattle.command_words.specs.declared.requests.Lacking.TheVariants.{Refused};
+ghost use Rattle.migration_types.specs.Sessions.{Recorded, log_length};
 ghost use Rattle.recordings.specs.Recordings.{IsMachine};
 ghost use Rattle.recordings.specs.Wide.{extent_of};
+ghost use Rattle.recorded_files.specs.Named.{IsNaming};
 ghost use Rattle.walked_logs.specs.Walks.{HasNoHole, WalksFiles};
 ghost use Rattle.command_texts.specs.Several.{IsListStatus, TellsOneUnread, names_of};
 ghost use Rattle.command_texts.specs.Written.{BothGain, Gains};
 ghost use Rattle.session_commands.specs.Files.{bytes_in, WritesText};
 ghost use Rattle.session_commands.specs.Texts.{WritesSession};
 ghost use Rattle.session_commands.specs.inner.Seen.{HasFacts, HasSeen, IsKnown};
+ghost use Rattle.session_commands.specs.inner.Telling.{ReachIn, SaysUnless, SomeIn};
 
 use crate::ends::{Ends, tell_cuts};
 use crate::facts::Facts;
-use crate::fields::record_words;
 use crate::files::OpenedLogs;
 use crate::found::{FoundLogs, find_files};
-use crate::lacks::{
-    Hole, count_of, find_hole, line_on, tell_lacks, tell_missing, unopened_file, unread_file,
-};
 use crate::machines::describe;
-use crate::places::{find_record, push_place, push_placed};
 use crate::recording::FileRecording;
 use crate::stops::Stop;
 use crate::surveys::survey_files;
-use crate::words::{push, push_message, push_spelled};
+use crate::telling::{check_logs, tell_empty, tell_logs, tell_machine, tell_unresumed};
+use crate::walk_stops::{check_facts, walk_stop, write_stop};
+use crate::words::push_message;
 use command_texts::{
     ACCEPTED, Console, Fault, REFUSED, STANDARD_OUTPUT, TextSource, given, tell, write_whole,
 };
 use command_words::Lacking;
-use gathered_logs::{GatherFault, LogFault};
-use migration_types::{LOGS, LogName, Size, Version};
-use recorded_files::{FileFault, Front, Party};
+use migration_types::{Size, Version};
+use recorded_files::Front;
 use recordings::{Visitor, WideInit, WideMachine};
 use std::alloc::{AllocError, Global};
 use std::io::Write;
-use surveyed_logs::Description;
-use walked_logs::{Messages, WalkFault, note_messages, walk_logs};
-use written_recordings::{WriteFault, write_recording};
+use walked_logs::{Messages, note_messages, walk_logs};
+use written_recordings::write_recording;
 
-/// What is said behind the pages that are missing in the machine's log.
-const TAKEN_FOR_ZEROS: &str = ": pages whose contents are not told are taken for zeros";
-
+/// What is said last where something is lacking, and is not to be left out.
 const NOTHING_WRITTEN: &str =
     "nothing was written: repair this, or use --cut to write what is left";
-
-/// The parties in the order of the names of their files.
-static PARTIES: [Party; 6] = [
-    Party::Of(LogName::Guest),
-    Party::Of(LogName::Lane),
-    Party::Of(LogName::Link),
-    Party::Machine,
-    Party::Of(LogName::Pager),
-    Party::Of(LogName::Source),
-];
-
-/// Checks that the files of each log fit together, and that they do not have more records than the log.
-fn check_logs<S: TextSource>(alloc: Global, texts: &S, logs: &FoundLogs) -> Result<(), Stop> {
-    for party in PARTIES {
-        let log = logs.log(party);
-        if log.records() > count_of(alloc, party, log)? {
-            find_hole(alloc, texts, party, log)?;
-        }
-    }
-    Ok(())
-}
-
-/// Adds what is said of the machine's log.
-fn tell_machine(
-    said: &mut Vec<u8>,
-    alloc: Global,
-    logs: &FoundLogs,
-    machine: &Description,
-) -> Result<(), Stop> {
-    let log = &logs.machine;
-    let count = tell_lacks(said, alloc, Party::Machine, log)?;
-    let hole = Hole {
-        first: machine.front,
-        behind: machine.behind,
-    };
-    tell_missing(
-        said,
-        alloc,
-        Party::Machine,
-        log,
-        count,
-        hole,
-        TAKEN_FOR_ZEROS,
-    )?;
-    Ok(())
-}
-
-/// Adds what is said of a log. Returns how many records come before the first number that no record has.
-fn tell_log<S: TextSource>(
-    said: &mut Vec<u8>,
-    alloc: Global,
-    texts: &S,
-    logs: &FoundLogs,
-    name: LogName,
-) -> Result<u64, Stop> {
-    let party = Party::Of(name);
-    let log = logs.log(party);
-    let count = tell_lacks(said, alloc, party, log)?;
-    if log.records() == count {
-        return Ok(count);
-    }
-    let hole = find_hole(alloc, texts, party, log)?;
-    tell_missing(said, alloc, party, log, count, hole, "")?;
-    Ok(hole.first)
-}
-
-/// Adds what is said of each log. Returns how many records of each come before the first number that no record has.
-fn tell_logs<S: TextSource>(
-    said: &mut Vec<u8>,
-    alloc: Global,
-    texts: &S,
-    logs: &FoundLogs,
-) -> Result<Front, Stop> {
-    Ok(Front {
-        guest: tell_log(said, alloc, texts, logs, LogName::Guest)?,
-        source: tell_log(said, alloc, texts, logs, LogName::Source)?,
-        link: tell_log(said, alloc, texts, logs, LogName::Link)?,
-        lane: tell_log(said, alloc, texts, logs, LogName::Lane)?,
-        pager: tell_log(said, alloc, texts, logs, LogName::Pager)?,
-    })
-}
-
-/// Returns why a log was not gone through as it was surveyed: two of its records have one number, or its files have
-/// changed.
-fn two_records<S: TextSource>(alloc: Global, texts: &S, logs: &FoundLogs, name: LogName) -> Stop {
-    let party = Party::Of(name);
-    let log = logs.log(party);
-    match find_hole(alloc, texts, party, log) {
-        Err(stop) => stop,
-        Ok(_) => unread_file(alloc, log, 0),
-    }
-}
-
-/// Returns why a log was not gone through.
-fn log_stop<S: TextSource>(
-    alloc: Global,
-    texts: &S,
-    machine: &WideMachine,
-    logs: &FoundLogs,
-    name: LogName,
-    fault: LogFault,
-) -> Result<Stop, Stop> {
-    let log = logs.log(Party::Of(name));
-    match fault {
-        LogFault::Record(number) => Ok(Stop::Unfit(record_words(
-            alloc, texts, machine, name, log, number,
-        )?)),
-        LogFault::Files(GatherFault::Twice(_, _)) => Ok(two_records(alloc, texts, logs, name)),
-        LogFault::Files(GatherFault::File(_, FileFault::Memory))
-        | LogFault::Files(GatherFault::Memory)
-        | LogFault::Memory => Ok(Stop::Memory),
-        LogFault::Files(GatherFault::File(file, _)) => Ok(unopened_file(alloc, texts, log, file)),
-        LogFault::Files(GatherFault::Missing(_)) => Ok(unread_file(alloc, log, 0)),
-    }
-}
-
-/// Returns the words in front of the first dash of a text.
-fn before_dash(text: &[u8]) -> &[u8] {
-    text.split(|byte| *byte == b'-').next().unwrap_or(text)
-}
-
-/// Returns the words on a record that takes a message of a log, which has records of its own.
-fn own_log_words<S: TextSource>(
-    alloc: Global,
-    texts: &S,
-    logs: &FoundLogs,
-    own: LogName,
-    name: LogName,
-    number: u64,
-) -> Result<Vec<u8>, Stop> {
-    let party = Party::Of(name);
-    let log = logs.log(party);
-    let placed = find_record(alloc, texts, party, log, number)?;
-    let mut words = Vec::new(alloc);
-    push_placed(&mut words, party, log, number, &placed)?;
-    push(&mut words, ", ")?;
-    if let Some(placed) = &placed {
-        push_spelled(&mut words, placed.text.as_slice())?;
-    }
-    push(&mut words, ": the ")?;
-    push(&mut words, own.word())?;
-    push(&mut words, " has a log of its own, whose number '")?;
-    if let Some(placed) = &placed {
-        words.extend_from_slice(before_dash(placed.text.as_slice()))?;
-    }
-    push(&mut words, "' names")?;
-    Ok(words)
-}
-
-/// Returns the fault of files that have changed since they were surveyed.
-fn changed(alloc: Global, logs: &FoundLogs) -> Stop {
-    unread_file(alloc, &logs.machine, 0)
-}
-
-/// Returns why the logs were not gone through.
-fn walk_stop<S: TextSource>(
-    alloc: Global,
-    texts: &S,
-    machine: &WideMachine,
-    logs: &FoundLogs,
-    fault: WalkFault,
-) -> Stop {
-    let stop = match fault {
-        WalkFault::Log(name, fault) => log_stop(alloc, texts, machine, logs, name, fault),
-        WalkFault::OwnLog(own, name, number) => {
-            match own_log_words(alloc, texts, logs, own, name, number) {
-                Ok(words) => Ok(Stop::Unfit(words)),
-                Err(stop) => Err(stop),
-            }
-        }
-        WalkFault::Changed => Ok(changed(alloc, logs)),
-        WalkFault::Memory => Ok(Stop::Memory),
-    };
-    match stop {
-        Ok(stop) | Err(stop) => stop,
-    }
-}
-
-/// Checks that each log was gone through to the first number that no record has.
-fn check_counts<S: TextSource>(
-    alloc: Global,
-    texts: &S,
-    logs: &FoundLogs,
-    counts: Front,
-    expected: Front,
-) -> Result<(), Stop> {
-    for name in LOGS {
-        if expected.of(name) > 0 && counts.of(name) != expected.of(name) {
-            return Err(two_records(alloc, texts, logs, name));
-        }
-    }
-    Ok(())
-}
-
-/// Checks that no record names a number that no recorder answers.
-fn check_numbers<S: TextSource>(
-    alloc: Global,
-    texts: &S,
-    machine: &WideMachine,
-    logs: &FoundLogs,
-    facts: &Facts,
-) -> Result<(), Stop> {
-    let Some((name, number)) = facts.beyond else {
-        return Ok(());
-    };
-    let log = logs.log(Party::Of(name));
-    Err(Stop::Unfit(record_words(alloc, texts, machine, name, log, number)?))
-}
-
-/// Adds what is said of a guest that runs after its halt without a resume.
-fn tell_unresumed<S: TextSource>(
-    said: &mut Vec<u8>,
-    alloc: Global,
-    texts: &S,
-    logs: &FoundLogs,
-    facts: &Facts,
-) -> Result<(), Stop> {
-    let Some(halt) = facts.unresumed() else {
-        return Ok(());
-    };
-    let party = Party::Of(LogName::Guest);
-    let mut line = line_on(alloc, party)?;
-    push_place(
-        &mut line,
-        alloc,
-        texts,
-        party,
-        &logs.guest,
-        halt.saturating_add(1),
-    )?;
-    push(
-        &mut line,
-        " comes after the halt, and there is no resume: postcopy_record_resume, or Log.resume, where the guest runs at \
-         the target",
-    )?;
-    push_message(said, line.as_slice())?;
-    Ok(())
-}
-
-/// Adds which logs have no record.
-fn tell_empty(said: &mut Vec<u8>, alloc: Global, counts: Front) -> Result<(), AllocError> {
-    for name in LOGS {
-        if counts.of(name) == 0 && name != LogName::Lane {
-            let mut line = line_on(alloc, Party::Of(name))?;
-            push(&mut line, "there is no record")?;
-            push_message(said, line.as_slice())?;
-        }
-    }
-    Ok(())
-}
 
 /// Goes through the logs with a visitor. Returns whether no log has a hole.
 fn walk<S: TextSource, V: Visitor>(
@@ -357,7 +103,27 @@ fn messages_of<S: TextSource>(
     }
 }
 
-/// Adds what is said of the records of the logs, once they were gone through.
+/// Adds which records a front leaves out, and why.
+fn tell_left_out<S: TextSource>(
+    said: &mut Vec<u8>,
+    alloc: Global,
+    machine: &WideMachine,
+    files: &OpenedLogs<'_, S>,
+    messages: &Messages,
+    facts: &Facts,
+    front: Front,
+) -> Result<(), Stop>
+    requires { IsMachine (extent_of machine.now) }
+    ensures { OnOk result ((s : Recorded) → IsNaming facts.now.naming s → SaysUnless said.old.items said.new.items (ReachIn s front)) }
+{
+    if facts.naming.counts() == front {
+        return Ok(());
+    }
+    let ends = ends_of(alloc, machine, files, messages, front)?;
+    tell_cuts(said, alloc, files.texts, files.logs, facts, front, &ends)
+}
+
+/// Adds what is said of the records of the logs, once they were gone through. The front of them is written.
 fn tell_facts<S: TextSource>(
     said: &mut Vec<u8>,
     alloc: Global,
@@ -365,17 +131,14 @@ fn tell_facts<S: TextSource>(
     files: &OpenedLogs<'_, S>,
     messages: &Messages,
     facts: &Facts,
+    front: Front,
 ) -> Result<(), Stop>
     requires { IsMachine (extent_of machine.now) }
+    ensures { OnOk result ((s : Recorded) → IsNaming facts.now.naming s → SaysUnless said.old.items said.new.items (ReachIn s front × SomeIn (log_length s))) }
 {
-    let counts = facts.naming.counts();
-    let front = facts.written_front();
     tell_unresumed(said, alloc, files.texts, files.logs, facts)?;
-    if counts != front {
-        let ends = ends_of(alloc, machine, files, messages, front)?;
-        tell_cuts(said, alloc, files.texts, files.logs, facts, &ends)?;
-    }
-    tell_empty(said, alloc, counts)?;
+    tell_left_out(said, alloc, machine, files, messages, facts, front)?;
+    tell_empty(said, alloc, facts.naming.counts())?;
     Ok(())
 }
 
@@ -387,33 +150,8 @@ pub(crate) struct Known {
     messages: Messages,
     /// How many records of each log are written.
     front: Front,
-    /// Whether these are all.
-    is_whole: bool,
     /// What is lacking, in lines.
     said: Vec<u8>,
-}
-
-/// Checks that the logs were gone through as they were surveyed, and adds what is said of their records.
-fn check_facts<S: TextSource>(
-    said: &mut Vec<u8>,
-    alloc: Global,
-    machine: &WideMachine,
-    files: &OpenedLogs<'_, S>,
-    messages: &Messages,
-    facts: &Facts,
-    expected: Front,
-) -> Result<(), Stop>
-    requires { IsMachine (extent_of machine.now) }
-{
-    check_counts(
-        alloc,
-        files.texts,
-        files.logs,
-        facts.naming.counts(),
-        expected,
-    )?;
-    check_numbers(alloc, files.texts, machine, files.logs, facts)?;
-    tell_facts(said, alloc, machine, files, messages, facts)
 }
 
 /// What the records of the logs tell before they are written.
@@ -421,16 +159,8 @@ fn check_facts<S: TextSource>(
 pub(crate) struct Seen {
     messages: Messages,
     front: Front,
-    is_whole: bool,
     version: Version,
     size: Size,
-}
-
-/// Returns whether nothing is left out: no log has a hole, and the front has as many records as there are.
-fn is_all(has_all: bool, counts: Front, front: Front) -> bool
-    ensures { IsTrue result → IsTrue has_all × (counts ≡ front) }
-{
-    has_all && counts == front
 }
 
 /// Goes through the records of the logs, and adds what is said of them.
@@ -442,20 +172,26 @@ fn see<S: TextSource>(
     expected: Front,
 ) -> Result<Seen, Stop>
     requires { IsMachine (extent_of machine.now) }
-    ensures { IfOk result (λ seen. HasSeen machine.now (bytes_in (S.bytes_of files.now.texts.now) files.now.logs.now) files.now.logs.now.lane seen) }
+    ensures { IfOk result (λ seen. HasSeen machine.now (bytes_in (S.bytes_of files.now.texts.now) files.now.logs.now) files.now.logs.now.lane said.old.items said.new.items seen) }
 {
     let messages = messages_of(alloc, machine, files)?;
     let found = facts_of(alloc, machine, files, &messages)?;
     let facts = &found.0;
-    check_facts(said, alloc, machine, files, &messages, facts, expected)?;
+    check_facts(
+        alloc,
+        machine,
+        files,
+        facts,
+        expected,
+        said.as_slice(),
+        found.1,
+    )?;
     let front = facts.written_front();
-    let counts = facts.naming.counts();
-    let is_whole = is_all(found.1, counts, front);
+    tell_facts(said, alloc, machine, files, &messages, facts, front)?;
     let form = facts.form(front, machine, &files.logs.lane);
     Ok(Seen {
         messages,
         front,
-        is_whole,
         version: form.0,
         size: form.1,
     })
@@ -487,35 +223,8 @@ fn know<S: TextSource>(alloc: Global, texts: &S, logs: &FoundLogs) -> Result<Kno
         init: description.init,
         messages: seen.messages,
         front: seen.front,
-        is_whole: seen.is_whole,
         said,
     })
-}
-
-/// Returns why the text was not written.
-fn write_stop<S: TextSource>(
-    alloc: Global,
-    texts: &S,
-    machine: &WideMachine,
-    logs: &FoundLogs,
-    fault: WriteFault<WalkFault>,
-) -> Stop {
-    match fault {
-        WriteFault::Recording(fault) => walk_stop(alloc, texts, machine, logs, fault),
-        WriteFault::Output(cause) => Stop::Output(cause.words()),
-        WriteFault::Changed => changed(alloc, logs),
-        WriteFault::Memory => Stop::Memory,
-    }
-}
-
-/// Returns whether a text that leaves nothing out, or does, may be written.
-fn may_write(lacking: Lacking, is_whole: bool) -> bool
-    ensures { IsTrue result → lacking ≡ Refused → IsTrue is_whole }
-{
-    match lacking {
-        Lacking::Refused => is_whole,
-        Lacking::Cut => true,
-    }
 }
 
 /// Writes the text of a recording as its files are read.
@@ -527,14 +236,12 @@ fn write<S: TextSource, O: Write>(
     known: Known,
     output: &mut O,
 ) -> Result<u8, Stop>
-    requires { IsKnown (S.bytes_of texts.now) logs.now known }
+    requires known { IsKnown (S.bytes_of texts.now) logs.now known }
+    requires asked { lacking ≡ Refused → known.said.items ≡ [] }
     ensures status { IfOk result (λ status. status ≡ 0) }
     ensures written { OnOk result (WritesText (S.bytes_of texts.now) logs.now lacking (O.contents output.old) (O.contents output.new)) }
     ensures gains { Gains (O.contents output.old) (O.contents output.new) }
 {
-    if !may_write(lacking, known.is_whole) {
-        return Err(changed(alloc, logs));
-    }
     let Known {
         machine,
         init,

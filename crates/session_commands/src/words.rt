@@ -1,5 +1,7 @@
 //! The words of messages.
 
+ghost use Rattle.std.specs.Prelude.{◌≢◌, [], OnOk};
+
 use crate::stops::add;
 use recorded_files::Party;
 use std::alloc::{AllocError, Global};
@@ -98,10 +100,13 @@ fn push_text(out: &mut Vec<u8>, text: &[u8]) -> Result<(), AllocError> {
 }
 
 /// Appends a line of a message. Control characters, as in a file's name, are escaped.
-pub(crate) fn push_message(out: &mut Vec<u8>, line: &[u8]) -> Result<(), AllocError> {
+pub(crate) fn push_message(out: &mut Vec<u8>, line: &[u8]) -> Result<(), AllocError>
+    ensures { OnOk result (out.new.items ≢ []) }
+{
     out.extend_from_slice(NAME)?;
     push_text(out, line)?;
-    add(out, b'\n')
+    add(out, b'\n')?;
+    Ok(())
 }
 
 /// Returns a text of ASCII for bytes: those that are no ASCII are escaped.

@@ -5,7 +5,8 @@ use Rattle.recorded_files.specs.Said.{Says}
 use Rattle.recorded_files.specs.declared.lines.Party.{Party}
 use Rattle.surveyed_logs.specs.Surveys.{IsSurveyOf}
 use Rattle.surveyed_logs.specs.declared.surveying.Surveyed.{Surveyed}
-use Rattle.session_commands.specs.Found.{IsFileOf, IsNameOf, IsSurveyed, log_of, path_in}
+use Rattle.session_commands.specs.Files.{log_of}
+use Rattle.session_commands.specs.Found.{IsFileOf, IsNameOf, IsSurveyed, path_in}
 use Rattle.session_commands.specs.declared.found.FoundFile.{FoundFile}
 use Rattle.session_commands.specs.declared.found.FoundLog.{FoundLog}
 use Rattle.session_commands.specs.declared.found.FoundLogs.{FoundLogs}

@@ -7,7 +7,8 @@ use Rattle.recordings.specs.declared.machine.WideMachine.{WideMachine}
 use Rattle.recorded_files.specs.declared.fronts.Front.{Front}
 use Rattle.recorded_files.specs.Named.{IsNaming}
 use Rattle.walked_logs.specs.Walks.{Bytes, HasNoHole, IsRecordingOf}
-use Rattle.session_commands.specs.Files.{begins_halted, is_back, is_pull, is_resume, IsChosen, IsFormOf, IsLateRelease, IsWrittenFront, LeavesNothing}
+use Rattle.session_commands.specs.Files.{begins_halted, is_back, is_pull, is_resume, IsChosen, IsFormOf, IsLateRelease, IsWrittenFront, LeavesNothing, LosesNothing}
+use Rattle.session_commands.specs.inner.Telling.{SaysUnless}
 use Rattle.session_commands.specs.declared.facts.Facts.{Facts}
 use Rattle.session_commands.specs.declared.found.FoundLog.{FoundLog}
 use Rattle.session_commands.specs.declared.found.FoundLogs.{FoundLogs}
@@ -48,15 +49,15 @@ pub record HasFacts (machine : WideMachine) (bytes : Bytes) (facts : Facts) (has
   pub collected : IsFacts facts s
   pub all : IsTrue has_all → HasNoHole made
 
--- what is written of the recording that the files tell
-pub record HasSeen (machine : WideMachine) (bytes : Bytes) (lane : FoundLog) (seen : Seen) : Type 0 where
+-- what is written of the recording that the files tell; and where nothing is said of what is lacking, nothing is left out
+pub record HasSeen (machine : WideMachine) (bytes : Bytes) (lane : FoundLog) (said_before said : List ℕ) (seen : Seen) : Type 0 where
   pub s : Recorded
   pub made : IsRecordingOf machine [] bytes s
   pub written : IsWrittenFront s seen.front
   pub form : IsFormOf lane s seen.front (record machine { version = seen.version; size = seen.size })
-  pub whole : IsTrue seen.is_whole → LeavesNothing made seen.front
+  pub whole : SaysUnless said_before said (LeavesNothing made seen.front)
 
--- a recording that was gone through, and is not yet written
+-- a recording that was gone through, and is not yet written; and where nothing is said of what is lacking, nothing is lost
 pub record IsKnown (files : List ℕ → Option (List ℕ)) (logs : FoundLogs) (known : Known) : Type 0 where
   pub chosen : IsChosen files logs known.machine known.init.items known.front
-  pub whole : IsTrue known.is_whole → LeavesNothing chosen.made known.front
+  pub whole : known.said.items ≡ [] → LosesNothing chosen

@@ -1,4 +1,4 @@
-use Rattle.std.proofs.Common.{◌≤◌, arith}
+use Rattle.std.proofs.Common.{arith}
 use Rattle.std.proofs.lemmas.Bool.{le-leb, leb-true}
 use Rattle.session_commands.proofs.Few.{few_all, few_each}
 use Rattle.session_commands.proofs.facts.are_few.Goals as goal

@@ -1,4 +1,4 @@
-use Rattle.std.proofs.Common.{◌≡◌, true, false, sym, ◌∙◌}
+use Rattle.std.proofs.Common.{◌≡◌, false, sym, ◌∙◌}
 use Rattle.std.specs.List.{list_any}
 use Rattle.recordings.specs.Wide.{guest_of}
 use Rattle.session_commands.specs.Files.{is_release, is_resume}

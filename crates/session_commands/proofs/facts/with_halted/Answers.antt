@@ -1,4 +1,4 @@
-use Rattle.std.proofs.Common.{◌≡◌, ◌∙◌, sym}
+use Rattle.std.proofs.Common.{◌∙◌, sym}
 use Rattle.recordings.specs.Wide.{source_of}
 use Rattle.session_commands.proofs.Seen.{halted_first, halted_later}
 use Rattle.session_commands.proofs.facts.with_halted.Goals as goal

@@ -1,5 +1,6 @@
 use Rattle.std.proofs.Common.{arith, refl, rules}
 use Rattle.migration_types.specs.declared.size.Size.TheVariants.{Large}
+use Rattle.session_commands.proofs.Unsaid.{each_party}
 use Rattle.session_commands.proofs.making.know.Goals as goal
 
 pub see-requires-after_bounds : goal.see-requires-after_bounds
@@ -16,5 +17,9 @@ returns g c =
         written = h.written;
         form = h.form;
       };
-      whole = λ whole. h.whole whole;
+      whole = λ none.
+          let seen = h.whole none in
+          let others = c.in_ok-expected.ensures seen.0 in
+          let machine = c.in_ok-tell_machine.ensures others.0 in
+          record { has_all = each_party c.args.logs.now machine.1.0 others.1; no_hole = machine.1.1; leaves = seen.1 };
     }

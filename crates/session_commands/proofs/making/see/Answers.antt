@@ -1,20 +1,23 @@
-use Rattle.std.proofs.Common.{◌∙◌, ap, sym}
-use Rattle.recorded_files.specs.Fronts.{cursors_of}
-use Rattle.recorded_files.specs.declared.fronts.Front.{Front}
+use Rattle.std.proofs.Common.{◌∙◌, arith}
+use Rattle.session_commands.proofs.Unsaid.{within}
 use Rattle.session_commands.proofs.making.see.Goals as goal
 
 pub returns : goal.returns
 returns g c =
     let h = c.in_ok-found.ensures in
+    let written = c.written_front-front.ensures h.s h.collected in
     record {
       s = h.s;
       made = h.made;
-      written = c.written_front-front.ensures h.s h.collected;
+      written = written;
       form = c.form-form.ensures h.s h.collected;
-      whole = λ whole.
-          let all = c.is_all-is_whole.ensures whole in
-          record {
-            all = λ log. ap (λ (f : Front). cursors_of f log) (sym all.1) ∙ c.counts-counts.ensures h.s h.collected.naming log;
-            no_hole = h.all all.0;
-          };
+      whole = λ none.
+          let told = c.in_ok-tell_facts.ensures h.s h.collected.naming none in (
+            told.0,
+            record {
+              all = λ log. omega (arith, within h.s c.written_front-front.result written log, told.1.0 log);
+              no_hole = h.all (c.in_ok-check_facts.ensures (c.as_slice.ensures.value ∙ told.0));
+              some = told.1.1;
+            },
+          );
     }

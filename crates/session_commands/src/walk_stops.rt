@@ -1,0 +1,192 @@
+//! Why the logs were not gone through, or their text was not written.
+
+ghost use Rattle.std.specs.Prelude.{◌≡◌, [], IsTrue, OnOk};
+
+use crate::facts::Facts;
+use crate::fields::record_words;
+use crate::files::OpenedLogs;
+use crate::found::FoundLogs;
+use crate::lacks::{find_hole, unopened_file, unread_file};
+use crate::places::{find_record, push_placed};
+use crate::stops::Stop;
+use crate::words::{push, push_spelled};
+use command_texts::TextSource;
+use gathered_logs::{GatherFault, LogFault};
+use migration_types::{LOGS, LogName};
+use recorded_files::{FileFault, Front, Party};
+use recordings::WideMachine;
+use std::alloc::Global;
+use walked_logs::WalkFault;
+use written_recordings::WriteFault;
+
+/// Returns why a log was not gone through as it was surveyed: two of its records have one number, or its files have
+/// changed.
+fn two_records<S: TextSource>(alloc: Global, texts: &S, logs: &FoundLogs, name: LogName) -> Stop {
+    let party = Party::Of(name);
+    let log = logs.log(party);
+    match find_hole(alloc, texts, party, log) {
+        Err(stop) => stop,
+        Ok(_) => unread_file(alloc, log, 0),
+    }
+}
+
+/// Returns why a log was not gone through.
+fn log_stop<S: TextSource>(
+    alloc: Global,
+    texts: &S,
+    machine: &WideMachine,
+    logs: &FoundLogs,
+    name: LogName,
+    fault: LogFault,
+) -> Result<Stop, Stop> {
+    let log = logs.log(Party::Of(name));
+    match fault {
+        LogFault::Record(number) => Ok(Stop::Unfit(record_words(
+            alloc, texts, machine, name, log, number,
+        )?)),
+        LogFault::Files(GatherFault::Twice(_, _)) => Ok(two_records(alloc, texts, logs, name)),
+        LogFault::Files(GatherFault::File(_, FileFault::Memory))
+        | LogFault::Files(GatherFault::Memory)
+        | LogFault::Memory => Ok(Stop::Memory),
+        LogFault::Files(GatherFault::File(file, _)) => Ok(unopened_file(alloc, texts, log, file)),
+        LogFault::Files(GatherFault::Missing(_)) => Ok(unread_file(alloc, log, 0)),
+    }
+}
+
+/// Returns the words in front of the first dash of a text.
+fn before_dash(text: &[u8]) -> &[u8] {
+    text.split(|byte| *byte == b'-').next().unwrap_or(text)
+}
+
+/// Returns the words on a record that takes a message of a log, which has records of its own.
+fn own_log_words<S: TextSource>(
+    alloc: Global,
+    texts: &S,
+    logs: &FoundLogs,
+    own: LogName,
+    name: LogName,
+    number: u64,
+) -> Result<Vec<u8>, Stop> {
+    let party = Party::Of(name);
+    let log = logs.log(party);
+    let placed = find_record(alloc, texts, party, log, number)?;
+    let mut words = Vec::new(alloc);
+    push_placed(&mut words, party, log, number, &placed)?;
+    push(&mut words, ", ")?;
+    if let Some(placed) = &placed {
+        push_spelled(&mut words, placed.text.as_slice())?;
+    }
+    push(&mut words, ": the ")?;
+    push(&mut words, own.word())?;
+    push(&mut words, " has a log of its own, whose number '")?;
+    if let Some(placed) = &placed {
+        words.extend_from_slice(before_dash(placed.text.as_slice()))?;
+    }
+    push(&mut words, "' names")?;
+    Ok(words)
+}
+
+/// Returns the fault of files that have changed since they were surveyed.
+pub(crate) fn changed(alloc: Global, logs: &FoundLogs) -> Stop {
+    unread_file(alloc, &logs.machine, 0)
+}
+
+/// Returns why the logs were not gone through.
+pub(crate) fn walk_stop<S: TextSource>(
+    alloc: Global,
+    texts: &S,
+    machine: &WideMachine,
+    logs: &FoundLogs,
+    fault: WalkFault,
+) -> Stop {
+    let stop = match fault {
+        WalkFault::Log(name, fault) => log_stop(alloc, texts, machine, logs, name, fault),
+        WalkFault::OwnLog(own, name, number) => {
+            match own_log_words(alloc, texts, logs, own, name, number) {
+                Ok(words) => Ok(Stop::Unfit(words)),
+                Err(stop) => Err(stop),
+            }
+        }
+        WalkFault::Changed => Ok(changed(alloc, logs)),
+        WalkFault::Memory => Ok(Stop::Memory),
+    };
+    match stop {
+        Ok(stop) | Err(stop) => stop,
+    }
+}
+
+/// Returns why the text was not written.
+pub(crate) fn write_stop<S: TextSource>(
+    alloc: Global,
+    texts: &S,
+    machine: &WideMachine,
+    logs: &FoundLogs,
+    fault: WriteFault<WalkFault>,
+) -> Stop {
+    match fault {
+        WriteFault::Recording(fault) => walk_stop(alloc, texts, machine, logs, fault),
+        WriteFault::Output(cause) => Stop::Output(cause.words()),
+        WriteFault::Changed => changed(alloc, logs),
+        WriteFault::Memory => Stop::Memory,
+    }
+}
+
+/// Checks that each log was gone through to the first number that no record has.
+fn check_counts<S: TextSource>(
+    alloc: Global,
+    texts: &S,
+    logs: &FoundLogs,
+    counts: Front,
+    expected: Front,
+) -> Result<(), Stop> {
+    for name in LOGS {
+        if expected.of(name) > 0 && counts.of(name) != expected.of(name) {
+            return Err(two_records(alloc, texts, logs, name));
+        }
+    }
+    Ok(())
+}
+
+/// Checks that no record names a number that no recorder answers.
+fn check_numbers<S: TextSource>(
+    alloc: Global,
+    texts: &S,
+    machine: &WideMachine,
+    logs: &FoundLogs,
+    facts: &Facts,
+) -> Result<(), Stop> {
+    let Some((name, number)) = facts.beyond else {
+        return Ok(());
+    };
+    let log = logs.log(Party::Of(name));
+    Err(Stop::Unfit(record_words(alloc, texts, machine, name, log, number)?))
+}
+
+/// Checks that a hole in a log was told, if one was met.
+fn check_holes(alloc: Global, logs: &FoundLogs, said: &[u8], has_all: bool) -> Result<(), Stop>
+    ensures { OnOk result (said.now ≡ [] → IsTrue has_all) }
+{
+    if said.is_empty() && !has_all {
+        return Err(changed(alloc, logs));
+    }
+    Ok(())
+}
+
+/// Checks that the logs were gone through as they were surveyed, given what was said of what they lack, and whether none has a
+/// hole.
+pub(crate) fn check_facts<S: TextSource>(
+    alloc: Global,
+    machine: &WideMachine,
+    files: &OpenedLogs<'_, S>,
+    facts: &Facts,
+    expected: Front,
+    said: &[u8],
+    has_all: bool,
+) -> Result<(), Stop>
+    ensures { OnOk result (said.now ≡ [] → IsTrue has_all) }
+{
+    let counts = facts.naming.counts();
+    check_counts(alloc, files.texts, files.logs, counts, expected)?;
+    check_numbers(alloc, files.texts, machine, files.logs, facts)?;
+    check_holes(alloc, files.logs, said, has_all)
+}
