@@ -9,9 +9,10 @@ ghost use Rattle.order_picture.specs.Arrows.{arrow_to, arrows, is_direct, is_mar
 use crate::behind::{Tie, tie_of};
 use crate::focus::Mark;
 use crate::picture::{Picture, PictureRow, row_receipt};
-use crate::records::{Name, is_one};
+use crate::records::is_one;
 use crate::shapes::Shape;
 use migration_types::{LogName, Session};
+use session_story::Name;
 use std::alloc::AllocError;
 
 /// The place of a record's box: its row, and its log's column.

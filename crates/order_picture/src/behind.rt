@@ -6,9 +6,9 @@ ghost use Rattle.order_picture.specs.Behind.{is_behind, kind_behind, log_behind,
 
 use crate::boxes::BoxKind;
 use crate::picture::Picture;
-use crate::records::{Name, is_one};
+use crate::records::is_one;
 use migration_types::{LogName, Session, logs};
-use session_story::{Explanation, Knot, TopicStory, Waiting};
+use session_story::{Explanation, Knot, Name, TopicStory, Waiting};
 use std::alloc::{AllocError, Global};
 
 /// A record that waits for another waiting record.

@@ -7,10 +7,9 @@ ghost use Rattle.order_picture.specs.Boxes.{behind_box, behind_shape, behind_sha
 use crate::behind::{Obstacle, kind_behind, obstacle_of};
 use crate::focus::Mark;
 use crate::picture::{Picture, PictureRow};
-use crate::records::Name;
 use crate::shapes::Shape;
 use migration_types::{Session, line_of};
-use session_story::Amended;
+use session_story::{Amended, Name};
 use std::alloc::AllocError;
 
 /// What the box of a record says about it.

@@ -10,7 +10,6 @@ use crate::elements::{
 use crate::heading::Subject;
 use crate::labels::push_label;
 use crate::layout::{Columns, is_left_of, middle_of, top_of};
-use crate::records::Name;
 use crate::style::{
     APART, BOX, BOX_TOP, COLUMN, COLUMNS_LEFT, COLUMNS_TOP, CORNER, CROSS, DIAMOND, FOLD,
     FOLD_BESIDE, FOLD_CORNER, FOLD_FRAME, FOLD_TOP, INK, LABEL, LETTER, MARGIN, NAMES, NUMBER_GAP,
@@ -19,6 +18,7 @@ use crate::style::{
 use crate::words::{LINES, push_records, push_title};
 use merge_runs::TakenCounts;
 use migration_types::LogName;
+use session_story::Name;
 use std::alloc::{AllocError, Global};
 use text_lines::push_number;
 

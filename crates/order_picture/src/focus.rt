@@ -5,10 +5,10 @@ ghost use Rattle.session_story.specs.Subjects.{page_of};
 ghost use Rattle.order_picture.specs.Marks.{is_page, mark_of};
 ghost use Rattle.order_picture.specs.Pictures.{fault_for, fault_of, faulty_in, number_in, page_for, IsFocus};
 
-use crate::records::{Name, is_one};
+use crate::records::is_one;
 use audit_report::Report;
 use migration_types::{PageNo, Session};
-use session_story::{FaultStory, FullPageStory, TopicStory, concerned_of, page_of};
+use session_story::{FaultStory, FullPageStory, Name, TopicStory, concerned_of, page_of};
 
 /// Why a record stands out.
 #[derive(Clone, Copy, Debug, PartialEq, Eq)]

@@ -4,10 +4,9 @@
 //! that its fault concerns.
 
 use crate::focus::{Focus, Mark, mark_of};
-use crate::records::Name;
 use crate::rows::Certain;
-use migration_types::{GuestRec, LOG_COUNT, LogName, Session, logs};
-use session_story::{TopicStory, tells_of};
+use migration_types::{GuestRec, LOG_COUNT, LogName, Run, Session, logs};
+use session_story::{Name, TopicStory, tells_of};
 use std::alloc::{AllocError, Global};
 
 /// How many are kept at each end of the order.
@@ -50,11 +49,6 @@ fn want(wanted: &mut Vec<bool>, place: usize) {
     }
 }
 
-/// Returns whether a place is wanted.
-fn is_wanted(wanted: &[bool], place: usize) -> bool {
-    wanted.get(place).copied().unwrap_or(false)
-}
-
 /// Returns whether the record is the halt or the resume.
 fn hands_over(session: &Session, name: Name) -> bool {
     name.0 == LogName::Guest
@@ -73,12 +67,28 @@ fn uses(session: &Session, name: Name) -> bool {
         )
 }
 
+/// Returns whether a record of the guest, if there is one, reads or writes another page than the picture is about, or any
+/// page if that is about none.
+fn is_elsewhere(focus: &Focus, rec: Option<&GuestRec>) -> bool {
+    match rec {
+        Some(GuestRec::Read { page: used, .. } | GuestRec::Write { page: used, .. }) => {
+            match focus.page {
+                Some(page) => used.number() != page.number(),
+                None => true,
+            }
+        }
+        _ => false,
+    }
+}
+
 /// What decides which records have rows.
 #[derive(Clone, Copy)]
 pub(crate) struct Keeping<'a> {
     pub session: &'a Session,
     pub told: &'a TopicStory,
     pub focus: &'a Focus,
+    /// The runs, the first of which make the order.
+    pub runs: &'a [Run],
     /// The places of the order whose records always have rows, or are next to such a record.
     pub certain: Certain,
     /// The place of the order around which most is shown.
@@ -105,115 +115,207 @@ fn concerns(keeping: &Keeping<'_>, place: usize, name: Name) -> bool {
     }
 }
 
-/// Returns which records of the session concern what the picture is about, or are received by such a record.
-fn concerned(
-    alloc: Global,
-    keeping: &Keeping<'_>,
+/// The records of a session, of which some are wanted.
+#[derive(Drop)]
+struct Flags {
     begins: Begins,
-    order: &[Name],
-) -> Result<Vec<bool>, AllocError> {
-    let session = keeping.session;
-    let mut flags = vec![in alloc; false; begins.all]?;
-    for (place, name) in order.iter().enumerate() {
-        if concerns(keeping, place, *name) {
-            want(&mut flags, begins.place(*name));
-            if let Some(sent) = session.named(*name) {
-                want(&mut flags, begins.place(sent));
+    /// For each record, whether it is wanted.
+    wanted: Vec<bool>,
+}
+
+impl Flags {
+    /// Returns the flags of a session's records, with none wanted.
+    fn of(alloc: Global, session: &Session) -> Result<Self, AllocError> {
+        let begins = Begins::of(session);
+        let wanted = vec![in alloc; false; begins.all]?;
+        Ok(Flags { begins, wanted })
+    }
+
+    /// Wants a record.
+    fn want(&mut self, name: Name) {
+        let place = self.begins.place(name);
+        want(&mut self.wanted, place);
+    }
+
+    /// Wants a record, and the one that it receives, if it receives one.
+    fn want_both(&mut self, session: &Session, name: Name) {
+        self.want(name);
+        if let Some(sent) = session.named(name) {
+            self.want(sent);
+        }
+    }
+
+    /// Returns whether this many records of a log are wanted, from one on.
+    fn of_run(&self, name: Name, count: usize) -> &[bool] {
+        let from = self.begins.place(name);
+        self.wanted
+            .get(from..from.saturating_add(count))
+            .unwrap_or(&[])
+    }
+}
+
+/// Wants the record at this place of the order if it concerns what the picture is about, and the one that it receives.
+fn note(flags: &mut Flags, keeping: &Keeping<'_>, place: usize, name: Name) {
+    if concerns(keeping, place, name) {
+        flags.want_both(keeping.session, name);
+    }
+}
+
+/// Notes the guest's records of a run, whose first is at this place of the order. Nearly all of them are elsewhere.
+fn note_guest(flags: &mut Flags, keeping: &Keeping<'_>, at: usize, names: &[Name], from: u32) {
+    let guest = keeping.session.guest();
+    let records = guest.get(from as usize..).unwrap_or(&[]);
+    for (k, name) in names.iter().enumerate() {
+        if !is_elsewhere(keeping.focus, records.get(k)) {
+            note(flags, keeping, at.saturating_add(k), *name);
+        }
+    }
+}
+
+/// Notes the records of a run, whose first is at this place of the order.
+fn note_run(flags: &mut Flags, keeping: &Keeping<'_>, at: usize, names: &[Name]) {
+    match names.first() {
+        Some((LogName::Guest, from)) => note_guest(flags, keeping, at, names, *from),
+        _ => {
+            for (k, name) in names.iter().enumerate() {
+                note(flags, keeping, at.saturating_add(k), *name);
             }
         }
+    }
+}
+
+/// Wants the record at a place of the order, if there is one, and the one that it receives.
+fn want_at(flags: &mut Flags, session: &Session, order: &[Name], place: Option<usize>) {
+    let Some(place) = place else {
+        return;
+    };
+    if let Some(name) = order.get(place) {
+        flags.want_both(session, *name);
+    }
+}
+
+/// Wants the records next to a place of the order.
+fn want_beside(flags: &mut Flags, order: &[Name], place: usize) {
+    if let Some(name) = order.get(place.saturating_sub(1)) {
+        flags.want(*name);
+    }
+    if let Some(name) = order.get(place.saturating_add(1)) {
+        flags.want(*name);
+    }
+}
+
+/// Returns which records of the session concern what the picture is about, or are received by such a record, or are
+/// next to the faulty one.
+fn concerned(alloc: Global, keeping: &Keeping<'_>, order: &[Name]) -> Result<Flags, AllocError> {
+    let mut flags = Flags::of(alloc, keeping.session)?;
+    want_at(&mut flags, keeping.session, order, keeping.certain.fault);
+    want_at(
+        &mut flags,
+        keeping.session,
+        order,
+        keeping.certain.concerned,
+    );
+    let mut at: usize = 0;
+    for run in keeping.runs {
+        let to = at.saturating_add(run.count as usize);
+        let Some(names) = order.get(at..to) else {
+            break;
+        };
+        note_run(&mut flags, keeping, at, names);
+        at = to;
+    }
+    if keeping.focus.fault.is_some() {
+        want_beside(&mut flags, order, keeping.middle);
     }
     Ok(flags)
 }
 
-/// Returns which places of the order have a record whose flag is set.
-fn in_order(
+/// Returns the places of the order that have a wanted record, in its sequence.
+fn places_of(
     alloc: Global,
-    begins: Begins,
+    flags: &Flags,
+    runs: &[Run],
     order: &[Name],
-    flags: &[bool],
-) -> Result<Vec<bool>, AllocError> {
-    let mut wanted = vec![in alloc; false; order.len()]?;
-    for (n, name) in order.iter().enumerate() {
-        if is_wanted(flags, begins.place(*name)) {
-            want(&mut wanted, n);
-        }
-    }
-    Ok(wanted)
-}
-
-/// Returns how many places are wanted, and how many of these are before this one.
-fn count_wanted(wanted: &[bool], place: usize) -> (usize, usize) {
-    let mut count: usize = 0;
-    let mut before: usize = 0;
-    for (n, is_wanted) in wanted.iter().enumerate() {
-        if n == place {
-            before = count;
-        }
-        if *is_wanted {
-            count = count.saturating_add(1);
-        }
-    }
-    if place < wanted.len() {
-        (count, before)
-    } else {
-        (count, count)
-    }
-}
-
-/// If there are too many, keeps the first and the last, and those nearest to this place.
-fn leave_nearest(wanted: &mut Vec<bool>, middle: usize) {
-    let (count, rank) = count_wanted(wanted, middle);
-    if count <= MOST_BESIDE {
-        return;
-    }
+) -> Result<Vec<usize>, AllocError> {
+    let mut places = Vec::new(alloc);
     let mut at: usize = 0;
-    for is_wanted in wanted.iter_mut() {
-        if *is_wanted {
-            let is_at_end = at < MOST_AT_ENDS || at.saturating_add(MOST_AT_ENDS) >= count;
-            let is_near = at.saturating_add(MOST_BESIDE) >= rank
-                && at <= rank.saturating_add(MOST_BESIDE);
-            *is_wanted = is_at_end || is_near;
+    for run in runs {
+        let Some(name) = order.get(at) else {
+            break;
+        };
+        for is_wanted in flags.of_run(*name, run.count as usize) {
+            if *is_wanted {
+                places.push(at)?;
+            }
             at = at.saturating_add(1);
         }
     }
+    Ok(places)
 }
 
-/// Returns whether a place is wanted, or there is no such place.
-fn is_wanted_or_none(wanted: &[bool], place: usize) -> bool {
-    wanted.get(place).copied().unwrap_or(true)
+/// Which of the wanted places have room, if not all do: the first and the last, and those nearest to the middle.
+#[derive(Clone, Copy)]
+struct Room {
+    /// How many are wanted.
+    count: usize,
+    /// How many of these are before the middle.
+    rank: usize,
 }
 
-/// Wants a single record between two wanted ones, or between one and an end: it takes no more room than a fold of it.
-fn fill_gaps(wanted: &mut Vec<bool>) {
-    let mut is_behind_one = true;
-    for n in 0..wanted.len() {
-        if is_behind_one && is_wanted_or_none(wanted, n.saturating_add(1)) {
-            want(wanted, n);
+impl Room {
+    /// Returns the room for wanted places, which rise.
+    fn of(places: &[usize], middle: usize) -> Self {
+        let rank = places.iter().position(|place| *place >= middle);
+        Room {
+            count: places.len(),
+            rank: rank.unwrap_or(places.len()),
         }
-        is_behind_one = is_wanted(wanted, n);
+    }
+
+    /// Returns whether there is room for the wanted place that comes after this many others.
+    fn has(&self, at: usize) -> bool {
+        self.count <= MOST_BESIDE
+            || at < MOST_AT_ENDS
+            || at.saturating_add(MOST_AT_ENDS) >= self.count
+            || (at.saturating_add(MOST_BESIDE) >= self.rank
+                && at <= self.rank.saturating_add(MOST_BESIDE))
     }
 }
 
-/// Returns which places of an order have a row of their own. Allocates memory for a flag for each record. Fails only if
-/// memory runs out.
+/// Keeps the wanted places for which there is room, and this one. Also keeps a single place between two of them, or
+/// between one and an end: it takes no more room than a fold of it.
+fn keep(kept: &mut Vec<bool>, places: &[usize], middle: usize, concerned: Option<usize>) {
+    let room = Room::of(places, middle);
+    let mut next: usize = 0;
+    for (at, place) in places.iter().enumerate() {
+        if room.has(at) || concerned == Some(*place) {
+            if next.saturating_add(1) == *place {
+                want(kept, next);
+            }
+            want(kept, *place);
+            next = place.saturating_add(1);
+        }
+    }
+    if next.saturating_add(1) == kept.len() {
+        want(kept, next);
+    }
+}
+
+/// Returns which places of an order have a row of their own. Allocates memory for two flags for each record, and for
+/// the places of those that are wanted. Fails only if memory runs out.
 pub(crate) fn kept_in(
     alloc: Global,
     keeping: &Keeping<'_>,
     order: &[Name],
 ) -> Result<Vec<bool>, AllocError> {
-    let focus = keeping.focus;
-    let middle = keeping.middle;
-    let begins = Begins::of(keeping.session);
-    let flags = concerned(alloc, keeping, begins, order)?;
-    let mut wanted = in_order(alloc, begins, order, &flags)?;
-    if focus.fault.is_some() {
-        want(&mut wanted, middle.saturating_sub(1));
-        want(&mut wanted, middle.saturating_add(1));
-    }
-    leave_nearest(&mut wanted, middle);
-    if let Some(place) = keeping.certain.concerned {
-        want(&mut wanted, place);
-    }
-    fill_gaps(&mut wanted);
-    Ok(wanted)
+    let flags = concerned(alloc, keeping, order)?;
+    let places = places_of(alloc, &flags, keeping.runs, order)?;
+    let mut kept = vec![in alloc; false; order.len()]?;
+    keep(
+        &mut kept,
+        &places,
+        keeping.middle,
+        keeping.certain.concerned,
+    );
+    Ok(kept)
 }

@@ -3,10 +3,9 @@
 use crate::boxes::Label;
 use crate::drawing::RecordBox;
 use crate::heading::Subject;
-use crate::records::Name;
 use crate::words::RIGHT_VALUE;
 use migration_types::{Field, GuestRec, LogName, Session};
-use session_story::{Amended, amended_by};
+use session_story::{Amended, Name, amended_by};
 use std::alloc::AllocError;
 use text_lines::push_number;
 

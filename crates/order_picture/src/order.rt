@@ -7,10 +7,10 @@ ghost use Rattle.audit_model.specs.Walks.{Walks, cursors_from};
 ghost use Rattle.merge_runs.specs.Taken.{cursors_of};
 ghost use Rattle.order_picture.specs.OrderParts.{IsOrderPart};
 
-use crate::records::Name;
 use audit_model::mergings_are_walks;
 use merge_runs::{TakenCounts, first_bad_run};
 use migration_types::{LogName, Run, Session};
+use session_story::Name;
 use std::alloc::{AllocError, Global};
 
 /// The records of an order, and how many of each log there are.

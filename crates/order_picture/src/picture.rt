@@ -8,13 +8,13 @@ ghost use Rattle.order_picture.specs.Pictures.{IsPicture, IsPictureOf};
 use crate::focus::{Focus, Mark, focus_of};
 use crate::keeping::{Keeping, kept_in};
 use crate::order::{OrderPart, part_along};
-use crate::records::{Name, is_one};
+use crate::records::is_one;
 use crate::rows::{Certain, rows_of};
 use audit_report::Report;
 use cert_maker::found_runs;
 use merge_runs::TakenCounts;
 use migration_types::{GuestRec, LogName, Run, Session};
-use session_story::{Topic, TopicStory, tell};
+use session_story::{Name, Topic, TopicStory, tell};
 use std::alloc::{AllocError, Global};
 
 /// The greatest number of rows in a picture.
@@ -146,6 +146,7 @@ pub fn plan_along(
         session,
         told: &told,
         focus: &focus,
+        runs,
         certain,
         middle,
     };

@@ -3,10 +3,7 @@
 ghost use Rattle.std.specs.Prelude.{◌≡◌};
 ghost use Rattle.order_picture.specs.Marks.{is_one};
 
-use migration_types::LogName;
-
-/// A record, by its log and its number there.
-pub type Name = (LogName, u32);
+use session_story::Name;
 
 /// Returns whether the name is this one, if there is one.
 pub(crate) fn is_one(one: Option<Name>, name: Name) -> bool

@@ -12,9 +12,10 @@ ghost use Rattle.order_picture.specs.inner.Built.{Extends, HasCertainBelow, IsBu
 
 use crate::focus::{Focus, Mark, mark_of};
 use crate::picture::PictureRow;
-use crate::records::{Name, is_one};
+use crate::records::is_one;
 use merge_runs::TakenCounts;
 use migration_types::{LogName, Session};
+use session_story::Name;
 use std::alloc::{AllocError, Global};
 
 /// The greatest number of rows besides those of the faulty record, of its neighbours and of the record that its fault

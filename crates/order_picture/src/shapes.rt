@@ -10,12 +10,11 @@ use crate::behind::{Obstacle, names_behind};
 use crate::boxes::{BoxKind, Label, push_behind, push_rows};
 use crate::headings::{OrderShown, Shown, order_shown};
 use crate::picture::Picture;
-use crate::records::Name;
 use crate::signs::{Sign, signs_in};
 use audit_report::Report;
 use merge_runs::TakenCounts;
 use migration_types::{LogName, Session, logs};
-use session_story::amended_by;
+use session_story::{Name, amended_by};
 use std::alloc::{AllocError, Global};
 
 /// A shape of a picture. Rows count from 0.

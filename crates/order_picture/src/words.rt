@@ -4,11 +4,10 @@ use crate::behind::{Obstacle, tie_of};
 use crate::elements::push;
 use crate::heading::Subject;
 use crate::headings::OrderShown;
-use crate::records::Name;
 use crate::signs::Sign;
 use merge_runs::{TakenCounts, all_of};
 use migration_types::{Session, logs};
-use session_story::{push_record, push_wait};
+use session_story::{Name, push_record, push_wait};
 use std::alloc::{AllocError, Global};
 use text_lines::push_number;
 
