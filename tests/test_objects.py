@@ -243,7 +243,7 @@ def texts(folder):
 
 
 @pytest.mark.quick
-@pytest.mark.cases(20000)
+@pytest.mark.cases(35000)
 def test_objects(program, room):
     tests = Tests(program, room)
     for folder in sorted(glob.glob(f"{TOP}/examples/*") + glob.glob(f"{TOP}/tests/cases/*")):
