@@ -1,6 +1,8 @@
 """The results of migrations of Linux guests, one line for each, and the table of them by version."""
 import json
 import os
+import re
+import time
 from dataclasses import asdict, dataclass
 
 import dialect
@@ -9,7 +11,9 @@ from results import markdown, was_put_in
 from witness import pages_that_differ
 
 FILE = "result.json"
-WRONG = ("guest: WRONG", "BUG", "Oops", "panic", "segfault", "general protection")  # in a line of the console that reports something wrong
+OWN = "own kernel"  # the workload of a kernel that the user has brought
+# In a line of the console that reports something wrong. `panic=1` on the kernel's command line is nothing wrong, and neither is `DEBUG:`.
+WRONG = re.compile(r"guest: WRONG|\bBUG: |kernel BUG at|\bOops: |Kernel panic|segfault at|general protection")
 IN_FIRST_ROUND = "the switch in pre-copy's first round"
 LATER = "the switch in a later round"
 NOT_REACHED = ", not reached"
@@ -25,16 +29,20 @@ class Result:
     is_first_round: bool  # whether the switch came before pre-copy had sent each page once
     fault: str           # the kind that was put in, or that had no chance to be
     verdict: str         # of the audit, or `not judged: ..`; for a bare migration nothing, or the latter
-    lost: int            # pages that were left at the target, and differ from the source's at the halt
+    lost: int            # pages that were left at the target, and differ from the source's at the halt; None where this is not known
     says: list           # what the guest reports on its console as wrong
     seconds: float = 0.0
-    load: float = 0.0    # of the machine
+    load: float = 0.0    # of the machine, at the end; 0 where this is not known
+    made: str = ""       # when it ended, by UTC
+    word: str = ""       # what became of it, where this alone is known
 
     def to_text(self):
         return json.dumps(asdict(self))
 
     @property
     def in_a_word(self):
+        if self.word:
+            return self.word
         if self.verdict.startswith("not judged"):
             return "not judged"
         if self.is_bare:
@@ -59,7 +67,7 @@ def what_guest_says(folder):
         path = f"{folder}/{side}.console"
         if os.path.exists(path):
             with open(path, encoding="utf-8", errors="replace") as file:
-                lines += [f"{side}: {line.strip()}" for line in file if any(word in line for word in WRONG)]
+                lines += [f"{side}: {line.strip()}" for line in file if WRONG.search(line)]
     return lines
 
 
@@ -73,10 +81,29 @@ def result_of(folder, workload, is_bare, verdict, seconds):
         verdict = verdict or "not judged: there was no post-copy"
     fault = plan.fault and (plan.fault if was_put_in(folder) else plan.fault + NOT_REACHED)
     result = Result(plan.source_version, is_bare, plan.cpus, workload, plan.pre_pages <= plan.pages, fault, verdict, len(lost),
-                    what_guest_says(folder), round(seconds, 1), round(os.getloadavg()[0], 1))
+                    what_guest_says(folder), round(seconds, 1), round(os.getloadavg()[0], 1), time.strftime("%Y-%m-%dT%H:%M:%S", time.gmtime()))
     with open(f"{folder}/{FILE}", "w", encoding="utf-8") as out:
         print(result.to_text(), file=out)
     return result
+
+
+def results_in(path):
+    """Returns the results that a file has, a line each."""
+    if not os.path.exists(path):
+        return []
+    with open(path, encoding="utf-8") as lines:
+        return [result_from_text(line) for line in lines]
+
+
+def write_results(path, results):
+    with open(path, "w", encoding="utf-8") as out:
+        out.writelines(f"{result.to_text()}\n" for result in results)
+
+
+def heading(results):
+    """Returns the line above the table."""
+    loads = sorted(result.load for result in results if result.load)
+    return f"{len(results)} migrations" + (f", at a load of {loads[0]:.0f} to {loads[-1]:.0f}" if loads else "") + ":"
 
 
 def table(results):

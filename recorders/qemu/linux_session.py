@@ -222,15 +222,16 @@ def verdict_line(folder):
 def judged(folder, is_whole, ended, say=lambda line: None):
     """Judges a recording, and writes what was found to its folder. There is no verdict if the self-test fails, or if the migration did not
     come to its end; `ended` says how it ended. Returns the Verdict, and the SelfTest or None."""
-    found = None
+    found, faults = None, []
     try:
         found = LinuxRecording(folder).write_session()
-        if not is_whole:
-            raise Hole(f"the migration did not come to its end: {ended}")
-        if faults := list(found.faults()):
-            raise Hole("; ".join(faults))
+        faults = list(found.faults())
     except (Hole, OSError, ValueError) as fault:
-        verdict = judge.Verdict(f"not judged: {fault}")
+        faults = [str(fault)]
+    if not is_whole:  # which is why anything else is missing
+        faults = [f"the migration did not come to its end: {ended}"]
+    if faults:
+        verdict = judge.Verdict(f"not judged: {'; '.join(faults)}")
     else:
         say(f"self-test: {found.line()}")
         judge.write(f"{folder}/self-test", found.line() + "\n")

@@ -3,6 +3,7 @@ import contextlib
 import gzip
 import io
 import os
+import re
 import shutil
 import struct
 import subprocess
@@ -12,6 +13,7 @@ import tempfile
 
 import debian
 import dialect
+import found_page
 import linux_results
 import linux_run
 from kinds import Plan
@@ -19,6 +21,7 @@ from linux_results import Result, result_from_text
 from linux_test import BASE, made, write
 from qmp import Gone
 from roots import Missing
+from run import Outcome
 from stream import PAGE_BYTES
 from versions_test import QEMU, command, program, qemu_like, read
 
@@ -54,6 +57,9 @@ def of_results(tests):
                result(is_bare=True, verdict="", lost=4), result(is_bare=True, verdict="", says=["target: kernel BUG"]), result(is_bare=True, verdict=""),
                result(is_bare=True, verdict="not judged: there was no post-copy"), result(verdict="incomplete page 3", is_first_round=False)]
     tests.wants("in a word", [one.in_a_word for one in results], ["clean", "faulty", "not judged", "clean", "lost pages", "something wrong", "nothing lost", "not judged", "incomplete"])
+    tests.wants("one of which the word alone was kept", Result("7.2.22", True, 2, "busy", True, "", "", None, [], word="lost pages").in_a_word, "lost pages")
+    tests.wants("the line above the table", [linux_results.heading(some) for some in (results[:1], [Result("7.2.22", True, 1, "busy", True, "", "", 0, [], load=load) for load in (0.0, 7.2, 3.9)])],
+                ["1 migrations:", "3 migrations, at a load of 4 to 7:"])
     tests.wants("as a text and back", [result_from_text(one.to_text()) for one in results], results)
     tests.wants("the table", linux_results.table(results).splitlines(), [
         "| Migrations of | 7.2.22 | 10.0.13 |", "| --- | --- | --- |",
@@ -68,6 +74,12 @@ def of_results(tests):
         found = linux_results.result_of(folder, "busy", False, "faulty line 7 read", 9.04)
         tests.wants("of a folder", (found.version, found.cpus, found.lost, found.says, found.seconds, found.is_first_round),
                     ("7.2", 1, 1, ["target: guest: WRONG: a file is not what was written"], 9.0, True))
+        tests.wants("when it was made", re.fullmatch(r"\d{4}-\d\d-\d\dT\d\d:\d\d:\d\d", found.made) is not None, True)
+        wrong = ("[ 1.0] BUG: unable to handle page fault for address: 0", "[ 1.0] kernel BUG at lib/list_debug.c:27!", "[ 1.0] Oops: 0002 [#1] PREEMPT SMP",
+                 "[ 1.0] Kernel panic - not syncing: x", "[ 1.0] one[7]: segfault at 0 ip 0", "[ 1.0] traps: one[7] general protection fault ip:0")
+        with open(f"{folder}/target.console", "w", encoding="ascii") as out:
+            print("[ 0.0] Kernel command line: console=ttyS0 panic=1 oops=panic", "DEBUG: /init starts", *wrong, sep="\n", file=out)
+        tests.wants("what a guest says that is wrong", linux_results.what_guest_says(folder), [f"target: {line}" for line in wrong])
         for log, told in (("", "flip, not reached"), ("fault flip 2\n", "flip")):
             write({"plan.json": Plan(kind="linux", fault="flip").to_text().encode(), "relay.log": log.encode()}, folder)
             tests.wants("the fault that was put in", linux_results.result_of(folder, "busy", True, "", 1).fault, told)
@@ -178,6 +190,7 @@ def of_words(tests, room):
         pass
     for words, status, said in ((("--memory", "200"), 2, "--memory is 64 to 129"), (("--cpus", "9"), 2, "--cpus is 1 to 4"),
                                 (("--kernel", "any"), 2, "--kernel and --initrd go together"), (("--fault", "keep"), 2, "invalid choice: 'keep'"),
+                                (("--kernel", qemu, "--initrd", qemu, "--boot", "1", "--workload", "spread"), 2, "--workload goes with Debian's kernel"),
                                 (("--kernel", qemu, "--initrd", qemu), 2, "with --kernel, --ready or --boot has to say when the guest is up"),
                                 (("--kernel", f"{room}/none", "--initrd", qemu, "--qemu", qemu, "--boot", "1"), 3, f"{room}/none cannot be read"),
                                 (("--kernel", qemu, "--initrd", qemu, "--qemu", qemu, "--ready", "login"), 3, "QEMU 5.2.0 has no interface for plugins that is known here"),
@@ -202,13 +215,40 @@ sys.exit(status)
 """
 
 
+def of_workloads(tests):
+    """What the guest does, by its name in the results: a kernel of one's own does none of what is named."""
+    linux = command("linux")
+    for words, name, said in (([], "spread", "work=1024:1000,1024:1000"), (["--workload", "alone"], "alone", "work=64:0 nap=1000"),
+                              (["--kernel", "any", "--initrd", "any", "--ready", "up", "--append", "panic=1"], "own kernel", "panic=1")):
+        parser = linux.words()
+        asked = parser.parse_args(["seen", *words])
+        tests.wants(f"the workload of {words}", (linux.plan_of_words(parser, asked).workload, asked.workload), (said, name))
+
+
+def of_a_guest_that_does_not_boot(tests, room):
+    """Where the recorder gave up, the verdict says why, and not what was missing for that."""
+    linux = command("linux")
+    parser = linux.words()
+    gave_up = "gave up: the guest did not boot within 600 s; it said: nothing"
+    for words, wanted in ((["--bare"], f"not judged: {gave_up}"), ([], f"not judged: the migration did not come to its end: {gave_up}")):
+        asked = parser.parse_args([room, *words])
+        plan = linux.plan_of_words(parser, asked)
+        write({"plan.json": plan.to_text().encode(), **dict.fromkeys(("relay.log", "relay.pages", "source.raw", "target.raw"), b"")}, room)
+        outcome = Outcome(remarks=["0.1 s", gave_up])
+        with contextlib.redirect_stdout(io.StringIO()):
+            status = linux.found_bare(room, outcome, asked, 1.0) if words else linux.found_recorded(room, outcome, asked, 1.0, lambda line: None)
+        tests.wants(f"what is told of it {words}", (status, result_from_text(read(f"{room}/result.json")).verdict), (4, wanted))
+
+
 def of_runs(tests, room):
     """Runs one after another: each adds a line, big files go, and the table of all is written."""
     results = [Result("7.2.22", False, 1, "spread", True, "", verdict, 0, [], 60.0, 4.0) for verdict in ("clean, yes", "faulty line 7 read")]
     with open(f"{room}/linux", "w", encoding="ascii") as out:
         out.write(MADE_UP % tuple(result.to_text() for result in results))
     runs = command("linux_runs")
-    runs.HERE, runs.PAGE = room, f"{room}/page.md"
+    runs.HERE, runs.PAGE, runs.KEPT = room, f"{room}/page.md", f"{room}/kept"
+    earlier = Result("7.2.22", False, 1, "spread", True, "", "", None, [], word="not judged", made="2026-11-27")
+    linux_results.write_results(runs.KEPT, [earlier, earlier])
     with open(runs.PAGE, "w", encoding="ascii") as page:
         page.write("before\n{}old\n{}after\n".format(*runs.MARKS))
 
@@ -224,10 +264,21 @@ def of_runs(tests, room):
                                  made("0", f"{room}/seen", "--write"), made("1", room, "--", "0")], [0, 0, 3, 0, 2])
     tests.wants("what is kept", [sorted(os.listdir(f"{room}/seen/{number:04}")) for number in range(3)],
                 [["result.json", "verdict"]] * 2 + [["halt.mem", "result.json", "session", "verdict"]])
-    tests.wants("the results", runs.kept(f"{room}/seen"), [results[0], results[0], results[1]])
+    tests.wants("the results", linux_results.results_in(f"{room}/seen/results"), [results[0], results[0], results[1]])
+    tests.wants("those of all calls", linux_results.results_in(runs.KEPT), [earlier, earlier, results[0], results[0], results[1]])
     tests.wants("the page", read(runs.PAGE).splitlines()[2:7], [
-        "", "3 migrations, at a load of 4 to 4:", "", "| Migrations of | 7.2.22 |", "| --- | --- |"])
-    tests.wants("and its table", "| recorded, 1 processor, `spread`, the switch in pre-copy's first round | 2 clean, 1 faulty |" in read(runs.PAGE), True)
+        "", "5 migrations, at a load of 4 to 4:", "", "| Migrations of | 7.2.22 |", "| --- | --- |"])
+    wanted = "| recorded, 1 processor, `spread`, the switch in pre-copy's first round | 2 clean, 1 faulty, 2 not judged |"
+    tests.wants("and its table", wanted in read(runs.PAGE), True)
+    tests.wants("written once more, nothing is added", (made("0", f"{room}/seen", "--write"), len(linux_results.results_in(runs.KEPT)), wanted in read(runs.PAGE)), (0, 5, True))
+    tests.wants("without runs the table of those that are kept", (made("0", f"{room}/none", "--write"), wanted in read(runs.PAGE)), (0, True))
+
+
+def of_kept_results(tests):
+    """The table in the page is that of the results that the checkout keeps."""
+    runs = command("linux_runs")
+    page = read(runs.PAGE)
+    tests.wants("the table of what is kept", found_page.put(page, runs.told(linux_results.results_in(runs.KEPT)), runs.MARKS) == page, True)
 
 
 def of_interfaces(tests):
@@ -240,8 +291,10 @@ def run(tests):
     of_an_initramfs(tests)
     of_interfaces(tests)
     of_results(tests)
+    of_kept_results(tests)
+    of_workloads(tests)
     of_the_machine(tests)
     of_boots(tests)
-    for of_them in (of_packages, of_words, of_runs):
+    for of_them in (of_packages, of_words, of_a_guest_that_does_not_boot, of_runs):
         with tempfile.TemporaryDirectory() as room:
             of_them(tests, room)

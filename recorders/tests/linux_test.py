@@ -247,6 +247,8 @@ def of_the_self_test(tests):
         tests.wants(f"the self-test: {what}", verdict_of(files), wanted)
     tests.wants("a migration that did not end", verdict_of(made(), is_whole=False),
                 "not judged: the migration did not come to its end: source failed, target ENDED")
+    tests.wants("one of which there is no session either", verdict_of({**made(), "source.accesses": b"", "target.raw": b""}, is_whole=False),
+                "not judged: the migration did not come to its end: source failed, target ENDED")
 
 
 def kept():
