@@ -34,7 +34,6 @@ ROLES = {
 }
 
 
-
 def record_of(session, line):
     """The log and the number of the record at a line of a session's text, and the page that it is of."""
     for log, records in session.logs.items():
