@@ -101,9 +101,10 @@ def write_results(path, results):
 
 
 def heading(results):
-    """Returns the line above the table."""
+    """Returns the line above the table. The load of a run that was kept without one is not known."""
     loads = sorted(result.load for result in results if result.load)
-    return f"{len(results)} migrations" + (f", at a load of {loads[0]:.0f} to {loads[-1]:.0f}" if loads else "") + ":"
+    some = "" if len(loads) == len(results) else f"{len(loads)} of them "
+    return f"{len(results)} migrations" + (f", {some}at a load of {loads[0]:.0f} to {loads[-1]:.0f}" if loads else "") + ":"
 
 
 def table(results):

@@ -59,7 +59,7 @@ def of_results(tests):
     tests.wants("in a word", [one.in_a_word for one in results], ["clean", "faulty", "not judged", "clean", "lost pages", "something wrong", "nothing lost", "not judged", "incomplete"])
     tests.wants("one of which the word alone was kept", Result("7.2.22", True, 2, "busy", True, "", "", None, [], word="lost pages").in_a_word, "lost pages")
     tests.wants("the line above the table", [linux_results.heading(some) for some in (results[:1], [Result("7.2.22", True, 1, "busy", True, "", "", 0, [], load=load) for load in (0.0, 7.2, 3.9)])],
-                ["1 migrations:", "3 migrations, at a load of 4 to 7:"])
+                ["1 migrations:", "3 migrations, 2 of them at a load of 4 to 7:"])
     tests.wants("as a text and back", [result_from_text(one.to_text()) for one in results], results)
     tests.wants("the table", linux_results.table(results).splitlines(), [
         "| Migrations of | 7.2.22 | 10.0.13 |", "| --- | --- | --- |",
