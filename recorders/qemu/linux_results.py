@@ -43,11 +43,16 @@ class Result:
     def in_a_word(self):
         if self.word:
             return self.word
-        if self.verdict.startswith("not judged"):
+        if self.verdict.startswith("not judged") and not (self.is_bare and self.is_wrong_at_target):
             return "not judged"
         if self.is_bare:
             return "lost pages" if self.lost else "something wrong" if self.says else "nothing lost"
         return "clean" if self.verdict == "clean, yes" else self.verdict.split(" ")[0]
+
+    @property
+    def is_wrong_at_target(self):
+        """Returns whether the guest reports at the target that something is wrong, which needs no post-copy."""
+        return any(line.startswith("target: ") for line in self.says)
 
     @property
     def row(self):

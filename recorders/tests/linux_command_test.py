@@ -58,6 +58,9 @@ def of_results(tests):
                result(is_bare=True, verdict="not judged: there was no post-copy"), result(verdict="incomplete page 3", is_first_round=False)]
     tests.wants("in a word", [one.in_a_word for one in results], ["clean", "faulty", "not judged", "clean", "lost pages", "something wrong", "nothing lost", "not judged", "incomplete"])
     tests.wants("one of which the word alone was kept", Result("7.2.22", True, 2, "busy", True, "", "", None, [], word="lost pages").in_a_word, "lost pages")
+    tests.wants("a bare one without post-copy, of which the guest is wrong at the target, at the source, or says nothing", [
+        result(is_bare=True, verdict="not judged: there was no post-copy", says=says).in_a_word for says in (["target: guest: WRONG"], ["source: Kernel panic"], [])],
+                ["something wrong", "not judged", "not judged"])
     tests.wants("the line above the table", [linux_results.heading(some) for some in (results[:1], [Result("7.2.22", True, 1, "busy", True, "", "", 0, [], load=load) for load in (0.0, 7.2, 3.9)])],
                 ["1 migrations:", "3 migrations, 2 of them at a load of 4 to 7:"])
     tests.wants("as a text and back", [result_from_text(one.to_text()) for one in results], results)
@@ -83,7 +86,7 @@ def of_results(tests):
         for log, told in (("", "flip, not reached"), ("fault flip 2\n", "flip")):
             write({"plan.json": Plan(kind="linux", fault="flip").to_text().encode(), "relay.log": log.encode()}, folder)
             tests.wants("the fault that was put in", linux_results.result_of(folder, "busy", True, "", 1).fault, told)
-        write(made(), folder)
+        write({**made(), "target.console": b"guest: booted\n"}, folder)
         os.unlink(f"{folder}/halt.mem")
         tests.wants("without post-copy", linux_results.result_of(folder, "busy", True, "", 1).in_a_word, "not judged")
 
