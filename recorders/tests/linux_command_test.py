@@ -270,7 +270,7 @@ def of_runs(tests, room):
     tests.wants("the results", linux_results.results_in(f"{room}/seen/results"), [results[0], results[0], results[1]])
     tests.wants("those of all calls", linux_results.results_in(runs.KEPT), [earlier, earlier, results[0], results[0], results[1]])
     tests.wants("the page", read(runs.PAGE).splitlines()[2:7], [
-        "", "5 migrations, at a load of 4 to 4:", "", "| Migrations of | 7.2.22 |", "| --- | --- |"])
+        "", "5 migrations, 3 of them at a load of 4 to 4:", "", "| Migrations of | 7.2.22 |", "| --- | --- |"])
     wanted = "| recorded, 1 processor, `spread`, the switch in pre-copy's first round | 2 clean, 1 faulty, 2 not judged |"
     tests.wants("and its table", wanted in read(runs.PAGE), True)
     tests.wants("written once more, nothing is added", (made("0", f"{room}/seen", "--write"), len(linux_results.results_in(runs.KEPT)), wanted in read(runs.PAGE)), (0, 5, True))
