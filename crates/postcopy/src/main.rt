@@ -24,9 +24,7 @@ mod saving;
 
 use crate::folders::WithFolders;
 use crate::saving::{Draft, Saved, is_one_file};
-use command_texts::{
-    Closable, Console, Fault, STANDARD_OUTPUT, TextSource, USAGE, cause_of, tell,
-};
+use command_texts::{Closable, Console, Fault, STANDARD_OUTPUT, TextSource, USAGE, cause_of, tell};
 use commands::{Reading, Targets, read_words, run};
 use refusal_words::push_quote;
 use std::alloc::{AllocError, Global};
