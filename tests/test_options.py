@@ -18,7 +18,7 @@ from told_topics import topic_of
 TOP = os.path.dirname(os.path.dirname(os.path.realpath(__file__)))
 SESSIONS = [f"{TOP}/{name}" for name in ("examples/handover/session", "examples/early-access/session", "examples/stale-page/session",
                                          "tests/cases/complete-pages-without-the-rest/session", "tests/cases/audit-all/session",
-                                         "tests/cases/audit-all-wrong-shape/session", "tests/cases/object-of-what-is-missing/session")]
+                                         "tests/cases/audit-all-wrong-shape/session", "tests/cases/object-of-what-is-missing/session", "examples/wrong-read/session")]
 WHOLE, PAGES, ALL, QUIET, JSON = ("--complete",), ("--complete-pages",), ("--all",), ("--quiet",), ("--format", "json")
 PAGE, LINE = ("--page", "0"), ("--line", "9")
 MORE = 1000
@@ -95,7 +95,7 @@ class Tests:
 
 
 @pytest.mark.quick
-@pytest.mark.cases(630)
+@pytest.mark.cases(700)
 def test_options(program, room):
     tests = Tests(program, room)
     clashes = {"audit": {(ALL, QUIET)}, "explain": {(PAGE, LINE)}, "check": set()}
