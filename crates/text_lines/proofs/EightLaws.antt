@@ -2,17 +2,17 @@
 use Rattle.std.proofs.Common.{◌≡◌, ℕ, zero, suc, ◌+◌, ◌-◌, ◌*◌, ◌/◌, ◌%◌, ◌<◌, ◌≤◌, ◌^◌, List, [], ◌∷◌, Bool, true, false, cond, length, take, map, drop, ◌++◌, get_or, refl, ap, subst, ◌∙◌, sym, arith, ltb, inl, inr}
 use Rattle.std.specs.List.{AllByRecursion}
 use Rattle.std.specs.Char.{digit_value}
-use Rattle.std.specs.Int.{w64, bit_at, trailing_ones, from_be_bytes}
+use Rattle.std.specs.Int.{w64, bit_at, trailing_ones, from_le_bytes}
 use Rattle.std.specs.Int.Digits.{number_from_digits, number_from_digits_after}
 use Rattle.std.specs.Int.RustNames.{bit_and}
 use Rattle.std.specs.Str.Parse.{AllDigits, digits_value}
-use Rattle.std.specs.Simd.Lanes.{mask_l}
+use Rattle.std.specs.Simd.Lanes.{mask_l, number_l}
 use Rattle.std.proofs.lemmas.Bool.{ltb-true, ltb-false, cases_lt}
 use Rattle.std.proofs.lemmas.List.{get_or-map, get_or-take, length-take, length-drop, length-map, map-append, take-map, take-take}
 use Rattle.std.proofs.lemmas.Nat.{and_block, and_mask}
 use Rattle.std.proofs.lemmas.Nat.Bits.{bit_at_above, bit_at-trailing_ones}
 use Rattle.std.proofs.lemmas.Simd.{bit_mask_l, mask_l-lt}
-use Rattle.text_lines.specs.inner.Blocks.{digit_less, IsDigitStart}
+use Rattle.text_lines.specs.inner.Blocks.{digit_less, padded, IsDigitStart}
 use Rattle.std.proofs.Math.Nat.{pow-suc, mul_comm, mul_assoc, add-mul}
 use Rattle.std.proofs.lemmas.Int.Digits.{number_after_append, digits_value_is}
 use Rattle.text_lines.proofs.Fronts.{byte_digit}
@@ -26,14 +26,14 @@ eight v long = absurd (omega arith)
 abbrev pub small_mask : List ℕ → ℕ
 small_mask xs = mask_l (map (λ x. ltb x 10) xs)
 
-lane : (xs : List ℕ) (i : ℕ) → i < length xs → bit_at (small_mask xs) i ≡ cond (ltb (get_or xs i 0) 10) 1 0
-lane xs i lt = bit_mask_l (map (λ (x : ℕ). ltb x 10) xs) i ∙ ap (λ (t : Bool). cond t 1 0) (get_or-map (λ (x : ℕ). ltb x 10) xs i 0 false lt)
+pub lane : (p : ℕ → Bool) (xs : List ℕ) (i : ℕ) → i < length xs → bit_at (mask_l (map p xs)) i ≡ cond (p (get_or xs i 0)) 1 0
+lane p xs i lt = bit_mask_l (map p xs) i ∙ ap (λ (t : Bool). cond t 1 0) (get_or-map p xs i 0 false lt)
 
 cond_one : (t : Bool) → cond {A = ℕ} t 1 0 ≡ 1 → t ≡ true
 cond_one true e = refl
 cond_one false e = absurd (omega arith)
 
-cond_zero : (t : Bool) → cond {A = ℕ} t 1 0 ≡ 0 → t ≡ false
+pub cond_zero : (t : Bool) → cond {A = ℕ} t 1 0 ≡ 0 → t ≡ false
 cond_zero true e = absurd (omega arith)
 cond_zero false e = refl
 
@@ -49,7 +49,7 @@ small_before_is xs m count long mask is =
     let t = bit_at-trailing_ones w64 m (omega arith) in
     let here : bit_at m count ≡ 0 = subst (λ (k : ℕ). bit_at m k ≡ 0) (sym is) t.1 in
     let ones : (i : ℕ) → i < count → bit_at m i ≡ 1 = λ i lt. t.2 i (subst (λ (k : ℕ). i < k) is lt) in
-    let at : (i : ℕ) → i < length xs → bit_at m i ≡ cond (ltb (get_or xs i 0) 10) 1 0 = λ i lt. ap (λ (k : ℕ). bit_at k i) mask ∙ lane xs i lt in
+    let at : (i : ℕ) → i < length xs → bit_at m i ≡ cond (ltb (get_or xs i 0) 10) 1 0 = λ i lt. ap (λ (k : ℕ). bit_at k i) mask ∙ lane (λ (x : ℕ). ltb x 10) xs i lt in
     let within : count ≤ 8 = elim (cases_lt 8 count) [
       | inl lt ↦ absurd (omega (arith, ones 8 lt, bit_at_above m 8 8 (omega arith) (omega arith)))
       | inr le ↦ le
@@ -62,7 +62,7 @@ small_before_is xs m count long mask is =
 
 -- ---- the first bytes as a word
 
-pub front_word_is : (bytes : List ℕ) (k word : ℕ) → length bytes ≡ 8 → AllByRecursion (λ b. b < 256) bytes → k ≤ 8 → word ≡ from_be_bytes w64 bytes → word / 2 ^ (32 - 4 * k) / 2 ^ (32 - 4 * k) ≡ number_from_digits 256 (take k bytes)
+pub front_word_is : (bytes : List ℕ) (k word : ℕ) → length bytes ≡ 8 → AllByRecursion (λ b. b < 256) bytes → k ≤ 8 → word ≡ from_le_bytes w64 bytes → word * 2 ^ (32 - 4 * k) % 18446744073709551616 * 2 ^ (32 - 4 * k) % 18446744073709551616 ≡ number_l 256 (padded (8 - k) (take k bytes))
 front_word_is (a ∷ b ∷ c ∷ d ∷ e ∷ f ∷ g ∷ h ∷ []) zero word long bytes le is = omega arith
 front_word_is (a ∷ b ∷ c ∷ d ∷ e ∷ f ∷ g ∷ h ∷ []) (suc zero) word long bytes le is = omega arith
 front_word_is (a ∷ b ∷ c ∷ d ∷ e ∷ f ∷ g ∷ h ∷ []) (suc (suc zero)) word long bytes le is = omega arith
@@ -90,49 +90,54 @@ later_twos p q r s ql rl sl =
     ap (λ (n : ℕ). bit_and n 281470681808895) same ∙ omega (arith, and_block 32 (p * 65536 + q) 65535 (r * 65536 + s) 65535 (omega arith) (omega arith), and_mask (p * 65536 + q) 16, and_mask (r * 65536 + s) 16)
 
 abbrev pub twos_of : ℕ → ℕ
-twos_of word = bit_and (word / 256) 71777214294589695 * 10 + bit_and word 71777214294589695
+twos_of word = bit_and (word * 2561 % 18446744073709551616 / 256) 71777214294589695
 
 abbrev pub fours_of : ℕ → ℕ
-fours_of twos = bit_and (twos / 65536) 281470681808895 * 100 + bit_and twos 281470681808895
+fours_of twos = bit_and (twos * 6553601 % 18446744073709551616 / 65536) 281470681808895
 
 abbrev pub eight_of : ℕ → ℕ
-eight_of fours = fours / 4294967296 * 10000 + bit_and fours 4294967295
+eight_of fours = fours * 42949672960001 % 18446744073709551616 / 4294967296
 
-twos_are : (a b c d e f g h word : ℕ) → a < 10 → b < 10 → c < 10 → d < 10 → e < 10 → f < 10 → g < 10 → h < 10 → word ≡ ((((((a * 256 + b) * 256 + c) * 256 + d) * 256 + e) * 256 + f) * 256 + g) * 256 + h → twos_of word ≡ (((a * 10 + b) * 65536 + (c * 10 + d)) * 65536 + (e * 10 + f)) * 65536 + (g * 10 + h)
+twos_are : (a b c d e f g h word : ℕ) → a < 10 → b < 10 → c < 10 → d < 10 → e < 10 → f < 10 → g < 10 → h < 10 → word ≡ number_l 256 (a ∷ b ∷ c ∷ d ∷ e ∷ f ∷ g ∷ h ∷ []) → twos_of word ≡ (((g * 10 + h) * 65536 + (e * 10 + f)) * 65536 + (c * 10 + d)) * 65536 + (a * 10 + b)
 twos_are a b c d e f g h word al bl cl dl el fl gl hl is =
-    let high : word / 256 ≡ ((a * 65536 + (b * 256 + c)) * 65536 + (d * 256 + e)) * 65536 + (f * 256 + g) = omega arith in
-    let low : word ≡ (((a * 256 + b) * 65536 + (c * 256 + d)) * 65536 + (e * 256 + f)) * 65536 + (g * 256 + h) = omega arith in
-    let tens = ap (λ (n : ℕ). bit_and n 71777214294589695) high ∙ seconds a (b * 256 + c) (d * 256 + e) (f * 256 + g) (omega arith) (omega arith) (omega arith) in
-    let ones = ap (λ (n : ℕ). bit_and n 71777214294589695) low ∙ seconds (a * 256 + b) (c * 256 + d) (e * 256 + f) (g * 256 + h) (omega arith) (omega arith) (omega arith) in
-    omega (arith, tens, ones)
+    let raised : word * 2561 % 18446744073709551616 / 256 ≡ (((g * 10 + h) * 65536 + ((f * 10 + g) * 256 + (e * 10 + f))) * 65536 + ((d * 10 + e) * 256 + (c * 10 + d))) * 65536 + ((b * 10 + c) * 256 + (a * 10 + b)) = omega arith in
+    ap (λ (n : ℕ). bit_and n 71777214294589695) raised ∙ (seconds (g * 10 + h) ((f * 10 + g) * 256 + (e * 10 + f)) ((d * 10 + e) * 256 + (c * 10 + d)) ((b * 10 + c) * 256 + (a * 10 + b)) (omega arith) (omega arith) (omega arith) ∙ omega arith)
 
-fours_are : (p q r s twos : ℕ) → p < 100 → q < 100 → r < 100 → s < 100 → twos ≡ ((p * 65536 + q) * 65536 + r) * 65536 + s → fours_of twos ≡ (p * 100 + q) * 4294967296 + (r * 100 + s)
+fours_are : (p q r s twos : ℕ) → p < 100 → q < 100 → r < 100 → s < 100 → twos ≡ ((s * 65536 + r) * 65536 + q) * 65536 + p → fours_of twos ≡ (r * 100 + s) * 4294967296 + (p * 100 + q)
 fours_are p q r s twos pl ql rl sl is =
-    let high : twos / 65536 ≡ ((0 * 65536 + p) * 65536 + q) * 65536 + r = omega arith in
-    let hundreds = ap (λ (n : ℕ). bit_and n 281470681808895) high ∙ later_twos 0 p q r (omega arith) (omega arith) (omega arith) in
-    let ones = ap (λ (n : ℕ). bit_and n 281470681808895) is ∙ later_twos p q r s (omega arith) (omega arith) (omega arith) in
-    omega (arith, hundreds, ones)
+    let raised : twos * 6553601 % 18446744073709551616 / 65536 ≡ ((0 * 65536 + (r * 100 + s)) * 65536 + (q * 100 + r)) * 65536 + (p * 100 + q) = omega arith in
+    ap (λ (n : ℕ). bit_and n 281470681808895) raised ∙ later_twos 0 (r * 100 + s) (q * 100 + r) (p * 100 + q) (omega arith) (omega arith) (omega arith)
 
-eight_are : (p q fours : ℕ) → p < 10000 → q < 10000 → fours ≡ p * 4294967296 + q → eight_of fours ≡ p * 10000 + q
-eight_are p q fours pl ql is = omega (arith, and_mask fours 32)
+eight_are : (p q fours : ℕ) → p < 10000 → q < 10000 → fours ≡ q * 4294967296 + p → eight_of fours ≡ p * 10000 + q
+eight_are p q fours pl ql is = omega arith
 
-decimal_of_eight : (a b c d e f g h word : ℕ) → a < 10 → b < 10 → c < 10 → d < 10 → e < 10 → f < 10 → g < 10 → h < 10 → word ≡ ((((((a * 256 + b) * 256 + c) * 256 + d) * 256 + e) * 256 + f) * 256 + g) * 256 + h → eight_of (fours_of (twos_of word)) ≡ ((((((a * 10 + b) * 10 + c) * 10 + d) * 10 + e) * 10 + f) * 10 + g) * 10 + h
-decimal_of_eight a b c d e f g h word al bl cl dl el fl gl hl is =
+pub decimal_is : (ds : List ℕ) (word : ℕ) → length ds ≡ 8 → AllByRecursion (λ d. d < 10) ds → word ≡ number_l 256 ds → eight_of (fours_of (twos_of word)) ≡ number_from_digits 10 ds
+decimal_is (a ∷ b ∷ c ∷ d ∷ e ∷ f ∷ g ∷ h ∷ []) word long all is =
+    let al : a < 10 = all.0 in
+    let bl : b < 10 = all.1.0 in
+    let cl : c < 10 = all.1.1.0 in
+    let dl : d < 10 = all.1.1.1.0 in
+    let el : e < 10 = all.1.1.1.1.0 in
+    let fl : f < 10 = all.1.1.1.1.1.0 in
+    let gl : g < 10 = all.1.1.1.1.1.1.0 in
+    let hl : h < 10 = all.1.1.1.1.1.1.1.0 in
     let twos = twos_are a b c d e f g h word al bl cl dl el fl gl hl is in
     let fours = fours_are (a * 10 + b) (c * 10 + d) (e * 10 + f) (g * 10 + h) (twos_of word) (omega arith) (omega arith) (omega arith) (omega arith) twos in
     eight_are ((a * 10 + b) * 100 + (c * 10 + d)) ((e * 10 + f) * 100 + (g * 10 + h)) (fours_of (twos_of word)) (omega arith) (omega arith) fours ∙ omega arith
+decimal_is ds word long all is = absurd (omega arith)
 
-pub decimal_is : (ds : List ℕ) (word : ℕ) → length ds ≤ 8 → AllByRecursion (λ d. d < 10) ds → word ≡ number_from_digits 256 ds → eight_of (fours_of (twos_of word)) ≡ number_from_digits 10 ds
-decimal_is [] word le all is = decimal_of_eight 0 0 0 0 0 0 0 0 word (omega arith) (omega arith) (omega arith) (omega arith) (omega arith) (omega arith) (omega arith) (omega arith) (omega arith) ∙ omega arith
-decimal_is (h ∷ []) word le all is = decimal_of_eight 0 0 0 0 0 0 0 h word (omega arith) (omega arith) (omega arith) (omega arith) (omega arith) (omega arith) (omega arith) all.0 (omega arith) ∙ omega arith
-decimal_is (g ∷ h ∷ []) word le all is = decimal_of_eight 0 0 0 0 0 0 g h word (omega arith) (omega arith) (omega arith) (omega arith) (omega arith) (omega arith) all.0 all.1.0 (omega arith) ∙ omega arith
-decimal_is (f ∷ g ∷ h ∷ []) word le all is = decimal_of_eight 0 0 0 0 0 f g h word (omega arith) (omega arith) (omega arith) (omega arith) (omega arith) all.0 all.1.0 all.1.1.0 (omega arith) ∙ omega arith
-decimal_is (e ∷ f ∷ g ∷ h ∷ []) word le all is = decimal_of_eight 0 0 0 0 e f g h word (omega arith) (omega arith) (omega arith) (omega arith) all.0 all.1.0 all.1.1.0 all.1.1.1.0 (omega arith) ∙ omega arith
-decimal_is (d ∷ e ∷ f ∷ g ∷ h ∷ []) word le all is = decimal_of_eight 0 0 0 d e f g h word (omega arith) (omega arith) (omega arith) all.0 all.1.0 all.1.1.0 all.1.1.1.0 all.1.1.1.1.0 (omega arith) ∙ omega arith
-decimal_is (c ∷ d ∷ e ∷ f ∷ g ∷ h ∷ []) word le all is = decimal_of_eight 0 0 c d e f g h word (omega arith) (omega arith) all.0 all.1.0 all.1.1.0 all.1.1.1.0 all.1.1.1.1.0 all.1.1.1.1.1.0 (omega arith) ∙ omega arith
-decimal_is (b ∷ c ∷ d ∷ e ∷ f ∷ g ∷ h ∷ []) word le all is = decimal_of_eight 0 b c d e f g h word (omega arith) all.0 all.1.0 all.1.1.0 all.1.1.1.0 all.1.1.1.1.0 all.1.1.1.1.1.0 all.1.1.1.1.1.1.0 (omega arith) ∙ omega arith
-decimal_is (a ∷ b ∷ c ∷ d ∷ e ∷ f ∷ g ∷ h ∷ []) word le all is = decimal_of_eight a b c d e f g h word all.0 all.1.0 all.1.1.0 all.1.1.1.0 all.1.1.1.1.0 all.1.1.1.1.1.0 all.1.1.1.1.1.1.0 all.1.1.1.1.1.1.1.0 (omega arith) ∙ omega arith
-decimal_is ds word le all is = absurd (omega arith)
+-- zeros before digits are digits, and leave their number as it is
+pub padded_length : (k : ℕ) (ds : List ℕ) → length (padded k ds) ≡ k + length ds
+padded_length zero ds = omega arith
+padded_length (suc k) ds = omega (arith, padded_length k ds)
+
+pub padded_digits : (k : ℕ) (ds : List ℕ) → AllByRecursion (λ d. d < 10) ds → AllByRecursion (λ d. d < 10) (padded k ds)
+padded_digits zero ds all = all
+padded_digits (suc k) ds all = (omega arith, padded_digits k ds all)
+
+pub padded_number : (k : ℕ) (ds : List ℕ) → number_from_digits 10 (padded k ds) ≡ number_from_digits 10 ds
+padded_number zero ds = refl
+padded_number (suc k) ds = padded_number k ds
 
 -- ---- the digits of a text
 
@@ -147,8 +152,8 @@ front_digits_are (suc k) (b ∷ text) le bytes small =
     let same = rest.1 in
     ((omega arith, rest.0), cc, (below, rest.2))
 
-pub number_at : (i : ℕ) (text : List ℕ) → i < 8 → 8 ≤ length text → get_or (map digit_less (take 8 text)) i 0 ≡ digit_less (get_or text i 0)
-number_at i text lt le = get_or-map digit_less (take 8 text) i 0 0 (omega (arith, length-take 8 text)) ∙ ap digit_less (get_or-take 8 text i 0 lt)
+pub number_at : (n i : ℕ) (text : List ℕ) → i < n → n ≤ length text → get_or (map digit_less (take n text)) i 0 ≡ digit_less (get_or text i 0)
+number_at n i text lt le = get_or-map digit_less (take n text) i 0 0 (omega (arith, length-take n text)) ∙ ap digit_less (get_or-take n text i 0 lt)
 
 pub taken_twice : (k : ℕ) (text : List ℕ) → k ≤ 8 → take k (map digit_less (take 8 text)) ≡ map digit_less (take k text)
 taken_twice k text le = take-map digit_less k (take 8 text) ∙ ap (map digit_less) (take-take k 8 text le)
@@ -196,18 +201,6 @@ value_on xs ys =
     ∙ (ap (λ (n : ℕ). n * 10 ^ length ys + number_from_digits 10 (map digit_value ys)) (sym (digits_value_is 10 xs))
     ∙ ap (λ (n : ℕ). digits_value 10 xs * 10 ^ length ys + n) (sym (digits_value_is 10 ys)))))))
 
-pub powers_at : (k : ℕ) → k ≤ 8 → get_or (1 ∷ 10 ∷ 100 ∷ 1000 ∷ 10000 ∷ 100000 ∷ 1000000 ∷ 10000000 ∷ 100000000 ∷ []) k 0 ≡ 10 ^ k
-powers_at zero le = refl
-powers_at (suc zero) le = refl
-powers_at (suc (suc zero)) le = refl
-powers_at (suc (suc (suc zero))) le = refl
-powers_at (suc (suc (suc (suc zero)))) le = refl
-powers_at (suc (suc (suc (suc (suc zero))))) le = refl
-powers_at (suc (suc (suc (suc (suc (suc zero)))))) le = refl
-powers_at (suc (suc (suc (suc (suc (suc (suc zero))))))) le = refl
-powers_at (suc (suc (suc (suc (suc (suc (suc (suc zero)))))))) le = refl
-powers_at (suc (suc (suc (suc (suc (suc (suc (suc (suc k))))))))) le = absurd (omega arith)
-
 pub start_more : (text : List ℕ) (n count more k sum : ℕ) → IsDigitStart text n count → k ≤ length (drop count text) → AllDigits 10 (take k (drop count text)) → more ≡ digits_value 10 (take k (drop count text)) → sum ≡ n * 10 ^ k + more → sum < 2 ^ 64 → IsDigitStart text sum (count + k)
 start_more text n count more k sum start le digits is total fits =
     let both = take_both count k text in
@@ -225,3 +218,13 @@ start_more text n count more k sum start le digits is total fits =
           ∙ (sym value ∙ ap (digits_value 10) (sym both)))));
       fits = fits;
     }
+
+-- what is read behind the digits of a full block, or nothing
+pub same_part : (k place count : ℕ) (text : List ℕ) → (0 < k → place ≡ count) → take k (drop place text) ≡ take k (drop count text)
+same_part zero place count text h = refl
+same_part (suc k) place count text h = ap (λ (i : ℕ). take (suc k) (drop i text)) (h (omega arith))
+
+pub start_next : (text : List ℕ) (n count more k place sum : ℕ) → IsDigitStart text n count → (0 < k → place ≡ count) → count + k ≤ length text → AllDigits 10 (take k (drop place text)) → more ≡ digits_value 10 (take k (drop place text)) → sum ≡ n * 10 ^ k + more → sum < 2 ^ 64 → IsDigitStart text sum (count + k)
+start_next text n count more k place sum start here le digits is total fits =
+    let same = same_part k place count text here in
+    start_more text n count more k sum start (omega (arith, length-drop count text)) (subst (AllDigits 10) same digits) (is ∙ ap (digits_value 10) same) total fits

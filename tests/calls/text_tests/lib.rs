@@ -9,6 +9,8 @@ mod errors;
 #[cfg(test)]
 mod formats;
 #[cfg(test)]
+mod four_numbers;
+#[cfg(test)]
 mod kinds;
 #[cfg(test)]
 mod lines;
