@@ -391,6 +391,10 @@ class Faults:
         for words in ((), ("--recording",)):
             ran = self.session(folder, "-o", "/dev/stdout", *words)
             self.tests.same("a pipe", (ran.returncode, ran.stdout), (0, wanted))
+            ran = self.session(folder, *words, preexec_fn=lambda: os.close(1))
+            self.tests.same("an output that is closed", (ran.returncode, ran.stdout, ran.stderr), (2, "", "session: standard output: it is closed, or not open for this\n"))
+            ran = self.session(folder, "-o", f"{place}/kept", *words, preexec_fn=lambda: os.closerange(0, 3))
+            self.tests.same("a file where all else is closed", (ran.returncode, self.has(f"{place}/kept")), (0, wanted))
         self.of_two_writers(place)
         self.of_ended_scripts()
         self.of_programs(folder, place, wanted)
@@ -430,16 +434,21 @@ class Faults:
     def of_programs(self, folder, place, wanted):
         """The program that the script calls: the one that is named, the one beside the script, and one that is none."""
         self.put(f"{place}/ended", "#!/bin/sh\nkill -9 $$\n")
+        self.put(f"{place}/silent", "#!/bin/sh\n")
         self.put(f"{place}/told", f"#!/bin/sh\necho 'postcopy: built here' >&2\nexec '{self.command}' \"$@\"\n")
-        for name in ("ended", "told"):
+        for name in ("ended", "silent", "told"):
             os.chmod(f"{place}/{name}", 0o755)
         for name, said, status in (
             ("none", f"session: {place}/none: No such file or directory: the program, which the variable POSTCOPY may name\n", 2),
             ("ended", "session: the program was ended by the signal 9\n", 2),
+            ("silent", "session: the program, which the variable POSTCOPY may name, wrote no session\n", 2),
             ("told", "postcopy: built here\n", 0),
         ):
             ran = run_script(f"{place}/{name}", folder)
             self.tests.same(f"a program {name}", (ran.stdout, ran.stderr, ran.returncode), ("" if status else wanted, said, status))
+        self.put(f"{place}/kept", "as it was\n")
+        ran = run_script(f"{place}/silent", folder, "--recording", "-o", f"{place}/kept")
+        self.tests.same("a file of a silent program", (ran.returncode, self.has(f"{place}/kept")), (2, "as it was\n"))
         ran = self.session(f"{place}/file of none")
         self.tests.same("a folder whose name begins as a kind of failure", (ran.stderr, ran.returncode), (f"session: {place}/file of none: no such file or directory\n", 2))
         ran = self.session("file of none", cwd=place)

@@ -83,9 +83,10 @@ SENTENCES = {
     "pages for zeros": r"machine: record.* missing: pages whose contents are not told are taken for zeros",
     "no resume": rf"guest: {PLACE} comes after the halt, and there is no resume: .*",
     "left out with another": rf"\w+: \d+ records left out: {PLACE}, .*, names record \d+ of the \w+'s log, which is left out too",
-    "left out without another": rf"\w+: \d+ records left out: {PLACE}, .*, names record \d+ of the \w+'s log, which is not there",
+    "left out without another": rf"\w+: \d+ records left out: {PLACE}, (?!'ask-sent ).*, names record \d+ of the \w+'s log, which is not there",
     "left out with no log": rf"\w+: \d+ records left out: {PLACE}, .*, which is not there: where nobody writes the \w+'s log it is '\w+_sent' .*",
     "a lost number": rf"\w+: \d+ records left out: {PLACE}, .*, names no record of the \w+'s log: the number was lost",
+    "an ask of no record": rf"source: \d+ records left out: {PLACE}, 'ask-sent \d+', names record \d+ of the pager's log, which is not there",
     "halted alone": r"source: 1 records left out: a halted that is alone tells nothing|source: \d+ records left out: a halted that is alone tells nothing",
     "no record": r"\w+: there is no record",
 }
@@ -471,6 +472,33 @@ def parts(tests):
         compared(tests, f"the parts {chosen}", [folder])
 
 
+def heirs(tests):
+    """A hand-over that nobody took, beside parts of no records with the same number: each hand-over has to have a later part."""
+    text = tests.run(base("heirs-none"))[0]
+    empty = "postcopy-records 1\nrecording made\nlog guest 5 0\n"
+    missing = "handed over with 5 records, and there is no file of who went on"
+    for what, first, lefts, said in (
+        ("taken-on", "next 5", ("next 5", "end 5"), []),
+        ("taken-on-in-another-order", "next 5", ("end 5", "next 5"), []),
+        ("by-each-other", "end 5", ("next 5", "next 5"), ["guest: heirs-by-each-other/guest.3.0:4: " + missing]),
+        ("by-nobody", "next 5", ("next 5", "next 5"), ["guest: heirs-by-nobody/guest.3.0:4: " + missing]),
+    ):
+        folder = base(f"heirs-{what}", guest=body("guest", f"{first}\n".encode(), last=False))
+        for process, left in enumerate(lefts, 2):
+            tests.put(f"{folder}/guest.{process}.0", f"{empty}{left}\n")
+        tests.same(f"empty parts, {what}", tests.run(folder), (text, "", 0) if not said else ("", told([*said, recorded_model.NOTHING]), 1))
+
+
+def asks(tests):
+    """An ask whose record of the pager is in no file: it is told as it stands in its file."""
+    for number, words in ((5, "'ask-sent 5', names record 5 of the pager's log, which is not there"), (2**32 - 1, "'ask 4294967295', names no record of the link's log: the number was lost")):
+        folder = base(f"asks-{number}", source=["halted 1", "state", f"ask-sent {number}"])
+        for log in ("link", "pager"):
+            os.remove(f"{folder}/{log}.1.0")
+        line = f"session: source: 1 records left out: asks-{number}/source.1.0:6: record 2 of the source's log, {words}"
+        tests.same(f"an ask of the record {number}", line in tests.run(folder)[1].splitlines(), True)
+
+
 def growing(tests):
     """A file that grows while it is read: what is written is a session, with some of the records; or it is said that the file has changed."""
     base("growing", guest=body("guest", last=False))
@@ -657,7 +685,7 @@ def names(tests):
 
 
 @pytest.mark.parametrize("part", (
-    pytest.param(long_lines, marks=pytest.mark.cases(5)), pytest.param(edges, marks=pytest.mark.cases(200)), pytest.param(great_numbers, marks=pytest.mark.cases(150)), pytest.param(parts, marks=pytest.mark.cases(480)), pytest.param(growing, marks=pytest.mark.cases(1)),
+    pytest.param(long_lines, marks=pytest.mark.cases(5)), pytest.param(edges, marks=pytest.mark.cases(200)), pytest.param(great_numbers, marks=pytest.mark.cases(150)), pytest.param(parts, marks=pytest.mark.cases(480)), pytest.param(heirs, marks=pytest.mark.cases(4)), pytest.param(asks, marks=pytest.mark.cases(2)), pytest.param(growing, marks=pytest.mark.cases(1)),
     pytest.param(many_files, marks=pytest.mark.cases(8)), pytest.param(unread, marks=pytest.mark.cases(20)), pytest.param(outputs, marks=pytest.mark.cases(20)),
     pytest.param(larger, marks=pytest.mark.cases(50)), pytest.param(large, marks=pytest.mark.cases(1)),
     pytest.param(names, marks=pytest.mark.cases(49))), ids=lambda it: it.__name__)

@@ -164,15 +164,15 @@ class _Log:
     def lacks(self) -> Iterator[str]:
         """Says in words why the log's parts are not the whole log."""
         yield from self.said
-        parts, at = sorted(self.parts.values(), key=lambda part: (part.first, part.count)), 0
-        for part in parts:
+        parts, at = sorted(self.parts.values(), key=lambda part: (part.first, part.count, part.word != "next")), 0
+        for place, part in enumerate(parts):
             if part.first != at and part.count > part.first:
                 yield f"{self.name}: {part.path} begins with record {part.first}, where the log has {at} in front of it: {_GONE_ON}"
             if not part.word:
                 yield f"{self.name}: {part.path} has no end: its process died, or did not close the log (postcopy_log_close, or Log.close)"
             elif part.word == "lost":
                 yield f"{self.name}: {part.where}: a record was not written: {os.strerror(part.error)}"
-            elif part.word == "next" and all(it is part or it.first != part.count for it in parts):
+            elif part.word == "next" and all(it.first != part.count for it in parts[place + 1:]):
                 yield f"{self.name}: {part.where}: handed over with {part.count} records, and there is no file of who went on"
             at = max(at, part.count)
 
@@ -269,6 +269,15 @@ def _unresumed(session: Session, log: Optional[_Log]) -> Iterator[str]:
                "postcopy_record_resume, or Log.resume, where the guest runs at the target")
 
 
+def _asked(line: str, log: Optional[_Log]) -> str:
+    """The message about a source's log that is cut, where its file has the number of a record of the pager that is not there, and not that of a record that was lost."""
+    lost = re.fullmatch(rf"(source: .* record ([0-9]+) of the source's log, )'ask {LOST}', names no record .*", line)
+    text = log.texts[int(lost[2])] if lost and log is not None else ""
+    if not text.startswith("ask-sent ") or text == f"ask-sent {LOST}":
+        return line
+    return f"{lost[1]}'{text}', names record {text.split()[1]} of the pager's log, which is not there"
+
+
 def recording_of(folders: Iterable[str]) -> Tuple[Session, List[str]]:
     """Returns the recording from the files in these folders, cut so that no record names one that is missing, and messages about
     what was left out or is missing; there are none if it is whole. Its machine may have more pages than that of a session, and its
@@ -292,7 +301,8 @@ def recording_of(folders: Iterable[str]) -> Tuple[Session, List[str]]:
     # (the text stays one of the second version, or of the third, also where the record that makes it one is cut off)
     session.has_lane |= any(record[0] == "pull" for record in session.logs["pager"])
     session.is_large |= ("back",) in session.logs["source"]
-    return session, said + session.cut(LOST, place) + [f"{log}: there is no record" for log in missing]
+    cuts = [_asked(line, logs.get("source")) for line in session.cut(LOST, place)]
+    return session, said + cuts + [f"{log}: there is no record" for log in missing]
 
 
 def session_of(folders: Iterable[str]) -> Tuple[Session, List[str]]:

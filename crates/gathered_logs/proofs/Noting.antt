@@ -1,6 +1,6 @@
 -- A gathered log, as its records are taken.
 use Rattle.std.proofs.Common.{◌≡◌, ℕ, Result, Ok, Err, OnOk, List, [], ◌∷◌, ◌++◌, length, Option, Some, None, sym, ap, subst, ◌∙◌}
-use Rattle.std.specs.Prelude.{MatchOption, map}
+use Rattle.std.specs.Prelude.{◌≢◌, MatchOption, map}
 use Rattle.std.specs.List.{AllByRecursion}
 use Rattle.std.proofs.lemmas.List.{length-map, map-append}
 use Rattle.recorded_files.specs.declared.lines.Party.{Party}
@@ -13,7 +13,7 @@ use Rattle.gathered_logs.specs.Logs.{Came, Gathering, IsGatherFault, SayLog, tex
 use Rattle.gathered_logs.specs.Records.{EndsAt, IsLogFault, IsTakingFault, SayRecords, SayUpTo}
 use Rattle.gathered_logs.specs.inner.Noting.{Adds, IsTextFault, Notes, TakesText}
 
-all_and_one : {X : Type 0} (P : X → Type 0) (xs : List X) (x : X) → AllByRecursion P xs → P x → AllByRecursion P (xs ++ x ∷ [])
+pub all_and_one : {X : Type 0} (P : X → Type 0) (xs : List X) (x : X) → AllByRecursion P xs → P x → AllByRecursion P (xs ++ x ∷ [])
 all_and_one P [] x all one = (one, tt)
 all_and_one P (y ∷ xs) x all one = (all.0, all_and_one P xs x all.1 one)
 
@@ -76,3 +76,10 @@ is_refused line IsOf Takes IsUnfit party knowns g now before mid onto half text 
   took = n.took;
   unfit = subst (λ k. IsUnfit mid k fault.1.rec) (sym fault.0) fault.1.unfit;
 }
+
+-- nor is it that a number is missing
+pub not_missing : {X T : Type 0} (line : X → List ℕ) (IsOf : X → Type 0) (IsUnfit : T → ℕ → X → Type 0) (text : List ℕ) (number : ℕ) (taker : T) (fault : TakingFault) → IsTextFault line IsOf IsUnfit text number taker fault → (n : ℕ) → fault ≢ Log (Files (Missing n))
+not_missing line IsOf IsUnfit text number taker (Log (Files why)) is n e = absurd is
+not_missing line IsOf IsUnfit text number taker (Log (Record m)) is n e = absurd cc
+not_missing line IsOf IsUnfit text number taker (Log Memory) is n e = absurd cc
+not_missing line IsOf IsUnfit text number taker (Unfit m) is n e = absurd cc

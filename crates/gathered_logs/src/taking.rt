@@ -1,6 +1,6 @@
 //! The records of a gathered log, taken one after another.
 
-ghost use Rattle.std.specs.Prelude.{◌≡◌, ◌≢◌, ℕ, [], ◌∷◌, ◌++◌, List, Option, IfOk, IfErr, IfSome, OnOk, length};
+ghost use Rattle.std.specs.Prelude.{◌≡◌, ◌≢◌, ℕ, [], ◌∷◌, ◌++◌, List, Option, IfOk, IfErr, IfNone, IfSome, OnOk, length};
 ghost use Rattle.recordings.specs.Recordings.{IsMachine};
 ghost use Rattle.recordings.specs.Wide.{extent_of};
 ghost use Rattle.recorded_files.specs.declared.lines.Party.{Party};
@@ -97,7 +97,8 @@ fn take_text<K: LogRecord, S, T: RecordTaker<K, S>>(
 
 /// Returns the least number of a record that is left, if no file has the next one.
 fn missing(fault: GatherFault) -> Option<u64>
-    ensures { IfSome result (λ least. fault ≡ GatherFault.Missing least) }
+    ensures found { IfSome result (λ least. fault ≡ GatherFault.Missing least) }
+    ensures none { IfNone result ((n : ℕ) → fault ≢ GatherFault.Missing n) }
 {
     match fault {
         GatherFault::Missing(least) => Some(least),
@@ -123,6 +124,7 @@ pub fn take_records<K: LogRecord, S, T: RecordTaker<K, S>, R: Read + Drop>(
     requires { IsMachine (extent_of machine.now) }
     ensures taken { IfOk result (λ hole. (party : Party) (knowns : List (Option (List ℕ))) → Came party knowns files.old [] → (records : List K) × SayUpTo K.line (K.IsOf machine.now) party knowns files.new hole records × ((first : T) (from : S) → T.Takes first from taker.old onto.old [] → T.Takes first from taker.new onto.new records)) }
     ensures refused { IfErr result (λ fault. (party : Party) (knowns : List (Option (List ℕ))) → Came party knowns files.old [] → IsTakingFault K.line (K.IsOf machine.now) T.Takes T.IsUnfit party knowns files.new taker.old onto.old fault) }
+    ensures to_hole { IfErr result (λ fault. (n : ℕ) → fault ≢ TakingFault.Log (LogFault.Files (GatherFault.Missing n))) }
 {
     'records: loop {
         match files.next() {

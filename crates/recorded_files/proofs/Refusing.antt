@@ -22,7 +22,7 @@ use Rattle.recorded_files.specs.inner.Finding.{AreRead, IsLong}
 
 -- ---- bytes have their lines in one way
 
-same_line : (a b x y : List ℕ) → AllByRecursion IsInside a → AllByRecursion IsInside b → a ++ 10 ∷ x ≡ b ++ 10 ∷ y → (a ≡ b) × (x ≡ y)
+pub same_line : (a b x y : List ℕ) → AllByRecursion IsInside a → AllByRecursion IsInside b → a ++ 10 ∷ x ≡ b ++ 10 ∷ y → (a ≡ b) × (x ≡ y)
 same_line [] [] x y i j e = (refl, cc)
 same_line [] (c ∷ b) x y i j e = let is : c ≡ 10 = cc in absurd (j.0.0 is)
 same_line (c ∷ a) [] x y i j e = let is : c ≡ 10 = cc in absurd (i.0.0 is)
@@ -100,7 +100,7 @@ inside_plain : (line : List ℕ) → AllByRecursion IsInside line → IsLine lin
 inside_plain [] i = tt
 inside_plain (b ∷ line) i = (i.0.0, inside_plain line i.1)
 
-front_written : (P : List ℕ → Type 0) (xs ys : List (List ℕ)) → AllByRecursion P (xs ++ ys) → AllByRecursion P xs
+pub front_written : (P : List ℕ → Type 0) (xs ys : List (List ℕ)) → AllByRecursion P (xs ++ ys) → AllByRecursion P xs
 front_written P [] ys a = tt
 front_written P (x ∷ xs) ys a = (a.0, front_written P xs ys a.1)
 

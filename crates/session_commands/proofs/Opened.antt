@@ -5,13 +5,40 @@ use Rattle.std.specs.List.{AllZip, slice_get}
 use Rattle.std.proofs.lemmas.Option.{slice_get-map, slice_get_read}
 use Rattle.recorded_files.specs.declared.lines.Party.{Party}
 use Rattle.session_commands.proofs.Pushed.{get_push, length_push}
+use Rattle.recorded_files.specs.declared.files.FileFault.{FileFault}
+use Rattle.recorded_files.specs.declared.files.FileFault.TheVariants.{Line, Order, File, Memory}
+use Rattle.recorded_files.specs.Said.{CameTo, IsFault, Standing}
+use Rattle.gathered_logs.specs.declared.gatherers.GatherFault.{GatherFault}
+use Rattle.gathered_logs.specs.declared.gatherers.GatherFault.TheVariants.{File as AtFile}
 use Rattle.gathered_logs.specs.Logs.{AreBegun}
-use Rattle.recorded_files.specs.Said.{CameTo, Standing}
+use Rattle.walked_logs.specs.Faults.{IsOpenFault}
 
 -- what came of a file whose bytes are these, if they are known
 pub came_known : (party : Party) (known read : Option (List ℕ)) (s : Standing) → IfSome known (λ xs. read ≡ Some xs) → CameTo party read s [] → CameTo party known s []
 came_known party None read s same c = record { head = c.head; rise = c.rise; line = c.line; open_end = c.open_end; written = c.written; consumed = tt }
 came_known party (Some xs) read s same c = subst (λ (k : Option (List ℕ)). CameTo party k s []) same c
+
+-- and what is wrong with it
+pub fault_known : (party : Party) (known read : Option (List ℕ)) (fault : FileFault) → IfSome known (λ xs. read ≡ Some xs) → IsFault party read fault → IsFault party known fault
+fault_known party (Some xs) read fault same is = subst (λ (k : Option (List ℕ)). IsFault party k fault) same is
+fault_known party None read (Line n) same is = record { lines = is.lines; line = is.line; end = is.end; after = is.after; is_known = tt; counted = is.counted; plain = is.plain; ends = is.ends; is = is.is; said = is.said; before = is.before; refused = is.refused }
+fault_known party None read (Order n) same is = record { lines = is.lines; line = is.line; end = is.end; after = is.after; is_known = tt; counted = is.counted; plain = is.plain; ends = is.ends; is = is.is; said = is.said; before = is.before; refused = is.refused }
+fault_known party None read File same is = tt
+fault_known party None read Memory same is = tt
+
+-- the bytes of the file at a place
+file_at : {N : Type 0} (bytes : List ℕ → Option (List ℕ)) (name : N → List ℕ) (names ys : List N) (place : ℕ) (n : N) (path : List ℕ) → ys ≡ names → place < length ys → n ≡ get_or ys place n → path ≡ name n → slice_get (map (λ n. bytes (name n)) names) place ≡ Some (bytes path)
+file_at {N} bytes name names ys place n path same lt is named =
+    let there : slice_get names place ≡ Some n = ap (λ (l : List N). slice_get l place) (sym same) ∙ slice_get_read ys (length ys) place n refl lt is in
+    slice_get-map (λ n. bytes (name n)) names place ∙ (ap (option_map (λ n. bytes (name n))) there ∙ ap (λ (p : List ℕ). Some (bytes p)) (sym named))
+
+-- the file at a place has this fault
+pub fault_at : {N : Type 0} (party : Party) (bytes : List ℕ → Option (List ℕ)) (name : N → List ℕ) (names ys : List N) (place : ℕ) (n : N) (path : List ℕ) (read : Option (List ℕ)) (fault : GatherFault) → ys ≡ names → place < length ys → n ≡ get_or ys place n → path ≡ name n → IfSome (bytes path) (λ xs. read ≡ Some xs) → (why : FileFault) × (fault ≡ AtFile place why) × IsFault party read why → IsOpenFault party (map (λ n. bytes (name n)) names) fault
+fault_at party bytes name names ys place n path read fault same lt is named known (why, told, wrong) = subst (IsOpenFault party (map (λ n. bytes (name n)) names)) (sym told) (bytes path, file_at bytes name names ys place n path same lt is named, fault_known party (bytes path) read why known wrong)
+
+-- the file at a place was not read
+pub unread_at : {N : Type 0} (party : Party) (bytes : List ℕ → Option (List ℕ)) (name : N → List ℕ) (names ys : List N) (place : ℕ) (n : N) (path : List ℕ) → ys ≡ names → place < length ys → n ≡ get_or ys place n → path ≡ name n → IsOpenFault party (map (λ n. bytes (name n)) names) (AtFile place File)
+unread_at party bytes name names ys place n path same lt is named = (bytes path, file_at bytes name names ys place n path same lt is named, tt)
 
 -- something is known of each of the first of some files
 pub record AreFirst {X : Type 0} (R : Option (List ℕ) → X → Type 0) (knowns : List (Option (List ℕ))) (count : ℕ) (xs : List X) : Type 0 where

@@ -14,10 +14,11 @@ use Rattle.surveyed_logs.specs.Surveys.{IsSurveyOf}
 use Rattle.surveyed_logs.specs.declared.surveying.Surveyed.{Surveyed}
 use Rattle.session_commands.specs.Files.{log_of}
 use Rattle.session_commands.specs.Found.{AreFilesOf, IsFoundIn, IsSurveyed, path_in}
-use Rattle.session_commands.specs.inner.Finding.{AreFound, AreLogsOf, GetsFile, IsNothing, TakesFile, told_of}
+use Rattle.session_commands.specs.inner.Finding.{AreFound, AreLogsOf, GetsFile, HasName, IsNothing, TakesFile, Under, told_of}
 use Rattle.session_commands.specs.declared.found.FoundFile.{FoundFile}
 use Rattle.session_commands.specs.declared.found.FoundLog.{FoundLog}
 use Rattle.session_commands.specs.declared.found.FoundLogs.{FoundLogs}
+use Rattle.session_commands.specs.declared.surveys.Recording.{Recording}
 use Rattle.session_commands.proofs.Finding.{contains_none, contains_pushed, map_pushed}
 
 -- ---- lists with one more item
@@ -46,15 +47,15 @@ parted_within all some more x parted =
 
 -- ---- a log
 
-pub nothing_surveyed : (bytes_of : List ℕ → Option (List ℕ)) (party : Party) (log : FoundLog) → IsNothing log → IsSurveyed bytes_of party log
-nothing_surveyed bytes_of party log none = record {
+pub nothing_surveyed : (bytes_of : List ℕ → Option (List ℕ)) (recording : List ℕ) (party : Party) (log : FoundLog) → IsNothing log → IsSurveyed bytes_of recording party log
+nothing_surveyed bytes_of recording party log none = record {
   parted = rw (none.names, none.paths, none.headless) (IsPermutation-refl []);
   surveyed = rw (none.paths, none.surveyed) tt;
   headless = rw none.headless tt;
 }
 
-pub gets_headless : (bytes_of : List ℕ → Option (List ℕ)) (party : Party) (path : List ℕ) (old new : FoundLog) (name at : _) → new.names.items ≡ old.names.items ++ name ∷ [] → string_bytes name ≡ path → string_bytes at ≡ path → new.headless.items ≡ old.headless.items ++ at ∷ [] → new.paths.items ≡ old.paths.items → new.surveyed.items ≡ old.surveyed.items → Says party (bytes_of path) None → GetsFile bytes_of party path old new
-gets_headless bytes_of party path old new name at names is_name is_at headless paths surveyed says = record {
+pub gets_headless : (bytes_of : List ℕ → Option (List ℕ)) (recording : List ℕ) (party : Party) (path : List ℕ) (old new : FoundLog) (name at : _) → new.names.items ≡ old.names.items ++ name ∷ [] → string_bytes name ≡ path → string_bytes at ≡ path → new.headless.items ≡ old.headless.items ++ at ∷ [] → new.paths.items ≡ old.paths.items → new.surveyed.items ≡ old.surveyed.items → Says party (bytes_of path) None → GetsFile bytes_of recording party path old new
+gets_headless bytes_of recording party path old new name at names is_name is_at headless paths surveyed says = record {
   names = named;
   surveyed = λ s. record {
     parted = rw (named, less, paths) (parted_behind (map string_bytes old.names.items) (map string_bytes old.paths.items) (map string_bytes old.headless.items) path s.parted);
@@ -69,12 +70,12 @@ gets_headless bytes_of party path old new name at names is_name is_at headless p
     less : map string_bytes new.headless.items ≡ map string_bytes old.headless.items ++ path ∷ []
     less = ap (map string_bytes) headless ∙ (map_pushed string_bytes old.headless.items at ∙ ap (λ p. map string_bytes old.headless.items ++ p ∷ []) is_at)
 
-pub gets_surveyed : (bytes_of : List ℕ → Option (List ℕ)) (party : Party) (path : List ℕ) (old new : FoundLog) (name at : _) (found : Surveyed) → new.names.items ≡ old.names.items ++ name ∷ [] → string_bytes name ≡ path → string_bytes at ≡ path → new.paths.items ≡ old.paths.items ++ at ∷ [] → new.surveyed.items ≡ old.surveyed.items ++ found ∷ [] → new.headless.items ≡ old.headless.items → IsSurveyOf party (bytes_of path) found → GetsFile bytes_of party path old new
-gets_surveyed bytes_of party path old new name at found names is_name is_at paths surveyed headless survey = record {
+pub gets_surveyed : (bytes_of : List ℕ → Option (List ℕ)) (recording : List ℕ) (party : Party) (path : List ℕ) (old new : FoundLog) (name at : _) (found : Surveyed) → new.names.items ≡ old.names.items ++ name ∷ [] → string_bytes name ≡ path → string_bytes at ≡ path → new.paths.items ≡ old.paths.items ++ at ∷ [] → new.surveyed.items ≡ old.surveyed.items ++ found ∷ [] → new.headless.items ≡ old.headless.items → IsSurveyOf party (bytes_of path) recording found → GetsFile bytes_of recording party path old new
+gets_surveyed bytes_of recording party path old new name at found names is_name is_at paths surveyed headless survey = record {
   names = named;
   surveyed = λ s. record {
     parted = rw (named, pathed, headless) (parted_within (map string_bytes old.names.items) (map string_bytes old.paths.items) (map string_bytes old.headless.items) path s.parted);
-    surveyed = rw (pathed, surveyed) (zip_pushed (λ at f. IsSurveyOf party (bytes_of at) f) (map string_bytes old.paths.items) old.surveyed.items path found s.surveyed survey);
+    surveyed = rw (pathed, surveyed) (zip_pushed (λ at f. IsSurveyOf party (bytes_of at) recording f) (map string_bytes old.paths.items) old.surveyed.items path found s.surveyed survey);
     headless = rw headless s.headless;
   };
 }
@@ -179,18 +180,26 @@ same_party p q = go (same_number (rank p) (rank q))
     go (inl e) = inl (sym (party_at_rank p) ∙ (ap party_at e ∙ party_at_rank q))
     go (inr other) = inr (λ e. other (ap rank e))
 
-pub takes_file : (bytes_of : List ℕ → Option (List ℕ)) (file : FoundFile) (old : FoundLogs) (log : FoundLog) (p : Party) (path : List ℕ) → file.party ≡ p → path ≡ string_bytes file.path → GetsFile bytes_of file.party path (log_of old p) log → TakesFile bytes_of file old (with_log old p log)
-takes_file bytes_of file old log p path is is_path gets = record {
-  gets = subst (λ q. GetsFile bytes_of file.party (string_bytes file.path) (log_of old q) (log_of (with_log old p log) q)) (sym is) (subst (GetsFile bytes_of file.party (string_bytes file.path) (log_of old p)) (sym (with_same old log p)) (subst (λ (at : List ℕ). GetsFile bytes_of file.party at (log_of old p) log) is_path gets));
+pub takes_file : (bytes_of : List ℕ → Option (List ℕ)) (recording : List ℕ) (file : FoundFile) (old : FoundLogs) (log : FoundLog) (p : Party) (path : List ℕ) → file.party ≡ p → path ≡ string_bytes file.path → GetsFile bytes_of recording file.party path (log_of old p) log → TakesFile bytes_of recording file old (with_log old p log)
+takes_file bytes_of recording file old log p path is is_path gets = record {
+  gets = subst (λ q. GetsFile bytes_of recording file.party (string_bytes file.path) (log_of old q) (log_of (with_log old p log) q)) (sym is) (subst (GetsFile bytes_of recording file.party (string_bytes file.path) (log_of old p)) (sym (with_same old log p)) (subst (λ (at : List ℕ). GetsFile bytes_of recording file.party at (log_of old p) log) is_path gets));
   others = λ party other. with_others old log p party (λ e. other (e ∙ sym is));
 }
 
+pub taken_under : (bytes_of : List ℕ → Option (List ℕ)) (before after : Option Recording) (file : FoundFile) (old : FoundLogs) (log : FoundLog) (p : Party) (path : List ℕ) → file.party ≡ p → path ≡ string_bytes file.path → Under before after (λ name. GetsFile bytes_of name file.party path (log_of old p) log) → Under before after (λ name. TakesFile bytes_of name file old (with_log old p log))
+taken_under bytes_of before after file old log p path is is_path under = λ name named. ((under name named).0, takes_file bytes_of name file old log p path is is_path (under name named).1)
+
+-- some name is that of the recording
+pub a_name : (recording : Option Recording) → (name : List ℕ) × HasName recording name
+a_name None = ([], tt)
+a_name (Some recording) = (recording.name.items, refl)
+
 -- ---- the logs
 
-pub no_logs : (bytes_of : List ℕ → Option (List ℕ)) (logs : FoundLogs) → IsNothing logs.machine → IsNothing logs.guest → IsNothing logs.source → IsNothing logs.link → IsNothing logs.lane → IsNothing logs.pager → AreLogsOf bytes_of [] logs
-no_logs bytes_of logs n_machine n_guest n_source n_link n_lane n_pager = record {
+pub no_logs : (bytes_of : List ℕ → Option (List ℕ)) (recording : List ℕ) (logs : FoundLogs) → IsNothing logs.machine → IsNothing logs.guest → IsNothing logs.source → IsNothing logs.link → IsNothing logs.lane → IsNothing logs.pager → AreLogsOf bytes_of recording [] logs
+no_logs bytes_of recording logs n_machine n_guest n_source n_link n_lane n_pager = record {
   files_of = λ party path. ((λ c. absurd (contains_none path (subst (λ xs. Contains (map string_bytes xs) path) (of_party party).names c))), (λ c. absurd (contains_none (party, path) c)));
-  surveyed = λ party. nothing_surveyed bytes_of party (log_of logs party) (of_party party);
+  surveyed = λ party. nothing_surveyed bytes_of recording party (log_of logs party) (of_party party);
 }
   where
     of_party : (party : Party) → IsNothing (log_of logs party)
@@ -201,8 +210,8 @@ no_logs bytes_of logs n_machine n_guest n_source n_link n_lane n_pager = record 
     of_party (Of Lane) = n_lane
     of_party (Of Pager) = n_pager
 
-pub logs_on : (bytes_of : List ℕ → Option (List ℕ)) (files : List FoundFile) (file : FoundFile) (old new : FoundLogs) → AreLogsOf bytes_of files old → TakesFile bytes_of file old new → AreLogsOf bytes_of (files ++ file ∷ []) new
-logs_on bytes_of files file old new logs takes = record {
+pub logs_on : (bytes_of : List ℕ → Option (List ℕ)) (recording : List ℕ) (files : List FoundFile) (file : FoundFile) (old new : FoundLogs) → AreLogsOf bytes_of recording files old → TakesFile bytes_of recording file old new → AreLogsOf bytes_of recording (files ++ file ∷ []) new
+logs_on bytes_of recording files file old new logs takes = record {
   files_of = λ party path. of_files party path (same_party party file.party);
   surveyed = λ party. of_survey party (same_party party file.party);
 }
@@ -240,29 +249,30 @@ logs_on bytes_of files file old new logs takes = record {
     of_files party path (inl e) = subst (λ p. Contains (paths_of new p) path ↔ Contains (map told_of (files ++ file ∷ [])) (p, path)) (sym e) (own path)
     of_files party path (inr other) = ((λ c. kept party path ((logs.files_of party path).0 (subst (λ (log : FoundLog). Contains (map string_bytes log.names.items) path) (takes.others party other) c))), (λ c. subst (λ (log : FoundLog). Contains (map string_bytes log.names.items) path) (sym (takes.others party other)) ((logs.files_of party path).1 (other_all party path other (untold party path c)))))
 
-    of_survey : (party : Party) → (party ≡ file.party) ⊎ (party ≡ file.party → ⊥) → IsSurveyed bytes_of party (log_of new party)
-    of_survey party (inl e) = subst (λ p. IsSurveyed bytes_of p (log_of new p)) (sym e) (takes.gets.surveyed (logs.surveyed file.party))
-    of_survey party (inr other) = subst (IsSurveyed bytes_of party) (sym (takes.others party other)) (logs.surveyed party)
+    of_survey : (party : Party) → (party ≡ file.party) ⊎ (party ≡ file.party → ⊥) → IsSurveyed bytes_of recording party (log_of new party)
+    of_survey party (inl e) = subst (λ p. IsSurveyed bytes_of recording p (log_of new p)) (sym e) (takes.gets.surveyed (logs.surveyed file.party))
+    of_survey party (inr other) = subst (IsSurveyed bytes_of recording party) (sym (takes.others party other)) (logs.surveyed party)
 
 -- the logs of the files that were found
-pub found_in : (names_in bytes_of : _) (folders : List (List ℕ)) (files : List FoundFile) (logs : FoundLogs) → AreLogsOf bytes_of files logs → AreFound names_in folders files → IsFoundIn names_in bytes_of folders logs
-found_in names_in bytes_of folders files logs of_files found = record {
+pub found_in : (names_in bytes_of : _) (recording : List ℕ) (folders : List (List ℕ)) (files : List FoundFile) (logs : FoundLogs) → AreLogsOf bytes_of recording files logs → AreFound names_in folders files → IsFoundIn names_in bytes_of folders logs
+found_in names_in bytes_of recording folders files logs of_files found = record {
   files = λ party. record {
     each = λ path c. found.each party path ((of_files.files_of party path).0 c);
     all = λ folder name names named is there is_name. (of_files.files_of party (path_in folder name)).1 (found.all party folder name names named is there is_name);
   };
+  recording = recording;
   surveyed = of_files.surveyed;
 }
 
-pub next_logs : (bytes_of : List ℕ → Option (List ℕ)) (files : List FoundFile) (i : ℕ) (file : FoundFile) (old new : FoundLogs) → i < length files → file ≡ get_or files i file → AreLogsOf bytes_of (take i files) old → TakesFile bytes_of file old new → AreLogsOf bytes_of (take (i + 1) files) new
-next_logs bytes_of files i file old new lt is logs takes = subst (λ (fs : List FoundFile). AreLogsOf bytes_of fs new) (sym more) (logs_on bytes_of (take i files) file old new logs takes)
+pub next_logs : (bytes_of : List ℕ → Option (List ℕ)) (recording : List ℕ) (files : List FoundFile) (i : ℕ) (file : FoundFile) (old new : FoundLogs) → i < length files → file ≡ get_or files i file → AreLogsOf bytes_of recording (take i files) old → TakesFile bytes_of recording file old new → AreLogsOf bytes_of recording (take (i + 1) files) new
+next_logs bytes_of recording files i file old new lt is logs takes = subst (λ (fs : List FoundFile). AreLogsOf bytes_of recording fs new) (sym more) (logs_on bytes_of recording (take i files) file old new logs takes)
   where
     more : take (i + 1) files ≡ take i files ++ file ∷ []
     more = take_more files i file lt ∙ ap (λ (f : FoundFile). take i files ++ f ∷ []) (sym is)
 
 -- the logs of the files that were found, once all are surveyed
-pub all_surveyed : (names_in bytes_of : _) (folders : List (List ℕ)) (files : List FoundFile) (i : ℕ) (logs : FoundLogs) → length files ≤ i → AreLogsOf bytes_of (take i files) logs → AreFound names_in folders files → IsFoundIn names_in bytes_of folders logs
-all_surveyed names_in bytes_of folders files i logs le of_files found = found_in names_in bytes_of folders files logs (subst (λ (fs : List FoundFile). AreLogsOf bytes_of fs logs) (take_all i files le) of_files) found
+pub all_surveyed : (names_in bytes_of : _) (recording : List ℕ) (folders : List (List ℕ)) (files : List FoundFile) (i : ℕ) (logs : FoundLogs) → length files ≤ i → AreLogsOf bytes_of recording (take i files) logs → AreFound names_in folders files → IsFoundIn names_in bytes_of folders logs
+all_surveyed names_in bytes_of recording folders files i logs le of_files found = found_in names_in bytes_of recording folders files logs (subst (λ (fs : List FoundFile). AreLogsOf bytes_of recording fs logs) (take_all i files le) of_files) found
 
 -- what a text says, if its bytes are these
 pub says_known : (party : Party) (known read : Option (List ℕ)) (said : Option Said) → IfSome known (λ xs. read ≡ Some xs) → Says party read said → Says party known said

@@ -46,13 +46,15 @@ pub record AreFilesOf (names_in : List ℕ → Option (List (List ℕ))) (folder
 
 -- ---- what they are
 
--- Each file of a log has a head, and this was surveyed of it; or it ends within its head.
-pub record IsSurveyed (bytes_of : List ℕ → Option (List ℕ)) (party : Party) (log : FoundLog) : Type 0 where
+-- Each file of a log has a head, with the name of this recording, and this was surveyed of it; or it ends within its head.
+pub record IsSurveyed (bytes_of : List ℕ → Option (List ℕ)) (recording : List ℕ) (party : Party) (log : FoundLog) : Type 0 where
   pub parted : IsPermutation (map string_bytes log.names.items) (map string_bytes log.paths.items ++ map string_bytes log.headless.items)
-  pub surveyed : AllZip (λ path s. IsSurveyOf party (bytes_of path) s) (map string_bytes log.paths.items) log.surveyed.items
+  pub surveyed : AllZip (λ path s. IsSurveyOf party (bytes_of path) recording s) (map string_bytes log.paths.items) log.surveyed.items
   pub headless : AllByRecursion (λ path. Says party (bytes_of path) None) (map string_bytes log.headless.items)
 
--- These are the logs of the files in the folders: the log of each party is that of its files, and each was surveyed.
+-- These are the logs of the files in the folders: the log of each party is that of its files, and each was surveyed. All files are of one
+-- recording.
 pub record IsFoundIn (names_in : List ℕ → Option (List (List ℕ))) (bytes_of : List ℕ → Option (List ℕ)) (folders : List (List ℕ)) (logs : FoundLogs) : Type 0 where
   pub files : (party : Party) → AreFilesOf names_in folders party (map string_bytes (log_of logs party).names.items)
-  pub surveyed : (party : Party) → IsSurveyed bytes_of party (log_of logs party)
+  pub recording : List ℕ
+  pub surveyed : (party : Party) → IsSurveyed bytes_of recording party (log_of logs party)

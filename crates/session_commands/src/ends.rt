@@ -12,7 +12,7 @@ use crate::lacks::line_on;
 use crate::names::{
     LOST, named_by_guest, named_by_lane, named_by_link, named_by_pager, named_by_source,
 };
-use crate::places::push_place;
+use crate::places::{FoundRecord, find_record, push_placed};
 use crate::stops::{Stop, add};
 use crate::words::{push, push_count, push_message, push_spelled};
 use command_texts::TextSource;
@@ -184,6 +184,30 @@ fn push_why(
     Ok(())
 }
 
+/// The beginning of a record of the source in a file that has the number of the pager's record, and not that of its delivery.
+const ASK_SENT: &[u8] = b"ask-sent ";
+
+/// The number that a message has if the sender's record was lost.
+const LOST_NUMBER: &[u8] = b"4294967295";
+
+/// Appends that a record names one of the pager's log that is not there, if it stands so in its file. Returns whether it does.
+fn push_asked(out: &mut Vec<u8>, found: &Option<FoundRecord>) -> Result<bool, AllocError> {
+    let Some(found) = found else {
+        return Ok(false);
+    };
+    let Some(number) = found.text.as_slice().strip_prefix(ASK_SENT) else {
+        return Ok(false);
+    };
+    if number == LOST_NUMBER {
+        return Ok(false);
+    }
+    push_spelled(out, found.text.as_slice())?;
+    push(out, ", names record ")?;
+    out.extend_from_slice(number)?;
+    push(out, " of the pager's log, which is not there")?;
+    Ok(true)
+}
+
 /// Appends why a log is cut in front of a record.
 fn push_end<S: TextSource>(
     out: &mut Vec<u8>,
@@ -196,8 +220,13 @@ fn push_end<S: TextSource>(
 ) -> Result<(), Stop> {
     let party = Party::Of(end.log);
     let line = without_end(end.line.as_slice());
-    push_place(out, alloc, texts, party, logs.log(party), place)?;
+    let found = find_record(alloc, texts, party, logs.log(party), place)?;
+    push_placed(out, party, logs.log(party), place, &found)?;
     push(out, ", ")?;
+    let is_lost = end.named.is_some_and(|named| named.1 == LOST);
+    if is_lost && push_asked(out, &found)? {
+        return Ok(());
+    }
     push_spelled(out, line)?;
     let Some((other, number)) = end.named else {
         return Ok(());

@@ -14,7 +14,7 @@ use std::alloc::{AllocError, Global};
 
 /// A field of a record, by what it has.
 #[derive(Clone, Copy, PartialEq, Eq)]
-enum Field {
+enum FieldKind {
     Vcpu,
     Page,
     Cell,
@@ -24,36 +24,45 @@ enum Field {
     Record(&'static str),
 }
 
-const ACCESS: &[Field] = &[Field::Vcpu, Field::Page, Field::Cell, Field::Value];
+const ACCESS: &[FieldKind] = &[
+    FieldKind::Vcpu,
+    FieldKind::Page,
+    FieldKind::Cell,
+    FieldKind::Value,
+];
 
-const VCPU_PAGE: &[Field] = &[Field::Vcpu, Field::Page];
+const VCPU_PAGE: &[FieldKind] = &[FieldKind::Vcpu, FieldKind::Page];
 
-const PAGE: &[Field] = &[Field::Page];
+const PAGE: &[FieldKind] = &[FieldKind::Page];
 
-const PAGE_CONTENTS: &[Field] = &[Field::Page, Field::Contents];
+const PAGE_CONTENTS: &[FieldKind] = &[FieldKind::Page, FieldKind::Contents];
 
-const PLACED: &[Field] = &[Field::Page, Field::Record("got"), Field::Contents];
+const PLACED: &[FieldKind] = &[
+    FieldKind::Page,
+    FieldKind::Record("got"),
+    FieldKind::Contents,
+];
 
-const SENT: &[Field] = &[Field::Record("sent")];
+const SENT: &[FieldKind] = &[FieldKind::Record("sent")];
 
-const READY: &[Field] = &[Field::Record("ready")];
+const READY: &[FieldKind] = &[FieldKind::Record("ready")];
 
-const PLACEMENT: &[Field] = &[Field::Record("placement")];
+const PLACEMENT: &[FieldKind] = &[FieldKind::Record("placement")];
 
-const HALT: &[Field] = &[Field::Record("halt")];
+const HALT: &[FieldKind] = &[FieldKind::Record("halt")];
 
-const UP: &[Field] = &[Field::Record("up")];
+const UP: &[FieldKind] = &[FieldKind::Record("up")];
 
-const DOWN: &[Field] = &[Field::Record("down")];
+const DOWN: &[FieldKind] = &[FieldKind::Record("down")];
 
-const MISS: &[Field] = &[Field::Record("miss")];
+const MISS: &[FieldKind] = &[FieldKind::Record("miss")];
 
-const WANT: &[Field] = &[Field::Record("want")];
+const WANT: &[FieldKind] = &[FieldKind::Record("want")];
 
-const GOT: &[Field] = &[Field::Record("got")];
+const GOT: &[FieldKind] = &[FieldKind::Record("got")];
 
 /// Returns the fields of the record of a log that has this word.
-fn fields_of(log: LogName, word: &[u8]) -> Option<&'static [Field]> {
+fn fields_of(log: LogName, word: &[u8]) -> Option<&'static [FieldKind]> {
     match log {
         LogName::Guest => guest_fields(word),
         LogName::Source => source_fields(word),
@@ -76,7 +85,7 @@ fn fields_of(log: LogName, word: &[u8]) -> Option<&'static [Field]> {
 }
 
 /// Returns the fields of the guest's record that has this word.
-fn guest_fields(word: &[u8]) -> Option<&'static [Field]> {
+fn guest_fields(word: &[u8]) -> Option<&'static [FieldKind]> {
     match word {
         b"r" | b"w" => Some(ACCESS),
         b"z" | b"miss" => Some(VCPU_PAGE),
@@ -88,7 +97,7 @@ fn guest_fields(word: &[u8]) -> Option<&'static [Field]> {
 }
 
 /// Returns the fields of the source's record that has this word.
-fn source_fields(word: &[u8]) -> Option<&'static [Field]> {
+fn source_fields(word: &[u8]) -> Option<&'static [FieldKind]> {
     match word {
         b"halted" => Some(HALT),
         b"state" | b"done" | b"back" => Some(&[]),
@@ -100,7 +109,7 @@ fn source_fields(word: &[u8]) -> Option<&'static [Field]> {
 }
 
 /// Returns the fields of the pager's record that has this word.
-fn pager_fields(word: &[u8]) -> Option<&'static [Field]> {
+fn pager_fields(word: &[u8]) -> Option<&'static [FieldKind]> {
     match word {
         b"got" | b"pull" => Some(DOWN),
         b"got-sent" | b"pull-sent" => Some(SENT),
@@ -114,25 +123,25 @@ fn pager_fields(word: &[u8]) -> Option<&'static [Field]> {
     }
 }
 
-impl Field {
+impl FieldKind {
     /// Returns its name.
     fn name(self) -> &'static str {
         match self {
-            Field::Vcpu => "vcpu",
-            Field::Page => "page",
-            Field::Cell => "cell",
-            Field::Value => "value",
-            Field::Contents => "contents",
-            Field::Record(name) => name,
+            FieldKind::Vcpu => "vcpu",
+            FieldKind::Page => "page",
+            FieldKind::Cell => "cell",
+            FieldKind::Value => "value",
+            FieldKind::Contents => "contents",
+            FieldKind::Record(name) => name,
         }
     }
 
     /// Returns its greatest number.
     fn most(self) -> u64 {
         match self {
-            Field::Vcpu => 63,
-            Field::Cell => 511,
-            Field::Value => u64::MAX,
+            FieldKind::Vcpu => 63,
+            FieldKind::Cell => 511,
+            FieldKind::Value => u64::MAX,
             _ => u64::from(u32::MAX),
         }
     }
@@ -165,10 +174,10 @@ fn are_contents(text: &[u8]) -> bool {
 fn push_wrong_form(
     out: &mut Vec<u8>,
     alloc: Global,
-    field: Field,
+    field: FieldKind,
     text: &[u8],
 ) -> Result<bool, AllocError> {
-    if field == Field::Contents {
+    if field == FieldKind::Contents {
         if are_contents(text) {
             return Ok(false);
         }
@@ -196,16 +205,16 @@ fn push_wrong_form(
 fn push_unfit(
     out: &mut Vec<u8>,
     machine: &WideMachine,
-    field: Field,
+    field: FieldKind,
     text: &[u8],
 ) -> Result<bool, AllocError> {
     let number = number_of(text).unwrap_or(0);
     match field {
-        Field::Page if number >= machine.pages => {
+        FieldKind::Page if number >= machine.pages => {
             push_no_page(out, number, machine.pages)?;
             Ok(true)
         }
-        Field::Cell if number >= u64::from(machine.cells) => {
+        FieldKind::Cell if number >= u64::from(machine.cells) => {
             push(out, "there is no cell ")?;
             push_count(out, number)?;
             push(out, ": a page has ")?;
@@ -213,7 +222,7 @@ fn push_unfit(
             push(out, " cells, from 0 on")?;
             Ok(true)
         }
-        Field::Contents => {
+        FieldKind::Contents => {
             let cells = (text.len() / 16) as u64;
             if text.len() as u64 == u64::from(machine.cells.min(MOST_CELLS)) * 16 {
                 return Ok(false);
@@ -241,7 +250,7 @@ fn push_wrong_fields(
     out: &mut Vec<u8>,
     alloc: Global,
     machine: &WideMachine,
-    fields: &[Field],
+    fields: &[FieldKind],
     words: &[Vec<u8>],
 ) -> Result<(), AllocError> {
     for i in 0..fields.len() {

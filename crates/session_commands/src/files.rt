@@ -1,7 +1,8 @@
 //! The files of the logs, which each pass opens anew.
 
-ghost use Rattle.std.specs.Prelude.{[], IfOk};
-ghost use Rattle.recorded_files.specs.Said.{CameTo};
+ghost use Rattle.std.specs.Prelude.{◌≡◌, [], IfErr, IfOk};
+ghost use Rattle.recorded_files.specs.declared.files.FileFault.{FileFault as Why};
+ghost use Rattle.recorded_files.specs.Said.{CameTo, IsFault};
 
 use crate::found::FoundLogs;
 use command_texts::TextSource;
@@ -26,7 +27,8 @@ fn begun<R: Read + Drop>(
     text: R,
     place: usize,
 ) -> Result<FileReader<R>, GatherFault>
-    ensures { IfOk result (λ file. CameTo party (R.remaining text) file []) }
+    ensures opened { IfOk result (λ file. CameTo party (R.remaining text) file []) }
+    ensures refused { IfErr result (λ fault. (why : Why) × (fault ≡ GatherFault.File place why) × IsFault party (R.remaining text) why) }
 {
     match FileReader::open(alloc, party, text) {
         Ok(Some(file)) => Ok(file),

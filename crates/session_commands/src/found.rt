@@ -96,7 +96,7 @@ impl FoundLog {
 impl FoundLogs {
     /// Returns logs of no files.
     pub(crate) fn new(alloc: Global) -> Self
-        ensures { (bytes_of : List ℕ → Option (List ℕ)) → AreLogsOf bytes_of [] result }
+        ensures { (bytes_of : List ℕ → Option (List ℕ)) (recording : List ℕ) → AreLogsOf bytes_of recording [] result }
     {
         FoundLogs {
             machine: FoundLog::new(alloc),

@@ -23,7 +23,7 @@ const MOST_KEPT: usize = 16_384;
 
 /// A record, where it stands.
 #[derive(Drop)]
-pub(crate) struct Placed {
+pub(crate) struct FoundRecord {
     /// Its file among those of its log, counted from 0.
     pub(crate) file: usize,
     /// Its line, counted from 1.
@@ -112,11 +112,11 @@ pub(crate) fn find_record_from<S: TextSource>(
     log: &FoundLog,
     number: u64,
     first: usize,
-) -> Result<Option<Placed>, Stop> {
+) -> Result<Option<FoundRecord>, Stop> {
     for file in first..log.paths.len() {
         let mut reader = open_file(alloc, texts, party, log.paths[file].as_str())?;
         if let Some((line, text)) = find_in(alloc, &mut reader, number)? {
-            return Ok(Some(Placed { file, line, text }));
+            return Ok(Some(FoundRecord { file, line, text }));
         }
     }
     Ok(None)
@@ -129,7 +129,7 @@ pub(crate) fn find_record<S: TextSource>(
     party: Party,
     log: &FoundLog,
     number: u64,
-) -> Result<Option<Placed>, Stop> {
+) -> Result<Option<FoundRecord>, Stop> {
     find_record_from(alloc, texts, party, log, number, 0)
 }
 
@@ -139,7 +139,7 @@ pub(crate) fn push_placed(
     party: Party,
     log: &FoundLog,
     number: u64,
-    placed: &Option<Placed>,
+    placed: &Option<FoundRecord>,
 ) -> Result<(), AllocError> {
     if let Some(placed) = placed {
         if placed.file < log.paths.len() {
@@ -174,7 +174,7 @@ fn keep(kept: &mut Vec<u8>, bytes: &[u8]) -> Result<(), AllocError> {
 
 /// The lines of a text, up to one that is wanted.
 #[derive(Drop)]
-struct Wanted {
+struct LineSearch {
     /// How many line feeds come before it.
     left: u64,
     /// The bytes of the line, as far as they came.
@@ -182,7 +182,7 @@ struct Wanted {
     is_found: bool,
 }
 
-impl Wanted {
+impl LineSearch {
     /// Takes the next bytes of the text.
     fn take(&mut self, bytes: &[u8]) -> Result<(), AllocError> {
         let mut rest = bytes;
@@ -212,7 +212,7 @@ impl Wanted {
 fn read_wanted<R: Read>(
     alloc: Global,
     reader: &mut R,
-    wanted: &mut Wanted,
+    wanted: &mut LineSearch,
 ) -> Result<bool, AllocError> {
     let mut piece = vec![in alloc; 0u8; PIECE]?;
     for _ in 0..u64::MAX {
@@ -236,7 +236,7 @@ pub(crate) fn line_of<S: TextSource>(
     number: u64,
 ) -> Result<Vec<u8>, Stop> {
     let mut text = open_text(alloc, texts, path)?;
-    let mut wanted = Wanted {
+    let mut wanted = LineSearch {
         left: number.saturating_sub(1),
         kept: Vec::new(alloc),
         is_found: false,

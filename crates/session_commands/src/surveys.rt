@@ -5,7 +5,7 @@ ghost use Rattle.recorded_files.specs.declared.lines.Party.{Party as Writer};
 ghost use Rattle.recorded_files.specs.Said.{CameTo};
 ghost use Rattle.surveyed_logs.specs.Surveys.{IsSurveyOf};
 ghost use Rattle.session_commands.specs.Found.{IsFoundIn};
-ghost use Rattle.session_commands.specs.inner.Finding.{AreFound, GetsFile, IsReadAs, TakesFile};
+ghost use Rattle.session_commands.specs.inner.Finding.{AreFound, GetsFile, IsReadAs, TakesFile, Under};
 
 use crate::faults::{Surveying, file_stop};
 use crate::found::{FoundFile, FoundLog, FoundLogs};
@@ -54,7 +54,9 @@ fn take_name(
     recording: &mut Option<Recording>,
     name: &[u8],
     path: &str,
-) -> Result<(), Stop> {
+) -> Result<(), Stop>
+    ensures { OnOk result (Under recording.old recording.new (λ held. name.now ≡ held)) }
+{
     if let Some(recording) = recording {
         if recording.name.as_slice() != name {
             return Err(Stop::Unfit(other_words(alloc, recording, name, path)?));
@@ -80,7 +82,7 @@ fn survey_records<S: TextSource>(
     surveying: Surveying<'_>,
     reader: &mut FileReader<S::Text>,
 ) -> Result<Surveyed, Stop>
-    ensures { IfOk result (λ found. (known : Option (List ℕ)) → CameTo party known reader.old [] → IsSurveyOf party known found) }
+    ensures { IfOk result (λ found. (known : Option (List ℕ)) → CameTo party known reader.old [] → IsSurveyOf party known reader.old.name found) }
 {
     match survey(surveying.process, reader) {
         Ok(surveyed) => Ok(surveyed),
@@ -97,7 +99,7 @@ fn survey_text<S: TextSource>(
     surveying: Surveying<'_>,
     recording: &mut Option<Recording>,
 ) -> Result<Option<Surveyed>, Stop>
-    ensures { IfOk result (IsReadAs party (S.bytes_of texts.now path.now)) }
+    ensures { IfOk result (λ found. Under recording.old recording.new (λ name. IsReadAs party (S.bytes_of texts.now path.now) name found)) }
 {
     let text = open_text(alloc, texts, path)?;
     match FileReader::open(alloc, party, text) {
@@ -128,7 +130,7 @@ fn push_surveyed(
     path: &str,
     found: Option<Surveyed>,
 ) -> Result<(), AllocError>
-    ensures { OnOk result ((bytes_of : List ℕ → Option (List ℕ)) (party : Writer) → IsReadAs party (bytes_of path.now) found → GetsFile bytes_of party path.now log.old log.new) }
+    ensures { OnOk result ((bytes_of : List ℕ → Option (List ℕ)) (name : List ℕ) (party : Writer) → IsReadAs party (bytes_of path.now) name found → GetsFile bytes_of name party path.now log.old log.new) }
 {
     let name = String::from_str(alloc, path)?;
     add(&mut log.names, name)?;
@@ -149,7 +151,7 @@ fn survey_onto<S: TextSource>(
     log: &mut FoundLog,
     recording: &mut Option<Recording>,
 ) -> Result<(), Stop>
-    ensures { OnOk result (GetsFile (S.bytes_of texts.now) party path.now log.old log.new) }
+    ensures { OnOk result (Under recording.old recording.new (λ name. GetsFile (S.bytes_of texts.now) name party path.now log.old log.new)) }
 {
     let surveying = Surveying {
         before: log.surveyed.as_slice(),
@@ -170,7 +172,7 @@ fn survey_of<S: TextSource>(
     recording: &mut Option<Recording>,
 ) -> Result<(), Stop>
     requires { file.now.party ≡ Writer.Of log }
-    ensures { OnOk result (TakesFile (S.bytes_of texts.now) file.now logs.old logs.new) }
+    ensures { OnOk result (Under recording.old recording.new (λ name. TakesFile (S.bytes_of texts.now) name file.now logs.old logs.new)) }
 {
     let party = file.party;
     let path = file.path.as_str();
@@ -232,7 +234,7 @@ fn survey_file<S: TextSource>(
     logs: &mut FoundLogs,
     recording: &mut Option<Recording>,
 ) -> Result<(), Stop>
-    ensures { OnOk result (TakesFile (S.bytes_of texts.now) file.now logs.old logs.new) }
+    ensures { OnOk result (Under recording.old recording.new (λ name. TakesFile (S.bytes_of texts.now) name file.now logs.old logs.new)) }
 {
     let party = file.party;
     let path = file.path.as_str();

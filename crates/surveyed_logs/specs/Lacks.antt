@@ -18,28 +18,28 @@ record_count (p ∷ parts) = max p.count (record_count parts)
 abbrev pub begin_lack : ℕ → LogPart → Option LogLack
 begin_lack front p = if not (p.first == front) && nat_lt p.first p.count then Some (Begin p.file p.first front) else None
 
--- another part begins with this number than the one that begins in this file
-abbrev pub is_gone_on : List LogPart → ℕ → ℕ → Bool
-is_gone_on parts file count = list_any (λ p. not (p.file == file) && (p.first == count)) parts
+-- one of the later parts begins with this number
+abbrev pub is_gone_on : List LogPart → ℕ → Bool
+is_gone_on later count = list_any (λ p. p.first == count) later
 
--- Where a part ends: it was left, closed, or handed over to another part.
-abbrev pub last_lack : List LogPart → ℕ → ℕ → Last → Option LogLack
-last_lack parts begin file (Closed count) = None
-last_lack parts begin file (Lost errno) = Some (Record file errno)
-last_lack parts begin file (Next count) = if is_gone_on parts begin count then None else Some (Heir file count)
+-- Where a part ends: it was left, closed, or handed over to a later part.
+abbrev pub last_lack : List LogPart → ℕ → Last → Option LogLack
+last_lack later file (Closed count) = None
+last_lack later file (Lost errno) = Some (Record file errno)
+last_lack later file (Next count) = if is_gone_on later count then None else Some (Heir file count)
 
 abbrev pub left_lack : List LogPart → ℕ → Option PartEnd → Option LogLack
-left_lack parts begin None = Some (End begin)
-left_lack parts begin (Some left) = last_lack parts begin left.file left.last
+left_lack later begin None = Some (End begin)
+left_lack later begin (Some left) = last_lack later left.file left.last
 
-abbrev pub lacks_at : List LogPart → List LogPart → LogPart → List LogLack
-lacks_at parts before p = option_to_list (begin_lack (record_count before) p) ++ option_to_list (left_lack parts p.file p.left)
+abbrev pub lacks_at : List LogPart → LogPart → List LogPart → List LogLack
+lacks_at before p later = option_to_list (begin_lack (record_count before) p) ++ option_to_list (left_lack later p.file p.left)
 
 -- what is lacking at each of the later parts, which are behind these
-abbrev pub lacks_behind : List LogPart → List LogPart → List LogPart → List LogLack
-lacks_behind parts before [] = []
-lacks_behind parts before (p ∷ later) = lacks_at parts before p ++ lacks_behind parts (before ++ p ∷ []) later
+abbrev pub lacks_behind : List LogPart → List LogPart → List LogLack
+lacks_behind before [] = []
+lacks_behind before (p ∷ later) = lacks_at before p later ++ lacks_behind (before ++ p ∷ []) later
 
 -- what a log of these parts lacks, part after part
 abbrev pub lacks : List LogPart → List LogLack
-lacks parts = lacks_behind parts [] parts
+lacks parts = lacks_behind [] parts

@@ -1,6 +1,6 @@
 //! What a log lacks.
 
-ghost use Rattle.std.specs.Prelude.{◌≡◌, ◌<◌, ◌++◌, IfOk, OnOk, length, slice_get, Some, take};
+ghost use Rattle.std.specs.Prelude.{◌≡◌, ◌<◌, ◌++◌, IfOk, OnOk, length, slice_get, Some, take, drop, ◌+◌};
 ghost use Rattle.std.specs.Option.{option_to_list};
 ghost use Rattle.surveyed_logs.specs.Lacks.{begin_lack, is_gone_on, lacks, lacks_at, left_lack, record_count};
 ghost use Rattle.surveyed_logs.specs.declared.parts.LogPart.{LogPart as LogPart};
@@ -29,7 +29,7 @@ pub enum LogLack {
         file: usize,
         errno: u32,
     },
-    /// This file tells that another process goes on after this many records, and none does.
+    /// This file tells that another process goes on after this many records, and no later part begins there.
     Heir {
         file: usize,
         count: u32,
@@ -47,13 +47,11 @@ pub fn count_records(parts: &[LogPart]) -> u64
     count
 }
 
-/// Returns whether another of the parts than the one that begins in this file was opened with this number.
-fn is_gone_on(parts: &[LogPart], file: usize, count: u32) -> bool
-    ensures { result ≡ is_gone_on parts.now file count }
+/// Returns whether one of the later parts was opened with this number.
+fn is_gone_on(later: &[LogPart], count: u32) -> bool
+    ensures { result ≡ is_gone_on later.now count }
 {
-    parts
-        .iter()
-        .any(|part| part.file != file && part.first == count)
+    later.iter().any(|part| part.first == count)
 }
 
 /// Returns what is lacking where one of the parts begins.
@@ -77,7 +75,7 @@ fn lack_of_begin(parts: &[LogPart], at: usize) -> Option<LogLack>
 /// Returns what is lacking where one of the parts ends.
 fn lack_of_end(parts: &[LogPart], at: usize) -> Option<LogLack>
     requires { at < length parts.now }
-    ensures { (p : LogPart) → slice_get parts.now at ≡ Some p → result ≡ left_lack parts.now p.file p.left }
+    ensures { (p : LogPart) → slice_get parts.now at ≡ Some p → result ≡ left_lack (drop (at + 1) parts.now) p.file p.left }
 {
     let part = parts[at];
     match part.left {
@@ -89,7 +87,7 @@ fn lack_of_end(parts: &[LogPart], at: usize) -> Option<LogLack>
                 errno,
             }),
             Last::Next(count) => {
-                if is_gone_on(parts, part.file, count) {
+                if is_gone_on(&parts[at + 1..], count) {
                     None
                 } else {
                     Some(LogLack::Heir {
@@ -118,7 +116,7 @@ fn push_lack(lacks: &mut Vec<LogLack>, lack: Option<LogLack>) -> Result<(), Allo
 /// Appends what is lacking at one of the parts.
 fn push_lacks(parts: &[LogPart], at: usize, lacks: &mut Vec<LogLack>) -> Result<(), AllocError>
     requires { at < length parts.now }
-    ensures { OnOk result ((p : LogPart) → slice_get parts.now at ≡ Some p → lacks.new.items ≡ lacks.old.items ++ lacks_at parts.now (take at parts.now) p) }
+    ensures { OnOk result ((p : LogPart) → slice_get parts.now at ≡ Some p → lacks.new.items ≡ lacks.old.items ++ lacks_at (take at parts.now) p (drop (at + 1) parts.now)) }
 {
     push_lack(lacks, lack_of_begin(parts, at))?;
     push_lack(lacks, lack_of_end(parts, at))?;

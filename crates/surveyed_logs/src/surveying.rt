@@ -33,7 +33,7 @@ pub fn survey<R: Read + Drop>(
     file: &mut FileReader<R>,
 ) -> Result<Surveyed, FileFault>
     ensures process { IfOk result (λ s. s.process ≡ process) }
-    ensures surveyed { IfOk result (λ s. (party : Party) (known : Option (List ℕ)) → CameTo party known file.old [] → IsSurveyOf party known s) }
+    ensures surveyed { IfOk result (λ s. (party : Party) (known : Option (List ℕ)) → CameTo party known file.old [] → IsSurveyOf party known file.old.name s) }
     ensures refused { IfErr result (λ fault. (party : Party) (known : Option (List ℕ)) → CameTo party known file.old [] → IsFault party known fault) }
 {
     let opening = file.opening();

@@ -35,7 +35,7 @@ over_numbers : (c : Cursor) (messages : List Message) (numbers : List (Option �
 over_numbers c messages numbers place count deliveries over are = subst (λ (ms : List Message). AreNumbers ms count deliveries c.numbers.now) (sym over.messages_are) (subst (λ (ns : List (Option ℕ)). AreNumbers messages count deliveries ns) (sym over.numbers_are) are)
 
 -- what was passed of these messages, up to a place
-passed_to : (first now : Cursor) (messages : List Message) (numbers : List (Option ℕ)) (place end : ℕ) (told : List Message) → IsOver first messages numbers place → HasPassed first now told → now.place ≡ end → place ≤ length messages → take end messages ≡ take place messages ++ told
+pub passed_to : (first now : Cursor) (messages : List Message) (numbers : List (Option ℕ)) (place end : ℕ) (told : List Message) → IsOver first messages numbers place → HasPassed first now told → now.place ≡ end → place ≤ length messages → take end messages ≡ take place messages ++ told
 passed_to first now messages numbers place end told over passed at le =
     let le_first : first.place ≤ length first.messages.now = subst (λ (ms : List Message). first.place ≤ length ms) (sym over.messages_are) (subst (λ n. n ≤ length messages) (sym over.place_is) le) in
     let p : take now.place messages ≡ take first.place messages ++ told = subst (λ (ms : List Message). take now.place ms ≡ take first.place ms ++ told) over.messages_are (passed.passed le_first) in

@@ -1,5 +1,5 @@
 -- The recording that the files of its logs make.
-use Rattle.std.specs.Prelude.{◌≡◌, ◌≤◌, ◌⊎◌, ℕ, List, [], ◌∷◌, ◌++◌, Option, Some, None, IfSome, length, map, slice_get}
+use Rattle.std.specs.Prelude.{◌≡◌, ◌≤◌, ◌⊎◌, ℕ, List, [], ◌∷◌, ◌++◌, Option, Some, None, IfSome, IsSome, length, map, slice_get}
 use Rattle.std.specs.List.{AllByRecursion}
 use Rattle.migration_types.specs.declared.records.LogName.{LogName}
 use Rattle.migration_types.specs.declared.records.LogName.TheVariants.{Guest, Source, Link, Lane, Pager}
@@ -28,14 +28,16 @@ use Rattle.recorded_files.specs.Raw.{lost_number, raw_source_line, raw_pager_lin
 use Rattle.recorded_files.specs.Told.{HasMessages, lane_messages, lane_packet, link_messages, link_packet, numbered_pager, numbered_source, request}
 use Rattle.gathered_logs.specs.Logs.{Came, Gathering}
 use Rattle.gathered_logs.specs.Records.{SayUpTo}
-use Rattle.walked_logs.specs.declared.files.WalkFault.{WalkFault}
-use Rattle.walked_logs.specs.declared.files.WalkFault.TheVariants.{Log, OwnLog, Changed, Memory}
 
 -- ---- what the files of a log tell
 
 -- the bytes of each file of each log, where they are known
 abbrev pub Bytes : Type 0
 Bytes = LogName → List (Option (List ℕ))
+
+-- the bytes of each file of a log are known
+abbrev pub AreKnown : Bytes → LogName → Type 0
+AreKnown bytes log = AllByRecursion IsSome (bytes log)
 
 -- The files of a log tell these records: up to its end, or to the first number that no file has.
 pub record TellLog {X : Type 0} (line : X → List ℕ) (IsOf : X → Type 0) (party : Party) (knowns : List (Option (List ℕ))) (records : List X) : Type 0 where
@@ -138,7 +140,7 @@ pub record WalksFiles {V : Type 0} (Met : V → Recorded → Type 0) (machine : 
   pub made : IsRecordingOf machine init bytes s
   pub met : Met visitor s
 
--- ---- why it is not gone through
+-- ---- a message of a log that has records of its own
 
 -- this record of another log takes the message
 abbrev pub IsTakenBy : LogName → ℕ → Message → Type 0
@@ -162,19 +164,3 @@ abbrev pub IsOwnLog : WideMachine → Bytes → Delivered → LogName → LogNam
 IsOwnLog machine bytes messages Link by n = HasBoth (λ r. link_line (link_of r)) (λ r. IsLinkRecOf (link_of r)) (Of Link) (bytes Link) messages.link_messages.items by n
 IsOwnLog machine bytes messages Lane by n = HasBoth (λ r. lane_line (lane_of r)) (λ r. IsLaneRecOf machine.version (lane_of r)) (Of Lane) (bytes Lane) messages.lane_messages.items by n
 IsOwnLog machine bytes messages _ by n = ⊥
-
--- a record takes a message of a log whose own files have a record; nothing is said of what is wrong with a file
-abbrev pub IsWalkFault : WideMachine → Bytes → Delivered → WalkFault → Type 0
-IsWalkFault machine bytes messages (Log log fault) = Unit {0}
-IsWalkFault machine bytes messages (OwnLog log by n) = IsOwnLog machine bytes messages log by n
-IsWalkFault machine bytes messages Changed = Unit {0}
-IsWalkFault machine bytes messages Memory = Unit {0}
-
--- ---- why messages are not noted
-
--- what is wrong with the log of the pager or of the source, or that memory was refused
-abbrev pub IsNoteFault : WalkFault → Type 0
-IsNoteFault (Log log fault) = (log ≡ Pager) ⊎ (log ≡ Source)
-IsNoteFault (OwnLog log by n) = ⊥
-IsNoteFault Changed = ⊥
-IsNoteFault Memory = Unit {0}

@@ -1,7 +1,7 @@
 //! A place among the messages that were noted.
 
-ghost use Rattle.std.specs.Prelude.{◌≡◌, ◌↔◌, IfOk, IsTrue, length, slice_get};
-ghost use Rattle.walked_logs.specs.inner.Passing.{Passes, number_or_lost};
+ghost use Rattle.std.specs.Prelude.{◌≡◌, ◌↔◌, IfErr, IfOk, IsTrue, length, slice_get};
+ghost use Rattle.walked_logs.specs.inner.Passing.{IsNotNext, Passes, number_or_lost};
 
 use deliveries::{Deliveries, Message};
 use gathered_logs::TakeRefusal;
@@ -80,7 +80,8 @@ impl<'a> Cursor<'a> {
 
     /// Passes the message that a record takes, if it takes one, and returns the message's number. The message must be the next one.
     pub(crate) fn pass(&mut self, message: Option<Message>) -> Result<u64, TakeRefusal>
-        ensures { IfOk result (Passes self.old self.new message) }
+        ensures passed { IfOk result (Passes self.old self.new message) }
+        ensures unfit { IfErr result (λ refusal. IsNotNext self.old message) }
     {
         match message {
             Some(message) => {

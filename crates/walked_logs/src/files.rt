@@ -6,8 +6,9 @@ ghost use Rattle.recordings.specs.Wide.{extent_of};
 ghost use Rattle.migration_types.specs.declared.records.LogName.{LogName as Log};
 ghost use Rattle.recorded_files.specs.declared.lines.Party.{Party as Writer};
 ghost use Rattle.gathered_logs.specs.Logs.{AreBegun};
+ghost use Rattle.walked_logs.specs.Faults.{IsOpenFault};
 ghost use Rattle.walked_logs.specs.Walks.{IsWhole, TellLog};
-ghost use Rattle.walked_logs.specs.inner.Refusing.{IsPlain, IsTakeFault};
+ghost use Rattle.walked_logs.specs.inner.Refusing.{IsFaultOf, IsTakeFault};
 
 use gathered_logs::{
     GatherFault, Gatherer, LogFault, LogRecord, RecordTaker, TakingFault, take_records,
@@ -33,7 +34,8 @@ pub trait LogFiles {
     ///
     /// What is wrong with one of them in front of its first record, or that memory was refused.
     fn open(&self, alloc: Global, log: LogName) -> Result<Vec<FileReader<Self::File>>, GatherFault>
-        ensures { IfOk result (λ files. AreBegun (Writer.Of log) (bytes_of self.now log) files.items) };
+        ensures opened { IfOk result (λ files. AreBegun (Writer.Of log) (bytes_of self.now log) files.items) }
+        ensures refused { IfErr result (IsOpenFault (Writer.Of log) (bytes_of self.now log)) };
 }
 
 /// Why the logs of a recording are not gone through.
@@ -66,7 +68,7 @@ impl From<AllocError> for WalkFault {
 
 /// Returns the fault of a log.
 fn fault_of(log: LogName, fault: LogFault) -> WalkFault
-    ensures { IsPlain log result }
+    ensures { IsFaultOf log fault result }
 {
     match fault {
         LogFault::Memory

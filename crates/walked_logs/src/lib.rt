@@ -3,10 +3,12 @@
 
 mod cursors;
 mod files;
+mod laws;
 mod noting;
 mod takers;
 mod walking;
 
 pub use files::{LogFiles, WalkFault};
+pub use laws::files_make_one_recording;
 pub use noting::{Messages, note_messages};
 pub use walking::walk_logs;

@@ -3,7 +3,8 @@
 ghost use Rattle.std.specs.Prelude.{IfErr, IfOk};
 ghost use Rattle.recordings.specs.Recordings.{IsMachine};
 ghost use Rattle.recordings.specs.Wide.{extent_of};
-ghost use Rattle.walked_logs.specs.Walks.{AreMessagesOf, IsNoteFault};
+ghost use Rattle.walked_logs.specs.Faults.{IsNoteFault};
+ghost use Rattle.walked_logs.specs.Walks.{AreMessagesOf};
 
 use crate::files::{LogFiles, WalkFault, take_log};
 use gathered_logs::Noter;
@@ -43,7 +44,7 @@ pub fn note_messages<F: LogFiles>(
 ) -> Result<Messages, WalkFault>
     requires { IsMachine (extent_of machine.now) }
     ensures noted { IfOk result (AreMessagesOf machine.now (F.bytes_of files.now)) }
-    ensures refused { IfErr result IsNoteFault }
+    ensures refused { IfErr result (IsNoteFault machine.now (F.bytes_of files.now)) }
 {
     let mut told = Told::new(alloc);
     let mut noter = Noter;

@@ -1,9 +1,9 @@
 //! The takers of the logs' records, which a visitor meets.
 
-ghost use Rattle.std.specs.Prelude.{◌≡◌, ⊤, true, IfOk};
-ghost use Rattle.recorded_files.specs.Told.{lane_packet, link_packet};
+ghost use Rattle.std.specs.Prelude.{◌≡◌, ◌⊎◌, true, IfErr, IfOk};
+ghost use Rattle.recorded_files.specs.Told.{lane_packet, link_packet, request};
 ghost use Rattle.walked_logs.specs.inner.Meeting.{MeetsGuest, MeetsSource, MeetsLink, MeetsLane, MeetsPager};
-ghost use Rattle.walked_logs.specs.inner.Passing.{Passes};
+ghost use Rattle.walked_logs.specs.inner.Passing.{IsNotNext, Passes};
 
 use crate::cursors::Cursor;
 use gathered_logs::{RecordTaker, TakeRefusal};
@@ -36,7 +36,7 @@ pub(crate) struct SourceTaker<'a> {
 impl<'a, V: Visitor> RecordTaker<RawSource, V> for SourceTaker<'a> {
     ghost Takes = { λ first from now onto records. MeetsSource V.Met first from now onto records };
 
-    ghost IsUnfit = { λ taker number rec. ⊤ };
+    ghost IsUnfit = { λ taker number rec. IsNotNext taker.link (request number rec) };
 
     fn take(&mut self, onto: &mut V, number: u64, rec: RawSource) -> Result<(), TakeRefusal> {
         let up = self.link.pass(rec.request(number))?;
@@ -106,7 +106,7 @@ pub(crate) struct PagerTaker<'a> {
 impl<'a, V: Visitor> RecordTaker<RawPager, V> for PagerTaker<'a> {
     ghost Takes = { λ first from now onto records. MeetsPager V.Met first from now onto records };
 
-    ghost IsUnfit = { λ taker number rec. ⊤ };
+    ghost IsUnfit = { λ taker number rec. IsNotNext taker.link (link_packet number rec) ⊎ IsNotNext taker.lane (lane_packet number rec) };
 
     fn take(&mut self, onto: &mut V, number: u64, rec: RawPager) -> Result<(), TakeRefusal> {
         let Some(count) = number.checked_add(1) else {
@@ -130,6 +130,7 @@ fn pass_either(
 ) -> Result<u64, TakeRefusal>
     ensures link { IfOk result (Passes link.old link.new (link_packet number rec.now)) }
     ensures lane { IfOk result (Passes lane.old lane.new (lane_packet number rec.now)) }
+    ensures unfit { IfErr result (λ refusal. IsNotNext link.old (link_packet number rec.now) ⊎ IsNotNext lane.old (lane_packet number rec.now)) }
 {
     match rec {
         RawPager::Own(_) => link.pass(None),

@@ -1,12 +1,13 @@
 //! A recording, gone through as the files of its logs are read.
 
-ghost use Rattle.std.specs.Prelude.{◌≡◌, ◌↔◌, [], false, IfErr, IfOk, IsTrue, OnOk, map};
+ghost use Rattle.std.specs.Prelude.{◌≡◌, ◌↔◌, [], false, IfErr, IfOk, IsTrue, OnOk, length, map};
 ghost use Rattle.migration_types.specs.Sessions.{Recorded};
 ghost use Rattle.recordings.specs.Recordings.{IsMachine};
 ghost use Rattle.recordings.specs.Seen.{BeforeLane, BeforePager};
 ghost use Rattle.recordings.specs.Wide.{extent_of, lane_of, link_of};
 ghost use Rattle.recorded_files.specs.declared.messages.Delivered.{Delivered as Noted};
-ghost use Rattle.walked_logs.specs.Walks.{HasNoHole, IsWalkFault, WalksFiles, lane_delivery, link_delivery};
+ghost use Rattle.walked_logs.specs.Faults.{IsWalkFault};
+ghost use Rattle.walked_logs.specs.Walks.{HasNoHole, WalksFiles, lane_delivery, link_delivery};
 ghost use Rattle.walked_logs.specs.inner.Refusing.{IsTaking, IsTakingOne};
 ghost use Rattle.walked_logs.specs.inner.Walking.{WalksGuest, WalksLane, WalksLink, WalksPager, WalksSource, begun_with, with_lane_log, with_link_log};
 
@@ -241,6 +242,13 @@ fn walk_lane<F: LogFiles, V: Visitor>(
     Ok(whole)
 }
 
+/// Returns whether the pager's records, which were met, take all messages that they are to take.
+fn are_passed(taker: &PagerTaker<'_>, messages: &Delivered) -> bool
+    ensures { IsTrue result ↔ ((taker.now.link.place ≡ messages.now.packets) × (taker.now.lane.place ≡ length taker.now.lane.messages.now) × (taker.now.count ≡ messages.now.pager)) }
+{
+    taker.link.place == messages.packets && taker.lane.is_at_end() && taker.count == messages.pager
+}
+
 /// Meets the pager's records. Returns whether the log has no hole.
 fn walk_pager<F: LogFiles, V: Visitor>(
     alloc: Global,
@@ -275,10 +283,7 @@ fn walk_pager<F: LogFiles, V: Visitor>(
         &mut taker,
         visitor,
     )?;
-    if taker.link.place == messages.packets
-        && taker.lane.is_at_end()
-        && taker.count == messages.pager
-    {
+    if are_passed(&taker, messages) {
         Ok(whole)
     } else {
         Err(WalkFault::Changed)

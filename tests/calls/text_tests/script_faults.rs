@@ -1,6 +1,6 @@
 //! Scripts that are made by hand, and those that are none.
 
-use guest_script::{Script, ScriptFault, Vcpu, VcpuFault, write_script};
+use guest_script::{Scenario, Script, ScriptFault, Vcpu, VcpuFault, write_script};
 use migration_events::{Fate, Op};
 use migration_types::{Contents, Geometry, InitPage, PageNo, Seq, Size, Version};
 use std::alloc::{AllocError, Global};
@@ -195,17 +195,17 @@ fn made_of(
     let up = lost(alloc, parts.lost)?;
     let lane = lane_of(alloc, parts)?;
     let vcpus = vcpus_of(alloc, parts)?;
-    Ok(Script::new(
-        parts.version,
+    Ok(Script::new(Scenario {
+        version: parts.version,
         geometry,
         init,
-        parts.pivots,
-        parts.window,
+        pivots: parts.pivots,
+        window: parts.window,
         down,
         up,
         lane,
         vcpus,
-    ))
+    }))
 }
 
 /// Whether these parts have this fault.

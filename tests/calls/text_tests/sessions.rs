@@ -158,7 +158,7 @@ fn records_have_their_lines(rt: HostRuntime) {
 }
 
 /// Whether a text is judged as by the slow checker.
-fn is_judged_alike(alloc: Global, bytes: &[u8]) -> bool {
+pub fn is_judged_alike(alloc: Global, bytes: &[u8]) -> bool {
     let found = match fault_in(alloc, Format::Session, bytes) {
         Some((line, _)) => line as usize,
         None => 0,

@@ -136,6 +136,26 @@ fn finds_the_parts_of_a_log_and_what_it_lacks(rt: HostRuntime) {
     assert!(rt; lacks[3] == LogLack::End { file: 3 });
 }
 
+/// What a log with these files lacks, if its files fit together.
+fn lacks_of(alloc: Global, files: &[Surveyed]) -> Option<Vec<LogLack>> {
+    let parts = find_parts(alloc, files).ok()?;
+    find_lacks(alloc, &parts).ok()
+}
+
+#[test]
+fn a_later_part_goes_on_where_a_log_is_handed_over(rt: HostRuntime) {
+    let (next, end) = (Some(Last::Next(6)), Some(Last::End(6)));
+    let taken = [file(0, 0, 6, 6, end), file(1, 0, 6, 6, next), file(2, 0, 0, 6, next)];
+    assert!(rt; lacks_of(rt.alloc(), &taken).is_some_and(|lacks| lacks.is_empty()));
+    let untaken = [file(0, 0, 0, 6, end), file(1, 0, 6, 6, next), file(2, 0, 6, 6, next)];
+    let Some(lacks) = lacks_of(rt.alloc(), &untaken) else {
+        assert!(rt; false);
+        return;
+    };
+    assert!(rt; lacks.len() == 1);
+    assert!(rt; lacks[0] == LogLack::Heir { file: 2, count: 6 });
+}
+
 /// Why two files make no parts.
 fn fault(alloc: Global, one: Surveyed, other: Surveyed) -> Option<PartFault> {
     let files = [one, other];

@@ -5,7 +5,7 @@ ghost use Rattle.std.specs.Prelude.{⊤, []};
 use crate::recorder_files::{Slow, opened};
 use gathered_logs::{GatherFault, LogFault};
 use migration_types::{Contents, LogName, Size, Version};
-use recorded_files::{FileReader, Party};
+use recorded_files::{FileFault, FileReader, Party};
 use recordings::{
     WideMachine, Visitor, WideGuest, WideInit, WideLane, WideLink, WidePager, WideSource,
 };
@@ -301,4 +301,29 @@ fn tells_which_log_is_wrong(rt: HostRuntime) {
             Err(WalkFault::Log(LogName::Source, LogFault::Files(_)))
         )
     );
+}
+
+/// The fault of a recording whose guest's log is this.
+fn fault_of_guest(alloc: Global, guest: &'static [u8]) -> Result<bool, WalkFault> {
+    let files = Files {
+        guest,
+        source: SOURCE,
+        link: b"",
+        lane: b"",
+        pager: PAGER,
+    };
+    makes(alloc, &files, &files, b"")
+}
+
+#[test]
+fn tells_what_is_wrong_with_a_log(rt: HostRuntime) {
+    let text = b"postcopy-records 1\nrecording a\nlog guest 0 0\n0 halt\n1 halted\n";
+    let fault = WalkFault::Log(LogName::Guest, LogFault::Record(1));
+    assert!(rt; fault_of_guest(rt.alloc(), text) == Err(fault));
+    let text = b"postcopy-records 1\nrecording a\nlog guest 0 0\n0 halt\nhalt\n";
+    let line = LogFault::Files(GatherFault::File(0, FileFault::Line(5)));
+    assert!(rt; fault_of_guest(rt.alloc(), text) == Err(WalkFault::Log(LogName::Guest, line)));
+    let text = b"postcopy-records 1\nrecording a\nlog guest 0 0\n0 halt\n0 halt\n";
+    let order = LogFault::Files(GatherFault::File(0, FileFault::Order(5)));
+    assert!(rt; fault_of_guest(rt.alloc(), text) == Err(WalkFault::Log(LogName::Guest, order)));
 }

@@ -10,6 +10,7 @@ use Rattle.session_commands.specs.Found.{IsFileOf, IsNameOf, IsSurveyed, path_in
 use Rattle.session_commands.specs.declared.found.FoundFile.{FoundFile}
 use Rattle.session_commands.specs.declared.found.FoundLog.{FoundLog}
 use Rattle.session_commands.specs.declared.found.FoundLogs.{FoundLogs}
+use Rattle.session_commands.specs.declared.surveys.Recording.{Recording}
 
 -- a file's party and its path
 abbrev pub told_of : FoundFile → Party × List ℕ
@@ -41,21 +42,30 @@ pub record IsNothing (log : FoundLog) : Type 0 where
   pub headless : log.headless.items ≡ []
   pub names : log.names.items ≡ []
 
--- a party's file with these bytes, if they are known, ends within its head, or this was surveyed of it
-abbrev pub IsReadAs : Party → Option (List ℕ) → Option Surveyed → Type 0
-IsReadAs party known found = MatchOption found (Says party known None) (IsSurveyOf party known)
+-- a party's file with these bytes, if they are known, ends within its head, or this was surveyed of it, in the recording of this name
+abbrev pub IsReadAs : Party → Option (List ℕ) → List ℕ → Option Surveyed → Type 0
+IsReadAs party known recording found = MatchOption found (Says party known None) (IsSurveyOf party known recording)
+
+-- the recording has this name, if a file of it was read
+abbrev pub HasName : Option Recording → List ℕ → Type 0
+HasName None name = Unit {0}
+HasName (Some recording) name = recording.name.items ≡ name
+
+-- the name that it has afterwards is the one that it had, and this is so under it
+abbrev pub Under : Option Recording → Option Recording → (List ℕ → Type 0) → Type 0
+Under old new Is = (name : List ℕ) → HasName new name → HasName old name × Is name
 
 -- a log gets a file, and is surveyed as before
-pub record GetsFile (bytes_of : List ℕ → Option (List ℕ)) (party : Party) (path : List ℕ) (old new : FoundLog) : Type 0 where
+pub record GetsFile (bytes_of : List ℕ → Option (List ℕ)) (recording : List ℕ) (party : Party) (path : List ℕ) (old new : FoundLog) : Type 0 where
   pub names : map string_bytes new.names.items ≡ map string_bytes old.names.items ++ path ∷ []
-  pub surveyed : IsSurveyed bytes_of party old → IsSurveyed bytes_of party new
+  pub surveyed : IsSurveyed bytes_of recording party old → IsSurveyed bytes_of recording party new
 
 -- the log of its party gets the file, and no other log
-pub record TakesFile (bytes_of : List ℕ → Option (List ℕ)) (file : FoundFile) (old new : FoundLogs) : Type 0 where
-  pub gets : GetsFile bytes_of file.party (string_bytes file.path) (log_of old file.party) (log_of new file.party)
+pub record TakesFile (bytes_of : List ℕ → Option (List ℕ)) (recording : List ℕ) (file : FoundFile) (old new : FoundLogs) : Type 0 where
+  pub gets : GetsFile bytes_of recording file.party (string_bytes file.path) (log_of old file.party) (log_of new file.party)
   pub others : (party : Party) → (party ≡ file.party → ⊥) → log_of new party ≡ log_of old party
 
 -- the logs of the files that were surveyed
-pub record AreLogsOf (bytes_of : List ℕ → Option (List ℕ)) (files : List FoundFile) (logs : FoundLogs) : Type 0 where
+pub record AreLogsOf (bytes_of : List ℕ → Option (List ℕ)) (recording : List ℕ) (files : List FoundFile) (logs : FoundLogs) : Type 0 where
   pub files_of : (party : Party) (path : List ℕ) → Contains (map string_bytes (log_of logs party).names.items) path ↔ Contains (map told_of files) (party, path)
-  pub surveyed : (party : Party) → IsSurveyed bytes_of party (log_of logs party)
+  pub surveyed : (party : Party) → IsSurveyed bytes_of recording party (log_of logs party)

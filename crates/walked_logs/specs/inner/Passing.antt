@@ -1,5 +1,5 @@
 -- Messages, as records take them.
-use Rattle.std.specs.Prelude.{◌≡◌, ◌≤◌, ℕ, List, ◌++◌, Option, Some, None, IfSome, length, take}
+use Rattle.std.specs.Prelude.{◌≡◌, ◌≢◌, ◌≤◌, ℕ, List, ◌++◌, Option, Some, None, IfSome, length, slice_get, take}
 use Rattle.std.specs.Option.{option_to_list}
 use Rattle.deliveries.specs.declared.messages.Message.{Message}
 use Rattle.deliveries.specs.Deliveries.{AreNumbers}
@@ -27,3 +27,9 @@ pub record HasPassed (first now : Cursor) (told : List Message) : Type 0 where
   pub numbers : now.numbers.now ≡ first.numbers.now
   pub within : first.place ≤ length first.messages.now → now.place ≤ length first.messages.now
   pub passed : first.place ≤ length first.messages.now → take now.place first.messages.now ≡ take first.place first.messages.now ++ told
+
+-- there is a message, and it is not the next one
+pub record IsNotNext (cursor : Cursor) (message : Option Message) : Type 0 where
+  pub other : Message
+  pub is : message ≡ Some other
+  pub not_next : slice_get cursor.messages.now cursor.place ≢ Some other

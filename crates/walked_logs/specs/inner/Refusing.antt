@@ -3,18 +3,27 @@ use Rattle.std.specs.Prelude.{◌≡◌, ◌⊎◌, ℕ, List, Option, Some, sli
 use Rattle.migration_types.specs.declared.records.LogName.{LogName}
 use Rattle.deliveries.specs.declared.messages.Message.{Message}
 use Rattle.recorded_files.specs.declared.lines.Party.{Party}
+use Rattle.gathered_logs.specs.declared.taking.LogFault.{LogFault}
 use Rattle.gathered_logs.specs.Logs.{Gathering}
 use Rattle.gathered_logs.specs.Records.{IsUnfitAt}
 use Rattle.walked_logs.specs.declared.files.WalkFault.{WalkFault}
 use Rattle.walked_logs.specs.declared.files.WalkFault.TheVariants.{Log, OwnLog, Changed, Memory}
+use Rattle.walked_logs.specs.Faults.{HasLogFault, IsMemory}
 use Rattle.walked_logs.specs.Walks.{IsTakenBy}
 
+-- this fault of a log, or that memory was refused
+abbrev pub IsFaultOf : LogName → LogFault → WalkFault → Type 0
+IsFaultOf log why (Log other fault) = (other ≡ log) × (fault ≡ why) × (IsMemory why → ⊥)
+IsFaultOf log why (OwnLog other by n) = ⊥
+IsFaultOf log why Changed = ⊥
+IsFaultOf log why Memory = Unit {0}
+
 -- what is wrong with a log, or that memory was refused
-abbrev pub IsPlain : LogName → WalkFault → Type 0
-IsPlain log (Log other fault) = other ≡ log
-IsPlain log (OwnLog other by n) = ⊥
-IsPlain log Changed = ⊥
-IsPlain log Memory = Unit {0}
+abbrev pub IsPlain : {X : Type 0} → (X → List ℕ) → (X → Type 0) → LogName → Party → List (Option (List ℕ)) → WalkFault → Type 0
+IsPlain {X} line IsOf log party knowns (Log other fault) = (other ≡ log) × HasLogFault line IsOf party knowns fault
+IsPlain {X} line IsOf log party knowns (OwnLog other by n) = ⊥
+IsPlain {X} line IsOf log party knowns Changed = ⊥
+IsPlain {X} line IsOf log party knowns Memory = Unit {0}
 
 -- a record of a log's files is not for the taker
 pub record Unfits {X T S : Type 0} (line : X → List ℕ) (IsOf : X → Type 0) (Takes : T → S → T → S → List X → Type 0) (IsUnfit : T → ℕ → X → Type 0) (party : Party) (knowns : List (Option (List ℕ))) (taker : T) (onto : S) : Type 0 where
@@ -24,7 +33,7 @@ pub record Unfits {X T S : Type 0} (line : X → List ℕ) (IsOf : X → Type 0)
 
 -- a log's fault, or that of a record that is not for the taker
 abbrev pub IsTakeFault : {X T S : Type 0} → (X → List ℕ) → (X → Type 0) → (T → S → T → S → List X → Type 0) → (T → ℕ → X → Type 0) → LogName → Party → List (Option (List ℕ)) → T → S → WalkFault → WalkFault → Type 0
-IsTakeFault {X} {T} {S} line IsOf Takes IsUnfit log party knowns taker onto unfit fault = IsPlain log fault ⊎ ((fault ≡ unfit) × Unfits line IsOf Takes IsUnfit party knowns taker onto)
+IsTakeFault {X} {T} {S} line IsOf Takes IsUnfit log party knowns taker onto unfit fault = IsPlain line IsOf log party knowns fault ⊎ ((fault ≡ unfit) × Unfits line IsOf Takes IsUnfit party knowns taker onto)
 
 -- the fault of a log with records of its own, where a record of another log takes this message
 pub record IsTaking (log : LogName) (message : Message) (fault : WalkFault) : Type 0 where

@@ -1,6 +1,6 @@
 use Rattle.std.specs.Prelude.{map}
 use Rattle.std.proofs.lemmas.Result.{err_from_is_err_and}
-use Rattle.gathered_logs.proofs.Noting.{comes_next, is_refused, notes_more, says_records, says_to_hole}
+use Rattle.gathered_logs.proofs.Noting.{comes_next, is_refused, not_missing, notes_more, says_records, says_to_hole}
 use Rattle.gathered_logs.proofs.taking.take_records.Goals as goal
 
 pub records-preserved : goal.records-preserved
@@ -36,9 +36,14 @@ pub returns-in-Some-clause-taken : goal.returns-in-Some-clause-taken
 returns-in-Some-clause-taken g c = λ party knowns begun.
     let line = g.K.LogRecord.line in
     let n = c.records.invariant party knowns begun in
-    says_to_hole line (g.K.LogRecord.IsOf c.args.machine.now) g.T.RecordTaker.Takes party knowns c.records.files c.next.new.self c.args.taker.now c.records.taker c.args.onto.now c.records.onto c.in-Err.fault c.in-Some.least n c.in-Some.ensures (c.in-Err.ensures.refused party knowns (map line n.records) n.came)
+    says_to_hole line (g.K.LogRecord.IsOf c.args.machine.now) g.T.RecordTaker.Takes party knowns c.records.files c.next.new.self c.args.taker.now c.records.taker c.args.onto.now c.records.onto c.in-Err.fault c.in-Some.least n c.in-Some.ensures.found (c.in-Err.ensures.refused party knowns (map line n.records) n.came)
 
 pub returns-in-None-clause-refused : goal.returns-in-None-clause-refused
 returns-in-None-clause-refused g c = λ party knowns begun.
     let n = c.records.invariant party knowns begun in
     (n.records, n.each, c.in-Err.ensures.refused party knowns (map g.K.LogRecord.line n.records) n.came)
+
+pub returns-in_err-take_text-in-Ok-Some-clause-to_hole : goal.returns-in_err-take_text-in-Ok-Some-clause-to_hole
+returns-in_err-take_text-in-Ok-Some-clause-to_hole g c =
+    let p = err_from_is_err_and c.from_residual.result c.from_residual.ensures.1 in
+    rw (p.1, p.2) (not_missing g.K.LogRecord.line (g.K.LogRecord.IsOf c.args.machine.now) g.T.RecordTaker.IsUnfit _ _ _ _ c.in_err-take_text-in-Ok-Some.ensures.refused)

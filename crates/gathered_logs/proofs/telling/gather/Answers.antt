@@ -1,6 +1,5 @@
-use Rattle.std.proofs.Common.{◌≡◌, subst}
-use Rattle.gathered_logs.specs.declared.taking.TakingFault.TheVariants.{Log, Unfit}
-use Rattle.gathered_logs.specs.Records.{IsTakingFault, IsUnfitAt}
+use Rattle.std.proofs.Common.{subst}
+use Rattle.gathered_logs.specs.Records.{IsTakingFault}
 use Rattle.gathered_logs.proofs.Noting.{said_to_hole, said_whole}
 use Rattle.gathered_logs.proofs.telling.gather.Goals as goal
 

@@ -3,4 +3,4 @@ use Rattle.surveyed_logs.specs.Lacks.{lacks, lacks_behind}
 use Rattle.surveyed_logs.proofs.lacking.find_lacks.Given as goal
 
 abbrev pub invariant-loop-at : goal.invariant-loop-at
-invariant-loop-at l = l.lacks.items ++ lacks_behind l.parts (take l.at l.parts) (drop l.at l.parts) ≡ lacks l.parts
+invariant-loop-at l = l.lacks.items ++ lacks_behind (take l.at l.parts) (drop l.at l.parts) ≡ lacks l.parts

@@ -1,15 +1,11 @@
-use Rattle.std.proofs.Common.{[], List, inl, inr, refl}
+use Rattle.std.proofs.Common.{[], List}
 use Rattle.std.proofs.lemmas.Result.{err_from_is_err_and}
-use Rattle.migration_types.specs.declared.records.LogName.TheVariants.{Pager, Source}
-use Rattle.recordings.specs.Wide.{extent_of}
-use Rattle.recorded_files.specs.declared.lines.Party.TheVariants.{Of}
 use Rattle.recorded_files.specs.declared.messages.Told.{Told}
 use Rattle.recorded_files.specs.declared.raw.RawPager.{RawPager}
 use Rattle.recorded_files.specs.declared.raw.RawSource.{RawSource}
-use Rattle.recorded_files.specs.Raw.{raw_source_line, raw_pager_line, IsRawSourceOf, IsRawPagerOf}
 use Rattle.gathered_logs.specs.declared.telling.Noter.{Noter}
 use Rattle.walked_logs.specs.declared.files.WalkFault.TheVariants.{Changed}
-use Rattle.walked_logs.proofs.Refusing.{note_fault}
+use Rattle.walked_logs.proofs.Refusing.{note_pager_fault, note_source_fault}
 use Rattle.recorded_files.specs.inner.Noted.{Tells}
 use Rattle.walked_logs.proofs.noting.note_messages.Goals as goal
 
@@ -23,12 +19,10 @@ returns-in-Ok-clause-noted g c =
 
 pub returns-in_err-take_log-clause-refused : goal.returns-in_err-take_log-clause-refused
 returns-in_err-take_log-clause-refused g c =
-    let machine = c.args.machine.now in
     let p = err_from_is_err_and c.from_residual.result c.from_residual.ensures.1 in
-    rw (p.1, p.2) (note_fault raw_pager_line (IsRawPagerOf machine.version (extent_of machine)) (λ (first : Noter) (from : Told) (now : Noter) (onto : Told) (records : List RawPager). (source : List RawSource) → Tells from [] source → Tells onto records source) (Of Pager) (g.F.LogFiles.bytes_of c.args.files.now Pager) (record {}) c.new-told.result Pager Changed _ (inl refl) c.in_err-take_log.ensures.refused)
+    rw (p.1, p.2) (note_pager_fault (λ (first : Noter) (from : Told) (now : Noter) (onto : Told) (records : List RawPager). (source : List RawSource) → Tells from [] source → Tells onto records source) c.args.machine.now (g.F.LogFiles.bytes_of c.args.files.now) (record {}) c.new-told.result Changed _ c.in_err-take_log.ensures.refused)
 
 pub returns-in_err-take_log-2-clause-refused : goal.returns-in_err-take_log-2-clause-refused
 returns-in_err-take_log-2-clause-refused g c =
-    let machine = c.args.machine.now in
     let p = err_from_is_err_and c.from_residual-in_err-take_log-2.result c.from_residual-in_err-take_log-2.ensures.1 in
-    rw (p.1, p.2) (note_fault raw_source_line (IsRawSourceOf (extent_of machine)) (λ (first : Noter) (from : Told) (now : Noter) (onto : Told) (records : List RawSource). (pager : List RawPager) → Tells from pager [] → Tells onto pager records) (Of Source) (g.F.LogFiles.bytes_of c.args.files.now Source) _ c.take_log.new.onto Source Changed _ (inr refl) c.in_err-take_log-2.ensures.refused)
+    rw (p.1, p.2) (note_source_fault (λ (first : Noter) (from : Told) (now : Noter) (onto : Told) (records : List RawSource). (pager : List RawPager) → Tells from pager [] → Tells onto pager records) c.args.machine.now (g.F.LogFiles.bytes_of c.args.files.now) _ c.take_log.new.onto Changed _ c.in_err-take_log-2.ensures.refused)

@@ -6,8 +6,8 @@ use Rattle.walked_logs.specs.inner.Passing.{Passes}
 use Rattle.walked_logs.proofs.Passing.{passes_one}
 use Rattle.walked_logs.proofs.cursors.Cursor.pass.Goals as goal
 
-pub returns-else-not-is_same : goal.returns-else-not-is_same
-returns-else-not-is_same c =
+pub returns-else-not-is_same-clause-passed : goal.returns-else-not-is_same-clause-passed
+returns-else-not-is_same-clause-passed c =
     let old : Cursor = c.args.self.now in
     let new : Cursor = record { messages = c.args.self.now.messages; numbers = c.args.self.now.numbers; place = c.args.self.now.place + 1 } in
     let message : Message = c.in-Some.message in
