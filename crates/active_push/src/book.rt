@@ -389,7 +389,7 @@ impl SourceBook {
 
 /// The parts that a book begins with, apart from the machine.
 #[derive(Drop)]
-struct Opening {
+struct OpeningParts {
     log: Vec<SourceRec>,
     sent: Table<Option<u32>>,
     bubbles: Bubbles,
@@ -406,7 +406,7 @@ fn opened(
     ledger: &Ledger,
     halt: u32,
     pivots: u32,
-) -> Result<Opening, AllocError>
+) -> Result<OpeningParts, AllocError>
     requires some { 1 ≤ pivots }
     requires few { pivots ≤ most_pivots }
     requires geometry { ledger.now.geometry ≡ geometry }
@@ -419,7 +419,7 @@ fn opened(
     let bubbles = Bubbles::new(alloc, geometry, pivots, ledger)?;
     let released = Shared::from_vec(ledger.released_list()?)?;
     let packet = released.another()?;
-    Ok(Opening {
+    Ok(OpeningParts {
         log,
         sent,
         bubbles,

@@ -15,8 +15,8 @@ ghost use Rattle.cert_maker.specs.inner.Entries.{AreMadeFrom, HasBarePage};
 ghost use Rattle.audit_report.specs.Reports.{IsReport, IsClean, JudgesPages, ReportFits};
 ghost use Rattle.audit_report.specs.inner.Full.{IsFullAudit, IsOrderOrReport};
 
-use crate::both::Both;
 use crate::orders::order_for;
+use crate::question_pair::QuestionPair;
 use crate::report::{FullAudit, Report};
 use audit_model::{clean_is_certified, faults_are_unsafe};
 use cert_check::shape;
@@ -111,12 +111,12 @@ impl<R: Threads + Sync> Judges<FaultAndEntries> for InThreads<'_, R> {
     }
 }
 
-impl<R: Threads + Sync> Judges<Both<FaultAndEntries, Faults>> for InThreads<'_, R> {
+impl<R: Threads + Sync> Judges<QuestionPair<FaultAndEntries, Faults>> for InThreads<'_, R> {
     ghost ready = { IsSync R.row };
 
     fn ask(
         &self,
-        question: &Both<FaultAndEntries, Faults>,
+        question: &QuestionPair<FaultAndEntries, Faults>,
         alloc: Global,
         session: &Session,
     ) -> Result<(AuditFacts, Vec<FaultyPage>), AllocError> {
@@ -242,7 +242,7 @@ fn report<J: Judges<FaultAndEntries>>(
 
 /// Returns the report on a session of the right shape, over the runs of its found order, with each page that has a
 /// fault.
-fn full_by_pages<J: Judges<Both<FaultAndEntries, Faults>>>(
+fn full_by_pages<J: Judges<QuestionPair<FaultAndEntries, Faults>>>(
     judges: &J,
     alloc: Global,
     session: &Session,
@@ -254,7 +254,7 @@ fn full_by_pages<J: Judges<Both<FaultAndEntries, Faults>>>(
     requires found { AreFoundRuns session.now found }
     ensures { IfOk result (IsFullAudit session.now) }
 {
-    let question = Both {
+    let question = QuestionPair {
         one: FaultAndEntries,
         other: Faults,
     };
@@ -264,7 +264,7 @@ fn full_by_pages<J: Judges<Both<FaultAndEntries, Faults>>>(
 }
 
 /// Returns the report on a session, with each page that has a fault.
-fn full_report<J: Judges<Both<FaultAndEntries, Faults>>>(
+fn full_report<J: Judges<QuestionPair<FaultAndEntries, Faults>>>(
     judges: &J,
     alloc: Global,
     session: &Session,
@@ -327,7 +327,7 @@ pub fn audit<R: Threads + Sync>(
 /// Returns the report on a session that [`audit`] returns, with each page that has a fault. It promises what `audit`
 /// promises, and asks the judges once. Besides what an audit by these judges allocates, it allocates memory for a few
 /// numbers for each faulty page. Fails only if memory runs out.
-pub fn audit_in_full<J: Judges<Both<FaultAndEntries, Faults>>>(
+pub fn audit_in_full<J: Judges<QuestionPair<FaultAndEntries, Faults>>>(
     judges: &J,
     alloc: Global,
     session: &Session,

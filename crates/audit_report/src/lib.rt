@@ -5,7 +5,6 @@
 #![tactic(auto)]
 
 mod auditing;
-mod both;
 mod cuts;
 mod dependence;
 mod faulty;
@@ -15,10 +14,10 @@ mod orders;
 mod parts;
 mod placements;
 mod printing;
+mod question_pair;
 mod report;
 
 pub use auditing::{AuditFacts, FaultAndEntries, audit, audit_by, audit_in_full};
-pub use both::Both;
 pub use dependence::depends_on;
 pub use faulty::{print_all_faults, push_faulty_pages};
 pub use lacking::{line_of_taken, push_missing};
@@ -28,4 +27,5 @@ pub use printing::{
     print_first_line, print_refused_session, print_report, push_first_line, push_first_line_by,
     push_refused_certificate, push_refused_session, push_refused_session_by, push_shape,
 };
+pub use question_pair::QuestionPair;
 pub use report::{FullAudit, Report};

@@ -1,5 +1,4 @@
 pub mod Cuts
-pub mod CutOnce
 pub mod Filling
 pub mod PiecesTaken
 pub mod Said

@@ -1,5 +1,5 @@
 -- Answers that are listed, one after the other.
-use Rattle.std.proofs.Common.{◌≡◌, ◌∙◌, ℕ, ◌+◌, ◌<◌, Bool, true, false, List, [], ◌∷◌, ◌++◌, length, map, zero, suc, Option, None, Some, Result, Ok, Err, IfOk, MatchResult, inl, inr, refl, sym, ap, ap₂, subst, arith, rules, cond, ◌==◌, take, get_or}
+use Rattle.std.proofs.Common.{◌≡◌, ◌∙◌, ℕ, ◌+◌, ◌<◌, Bool, true, false, List, [], ◌∷◌, ◌++◌, length, map, zero, suc, Option, None, Some, Result, Ok, Err, IfOk, MatchResult, inl, inr, refl, sym, ap, ap₂, subst, arith, cond, ◌==◌, take, get_or}
 use Rattle.std.specs.Prelude.{◌≤◌, nat_lt, IfErr}
 use Rattle.std.specs.List.{AllByRecursion, concat}
 use Rattle.std.specs.Borrow.{Bor}
@@ -13,8 +13,8 @@ use Rattle.command_texts.specs.declared.why.Telling.TheVariants.{Short}
 use Rattle.command_texts.specs.Answers.{IsListStop, IsReadFault}
 use Rattle.command_texts.specs.Reasons.{Place, TellsWhy, place_of}
 use Rattle.command_texts.specs.Told.{AreRead, IsNamed, is_dash}
-use Rattle.command_texts.specs.Several.{AreListed, Entry, IsListStatus, IsListed, IsRight, Said, StopsSeveral, Style, TellsEach, TellsEntry, TellsOneUnread, TellsSaid, TellsSeveral, TellsUnread, entry_status, greater, list_end, list_text, listed, names_of, well, worst}
-use Rattle.command_texts.specs.Written.{AppendsFront, BothGain, Gains, Streams}
+use Rattle.command_texts.specs.Several.{AreListed, Entry, IsListStatus, IsListed, IsRight, Said, StopsSeveral, Style, TellsEach, TellsEntry, TellsOneUnread, TellsSeveral, TellsUnread, entry_status, greater, list_end, listed, names_of, well, worst}
+use Rattle.command_texts.specs.Written.{BothGain, Gains, Streams}
 use Rattle.command_texts.proofs.Fronts.{both_gain, front_kept, same_gains}
 
 -- what is read under a name is read where nothing is known of the input

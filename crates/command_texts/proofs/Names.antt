@@ -4,8 +4,6 @@ use Rattle.std.specs.Prelude.{Bool, true, false, Option, Some, None, Result, Ok,
 use Rattle.std.proofs.lemmas.Slice.Eq.{bytes_eq-Decides}
 use Rattle.command_texts.specs.declared.answer.Fault.{Fault}
 use Rattle.std.specs.Option.{option_map, option_or}
-use Rattle.text_lines.specs.declared.wanted.Refusal.{Refusal}
-use Rattle.command_texts.specs.Reasons.{line_of}
 use Rattle.command_texts.specs.Told.{is_dash, bytes_under, AreRead, IsNamed, AreTextsBy, AreNamed}
 
 same_under : (a b : Bool) (file input mid : Option (List ℕ)) → false ≡ (a && b) → (a ≡ false → mid ≡ input) → (if b then mid else file) ≡ (if b then input else file)
@@ -27,9 +25,6 @@ are_of_input first second files input texts both of_input = subst (λ (b : Bool)
 pub map_or : {X Y : Type 0} (f : X → Y) (a b : Option X) → option_map f (option_or a b) ≡ option_or (option_map f a) (option_map f b)
 map_or f None b = refl
 map_or f (Some x) b = refl
-
-pub lines_or : (a b : Option Refusal) → line_of (option_or a b) ≡ option_or (line_of a) (line_of b)
-lines_or a b = map_or _ a b
 
 -- what was read of a file is the text that its name stands for
 known_file : (file known : Option (List ℕ)) (text : List ℕ) → IfSome file (λ xs. known ≡ Some xs) → AreRead known text → AreRead file text

@@ -5,9 +5,9 @@ use Rattle.command_texts.specs.declared.why.Telling.{Telling}
 use Rattle.command_texts.specs.declared.why.Telling.TheVariants.{Short, Full, Fields}
 use Rattle.command_texts.specs.declared.why.Why.{Why}
 use Rattle.command_texts.proofs.Cuts.{split_parts}
-use Rattle.command_texts.specs.Fields.{HasFields, IsAnswerTold, IsObject, IsTold}
+use Rattle.command_texts.specs.Fields.{HasFields, IsAnswerTold, IsTold}
 use Rattle.std.specs.Option.{option_or}
-use Rattle.command_texts.specs.Reasons.{first_place, place_of, told_place}
+use Rattle.command_texts.specs.Reasons.{place_of, told_place}
 
 -- a text is refused if there is a reason
 pub some_place : (why : Option Why) (name : List ℕ) (line : Option ℕ) → option_map told_place why ≡ place_of name line → is_some why ≡ is_some line
@@ -16,11 +16,12 @@ some_place None name (Some n) e = absurd cc
 some_place (Some why) name None e = absurd cc
 some_place (Some why) name (Some n) e = refl
 
--- and if the first of two is refused, or else the second
-pub some_first : (why : Option Why) (first second : List ℕ) (one other : Option ℕ) → option_map told_place why ≡ first_place first second one other → is_some why ≡ is_some (option_or one other)
-some_first why first second None other e = some_place why second other e
-some_first None first second (Some n) other e = absurd cc
-some_first (Some why) first second (Some n) other e = refl
+-- and one of two texts, if there is a reason for one of them
+pub some_either : (first second : Option Why) (one_name other_name : List ℕ) (one other : Option ℕ) → option_map told_place first ≡ place_of one_name one → option_map told_place second ≡ place_of other_name other → is_some (option_or first second) ≡ is_some (option_or one other)
+some_either None second one_name other_name None other e f = some_place second other_name other f
+some_either None second one_name other_name (Some n) other e f = absurd cc
+some_either (Some why) second one_name other_name None other e f = absurd cc
+some_either (Some why) second one_name other_name (Some n) other e f = refl
 
 -- an answer that stays is one that may have fields
 same_told : (refused : Bool) (answer told : List ℕ) → told ≡ answer → IsTold Fields refused answer told

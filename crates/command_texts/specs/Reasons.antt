@@ -1,5 +1,5 @@
 -- Why a text is refused: the words beside the answer.
-use Rattle.std.specs.Prelude.{◌≡◌, ℕ, List, [], ◌∷◌, ◌++◌, Option, Some, None, codes, option_map}
+use Rattle.std.specs.Prelude.{◌≡◌, ℕ, List, [], Option, Some, None, option_map}
 use Rattle.std.specs.Option.{option_or}
 use Rattle.std.specs.Io.KnownBytes.{Keeps}
 use Rattle.text_lines.specs.Text.{IsRefusalLine, IsSpelling}
@@ -41,6 +41,10 @@ first_place first second one other = option_or (place_of first one) (place_of se
 
 abbrev pub told_place : Why → Place
 told_place why = (why.name.now, why.refused.line)
+
+-- why the text under a name is refused, or `None` if it is not
+abbrev pub IsWhy : (List ℕ → Option ℕ → Type 0) → List ℕ → List ℕ → Option Why → Type 0
+IsWhy IsRefused name text why = (line : Option ℕ) × IsRefused text line × (option_map told_place why ≡ place_of name line)
 
 -- Words on why a text is refused. Their first line begins with the text's name as shown and the line number. In full,
 -- more lines follow it.

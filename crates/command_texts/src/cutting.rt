@@ -1,8 +1,8 @@
 //! Cutting an input into two texts while it is read.
 
-ghost use Rattle.std.specs.Prelude.{◌≡◌, ◌≤◌, ◌↔◌, ℕ, List, ◌++◌, take, length, codes, IsTrue, IfSome, IfNone};
+ghost use Rattle.std.specs.Prelude.{◌≡◌, ◌≤◌, ◌↔◌, ℕ, List, ◌++◌, None, take, length, codes, IsTrue, IfSome, IfNone};
 ghost use Rattle.command_texts.specs.Cutting.{IsCutAtEnd};
-ghost use Rattle.command_texts.specs.Reasons.{IsFirstRefused};
+ghost use Rattle.command_texts.specs.Reasons.{line_of};
 ghost use Rattle.command_texts.specs.inner.Ends.{CameAs, EndsThere, IsLacking, NoEndYet};
 
 use crate::taking::Taker;
@@ -66,11 +66,13 @@ pub struct Both<A: Taker, B: Taker> {
 }
 
 impl<A: Taker, B: Taker> Taker for Both<A, B> {
-    type Found = (A::Found, B::Found);
+    /// What is found in the two texts, and why each is refused, if it is.
+    type Found = ((A::Found, B::Found), (Option<Refusal>, Option<Refusal>));
 
-    ghost is_found = { λ input found. (texts : List ℕ × List ℕ) × IsCutAtEnd input texts.0 texts.1 × A.is_found texts.0 found.0 × B.is_found texts.1 found.1 };
+    ghost is_found = { λ input found. (texts : List ℕ × List ℕ) × IsCutAtEnd input texts.0 texts.1 × A.is_found texts.0 found.0.0 × B.is_found texts.1 found.0.1 × A.is_refused texts.0 (line_of found.1.0) × B.is_refused texts.1 (line_of found.1.1) };
 
-    ghost is_refused = { λ input line. (texts : List ℕ × List ℕ) × IsCutAtEnd input texts.0 texts.1 × IsFirstRefused A.is_refused B.is_refused texts line };
+    // Any input is two texts. Each of them may be refused, and the input is not.
+    ghost is_refused = { λ _ line. line ≡ None };
 
     ghost came = { λ both input. CameAs (A.came both.first) (B.came both.second) both.ended both.lacking input };
 
@@ -103,9 +105,9 @@ impl<A: Taker, B: Taker> Taker for Both<A, B> {
         }
     }
 
-    fn end(self) -> Result<((A::Found, B::Found), Option<Refusal>), AllocError> {
+    fn end(self) -> Result<(Self::Found, Option<Refusal>), AllocError> {
         let (first, why) = self.first.end()?;
         let (second, later) = self.second.end()?;
-        Ok(((first, second), why.or(later)))
+        Ok((((first, second), (why, later)), None))
     }
 }

@@ -1,15 +1,15 @@
 //! The texts under names.
 
-ghost use Rattle.std.specs.Prelude.{◌≡◌, ◌⊎◌, ◌&&◌, ℕ, List, Option, Some, false, IfOk, IfErr, IfSome, option_map};
+ghost use Rattle.std.specs.Prelude.{◌≡◌, ◌⊎◌, ◌&&◌, ℕ, List, Some, false, IfOk, IfErr, IfSome};
 ghost use Rattle.command_texts.specs.Answers.{IsReadFault};
-ghost use Rattle.command_texts.specs.Reasons.{IsFirstRefused, first_place, line_of, place_of, told_place};
+ghost use Rattle.command_texts.specs.Reasons.{IsWhy, line_of};
 ghost use Rattle.command_texts.specs.Told.{AreNamed, AreOfInput, AreRead, IsNamed, is_dash};
 
 use crate::answer::Fault;
 use crate::cutting::Both;
 use crate::reading::{ReadFault, TextSource, fault_of, read_text, take_text};
 use crate::taking::Taker;
-use crate::why::{Why, under};
+use crate::why::{Refusals, Why, both_under, under};
 use std::alloc::Global;
 use std::io::Read;
 use std::thread::Threads;
@@ -82,7 +82,7 @@ pub fn read_named<'a, T: Taker, R: Threads + Sync, S: TextSource, I: Read + Send
     texts: &S,
     input: &mut I,
 ) -> Result<(T::Found, Option<Why<'a>>), Fault<'a>>
-    ensures named { IfOk result (λ read. (text : List ℕ) × IsNamed name.entry.now (S.bytes_of texts.now) (I.remaining input.old) text × T.is_found text read.0 × ((line : Option ℕ) × T.is_refused text line × (option_map told_place read.1 ≡ place_of name.entry.now line))) }
+    ensures named { IfOk result (λ read. (text : List ℕ) × IsNamed name.entry.now (S.bytes_of texts.now) (I.remaining input.old) text × T.is_found text read.0 × IsWhy T.is_refused name.entry.now text read.1) }
     ensures apart { is_dash name.entry.now ≡ false → input.new ≡ input.old }
     ensures fault { IfErr result (IsReadFault (λ n. n ≡ name.entry.now)) }
 {
@@ -90,33 +90,34 @@ pub fn read_named<'a, T: Taker, R: Threads + Sync, S: TextSource, I: Read + Send
     Ok((found, under(name, refusal)))
 }
 
-// Returns what is found in the two texts of the input, and why one is refused, if one is. The first text ends with the
-// input's first line `end`. If both are refused, the reason is that of the first.
+// Returns what is found in the two texts of the input, and why each is refused, if it is. The first text ends with the
+// input's first line `end`.
 fn read_both<A: Taker, B: Taker, R: Threads + Sync, I: Read + Send>(
     rt: &R,
     alloc: Global,
     input: &mut I,
-) -> Result<((A::Found, B::Found), Option<Refusal>), ReadFault>
-    ensures { IfOk result (λ read. (texts : List ℕ × List ℕ) × AreOfInput (I.remaining input.old) texts × A.is_found texts.0 read.0.0 × B.is_found texts.1 read.0.1 × IsFirstRefused A.is_refused B.is_refused texts (line_of read.1)) }
+) -> Result<<Both<A, B> as Taker>::Found, ReadFault>
+    ensures { IfOk result (λ read. (texts : List ℕ × List ℕ) × AreOfInput (I.remaining input.old) texts × A.is_found texts.0 read.0.0 × B.is_found texts.1 read.0.1 × A.is_refused texts.0 (line_of read.1.0) × B.is_refused texts.1 (line_of read.1.1)) }
 {
     let mut both = Both::<A, B>::new(alloc);
     take_text(rt, alloc, input, &mut both)?;
-    Ok(both.end()?)
+    let (found, _) = both.end()?;
+    Ok(found)
 }
 
-/// Returns what is found in the two texts of the input, and why one is refused, if one is. Faults have this name for the
+/// Returns what is found in the two texts of the input, and why each is refused, if it is. Faults have this name for the
 /// input.
-pub fn read_input<'a, A: Taker, B: Taker, R: Threads + Sync, I: Read + Send>(
+fn read_input<'a, A: Taker, B: Taker, R: Threads + Sync, I: Read + Send>(
     rt: &R,
     alloc: Global,
     name: &'a str,
     input: &mut I,
-) -> Result<((A::Found, B::Found), Option<Why<'a>>), Fault<'a>>
-    ensures named { IfOk result (λ read. (texts : List ℕ × List ℕ) × AreOfInput (I.remaining input.old) texts × A.is_found texts.0 read.0.0 × B.is_found texts.1 read.0.1 × ((one other : Option ℕ) × A.is_refused texts.0 one × B.is_refused texts.1 other × (option_map told_place read.1 ≡ first_place name.entry.now name.entry.now one other))) }
+) -> Result<((A::Found, B::Found), Refusals<'a>), Fault<'a>>
+    ensures named { IfOk result (λ read. (texts : List ℕ × List ℕ) × AreOfInput (I.remaining input.old) texts × A.is_found texts.0 read.0.0 × B.is_found texts.1 read.0.1 × IsWhy A.is_refused name.entry.now texts.0 read.1.first × IsWhy B.is_refused name.entry.now texts.1 read.1.second) }
     ensures fault { IfErr result (IsReadFault (λ n. n ≡ name.entry.now)) }
 {
     match read_both::<A, B, R, I>(rt, alloc, input) {
-        Ok((found, refusal)) => Ok((found, under(name, refusal))),
+        Ok((found, refusals)) => Ok((found, both_under(name, refusals))),
         Err(fault) => Err(fault_at(name, fault)),
     }
 }
@@ -128,18 +129,17 @@ fn are_input(first: &str, second: &str) -> bool
     first == "-" && second == "-"
 }
 
-/// Returns what is found in the texts under two names, and why one is refused, if one is. If both are refused, the
-/// reason is that of the first. The texts are read in this order. If both names are `-`, the input holds both texts,
-/// and the first ends with the first line `end`.
-pub fn read_pair<'a, A: Taker, B: Taker, R: Threads + Sync, S: TextSource, I: Read + Send>(
+/// Returns what is found in the texts under two names, and why each is refused, if it is. The texts are read in this
+/// order. If both names are `-`, the input holds both texts, and the first ends with the first line `end`.
+pub(crate) fn read_pair<'a, A: Taker, B: Taker, R: Threads + Sync, S: TextSource, I: Read + Send>(
     rt: &R,
     alloc: Global,
     first: &'a str,
     second: &'a str,
     texts: &S,
     input: &mut I,
-) -> Result<((A::Found, B::Found), Option<Why<'a>>), Fault<'a>>
-    ensures named { IfOk result (λ read. (pair : List ℕ × List ℕ) × AreNamed first.entry.now second.entry.now (S.bytes_of texts.now) (I.remaining input.old) pair × A.is_found pair.0 read.0.0 × B.is_found pair.1 read.0.1 × ((one other : Option ℕ) × A.is_refused pair.0 one × B.is_refused pair.1 other × (option_map told_place read.1 ≡ first_place first.entry.now second.entry.now one other))) }
+) -> Result<((A::Found, B::Found), Refusals<'a>), Fault<'a>>
+    ensures named { IfOk result (λ read. (pair : List ℕ × List ℕ) × AreNamed first.entry.now second.entry.now (S.bytes_of texts.now) (I.remaining input.old) pair × A.is_found pair.0 read.0.0 × B.is_found pair.1 read.0.1 × IsWhy A.is_refused first.entry.now pair.0 read.1.first × IsWhy B.is_refused second.entry.now pair.1 read.1.second) }
     ensures fault { IfErr result (IsReadFault (λ n. (n ≡ first.entry.now) ⊎ (n ≡ second.entry.now))) }
 {
     if are_input(first, second) {
@@ -147,5 +147,9 @@ pub fn read_pair<'a, A: Taker, B: Taker, R: Threads + Sync, S: TextSource, I: Re
     }
     let (found, why) = read_named::<A, R, S, I>(rt, alloc, first, texts, input)?;
     let (other, later) = read_named::<B, R, S, I>(rt, alloc, second, texts, input)?;
-    Ok(((found, other), why.or(later)))
+    let refusals = Refusals {
+        first: why,
+        second: later,
+    };
+    Ok(((found, other), refusals))
 }

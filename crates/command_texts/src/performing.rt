@@ -89,14 +89,19 @@ pub trait OnTwo {
     /// There is a note on these texts, for an answer that says that all is well.
     ghost has_note: { Self → List ℕ × List ℕ → Type 0 };
 
-    /// Returns how much the answer to what was found in two texts says about the first of them that is refused, besides
-    /// one line.
+    /// Returns how much the answer to what was found in two texts says about a text that is refused, besides one line.
     fn telling(
         &self,
         first: &<Self::First as Taker>::Found,
         second: &<Self::Second as Taker>::Found,
     ) -> Telling
         ensures { result ≡ HowMuch.Fields → how_much self.now ≡ HowMuch.Fields };
+
+    /// Returns whether the answer is about the second text if both are refused. Many answers are about the first. No proof
+    /// depends on it.
+    fn is_about_second(&self) -> bool {
+        false
+    }
 
     /// Returns the answer to what was found in two texts, with what it says. Its status is 0 or 1. Fails only if memory
     /// runs out.
@@ -230,7 +235,7 @@ pub fn perform_two<
     ensures told { Ends (IsTextFault (λ n. (n ≡ first.entry.now) ⊎ (n ≡ second.entry.now))) (AreNamed first.entry.now second.entry.now (S.bytes_of console.old.texts.now) (I.remaining console.old.input)) (IsAnswerTold (C.how_much command.now) (IsFirstRefused C.First.is_refused C.Second.is_refused) (C.is_answer command.now)) (TellsBeside C.First.is_refused C.Second.is_refused (C.adds_more command.now) (C.has_note command.now) first.entry.now second.entry.now) (O.contents console.old.output, E.contents console.old.errors) (O.contents console.new.output, E.contents console.new.errors) result }
     ensures gains { BothGain (O.contents console.old.output, E.contents console.old.errors) (O.contents console.new.output, E.contents console.new.errors) }
 {
-    let ((found, other), why) = read_pair::<C::First, C::Second, R, S, I>(
+    let ((found, other), refusals) = read_pair::<C::First, C::Second, R, S, I>(
         console.rt,
         console.alloc,
         first,
@@ -240,9 +245,11 @@ pub fn perform_two<
     )?;
     let (found_answer, said) = command.answer(console.alloc, &found, &other)?;
     let telling = command.telling(&found, &other);
-    let answer = as_told(console.alloc, found_answer, telling, &why)?;
+    let about = refusals.told(command.is_about_second());
+    let answer = as_told(console.alloc, found_answer, telling, about)?;
     let status = written(&answer, &mut console.output)?;
-    tell_why(console.alloc, &why, Telling::Short, &mut console.errors);
+    let why = refusals.earliest();
+    tell_why(console.alloc, why, Telling::Short, &mut console.errors);
     tell_more(
         console.alloc,
         command,

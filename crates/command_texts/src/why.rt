@@ -1,6 +1,7 @@
 //! Why a text is refused, written with its name.
 
-ghost use Rattle.std.specs.Prelude.{◌≡◌, [], IfOk, option_map};
+ghost use Rattle.std.specs.Prelude.{◌≡◌, [], IfOk, is_some, option_map};
+ghost use Rattle.std.specs.Option.{option_or};
 ghost use Rattle.command_texts.specs.Reasons.{AreReasons, TellsWhy, line_of, place_of, told_place};
 
 use crate::shown::push_shown;
@@ -27,6 +28,54 @@ pub(crate) fn under<'a>(name: &'a str, refusal: Option<Refusal>) -> Option<Why<'
             refused: Refused::new(refusal),
         }),
         None => None,
+    }
+}
+
+/// Returns why each of two texts under one name is refused, if it is.
+pub(crate) fn both_under<'a>(
+    name: &'a str,
+    refusals: (Option<Refusal>, Option<Refusal>),
+) -> Refusals<'a>
+    ensures first { option_map told_place result.first ≡ place_of name.entry.now (line_of refusals.0) }
+    ensures second { option_map told_place result.second ≡ place_of name.entry.now (line_of refusals.1) }
+{
+    let (first, second) = refusals;
+    Refusals {
+        first: under(name, first),
+        second: under(name, second),
+    }
+}
+
+// Returns why one text is refused, or else why another is.
+fn either<'w, 'a>(one: &'w Option<Why<'a>>, other: &'w Option<Why<'a>>) -> &'w Option<Why<'a>>
+    ensures { result.now ≡ option_or one.now other.now }
+{
+    if one.is_some() { one } else { other }
+}
+
+/// Why each of two texts is refused, if it is.
+#[derive(Drop)]
+pub(crate) struct Refusals<'a> {
+    pub(crate) first: Option<Why<'a>>,
+    pub(crate) second: Option<Why<'a>>,
+}
+
+impl<'a> Refusals<'a> {
+    /// Returns why the first text is refused, or else why the second is.
+    pub(crate) fn earliest(&self) -> &Option<Why<'a>>
+        ensures { result.now ≡ option_or self.now.first self.now.second }
+    {
+        either(&self.first, &self.second)
+    }
+
+    /// Returns why a text is refused, if one is. If both are, it is the second one if this is asked, and else the first.
+    pub(crate) fn told(&self, second: bool) -> &Option<Why<'a>>
+        ensures { is_some result.now ≡ is_some (option_or self.now.first self.now.second) }
+    {
+        if second {
+            return either(&self.second, &self.first);
+        }
+        self.earliest()
     }
 }
 

@@ -20,7 +20,7 @@ use Rattle.command_words.specs.declared.requests.TwoTexts.{TwoTexts}
 use Rattle.command_words.specs.declared.requests.TwoTexts.TheVariants.{Check, Replay, Steps}
 use Rattle.command_words.specs.declared.requests.Takes.{Takes}
 use Rattle.command_words.specs.declared.requests.Takes.TheVariants as by
-use Rattle.command_words.specs.declared.requests.NamedTopic.TheVariants.{Report}
+use Rattle.migration_types.specs.declared.topic.Topic.TheVariants.{Report}
 use Rattle.command_words.specs.Table.{plain as asked_plainly, plain_audit, plain_explanation, no_pages}
 use Rattle.command_words.proofs.Names.{Form, Dash, Empty, Other, IsName, at, form_of, is_name, turn_name, walked_name}
 use Rattle.command_words.specs.Words.{IsPlain, IsPlainName, asked, asked_by, asked_in, postcopy_words, with_names, with_texts}

@@ -20,7 +20,7 @@ use Rattle.command_words.specs.declared.requests.Folders.{Folders}
 use Rattle.command_words.specs.declared.requests.Lacking.{Lacking}
 use Rattle.command_words.specs.declared.requests.Takes.{Takes}
 use Rattle.command_words.specs.declared.requests.Takes.TheVariants as by
-use Rattle.command_words.specs.declared.requests.NamedTopic.TheVariants as topic
+use Rattle.migration_types.specs.declared.topic.Topic.TheVariants as topic
 use Rattle.command_words.specs.declared.requests.Intent.{Intent}
 use Rattle.command_words.specs.declared.requests.Intent.TheVariants.{Job}
 use Rattle.command_words.specs.declared.requests.Intent.TheVariants as intent

@@ -28,9 +28,9 @@ use Rattle.command_words.specs.declared.requests.ListForm.{ListForm}
 use Rattle.command_words.specs.declared.requests.ListForm.TheVariants as list
 use Rattle.command_words.specs.declared.requests.Audits.{Audits}
 use Rattle.command_words.specs.declared.requests.Explains.{Explains}
-use Rattle.command_words.specs.declared.requests.NamedTopic.{NamedTopic}
-use Rattle.command_words.specs.declared.requests.NamedTopic.TheVariants.{Page, Line}
-use Rattle.command_words.specs.declared.requests.NamedTopic.TheVariants as topic
+use Rattle.migration_types.specs.declared.topic.Topic.{Topic}
+use Rattle.migration_types.specs.declared.topic.Topic.TheVariants.{Page, Line}
+use Rattle.migration_types.specs.declared.topic.Topic.TheVariants as topic
 use Rattle.command_words.specs.declared.requests.Lacking.{Lacking}
 use Rattle.command_words.specs.declared.requests.Lacking.TheVariants.{Refused, Cut}
 use Rattle.command_words.specs.declared.requests.Takes.{Takes}
@@ -294,11 +294,11 @@ abbrev pub window_in : List Row → Text → Option (Request Text)
 window_in rows word = window_given (first_of (codes "lines") rows) (first_of word rows) (count_in (codes "FIRST") rows) (count_in (codes "COUNT") rows)
 
 -- the topic: the page that the arguments name, or else this one
-abbrev pub page_in : List Row → NamedTopic → NamedTopic
+abbrev pub page_in : List Row → Topic → Topic
 page_in rows otherwise = unwrap_or (option_map Page (number_in (codes "page") rows)) otherwise
 
 -- the topic: the line that the arguments name, or else the page, or else this one
-abbrev pub topic_in : List Row → NamedTopic → NamedTopic
+abbrev pub topic_in : List Row → Topic → Topic
 topic_in rows otherwise = unwrap_or (option_map Line (number_in (codes "line") rows)) (page_in rows otherwise)
 
 -- the form of a story, and what an explanation asks

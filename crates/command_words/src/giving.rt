@@ -8,13 +8,14 @@ ghost use Rattle.clap.specs.Words.{all_of, first_of, found_of, rows_of, takes};
 
 use crate::requests::{
     Audits, Carrier, Checks, Demand, Explains, Folders, Format, Job, Lacking, ListForm, Lists,
-    NamedTopic, OneText, Pages, ReportForm, Request, StoryForm, Takes, TwoTexts, VerdictForm,
+    OneText, Pages, ReportForm, Request, StoryForm, Takes, TwoTexts, VerdictForm,
 };
 use crate::table::{
     ALL, COMPLETE, COMPLETE_PAGES, COUNT, CUT, CommandRow, FIRST, FORMAT, LINE, LINES, LINK, PAGE,
     QUIET, Word, carrier_named, commands, format_named,
 };
 use clap::ArgMatches;
+use migration_types::Topic;
 
 /// Returns the argument for a word or an option.
 pub(crate) fn name_given<'a>(id: &str, matches: &ArgMatches<'a>) -> Option<&'a str>
@@ -219,21 +220,21 @@ fn window_given<'a>(word: &Word, matches: &ArgMatches<'a>) -> Option<Job<'a>>
 }
 
 // Returns the topic: the page that an option names, or else this one.
-fn page_given(otherwise: NamedTopic, matches: &ArgMatches<'_>) -> NamedTopic
+fn page_given(otherwise: Topic, matches: &ArgMatches<'_>) -> Topic
     ensures { result ≡ page_in (rows_of (found_of matches.now)) otherwise }
 {
     match number_given(PAGE, matches) {
-        Some(page) => NamedTopic::Page(page),
+        Some(page) => Topic::Page(page),
         None => otherwise,
     }
 }
 
 // Returns the topic: the line that an option names, or else the page, or else this one.
-fn topic_given(otherwise: NamedTopic, matches: &ArgMatches<'_>) -> NamedTopic
+fn topic_given(otherwise: Topic, matches: &ArgMatches<'_>) -> Topic
     ensures { result ≡ topic_in (rows_of (found_of matches.now)) otherwise }
 {
     match number_given(LINE, matches) {
-        Some(line) => NamedTopic::Line(line),
+        Some(line) => Topic::Line(line),
         None => page_given(otherwise, matches),
     }
 }
@@ -242,7 +243,7 @@ fn topic_given(otherwise: NamedTopic, matches: &ArgMatches<'_>) -> NamedTopic
 fn story_form(matches: &ArgMatches<'_>) -> StoryForm
     ensures { result ≡ story_form_in (rows_of (found_of matches.now)) }
 {
-    let topic = topic_given(NamedTopic::Report, matches);
+    let topic = topic_given(Topic::Report, matches);
     if wants_object(matches) {
         StoryForm::Object(topic)
     } else {

@@ -11,6 +11,5 @@ mod table;
 pub use reading::{Reading, read_words};
 pub use requests::{
     AnswerKind, Audits, Carrier, Checks, Demand, Explains, Folders, Intent, Job, Lacking, ListForm,
-    Lists, NamedTopic, OneText, Pages, ReportForm, Request, Several, StoryForm, Targets, TwoTexts,
-    VerdictForm,
+    Lists, OneText, Pages, ReportForm, Request, Several, StoryForm, Targets, TwoTexts, VerdictForm,
 };

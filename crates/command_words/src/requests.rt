@@ -4,6 +4,8 @@ ghost use Rattle.std.specs.Prelude.{◌≡◌, None, if◌then◌else◌};
 ghost use Rattle.command_words.specs.Table.{carrier_name, format_name};
 ghost use Rattle.command_words.specs.Words.{is_due, target_names};
 
+use migration_types::Topic;
+
 /// What is required of a session before the answer is that all is well.
 #[derive(Clone, Copy)]
 pub enum Demand {
@@ -90,24 +92,13 @@ pub struct Lists {
     pub form: ListForm,
 }
 
-/// What a story or a picture of a session is about.
-#[derive(Clone, Copy)]
-pub enum NamedTopic {
-    /// What the report is about.
-    Report,
-    /// The page with this number.
-    Page(u32),
-    /// The record at this line of the session's text, counted from 1.
-    Line(u32),
-}
-
 /// The form of the story of a session.
 #[derive(Clone, Copy)]
 pub enum StoryForm {
     /// Words, about this topic.
-    Words(NamedTopic),
+    Words(Topic),
     /// An object, about this topic.
-    Object(NamedTopic),
+    Object(Topic),
 }
 
 /// What an explanation asks.
@@ -189,7 +180,7 @@ pub enum Request<W> {
     /// Migrates a script's guest, with this carrier of the packets.
     Migrate(Carrier, W),
     /// Draws a session about this topic, along runs if they are named.
-    Draw(NamedTopic, W, Option<W>),
+    Draw(Topic, W, Option<W>),
     /// Cuts the session of these pages out of a recording. If a file is named, it gets the line of the recording for
     /// each line of the session.
     Window(Pages, W, Option<W>),

@@ -4,9 +4,10 @@ ghost use Rattle.std.specs.Prelude.{◌≡◌, map};
 ghost use Rattle.command_words.specs.Table.{carriers, carrier_name, carrier_named, format_name, format_named, formats, rows_of, table};
 
 use crate::requests::{
-    Audits, Carrier, Checks, Demand, Explains, Format, NamedTopic, OneText, Pages, ReportForm,
-    Request, StoryForm, Takes, TwoTexts, VerdictForm,
+    Audits, Carrier, Checks, Demand, Explains, Format, OneText, Pages, ReportForm, Request,
+    StoryForm, Takes, TwoTexts, VerdictForm,
 };
+use migration_types::Topic;
 
 /// A word of the command line that stands for a text.
 #[derive(Clone, Copy)]
@@ -184,7 +185,7 @@ static COMMANDS: [CommandRow; 10] = [
         takes: Takes::Texts(Request::One(
             OneText::Explain(Explains {
                 demand: Demand::Safety,
-                form: StoryForm::Words(NamedTopic::Report),
+                form: StoryForm::Words(Topic::Report),
             }),
             SESSION,
         )),
@@ -207,7 +208,7 @@ static COMMANDS: [CommandRow; 10] = [
     CommandRow {
         name: "draw",
         about: "Draw the records of a session as SVG, in the order of its report or of runs. Example: postcopy draw session -o picture.svg",
-        takes: Takes::Texts(Request::Draw(NamedTopic::Report, SESSION, Some(RUNS))),
+        takes: Takes::Texts(Request::Draw(Topic::Report, SESSION, Some(RUNS))),
     },
     CommandRow {
         name: "window",

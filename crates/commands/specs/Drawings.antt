@@ -7,7 +7,7 @@ use Rattle.session_log.specs.Grammar.{SpellsSession}
 use Rattle.cert_text.specs.Order.{SpellsOrder}
 use Rattle.audit_report.specs.declared.report.Report.{Report}
 use Rattle.audit_report.specs.Reports.{IsReport}
-use Rattle.session_story.specs.declared.topics.Topic.{Topic}
+use Rattle.migration_types.specs.declared.topic.Topic.{Topic}
 use Rattle.order_picture.specs.Svg.{IsPictureText, IsPictureTextAlong}
 use Rattle.command_texts.specs.Answers.{IsAnswer, numbered}
 

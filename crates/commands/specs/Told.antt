@@ -24,10 +24,6 @@ use Rattle.command_words.specs.declared.requests.TwoTexts.{TwoTexts}
 use Rattle.command_words.specs.declared.requests.TwoTexts.TheVariants.{Check, Replay, Steps}
 use Rattle.command_words.specs.declared.requests.TwoTexts.TheVariants as two
 use Rattle.window_commands.specs.Tables.{SpellsTable}
-use Rattle.command_words.specs.declared.requests.NamedTopic.{NamedTopic}
-use Rattle.command_words.specs.declared.requests.NamedTopic.TheVariants as named
-use Rattle.session_story.specs.declared.topics.Topic.{Topic}
-use Rattle.session_story.specs.declared.topics.Topic.TheVariants as topic
 use Rattle.session_answers.specs.declared.forms.Ask.{Ask}
 use Rattle.session_answers.specs.declared.forms.AnswerForm.{AnswerForm}
 use Rattle.session_answers.specs.declared.forms.AnswerForm.TheVariants as form
@@ -59,12 +55,6 @@ use Rattle.host_commands.specs.Steps.{IsStepsAnswer}
 use Rattle.host_commands.specs.Migrations.{IsMigrateAnswer}
 use Rattle.commands.specs.Drawings.{IsDrawAnswer, IsDrawAlongAnswer}
 
--- the topic that the words name
-abbrev pub told_topic : NamedTopic → Topic
-told_topic named.Report = topic.Report
-told_topic (named.Page page) = topic.Page page
-told_topic (named.Line line) = topic.Line line
-
 -- to what extent a session must be complete, if that is asked
 abbrev pub extent_of : Demand → Option Extent
 extent_of Safety = None
@@ -85,8 +75,8 @@ list_form list.Objects = form.Object
 list_form list.AllFaultsObjects = form.AllFaultsObject
 
 abbrev pub story_form : StoryForm → Story
-story_form (story.Words topic) = tells.Words (told_topic topic)
-story_form (story.Object topic) = tells.Object (told_topic topic)
+story_form (story.Words topic) = tells.Words topic
+story_form (story.Object topic) = tells.Object topic
 
 -- what an audit asks about a session, what an explanation asks, and what an audit of several sessions asks about each
 abbrev pub audit_ask : Audits → Ask
@@ -163,9 +153,9 @@ EndsAsked (Two task first second) files input =
 EndsAsked (Migrate carrier name) files input =
     Ends (IsHostFault (λ n. n ≡ name)) (IsNamed name files input) IsMigrateAnswer (TellsWhyOf (IsRefusedAt SpellsScript) NoNote Short name)
 EndsAsked (Draw topic name None) files input =
-    Ends (IsFaultOf name) (IsNamed name files input) (IsDrawAnswer (told_topic topic)) (TellsWhyOf (IsRefusedAt SpellsSession) NoNote Short name)
+    Ends (IsFaultOf name) (IsNamed name files input) (IsDrawAnswer topic) (TellsWhyOf (IsRefusedAt SpellsSession) NoNote Short name)
 EndsAsked (Draw topic first (Some second)) files input =
-    Ends (IsFaultOfTwo first second) (AreNamed first second files input) (IsDrawAlongAnswer (told_topic topic)) (TellsBeside (IsRefusedAt SpellsSession) (IsRefusedAt SpellsOrder) AddsNothing NoNote first second)
+    Ends (IsFaultOfTwo first second) (AreNamed first second files input) (IsDrawAlongAnswer topic) (TellsBeside (IsRefusedAt SpellsSession) (IsRefusedAt SpellsOrder) AddsNothing NoNote first second)
 EndsAsked (Window pages name lines) files input = EndsWindow (window_of pages) name files
 
 -- if the lines of a window are asked for, this is their table; otherwise nothing changes

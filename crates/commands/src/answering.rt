@@ -14,15 +14,15 @@ ghost use Rattle.commands.specs.Told.{EndsAsked, HasLines, IsBesideOne, IsBeside
 
 use crate::drawing::{DrawAlongCommand, DrawCommand};
 use crate::judging::{ask_of, extent_of, story_form};
-use crate::topics::told_topic;
 use command_texts::{
     Console, Fault, Gathered, Telling, TextSource, perform_one, perform_two, read_named, tell_why,
     written,
 };
-use command_words::{Carrier, Job, NamedTopic, OneText, Pages, Request, TwoTexts};
+use command_words::{Carrier, Job, OneText, Pages, Request, TwoTexts};
 use guest_script::ScriptParts;
 use host_commands::{StepsCommand, migrate_read};
 use judge_commands::{AuditCommand, CheckCommand, ExplainByTable, ReplayCommand};
+use migration_types::Topic;
 use std::io::{Read, Write};
 use std::net::{Net, TcpListener, TcpStream};
 use std::sync::Wait;
@@ -113,15 +113,14 @@ fn asked_migrate<
 // Draws the session under a name, along the runs under a second name if there is one.
 fn asked_draw<'a, R: Threads + Sync, S: TextSource, I: Read + Send, O: Write, E: Write>(
     console: &mut Console<'_, R, S, I, O, E>,
-    asked: NamedTopic,
+    topic: Topic,
     name: &'a str,
     further: Option<&'a str>,
 ) -> Result<u8, Fault<'a>>
     ensures few { IfOk result (λ status. status < 2) }
-    ensures told { EndsAsked (asked_names (Request.Draw asked name.entry further.entry)) (S.bytes_of console.old.texts.now) (I.remaining console.old.input) (O.contents console.old.output, E.contents console.old.errors) (O.contents console.new.output, E.contents console.new.errors) result }
+    ensures told { EndsAsked (asked_names (Request.Draw topic name.entry further.entry)) (S.bytes_of console.old.texts.now) (I.remaining console.old.input) (O.contents console.old.output, E.contents console.old.errors) (O.contents console.new.output, E.contents console.new.errors) result }
     ensures gains { BothGain (O.contents console.old.output, E.contents console.old.errors) (O.contents console.new.output, E.contents console.new.errors) }
 {
-    let topic = told_topic(asked);
     let rt = console.rt;
     match further {
         None => perform_one(console, &DrawCommand { rt, topic }, name),

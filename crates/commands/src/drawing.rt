@@ -15,10 +15,9 @@ use cert_text::OrderReader;
 use command_texts::{
     ACCEPTED, Answer, Fault, Given, OnOne, OnTwo, REFUSED, Telling, given, given_alone, refused,
 };
-use migration_types::{Run, Seq, Session};
+use migration_types::{Run, Seq, Session, Topic};
 use order_picture::{print_picture_along, print_picture_on};
 use session_log::SessionReader;
-use session_story::Topic;
 use std::alloc::{AllocError, Global};
 use std::thread::Threads;
 

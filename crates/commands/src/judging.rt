@@ -4,7 +4,6 @@ ghost use Rattle.std.specs.Prelude.{◌≡◌};
 ghost use Rattle.command_texts.specs.Several.{style_of};
 ghost use Rattle.commands.specs.Told.{ask_of, audit_ask, explain_ask, extent_of, list_ask, list_form, list_style, report_form, story_form};
 
-use crate::topics::told_topic;
 use command_texts::Listing;
 use command_words::{Audits, Demand, Explains, ListForm, Lists, OneText, ReportForm, StoryForm};
 use completeness::Extent;
@@ -54,8 +53,8 @@ pub(crate) fn story_form(form: StoryForm) -> Story
     ensures { result ≡ story_form form }
 {
     match form {
-        StoryForm::Words(topic) => Story::Words(told_topic(topic)),
-        StoryForm::Object(topic) => Story::Object(told_topic(topic)),
+        StoryForm::Words(topic) => Story::Words(topic),
+        StoryForm::Object(topic) => Story::Object(topic),
     }
 }
 

@@ -7,7 +7,6 @@ mod judging;
 mod laws;
 mod program;
 mod several;
-mod topics;
 
 pub use command_words::{Lacking, Reading, Targets, read_words};
 pub use laws::{migrations_are_judged_yes, recorded_sessions_are_clean};

@@ -15,7 +15,8 @@ use Rattle.guest_script.specs.declared.script_fault.ScriptFault.{ScriptFault}
 use Rattle.guest_script.specs.declared.script_fault.ScriptFault.TheVariants.{Init, Pivots, Window, Down, Up, Lane, Vcpus, Vcpu}
 use Rattle.guest_script.specs.declared.script_fault.VcpuFault.{VcpuFault}
 use Rattle.guest_script.specs.declared.script_fault.VcpuFault.TheVariants.{ManyBefore, ManyAfter, Before, After}
-use Rattle.guest_script.specs.Scenarios.{Scenario, IsScenario, VcpuFits}
+use Rattle.guest_script.specs.declared.script.Scenario.{Scenario}
+use Rattle.guest_script.specs.Scenarios.{IsScenario, VcpuFits}
 use Rattle.guest_script.specs.ScriptFaults.{IsScriptFault, IsVcpuFault}
 use Rattle.guest_script.proofs.Lists.{all_at}
 use Rattle.guest_script.proofs.Pages.{numbers, rise_front}

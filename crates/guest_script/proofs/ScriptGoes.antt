@@ -25,7 +25,8 @@ use Rattle.session_log.proofs.Goes.{init_filled}
 use Rattle.guest_script.specs.declared.vcpus.Vcpu.{Vcpu}
 use Rattle.guest_script.specs.declared.stages.ScriptStage.{ScriptStage}
 use Rattle.guest_script.specs.declared.stages.ScriptStage.TheVariants.{Header, Pages, Cells, InitCount, Init, Window, Down, Up, Lanes, Lane, Count, First, Ops, Done}
-use Rattle.guest_script.specs.Scenarios.{Scenario, LaneFits, VcpuFits, IsScenario}
+use Rattle.guest_script.specs.declared.script.Scenario.{Scenario}
+use Rattle.guest_script.specs.Scenarios.{LaneFits, VcpuFits, IsScenario}
 use Rattle.guest_script.specs.Scripts.{lane_key, fates_text, op_line, vcpus_onto, vcpus_lines, lanes_lines, up_lines, down_lines, window_lines, pivots_lines, init_lines, cells_lines, pages_lines, script_lines, SpellsScript}
 use Rattle.guest_script.specs.inner.ScriptHeld.{ScriptDraft, small_machine, machine_of, scenario_of, script_held, vcpu_of, ScriptRest, ScriptFits, ScriptLive, FitsPivots, FitsLane}
 use Rattle.guest_script.proofs.ByVersion.{lanes_long, lanes_short}

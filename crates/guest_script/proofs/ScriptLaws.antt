@@ -21,7 +21,8 @@ use Rattle.session_log.proofs.Lists.{spelled_same}
 use Rattle.session_log.proofs.Values.{init_page_tells}
 use Rattle.session_log.proofs.Written.{ended_then}
 use Rattle.guest_script.specs.declared.vcpus.Vcpu.{Vcpu}
-use Rattle.guest_script.specs.Scenarios.{Scenario, VcpuFits, IsScenario}
+use Rattle.guest_script.specs.declared.script.Scenario.{Scenario}
+use Rattle.guest_script.specs.Scenarios.{VcpuFits, IsScenario}
 use Rattle.guest_script.specs.Scripts.{script_header, pivots_key, window_key, down_key, up_key, vcpus_key, fates_text, op_line, counts_line, vcpu_onto, vcpus_onto, vcpus_lines, with_lanes, lanes_lines, up_lines, down_lines, window_lines, pivots_lines, cells_lines, pages_lines, script_lines, SpellsScript}
 use Rattle.guest_script.specs.inner.ScriptHeld.{vcpu_of}
 use Rattle.guest_script.specs.inner.ScriptPlain.{plain_script}

@@ -21,7 +21,8 @@ use Rattle.session_log.proofs.Laws.{extent_same, page_push, rise_at}
 use Rattle.session_log.proofs.Values.{init_page_tells}
 use Rattle.guest_script.specs.declared.stages.ScriptStage.{ScriptStage}
 use Rattle.guest_script.specs.declared.stages.ScriptStage.TheVariants.{Header, Pages, Cells, InitCount, Init, Window, Down, Up, Lanes, Lane, Count}
-use Rattle.guest_script.specs.Scenarios.{Scenario, LaneFits, IsScenario}
+use Rattle.guest_script.specs.declared.script.Scenario.{Scenario}
+use Rattle.guest_script.specs.Scenarios.{LaneFits, IsScenario}
 use Rattle.guest_script.specs.Scripts.{script_header, pivots_key, window_key, down_key, up_key, lane_key, fates_text, vcpus_lines, with_lanes, lanes_lines, up_lines, down_lines, window_lines, pivots_lines, init_lines, cells_lines, pages_lines, SpellsScript}
 use Rattle.guest_script.specs.inner.ScriptHeld.{ScriptDraft, small_machine, machine_of, held_down, held_up, script_held, InitLeft, ScriptRest, InitPart, FitsDown, FitsUp, FitsLane, ScriptFits, ScriptLive}
 use Rattle.guest_script.proofs.ByVersion.{header_tells, no_header, no_lane, no_lanes, one_lane, two_lanes, with_lanes_same}

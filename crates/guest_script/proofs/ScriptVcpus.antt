@@ -12,7 +12,8 @@ use Rattle.migration_events.specs.Ops.{OpFits, LateOpFits}
 use Rattle.session_log.specs.Grammar.{closing}
 use Rattle.guest_script.specs.declared.vcpus.Vcpu.{Vcpu}
 use Rattle.guest_script.specs.declared.stages.ScriptStage.TheVariants.{Count, First, Ops, Done}
-use Rattle.guest_script.specs.Scenarios.{Scenario, VcpuFits, IsScenario}
+use Rattle.guest_script.specs.declared.script.Scenario.{Scenario}
+use Rattle.guest_script.specs.Scenarios.{VcpuFits, IsScenario}
 use Rattle.guest_script.specs.Scripts.{vcpus_key, op_line, counts_line, vcpu_onto, vcpus_onto}
 use Rattle.guest_script.specs.inner.ScriptHeld.{ScriptDraft, machine_of, held_lanes, held_vcpus, held_ops, vcpu_of, AgreesLane, OpsLeft, FitsLane, FitsCount, FitsOps, ScriptLive}
 use Rattle.guest_script.specs.inner.ScriptDraft.{HasAllOps, begun, ended}

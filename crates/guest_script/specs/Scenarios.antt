@@ -1,7 +1,6 @@
--- What a script says, and its limits.
-use Rattle.std.specs.Prelude.{◌≡◌, ℕ, ◌≤◌, List, length, Option, Some, None}
+-- The limits of a script.
+use Rattle.std.specs.Prelude.{◌≡◌, ◌≤◌, List, length, Option, Some, None}
 use Rattle.std.specs.List.{AllByRecursion}
-use Rattle.migration_types.specs.declared.pages.InitPage.{InitPage}
 use Rattle.migration_types.specs.declared.size.Size.TheVariants.{Small}
 use Rattle.migration_types.specs.declared.version.Version.{Version}
 use Rattle.migration_types.specs.Extents.{Extent, IsExtent}
@@ -9,21 +8,8 @@ use Rattle.migration_types.specs.Pages.{AreInitPages}
 use Rattle.migration_types.specs.Sessions.{HasLane}
 use Rattle.migration_events.specs.declared.events.Fate.{Fate}
 use Rattle.migration_events.specs.Ops.{OpFits, LateOpFits}
+use Rattle.guest_script.specs.declared.script.Scenario.{Scenario}
 use Rattle.guest_script.specs.declared.vcpus.Vcpu.{Vcpu}
-
--- The version; the machine and the pages that do not begin as zeros; the greatest number of pivots; the window of the
--- channel of pushed pages; the delivery outcomes of the packets in each direction, in order, and over the lane, if
--- there is one; and what each virtual processor does.
-pub record Scenario : Type 0 where
-  pub version : Version
-  pub geometry : Extent
-  pub init : List InitPage
-  pub pivots : ℕ
-  pub window : ℕ
-  pub down : List Fate
-  pub up : List Fate
-  pub lane : Option (List Fate)
-  pub vcpus : List Vcpu
 
 pub record VcpuFits (version : Version) (e : Extent) (vcpu : Vcpu) : Type 0 where
   pub few_before : length vcpu.before_move ≤ 65536

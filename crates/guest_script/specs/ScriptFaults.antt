@@ -1,4 +1,4 @@
--- Why parts do not make a script: the first fault that applies, in the order of a script's text.
+-- Why a scenario is no script: the first fault that applies, in the order of a script's text.
 use Rattle.std.specs.Prelude.{ℕ, ◌+◌, ◌<◌, ◌≤◌, List, length, take, slice_get, IsSomeAnd}
 use Rattle.std.specs.List.{AllByRecursion}
 use Rattle.migration_types.specs.declared.version.Version.{Version}
@@ -11,7 +11,8 @@ use Rattle.guest_script.specs.declared.script_fault.ScriptFault.{ScriptFault}
 use Rattle.guest_script.specs.declared.script_fault.ScriptFault.TheVariants.{Init, Pivots, Window, Down, Up, Lane, Vcpus, Vcpu}
 use Rattle.guest_script.specs.declared.script_fault.VcpuFault.{VcpuFault}
 use Rattle.guest_script.specs.declared.script_fault.VcpuFault.TheVariants.{ManyBefore, ManyAfter, Before, After}
-use Rattle.guest_script.specs.Scenarios.{Scenario, VcpuFits, LaneFits}
+use Rattle.guest_script.specs.declared.script.Scenario.{Scenario}
+use Rattle.guest_script.specs.Scenarios.{VcpuFits, LaneFits}
 
 -- the first n items are right, and with the next one they are not
 abbrev pub IsFirstWrong : {A : Type 0} → (List A → Type 0) → List A → ℕ → Type 0

@@ -34,7 +34,7 @@ pub use event_reader::EventParts;
 use fates::push_fates;
 use keys::{DOWN_KEY, EVENTS_HEADER, EVENTS_KEY, PIVOTS_KEY, UP_KEY, VCPUS_KEY, WINDOW_KEY};
 use op_form::push_vcpus;
-pub use script::Script;
+pub use script::{Scenario, Script};
 pub use script_fault::{ScriptFault, VcpuFault};
 pub use script_steps::ScriptParts;
 pub use vcpus::{

@@ -3,7 +3,7 @@
 ghost use Rattle.std.specs.Prelude.{◌≡◌, IfOk, MatchBool, MatchOption, MatchResult, OnErr};
 ghost use Rattle.std.specs.Option.{option_map};
 ghost use Rattle.migration_types.specs.declared.size.Size.TheVariants.{Small};
-ghost use Rattle.guest_script.specs.Scenarios.{IsScenario, LaneFits, Scenario};
+ghost use Rattle.guest_script.specs.Scenarios.{IsScenario, LaneFits};
 ghost use Rattle.guest_script.specs.ScriptFaults.{IsScriptFault};
 
 use crate::script_fault::{ScriptFault, first_vcpu_fault, first_wrong_page};
@@ -13,161 +13,120 @@ use migration_types::{Contents, Geometry, InitPage, Seq, Version};
 use std::alloc::{AllocError, Global};
 use std::marker::Model;
 
-/// The script of a migration, within all limits: a machine and its initial memory, the greatest number of pivots, the
-/// window of the channel of pushed pages, the delivery outcomes of the packets in each direction and over the lane, if
-/// there is one, and what each virtual processor does.
+/// What a script says: a machine and its initial memory, how pages are pushed, the delivery outcomes of packets, and
+/// what each virtual processor does. It may break the limits of a script, which `Script::new` lists.
+#[derive(Drop)]
+pub struct Scenario {
+    /// The version of its text.
+    pub version: Version,
+    /// The machine's geometry.
+    pub geometry: Geometry,
+    /// The pages that do not begin as zeros.
+    pub init: Seq<InitPage>,
+    /// The greatest number of pivots.
+    pub pivots: u32,
+    /// How many packets may be under way on the channel of pushed pages, including the pushed one. That channel is the
+    /// lane, or without one the link down.
+    pub window: u32,
+    /// The delivery outcomes of the packets on their way down, in order.
+    pub down: Seq<Fate>,
+    /// The delivery outcomes of the packets on their way up, in order.
+    pub up: Seq<Fate>,
+    /// The delivery outcomes of the packets on the lane, in order, if there is a lane.
+    pub lane: Option<Seq<Fate>>,
+    /// What each virtual processor does.
+    pub vcpus: Seq<Vcpu>,
+}
+
+/// The script of a migration: a scenario within all limits.
 #[derive(Drop)]
 pub struct Script {
-    version: Version,
-    geometry: Geometry,
-    init: Seq<InitPage>,
-    pivots: u32,
-    window: u32,
-    down: Seq<Fate>,
-    up: Seq<Fate>,
-    lane: Option<Seq<Fate>>,
-    vcpus: Seq<Vcpu>,
+    scenario: Scenario,
 }
 
 impl Model for Script {
-    ghost use Rattle.guest_script.specs.Scenarios.{Scenario, IsScenario};
+    ghost use Rattle.guest_script.specs.declared.script.Scenario.{Scenario};
+    ghost use Rattle.guest_script.specs.Scenarios.{IsScenario};
 
     ghost Value = { Scenario };
 
-    ghost view = { λ a. record { version = a.version; geometry = a.geometry; init = a.init; pivots = a.pivots; window = a.window; down = a.down; up = a.up; lane = a.lane; vcpus = a.vcpus } };
+    ghost view = { λ a. a.scenario };
 
-    ghost invariant = { λ a. IsScenario (record { version = a.version; geometry = a.geometry; init = a.init; pivots = a.pivots; window = a.window; down = a.down; up = a.up; lane = a.lane; vcpus = a.vcpus }) };
-}
-
-/// Returns the delivery outcomes over the lane, if there is one.
-fn lane_slice(lane: &Option<Seq<Fate>>) -> Option<&[Fate]>
-    ensures { option_map (λ l. l.now) result ≡ lane.now }
-{
-    let fates = lane.as_ref()?;
-    Some(fates.as_slice())
+    ghost invariant = { λ a. IsScenario a.scenario };
 }
 
 /// Returns whether scripts of the version may have a lane, if there is one, and it has at most 4,096 delivery outcomes.
-fn lane_fits(version: Version, lane: Option<&[Fate]>) -> bool
-    ensures { MatchBool result (LaneFits version (option_map (λ l. l.now) lane.entry)) (LaneFits version (option_map (λ l. l.now) lane.entry) → ⊥) }
+fn lane_fits(version: Version, lane: &Option<Seq<Fate>>) -> bool
+    ensures { MatchBool result (LaneFits version lane.now) (LaneFits version lane.now → ⊥) }
 {
     match (version, lane) {
         (_, None) => true,
         (Version::One, Some(_)) => false,
-        (Version::Two, Some(fates)) => fates.len() <= MOST_FATES as usize,
+        (Version::Two, Some(fates)) => fates.as_slice().len() <= MOST_FATES as usize,
     }
 }
 
-/// Returns the first fault of parts that are no script, if there is one.
-fn fault_in(
-    version: Version,
-    geometry: Geometry,
-    init: &[InitPage],
-    pivots: u32,
-    window: u32,
-    down: &[Fate],
-    up: &[Fate],
-    lane: Option<&[Fate]>,
-    vcpus: &[Vcpu],
-) -> Option<ScriptFault>
-    requires { geometry.size ≡ Small }
-    ensures { let parts : Scenario = record { version = version; geometry = geometry; init = init.now; pivots = pivots; window = window; down = down.now; up = up.now; lane = option_map (λ l. l.now) lane.entry; vcpus = vcpus.now } in MatchOption result (IsScenario parts) (IsScriptFault parts) }
+/// Returns the first limit that the scenario breaks, if there is one.
+fn fault_in(scenario: &Scenario) -> Option<ScriptFault>
+    requires { scenario.now.geometry.size ≡ Small }
+    ensures { MatchOption result (IsScenario scenario.now) (IsScriptFault scenario.now) }
 {
-    if let Some(place) = first_wrong_page(geometry, init) {
+    scenario.geometry.keeps_limits();
+    if let Some(place) = first_wrong_page(scenario.geometry, scenario.init.as_slice()) {
         return Some(ScriptFault::Init(place));
     }
-    if pivots == 0 || pivots > MOST_PIVOTS {
+    if scenario.pivots == 0 || scenario.pivots > MOST_PIVOTS {
         return Some(ScriptFault::Pivots);
     }
-    if window == 0 || window > MOST_WINDOW {
+    if scenario.window == 0 || scenario.window > MOST_WINDOW {
         return Some(ScriptFault::Window);
     }
-    if down.len() > MOST_FATES as usize {
+    if scenario.down.as_slice().len() > MOST_FATES as usize {
         return Some(ScriptFault::Down);
     }
-    if up.len() > MOST_FATES as usize {
+    if scenario.up.as_slice().len() > MOST_FATES as usize {
         return Some(ScriptFault::Up);
     }
-    if !lane_fits(version, lane) {
+    if !lane_fits(scenario.version, &scenario.lane) {
         return Some(ScriptFault::Lane);
     }
+    let vcpus = scenario.vcpus.as_slice();
     if vcpus.is_empty() || vcpus.len() > MOST_VCPUS as usize {
         return Some(ScriptFault::Vcpus);
     }
-    let (vcpu, fault) = first_vcpu_fault(version, geometry, vcpus)?;
+    let (vcpu, fault) = first_vcpu_fault(scenario.version, scenario.geometry, vcpus)?;
     Some(ScriptFault::Vcpu { vcpu, fault })
 }
 
 impl Script {
-    /// Returns the script with these parts, of a small machine, if they are within all limits. Allocates no memory, and
-    /// copies nothing.
+    /// Returns the script that says this, of a small machine, if it is within all limits. Allocates no memory, and copies
+    /// nothing.
     ///
     /// # Errors
     ///
-    /// The first fault, in the order of `ScriptFault`. The parts are then dropped. The limits are: initial pages that
+    /// The first fault, in the order of `ScriptFault`. The scenario is then dropped. The limits are: initial pages that
     /// rise, belong to the machine, and have one value for each cell, not all of them zero; 1 to 16 pivots; a window of
-    /// 1 to 65,536; at most 4,096 delivery outcomes in each direction; a lane only in a script of the second version; 1
-    /// to 64 virtual processors, each with at most 65,536 operations before its move and at most as many after it, on
-    /// pages and cells of the machine; and in a script of the first version, no release after the move.
-    pub fn new(
-        version: Version,
-        geometry: Geometry,
-        init: Seq<InitPage>,
-        pivots: u32,
-        window: u32,
-        down: Seq<Fate>,
-        up: Seq<Fate>,
-        lane: Option<Seq<Fate>>,
-        vcpus: Seq<Vcpu>,
-    ) -> Result<Self, ScriptFault>
-        requires { geometry.size ≡ Small }
-        ensures value { let parts : Scenario = record { version = version; geometry = geometry; init = init; pivots = pivots; window = window; down = down; up = up; lane = lane; vcpus = vcpus } in MatchResult result (λ script. (script ≡ parts) × IsScenario parts) (IsScriptFault parts) }
-        ensures refused { let parts : Scenario = record { version = version; geometry = geometry; init = init; pivots = pivots; window = window; down = down; up = up; lane = lane; vcpus = vcpus } in OnErr result (IsScenario parts → ⊥) }
+    /// 1 to 65,536; at most 4,096 delivery outcomes in each direction; a lane only in a script of the second version,
+    /// with at most as many; 1 to 64 virtual processors, each with at most 65,536 operations before its move and at most
+    /// as many after it, on pages and cells of the machine; and in a script of the first version, no release after the
+    /// move.
+    pub fn new(scenario: Scenario) -> Result<Self, ScriptFault>
+        requires { scenario.geometry.size ≡ Small }
+        ensures value { MatchResult result (λ script. (script ≡ scenario) × IsScenario scenario) (IsScriptFault scenario) }
+        ensures refused { OnErr result (IsScenario scenario → ⊥) }
     {
-        match fault_in(
-            version,
-            geometry,
-            init.as_slice(),
-            pivots,
-            window,
-            down.as_slice(),
-            up.as_slice(),
-            lane_slice(&lane),
-            vcpus.as_slice(),
-        ) {
+        match fault_in(&scenario) {
             Some(fault) => Err(fault),
-            None => Ok(Script::of_parts(
-                version, geometry, init, pivots, window, down, up, lane, vcpus,
-            )),
+            None => Ok(Script::of_scenario(scenario)),
         }
     }
 
-    /// Returns the script with these parts, which must be within all limits. Allocates no memory, and checks nothing.
-    pub fn of_parts(
-        version: Version,
-        geometry: Geometry,
-        init: Seq<InitPage>,
-        pivots: u32,
-        window: u32,
-        down: Seq<Fate>,
-        up: Seq<Fate>,
-        lane: Option<Seq<Fate>>,
-        vcpus: Seq<Vcpu>,
-    ) -> Self
-        requires { IsScenario (record { version = version; geometry = geometry; init = init; pivots = pivots; window = window; down = down; up = up; lane = lane; vcpus = vcpus }) }
-        ensures { result ≡ record { version = version; geometry = geometry; init = init; pivots = pivots; window = window; down = down; up = up; lane = lane; vcpus = vcpus } }
+    /// Returns the script that says this, which must be within all limits. Allocates no memory, and checks nothing.
+    pub fn of_scenario(scenario: Scenario) -> Self
+        requires { IsScenario scenario }
+        ensures { result ≡ scenario }
     {
-        Script {
-            version,
-            geometry,
-            init,
-            pivots,
-            window,
-            down,
-            up,
-            lane,
-            vcpus,
-        }
+        Script { scenario }
     }
 
     /// Returns the version of its text. In the second, a virtual processor may release pages after its move, and there
@@ -175,28 +134,28 @@ impl Script {
     pub fn version(&self) -> Version
         ensures { result ≡ self.now.version }
     {
-        self.version
+        self.scenario.version
     }
 
     /// Returns the machine's geometry.
     pub fn geometry(&self) -> Geometry
         ensures { result ≡ self.now.geometry }
     {
-        self.geometry
+        self.scenario.geometry
     }
 
     /// Returns the pages that do not begin as zeros, in rising order.
     pub fn init(&self) -> &[InitPage]
         ensures { result.now ≡ self.now.init }
     {
-        self.init.as_slice()
+        self.scenario.init.as_slice()
     }
 
     /// Returns a copy of the pages that do not begin as zeros. Fails only if memory runs out.
     pub fn copied_init(&self, alloc: Global) -> Result<Seq<InitPage>, AllocError>
         ensures { IfOk result (λ pages. pages ≡ self.now.init) }
     {
-        let init = self.init.as_slice();
+        let init = self.scenario.init.as_slice();
         let mut pages = Vec::with_capacity(alloc, init.len())?;
         for given in init {
             let cells = Contents::copied(alloc, given.cells.as_slice())?;
@@ -212,7 +171,7 @@ impl Script {
     pub fn pivots(&self) -> u32
         ensures { result ≡ self.now.pivots }
     {
-        self.pivots
+        self.scenario.pivots
     }
 
     /// Returns the window, 1 to 65,536: how many packets may be under way on the channel of pushed pages, including the
@@ -220,21 +179,21 @@ impl Script {
     pub fn window(&self) -> u32
         ensures { result ≡ self.now.window }
     {
-        self.window
+        self.scenario.window
     }
 
     /// Returns the delivery outcomes of the packets on their way down, in order, at most 4,096.
     pub fn down(&self) -> &[Fate]
         ensures { result.now ≡ self.now.down }
     {
-        self.down.as_slice()
+        self.scenario.down.as_slice()
     }
 
     /// Returns the delivery outcomes of the packets on their way up, in order, at most 4,096.
     pub fn up(&self) -> &[Fate]
         ensures { result.now ≡ self.now.up }
     {
-        self.up.as_slice()
+        self.scenario.up.as_slice()
     }
 
     /// Returns the delivery outcomes of the packets on the lane, in order, at most 4,096, or `None` if there is no
@@ -242,20 +201,21 @@ impl Script {
     pub fn lane(&self) -> Option<&[Fate]>
         ensures { option_map (λ l. l.now) result ≡ self.now.lane }
     {
-        lane_slice(&self.lane)
+        let fates = self.scenario.lane.as_ref()?;
+        Some(fates.as_slice())
     }
 
     /// Returns what each virtual processor does. There are 1 to 64.
     pub fn vcpus(&self) -> &[Vcpu]
         ensures { result.now ≡ self.now.vcpus }
     {
-        self.vcpus.as_slice()
+        self.scenario.vcpus.as_slice()
     }
 
     /// States that it is within all limits.
     pub fn keeps_limits(&self)
         ensures { IsScenario self.now }
     {
-        let _init = &self.init;
+        let _scenario = &self.scenario;
     }
 }

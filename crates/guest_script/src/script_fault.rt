@@ -1,4 +1,4 @@
-//! Why parts do not make a script.
+//! Why a scenario is no script.
 
 ghost use Rattle.std.specs.Prelude.{◌≡◌, ◌≤◌, ◌<◌, length, MatchBool, MatchOption};
 ghost use Rattle.std.specs.List.{AllByRecursion};
@@ -32,7 +32,7 @@ pub enum VcpuFault {
     After(usize),
 }
 
-/// Why parts do not make a script. If there are several faults, the first in this list counts, and among virtual
+/// Why a scenario is no script. If there are several faults, the first in this list counts, and among virtual
 /// processors that of the first.
 #[derive(Clone, Copy, Debug, PartialEq, Eq, Error)]
 pub enum ScriptFault {

@@ -11,7 +11,7 @@ use crate::keys::{
 use crate::op_form::{read_counts, take_op};
 use crate::stages::ScriptStage;
 use crate::versions::script_header;
-use crate::{MOST_PIVOTS, MOST_VCPUS, MOST_WINDOW, Script, Vcpu, When};
+use crate::{MOST_PIVOTS, MOST_VCPUS, MOST_WINDOW, Scenario, Script, Vcpu, When};
 use migration_events::{Fate, Op};
 use migration_types::{Geometry, InitPage, Seq, Size, Version};
 use session_log::{INIT_KEY, InitLines, Sizes, read_cells, read_pages};
@@ -77,17 +77,17 @@ impl ScriptParts {
         ensures { IsSomeAnd result (λ script. script ≡ scenario_of (draft_of self)) }
     {
         match Geometry::new(self.sizes.pages, self.sizes.cells) {
-            Ok(geometry) => Some(Script::of_parts(
-                self.version,
+            Ok(geometry) => Some(Script::of_scenario(Scenario {
+                version: self.version,
                 geometry,
-                Seq::from_vec(self.init.into_vec()),
-                self.pivots,
-                self.window,
-                self.down,
-                self.up,
-                self.lane,
-                Seq::from_vec(self.vcpus),
-            )),
+                init: Seq::from_vec(self.init.into_vec()),
+                pivots: self.pivots,
+                window: self.window,
+                down: self.down,
+                up: self.up,
+                lane: self.lane,
+                vcpus: Seq::from_vec(self.vcpus),
+            })),
             Err(_) => None,
         }
     }

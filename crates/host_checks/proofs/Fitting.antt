@@ -5,7 +5,8 @@ use Rattle.migration_types.specs.declared.records.LogName.TheVariants.{Guest, So
 use Rattle.migration_types.specs.declared.session.Logs.{Logs}
 use Rattle.migration_types.specs.Limits.{HasSize, limits, most_records}
 use Rattle.migration_types.specs.Sessions.{recorded, log_length, IsSession}
-use Rattle.guest_script.specs.Scenarios.{Scenario, IsScenario}
+use Rattle.guest_script.specs.declared.script.Scenario.{Scenario}
+use Rattle.guest_script.specs.Scenarios.{IsScenario}
 use Rattle.host_checks.specs.inner.Limits.{AreShort, AreOfMachine}
 
 -- each log is within the limit of a host's

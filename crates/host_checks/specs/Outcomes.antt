@@ -17,7 +17,7 @@ use Rattle.audit_model.specs.World.{IsSafe}
 use Rattle.cert_check.specs.Verdicts.{IsVerdict}
 use Rattle.cert_check.specs.declared.verdict.Verdict.TheVariants.{Yes}
 use Rattle.migration_model.specs.Promise.{HasEachOwed}
-use Rattle.guest_script.specs.Scenarios.{Scenario}
+use Rattle.guest_script.specs.declared.script.Scenario.{Scenario}
 use Rattle.guest_script.specs.declared.vcpus.Vcpu.{Vcpu}
 use Rattle.audit_report.specs.declared.report.Report.TheVariants.{Clean}
 use Rattle.audit_report.specs.Reports.{IsReport, IsClean}

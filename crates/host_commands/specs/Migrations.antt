@@ -13,7 +13,7 @@ use Rattle.cert_check.specs.declared.verdict.Verdict.TheVariants.{Yes}
 use Rattle.audit_report.specs.Reports.{IsReport, IsClean}
 use Rattle.audit_report.specs.ReportText.{report_text}
 use Rattle.audit_report.specs.declared.report.Report.{Report}
-use Rattle.guest_script.specs.Scenarios.{Scenario}
+use Rattle.guest_script.specs.declared.script.Scenario.{Scenario}
 use Rattle.guest_script.specs.Scripts.{SpellsScript}
 use Rattle.migration_model.specs.Promise.{HasEachOwed}
 use Rattle.host_checks.specs.Outcomes.{AreOfLog, AreOfScript, IsDone}

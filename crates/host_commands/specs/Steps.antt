@@ -6,7 +6,7 @@ use Rattle.session_log.specs.Grammar.{session_lines}
 use Rattle.migration_events.specs.declared.events.Event.{Event}
 use Rattle.migration_model.specs.Events.{run, start}
 use Rattle.guest_script.specs.Events.{SpellsEvents}
-use Rattle.guest_script.specs.Scenarios.{Scenario}
+use Rattle.guest_script.specs.declared.script.Scenario.{Scenario}
 use Rattle.guest_script.specs.Scripts.{SpellsScript}
 use Rattle.session_core.specs.States.{scripted_of}
 use Rattle.session_core.specs.Promised.{IsRecordedBy}

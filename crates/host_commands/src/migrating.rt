@@ -5,7 +5,7 @@ ghost use Rattle.text_lines.specs.Answer.{IsRead};
 ghost use Rattle.text_lines.specs.Text.{IsSpelling};
 ghost use Rattle.audit_report.specs.Reports.{ReportFits};
 ghost use Rattle.audit_report.specs.ReportText.{report_text};
-ghost use Rattle.guest_script.specs.Scenarios.{Scenario};
+ghost use Rattle.guest_script.specs.declared.script.Scenario.{Scenario};
 ghost use Rattle.guest_script.specs.Scripts.{SpellsScript};
 ghost use Rattle.host_checks.specs.Outcomes.{IsRunFault};
 ghost use Rattle.command_texts.specs.Answers.{IsRunStop, Says};

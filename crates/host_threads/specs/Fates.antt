@@ -37,14 +37,14 @@ HaveMet direction zero old new = new ≡ old
 HaveMet direction (suc n) old new = (mid : Line) × HaveMet direction n old mid × Meets direction mid new
 
 -- the links' book, and the delivery outcomes that are left for each line
-pub record Lines : Type 0 where
+pub record LineFates : Type 0 where
   pub link : LinkPart
   pub down : List Fate
   pub up : List Fate
   pub lane : List Fate
 
 -- this many packets of one line get their delivery outcomes, and those of the other lines stay
-abbrev pub HaveTurned : Direction → ℕ → Lines → Lines → Type 0
+abbrev pub HaveTurned : Direction → ℕ → LineFates → LineFates → Type 0
 HaveTurned Downward count old new = HaveMet Downward count (line old.link old.down) (line new.link new.down) × (new.up ≡ old.up) × (new.lane ≡ old.lane)
 HaveTurned Upward count old new = HaveMet Upward count (line old.link old.up) (line new.link new.up) × (new.down ≡ old.down) × (new.lane ≡ old.lane)
 HaveTurned OverLane count old new = HaveMet OverLane count (line old.link old.lane) (line new.link new.lane) × (new.down ≡ old.down) × (new.up ≡ old.up)

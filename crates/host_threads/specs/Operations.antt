@@ -8,11 +8,11 @@ use Rattle.target_side.specs.GuestPart.{GuestPart, guest_access}
 use Rattle.target_side.specs.TargetPart.{TargetPart, Accessed, target_access}
 use Rattle.target_side.specs.declared.Access.{Access}
 use Rattle.target_side.specs.declared.Access.TheVariants.{Done, Missed as Misses, Waiting}
-use Rattle.host_threads.specs.declared.vcpu.Step.{Step}
-use Rattle.host_threads.specs.declared.vcpu.Step.TheVariants.{Answered, Missed, Waits, Stops}
+use Rattle.host_threads.specs.declared.vcpu.OpResult.{OpResult}
+use Rattle.host_threads.specs.declared.vcpu.OpResult.TheVariants.{Answered, Missed, Waits, Stops}
 
 -- at the source, the operation is done and answered, or nothing has changed
-abbrev pub IsGuestStep : Step → ℕ → Op → GuestPart → GuestPart → Type 0
+abbrev pub IsGuestStep : OpResult → ℕ → Op → GuestPart → GuestPart → Type 0
 IsGuestStep (Answered x) v op old new = (new ≡ guest_access v op old) × (x ≡ answer_of op old.memory)
 IsGuestStep Missed v op old new = new ≡ old
 IsGuestStep Waits v op old new = new ≡ old
@@ -23,7 +23,7 @@ came_to book access = record { book = book; access = access }
 
 -- At the target, the operation is done and answered, misses its page or waits, as the event says. Or the run stops, and
 -- nothing has changed.
-abbrev pub IsTargetStep : Step → ℕ → Op → TargetPart → TargetPart → Type 0
+abbrev pub IsTargetStep : OpResult → ℕ → Op → TargetPart → TargetPart → Type 0
 IsTargetStep (Answered x) v op old new = came_to new (Done x) ≡ target_access v op old
 IsTargetStep Missed v op old new = came_to new Misses ≡ target_access v op old
 IsTargetStep Waits v op old new = came_to new Waiting ≡ target_access v op old

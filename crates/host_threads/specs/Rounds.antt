@@ -1,7 +1,7 @@
 -- The result of several events under one hold of the locks, one after another.
 use Rattle.std.specs.Prelude.{◌≡◌, ◌≢◌, ◌⊎◌, ℕ, zero, suc, Bool, true, false, MatchBool, is_some, List, [], ◌∷◌}
 use Rattle.migration_events.specs.declared.events.Event.{Event}
-use Rattle.guest_script.specs.Scenarios.{Scenario}
+use Rattle.guest_script.specs.declared.script.Scenario.{Scenario}
 use Rattle.active_push.specs.Books.{SourceKept, part_of as source_of}
 use Rattle.link_book.specs.Links.{Linked, is_quiet}
 use Rattle.target_side.specs.PagerLists.{PagerLists, part_of as pager_of}

@@ -6,7 +6,7 @@ use Rattle.migration_types.specs.Sessions.{recorded}
 use Rattle.page_store.specs.Frames.{Frames}
 use Rattle.active_push.specs.Books.{SourceKept}
 use Rattle.link_book.specs.LinkPart.{LinkPart}
-use Rattle.guest_script.specs.Scenarios.{Scenario}
+use Rattle.guest_script.specs.declared.script.Scenario.{Scenario}
 use Rattle.host_checks.specs.declared.transcript.Answered.{Answered}
 use Rattle.host_checks.specs.declared.outcome.Migrated.{Migrated}
 use Rattle.host_checks.specs.declared.outcome.RunFault.{RunFault}

@@ -53,7 +53,7 @@ impl<'a> Fates<'a> {
 
 /// The delivery outcomes that are left for each line.
 #[derive(Clone, Copy)]
-struct Lines<'a> {
+struct LineFates<'a> {
     down: Fates<'a>,
     up: Fates<'a>,
     lane: Fates<'a>,
@@ -61,12 +61,12 @@ struct Lines<'a> {
 
 /// Returns the delivery outcomes of a script, none of them used up. If there is no lane, nothing is ever under way
 /// there.
-fn lines_of(script: &Script) -> Lines<'_>
+fn lines_of(script: &Script) -> LineFates<'_>
     ensures down { result.down.left.now ≡ script.now.down }
     ensures up { result.up.left.now ≡ script.now.up }
     ensures lane { result.lane.left.now ≡ fates_over script.now.lane }
 {
-    Lines {
+    LineFates {
         down: Fates::new(script.down()),
         up: Fates::new(script.up()),
         lane: Fates::new(script.lane().unwrap_or(&[])),
@@ -154,7 +154,7 @@ fn turn_at<L: Relay>(
     link: &mut LinkBook,
     passage: &mut Passage<L>,
     direction: Direction,
-    lines: &mut Lines<'_>,
+    lines: &mut LineFates<'_>,
     most: usize,
 ) -> Result<bool, StopReason>
     ensures { IfOk result (λ any. (count : ℕ)
@@ -189,7 +189,7 @@ fn turn_under_lock<R: Wait, L: Relay>(
     shared: &SharedBooks,
     passage: &mut Passage<L>,
     direction: Direction,
-    lines: &mut Lines<'_>,
+    lines: &mut LineFates<'_>,
     most: usize,
 ) -> TurnReport {
     let mut link = shared.link.lock(rt);
@@ -202,7 +202,7 @@ fn turn_each<R: Wait, L: Relay>(
     rt: &R,
     shared: &SharedBooks,
     passage: &mut Passage<L>,
-    lines: &mut Lines<'_>,
+    lines: &mut LineFates<'_>,
     most: usize,
 ) -> TurnReport {
     let mut last = TurnReport::Idle;

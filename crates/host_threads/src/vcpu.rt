@@ -20,7 +20,7 @@ use std::sync::Wait;
 use target_side::{Access, GuestBook, TargetBook};
 
 /// The result of an operation.
-enum Step {
+enum OpResult {
     /// It was answered.
     Answered(u64),
     /// Its page was missed.
@@ -33,33 +33,33 @@ enum Step {
 
 /// Carries out an operation on the guest's book. The result is `Astray` only if the machine does not have its page or
 /// cell.
-fn step_guest(book: &mut GuestBook, vcpu: u8, op: &Op) -> Step
+fn step_guest(book: &mut GuestBook, vcpu: u8, op: &Op) -> OpResult
     ensures step { IsGuestStep result vcpu op.now (guest_of book.old) (guest_of book.new) }
-    ensures taken { OpFits book.old.frames.geometry op.now → result ≢ Step.Stops StopReason.Astray }
+    ensures taken { OpFits book.old.frames.geometry op.now → result ≢ OpResult.Stops StopReason.Astray }
 {
     if !op.fits(book.geometry()) {
-        return Step::Stops(StopReason::Astray);
+        return OpResult::Stops(StopReason::Astray);
     }
     match book.access(vcpu, *op) {
-        Ok(answer) => Step::Answered(answer),
-        Err(fault) => Step::Stops(of_target(fault)),
+        Ok(answer) => OpResult::Answered(answer),
+        Err(fault) => OpResult::Stops(of_target(fault)),
     }
 }
 
 /// Carries out an operation on the target's book. The result is `Astray` only if the machine does not have its page or
 /// cell.
-fn step_target(book: &mut TargetBook, vcpu: u8, op: &Op) -> Step
+fn step_target(book: &mut TargetBook, vcpu: u8, op: &Op) -> OpResult
     ensures step { IsTargetStep result vcpu op.now (target_of book.old) (target_of book.new) }
-    ensures taken { OpFits (geometry_of book.old) op.now → result ≢ Step.Stops StopReason.Astray }
+    ensures taken { OpFits (geometry_of book.old) op.now → result ≢ OpResult.Stops StopReason.Astray }
 {
     if !op.fits(book.geometry()) {
-        return Step::Stops(StopReason::Astray);
+        return OpResult::Stops(StopReason::Astray);
     }
     match book.access(vcpu, *op) {
-        Ok(Access::Done(answer)) => Step::Answered(answer),
-        Ok(Access::Missed) => Step::Missed,
-        Ok(Access::Waiting) => Step::Waits,
-        Err(fault) => Step::Stops(of_target(fault)),
+        Ok(Access::Done(answer)) => OpResult::Answered(answer),
+        Ok(Access::Missed) => OpResult::Missed,
+        Ok(Access::Waiting) => OpResult::Waits,
+        Err(fault) => OpResult::Stops(of_target(fault)),
     }
 }
 
@@ -80,9 +80,9 @@ fn work_at_source(
             return Err(StopReason::Memory);
         }
         match step_guest(book, vcpu, op) {
-            Step::Answered(answer) => answers.push_reserved(Answered { op: *op, answer }),
-            Step::Stops(fault) => return Err(fault),
-            Step::Missed | Step::Waits => return Err(StopReason::Astray),
+            OpResult::Answered(answer) => answers.push_reserved(Answered { op: *op, answer }),
+            OpResult::Stops(fault) => return Err(fault),
+            OpResult::Missed | OpResult::Waits => return Err(StopReason::Astray),
         }
     }
     Ok(())
@@ -171,23 +171,23 @@ impl<'s, G: Gate> Worker<'s, G> {
                 return Err(StopReason::Memory);
             }
             match step_target(book, self.vcpu, op) {
-                Step::Answered(answer) => {
+                OpResult::Answered(answer) => {
                     self.answers.push_reserved(Answered { op: *op, answer });
                     if let Op::Release { page } = op {
                         bell.came(*page);
                     }
                     self.gate.held(self.vcpu, op.page(), book);
                 }
-                Step::Missed => {
+                OpResult::Missed => {
                     bell.want(self.vcpu, op.page());
                     bell.ring(ThreadRole::Pager);
                     return Ok(Reached::new(ops, at, true));
                 }
-                Step::Waits => {
+                OpResult::Waits => {
                     bell.want(self.vcpu, op.page());
                     return Ok(Reached::new(ops, at, true));
                 }
-                Step::Stops(fault) => return Err(fault),
+                OpResult::Stops(fault) => return Err(fault),
             }
         }
         Ok(Reached::new(ops, count, false))

@@ -22,7 +22,7 @@ use Rattle.audit_report.specs.declared.report.Report.{Report}
 use Rattle.audit_report.specs.declared.report.Report.TheVariants as report
 use Rattle.judged_texts.specs.Checked.{IsJudged, IsTextVerdict}
 use Rattle.command_texts.specs.Cutting.{HasNoEnd, IsCutAtEnd}
-use Rattle.command_texts.proofs.CutOnce.{cut_once}
+use Rattle.judge_commands.proofs.CutOnce.{cut_once}
 use Rattle.judge_commands.specs.Answers.{verdict_status}
 use Rattle.session_answers.specs.Judged.{IsJudged as IsSessionJudged, Judged as SessionJudged, Refused, Reported, judged_status, report_status}
 use Rattle.judge_commands.proofs.Closed.{closed_session}

@@ -1,5 +1,6 @@
 pub mod Statuses
 pub mod Closed
+pub mod CutOnce
 pub mod Judged
 pub mod Lacking
 pub mod Explained

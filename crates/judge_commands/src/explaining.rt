@@ -157,11 +157,12 @@ impl<R: Threads + Sync> OnTwo for ExplainByTable<'_, R> {
 
     ghost has_note = { λ _ texts. TellsNoUse texts.0 };
 
-    fn telling(&self, session: &Result<Session, u32>, table: &Result<Seq<u64>, u32>) -> Telling {
-        if session.is_err() && table.is_err() {
-            return Telling::Short;
-        }
+    fn telling(&self, _session: &Result<Session, u32>, _table: &Result<Seq<u64>, u32>) -> Telling {
         telling_by(self.story.of_lack())
+    }
+
+    fn is_about_second(&self) -> bool {
+        true
     }
 
     fn answer(

@@ -15,7 +15,7 @@ use Rattle.session_story.specs.declared.faults.FaultStory.{FaultStory}
 use Rattle.session_story.specs.declared.topics.FullPageStory.{FullPageStory}
 use Rattle.session_story.specs.declared.topics.TopicStory.{TopicStory}
 use Rattle.session_story.specs.declared.topics.TopicStory.TheVariants as told
-use Rattle.session_story.specs.declared.topics.Topic.{Topic}
+use Rattle.migration_types.specs.declared.topic.Topic.{Topic}
 use Rattle.session_story.specs.Concerned.{concerned_of}
 use Rattle.session_story.specs.Subjects.{page_of}
 use Rattle.session_story.specs.Topics.{IsTold, fault_in, page_in}

@@ -3,7 +3,7 @@ use Rattle.std.specs.Prelude.{◌≡◌, ℕ, List, ◌++◌, codes}
 use Rattle.migration_types.specs.declared.cert.Run.{Run}
 use Rattle.migration_types.specs.Sessions.{Recorded}
 use Rattle.audit_report.specs.declared.report.Report.{Report}
-use Rattle.session_story.specs.declared.topics.Topic.{Topic}
+use Rattle.migration_types.specs.declared.topic.Topic.{Topic}
 use Rattle.order_picture.specs.declared.picture.Picture.{Picture}
 use Rattle.order_picture.specs.Pictures.{IsPicture, IsPictureOf}
 

@@ -230,14 +230,8 @@ fn concerned(alloc: Global, keeping: &Keeping<'_>, order: &[Name]) -> Result<Fla
     Ok(flags)
 }
 
-/// Returns the places of the order that have a wanted record, in its sequence.
-fn places_of(
-    alloc: Global,
-    flags: &Flags,
-    runs: &[Run],
-    order: &[Name],
-) -> Result<Vec<usize>, AllocError> {
-    let mut places = Vec::new(alloc);
+/// Marks the places of the order that have a wanted record.
+fn mark_places(marks: &mut Vec<bool>, flags: &Flags, runs: &[Run], order: &[Name]) {
     let mut at: usize = 0;
     for run in runs {
         let Some(name) = order.get(at) else {
@@ -245,12 +239,22 @@ fn places_of(
         };
         for is_wanted in flags.of_run(*name, run.count as usize) {
             if *is_wanted {
-                places.push(at)?;
+                want(marks, at);
             }
             at = at.saturating_add(1);
         }
     }
-    Ok(places)
+}
+
+/// Returns how many places are marked.
+fn count_of(marks: &[bool]) -> usize {
+    let mut count: usize = 0;
+    for is_marked in marks {
+        if *is_marked {
+            count = count.saturating_add(1);
+        }
+    }
+    count
 }
 
 /// Which of the wanted places have room, if not all do: the first and the last, and those nearest to the middle.
@@ -263,12 +267,13 @@ struct Room {
 }
 
 impl Room {
-    /// Returns the room for wanted places, which rise.
-    fn of(places: &[usize], middle: usize) -> Self {
-        let rank = places.iter().position(|place| *place >= middle);
+    /// Returns the room for the marked places.
+    fn of(marks: &[bool], middle: usize) -> Self {
+        let rank = count_of(marks.get(..middle).unwrap_or(marks));
+        let behind = count_of(marks.get(middle..).unwrap_or(&[]));
         Room {
-            count: places.len(),
-            rank: rank.unwrap_or(places.len()),
+            count: rank.saturating_add(behind),
+            rank,
         }
     }
 
@@ -282,40 +287,44 @@ impl Room {
     }
 }
 
-/// Keeps the wanted places for which there is room, and this one. Also keeps a single place between two of them, or
-/// between one and an end: it takes no more room than a fold of it.
-fn keep(kept: &mut Vec<bool>, places: &[usize], middle: usize, concerned: Option<usize>) {
-    let room = Room::of(places, middle);
+/// Leaves the marks of those places for which there is room, and of this one. Also marks a single place between two of
+/// them, or between one and an end: it takes no more room than a fold of it.
+fn keep(marks: &mut Vec<bool>, middle: usize, concerned: Option<usize>) {
+    let room = Room::of(marks, middle);
+    let mut at: usize = 0;
     let mut next: usize = 0;
-    for (at, place) in places.iter().enumerate() {
-        if room.has(at) || concerned == Some(*place) {
-            if next.saturating_add(1) == *place {
-                want(kept, next);
-            }
-            want(kept, *place);
-            next = place.saturating_add(1);
+    for place in 0..marks.len() {
+        let Some(mark) = marks.get_mut(place) else {
+            break;
+        };
+        if !*mark {
+            continue;
         }
+        if room.has(at) || concerned == Some(place) {
+            if next.saturating_add(1) == place {
+                want(marks, next);
+            }
+            next = place.saturating_add(1);
+        } else {
+            *mark = false;
+        }
+        at = at.saturating_add(1);
     }
-    if next.saturating_add(1) == kept.len() {
-        want(kept, next);
+    if next.saturating_add(1) == marks.len() {
+        want(marks, next);
     }
 }
 
-/// Returns which places of an order have a row of their own. Allocates memory for two flags for each record, and for
-/// the places of those that are wanted. Fails only if memory runs out.
+/// Returns which places of an order have a row of their own. Allocates memory for two flags for each record. Fails only
+/// if memory runs out.
 pub(crate) fn kept_in(
     alloc: Global,
     keeping: &Keeping<'_>,
     order: &[Name],
 ) -> Result<Vec<bool>, AllocError> {
     let flags = concerned(alloc, keeping, order)?;
-    let places = places_of(alloc, &flags, keeping.runs, order)?;
     let mut kept = vec![in alloc; false; order.len()]?;
-    keep(
-        &mut kept,
-        &places,
-        keeping.middle,
-        keeping.certain.concerned,
-    );
+    mark_places(&mut kept, &flags, keeping.runs, order);
+    keep(&mut kept, keeping.middle, keeping.certain.concerned);
     Ok(kept)
 }

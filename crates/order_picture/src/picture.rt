@@ -13,8 +13,8 @@ use crate::rows::{Certain, rows_of};
 use audit_report::Report;
 use cert_maker::found_runs;
 use merge_runs::TakenCounts;
-use migration_types::{GuestRec, LogName, Run, Session};
-use session_story::{Name, Topic, TopicStory, tell};
+use migration_types::{GuestRec, LogName, Run, Session, Topic};
+use session_story::{Name, TopicStory, tell};
 use std::alloc::{AllocError, Global};
 
 /// The greatest number of rows in a picture.

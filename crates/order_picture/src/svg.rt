@@ -18,8 +18,8 @@ use crate::picture::{Picture, plan_along, plan_on};
 use crate::shapes::{Shape, picture_shapes};
 use crate::style::{COLUMNS_LEFT, DARK_COLOURS, FONT, FONTS, LEGEND_GAP, PAPER, heads};
 use audit_report::{Report, push_first_line};
-use migration_types::{LOG_COUNT, Run, Session};
-use session_story::{Topic, TopicStory};
+use migration_types::{LOG_COUNT, Run, Session, Topic};
+use session_story::TopicStory;
 use std::alloc::{AllocError, Global};
 use text_lines::push_number;
 

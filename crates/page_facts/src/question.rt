@@ -58,7 +58,7 @@ pub trait Question {
 
 /// The answer about some consecutive pages.
 #[derive(Drop)]
-pub(crate) struct Part<A> {
+pub(crate) struct RangeAnswer<A> {
     pub(crate) first: usize,
     pub(crate) count: usize,
     pub(crate) answer: A,
@@ -148,7 +148,7 @@ fn answer_part<Q: Question>(
     looks: &Table<Option<u32>>,
     size: usize,
     number: usize,
-) -> Result<Part<Q::Answer>, AllocError>
+) -> Result<RangeAnswer<Q::Answer>, AllocError>
     requires limits { IsSession session.now }
     requires asked { Q.IsFor question.now session.now }
     requires looks { IsTable session.now.geometry.pages looks.now (first_look session.now (length session.now.guest)) }
@@ -159,14 +159,14 @@ fn answer_part<Q: Question>(
     let count = size.min(pages - first);
     if count == 0 {
         let answer = question.blank(alloc, 0)?;
-        return Ok(Part {
+        return Ok(RangeAnswer {
             first,
             count,
             answer,
         });
     }
     let answer = answer_range(question, alloc, session, looks, first, count)?;
-    Ok(Part {
+    Ok(RangeAnswer {
         first,
         count,
         answer,
@@ -177,8 +177,8 @@ fn answer_part<Q: Question>(
 fn add_part<Q: Question>(
     question: &Q,
     _session: &Session,
-    all: &mut Part<Q::Answer>,
-    part: Part<Q::Answer>,
+    all: &mut RangeAnswer<Q::Answer>,
+    part: RangeAnswer<Q::Answer>,
 ) -> Result<(), AllocError>
     requires limits { IsSession _session.now }
     requires all { IsPart (Q.IsAnswer question.now _session.now) _session.now.geometry.pages all.old.first all.old.count all.old.answer }
@@ -197,8 +197,8 @@ fn add_part<Q: Question>(
 fn add_parts<Q: Question>(
     question: &Q,
     session: &Session,
-    all: &mut Part<Q::Answer>,
-    parts: Vec<Part<Q::Answer>>,
+    all: &mut RangeAnswer<Q::Answer>,
+    parts: Vec<RangeAnswer<Q::Answer>>,
 ) -> Result<(), AllocError>
     requires limits { IsSession session.now }
     requires all { IsPart (Q.IsAnswer question.now session.now) session.now.geometry.pages all.old.first all.old.count all.old.answer }
@@ -218,7 +218,7 @@ fn complete<Q: Question>(
     alloc: Global,
     session: &Session,
     looks: &Table<Option<u32>>,
-    part: Part<Q::Answer>,
+    part: RangeAnswer<Q::Answer>,
 ) -> Result<Q::Answer, AllocError>
     requires limits { IsSession session.now }
     requires asked { Q.IsFor question.now session.now }
@@ -256,7 +256,7 @@ fn answer_parts<R: Threads + Sync, X: Send + Drop, Q: Question<Answer = X> + Syn
     looks: &Table<Option<u32>>,
     size: usize,
     parts: usize,
-) -> Result<Vec<Part<X>>, AllocError>
+) -> Result<Vec<RangeAnswer<X>>, AllocError>
     requires limits { IsSession session.now }
     requires asked { Q.IsFor question.now session.now }
     requires looks { IsTable session.now.geometry.pages looks.now (first_look session.now (length session.now.guest)) }
@@ -266,7 +266,7 @@ fn answer_parts<R: Threads + Sync, X: Send + Drop, Q: Question<Answer = X> + Syn
         .into_par_iter()
         .with_min_len(1)
         .map(
-            |number: usize| -> Result<Part<X>, AllocError>
+            |number: usize| -> Result<RangeAnswer<X>, AllocError>
                 requires { IsSession session.now × Q.IsFor question.now session.now × IsTable session.now.geometry.pages looks.now (first_look session.now (length session.now.guest)) }
                 ensures { IfOk result (λ part. IsPart (Q.IsAnswer question.entry.now session.entry.now) session.entry.now.geometry.pages part.first part.count part.answer) }
             { answer_part(question, alloc, session, looks, size, number) },
@@ -294,7 +294,7 @@ pub fn answer_apart<R: Threads + Sync, X: Send + Drop, Q: Question<Answer = X> +
     let pages = session.geometry().pages() as usize;
     let size = pages.div_ceil(parts);
     let answered = answer_parts(rt, question, alloc, session, &looks, size, parts)?;
-    let mut all = Part {
+    let mut all = RangeAnswer {
         first: 0,
         count: 0,
         answer: question.blank(alloc, pages)?,

@@ -57,7 +57,7 @@ impl Debug for StreamFault {
 
 /// What some bytes begin with.
 #[derive(Drop)]
-enum Front<'a> {
+enum StreamHead<'a> {
     Packet(Packet, &'a [u8]),
     Partial,
     Fault(StreamFaultKind),
@@ -80,29 +80,29 @@ fn most_length(geometry: Geometry) -> u32
 }
 
 /// Returns the packet at the front of some bytes, and what follows it, or why there is none.
-fn front_of(alloc: Global, geometry: Geometry, bytes: &[u8]) -> Result<Front<'_>, AllocError>
+fn front_of(alloc: Global, geometry: Geometry, bytes: &[u8]) -> Result<StreamHead<'_>, AllocError>
     ensures { IfOk result (IsFront geometry bytes.now) }
 {
     match number_at(bytes) {
-        None => Ok(Front::Partial),
+        None => Ok(StreamHead::Partial),
         Some((length, rest)) => {
             if length == 0 || length > most_length(geometry) {
-                return Ok(Front::Fault(StreamFaultKind::Length));
+                return Ok(StreamHead::Fault(StreamFaultKind::Length));
             }
             let length = length as usize;
             if rest.is_empty() {
-                return Ok(Front::Partial);
+                return Ok(StreamHead::Partial);
             }
             if rest[0] == 0 || rest[0] > 4 {
-                return Ok(Front::Fault(StreamFaultKind::Kind));
+                return Ok(StreamHead::Fault(StreamFaultKind::Kind));
             }
             if rest.len() < length {
-                return Ok(Front::Partial);
+                return Ok(StreamHead::Partial);
             }
             let (body, after) = rest.split_at(length);
             match decode(alloc, geometry, body)? {
-                None => Ok(Front::Fault(StreamFaultKind::Fields)),
-                Some(packet) => Ok(Front::Packet(packet, after)),
+                None => Ok(StreamHead::Fault(StreamFaultKind::Fields)),
+                Some(packet) => Ok(StreamHead::Packet(packet, after)),
             }
         }
     }
@@ -118,18 +118,18 @@ fn take_packets(alloc: Global, geometry: Geometry, bytes: &[u8]) -> Result<Taken
     let mut rest = bytes;
     loop {
         match front_of(alloc, geometry, rest)? {
-            Front::Packet(packet, after) => {
+            StreamHead::Packet(packet, after) => {
                 packets.push(packet)?;
                 rest = after;
             }
-            Front::Partial => {
+            StreamHead::Partial => {
                 return Ok(Taken {
                     packets,
                     used: bytes.len() - rest.len(),
                     fault: None,
                 });
             }
-            Front::Fault(kind) => {
+            StreamHead::Fault(kind) => {
                 return Ok(Taken {
                     packets,
                     used: bytes.len() - rest.len(),

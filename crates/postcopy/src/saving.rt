@@ -25,7 +25,7 @@ const MOST_HELD: usize = 1_048_576;
 
 // Where a name leads.
 #[derive(Drop)]
-enum Place {
+enum Destination {
     // To a regular file, or to none yet. The name is no link.
     Named(PathBuf, Option<Metadata>),
     // To something that is written in place: a device, a pipe, a folder, or an open file of a process.
@@ -41,21 +41,21 @@ fn is_of_process<F: Files>(files: &F, link: &Metadata) -> bool {
 }
 
 // Returns where a name leads, after all links are followed.
-fn place_of<F: Files>(files: &F, alloc: Global, name: &str) -> io::Result<Place> {
+fn destination_of<F: Files>(files: &F, alloc: Global, name: &str) -> io::Result<Destination> {
     let mut at = PathBuf::from_str(alloc, name)?;
     for _ in 0..MOST_LINKS {
         let found = match fs::symlink_metadata(files, at.as_str()) {
             Ok(found) => found,
             Err(error) if error.kind() == ErrorKind::NotFound => {
-                return Ok(Place::Named(at, None));
+                return Ok(Destination::Named(at, None));
             }
             Err(error) => return Err(error),
         };
         if found.is_file() {
-            return Ok(Place::Named(at, Some(found)));
+            return Ok(Destination::Named(at, Some(found)));
         }
         if !found.is_symlink() || is_of_process(files, &found) {
-            return Ok(Place::Fixed);
+            return Ok(Destination::Fixed);
         }
         let leads_to = files.read_link(alloc, at.as_str())?;
         at = at.with_file_name(alloc, leads_to.as_str())?;
@@ -87,8 +87,13 @@ pub fn is_one_file<F: Files>(files: &F, alloc: Global, one: &str, other: &str) -
     if one == other {
         return Ok(true);
     }
-    match (place_of(files, alloc, one)?, place_of(files, alloc, other)?) {
-        (Place::Named(one, _), Place::Named(other, _)) => is_one_name(files, &one, &other),
+    match (
+        destination_of(files, alloc, one)?,
+        destination_of(files, alloc, other)?,
+    ) {
+        (Destination::Named(one, _), Destination::Named(other, _)) => is_one_name(
+            files, &one, &other,
+        ),
         _ => Ok(false),
     }
 }
@@ -167,19 +172,19 @@ fn write_fixed<F: Files>(files: &F, name: &str, text: &[u8]) -> io::Result<()> {
 
 // A file that is being written. It has a name of its own, and gets the one that leads to another file, or to none yet.
 #[derive(Drop)]
-struct Part<W> {
+struct DraftFile<W> {
     draft: PathBuf,
     name: PathBuf,
     file: W,
 }
 
 // Begins a file that is to get this name. It has the mode and the owner of the file that it replaces.
-fn begin_part<F: Files + RandomSource>(
+fn begin_draft_file<F: Files + RandomSource>(
     files: &F,
     alloc: Global,
     name: PathBuf,
     old: &Option<Metadata>,
-) -> io::Result<Part<F::File>> {
+) -> io::Result<DraftFile<F::File>> {
     let mode = match old {
         Some(old) => old.mode() & MODE_BITS,
         None => NEW_MODE,
@@ -191,7 +196,7 @@ fn begin_part<F: Files + RandomSource>(
             return Err(error);
         }
     }
-    Ok(Part { draft, name, file })
+    Ok(DraftFile { draft, name, file })
 }
 
 // Writes the rest of a file, and waits until the system has stored it.
@@ -201,8 +206,12 @@ fn finish<W: Write + OpenFile>(file: &mut W, rest: &[u8]) -> io::Result<()> {
 }
 
 // Finishes a file with the rest of its text. If that fails, removes it.
-fn finish_part<F: Files>(files: &F, part: Part<F::File>, rest: &[u8]) -> io::Result<Draft> {
-    let Part {
+fn finish_draft_file<F: Files>(
+    files: &F,
+    part: DraftFile<F::File>,
+    rest: &[u8],
+) -> io::Result<Draft> {
+    let DraftFile {
         draft,
         name,
         mut file,
@@ -241,12 +250,12 @@ impl Draft {
         name: &str,
         text: &[u8],
     ) -> io::Result<Draft> {
-        match place_of(files, alloc, name)? {
-            Place::Named(name, old) => {
-                let part = begin_part(files, alloc, name, &old)?;
-                finish_part(files, part, text)
+        match destination_of(files, alloc, name)? {
+            Destination::Named(name, old) => {
+                let part = begin_draft_file(files, alloc, name, &old)?;
+                finish_draft_file(files, part, text)
             }
-            Place::Fixed => {
+            Destination::Fixed => {
                 write_fixed(files, name, text)?;
                 Ok(Draft::Written)
             }
@@ -284,7 +293,7 @@ pub struct Saved<'a, F: Files> {
     name: Option<&'a str>,
     // What is not in a file.
     held: Vec<u8>,
-    part: Option<Part<F::File>>,
+    part: Option<DraftFile<F::File>>,
     // Whether all of it is held.
     is_held: bool,
     fault: Option<io::Error>,
@@ -306,11 +315,11 @@ impl<'a, F: Files + RandomSource> Saved<'a, F> {
 
     // Begins the file, if the name leads to one. Otherwise the text is held.
     fn begin(&mut self, name: &str) -> io::Result<()> {
-        match place_of(self.files, self.alloc, name)? {
-            Place::Named(name, old) => {
-                self.part = Some(begin_part(self.files, self.alloc, name, &old)?);
+        match destination_of(self.files, self.alloc, name)? {
+            Destination::Named(name, old) => {
+                self.part = Some(begin_draft_file(self.files, self.alloc, name, &old)?);
             }
-            Place::Fixed => self.is_held = true,
+            Destination::Fixed => self.is_held = true,
         }
         Ok(())
     }
@@ -360,7 +369,7 @@ impl<'a, F: Files + RandomSource> Saved<'a, F> {
                 Err(fault)
             }
             (None, Some(fault)) => Err(fault),
-            (Some(part), None) => finish_part(files, part, held.as_slice()),
+            (Some(part), None) => finish_draft_file(files, part, held.as_slice()),
             (None, None) => Draft::new(files, alloc, name, held.as_slice()),
         }
     }

@@ -7,7 +7,7 @@ use Rattle.judged_texts.specs.declared.auditing.TextAudit.{TextAudit}
 use Rattle.judged_texts.specs.declared.audit_part.AuditPart.TheVariants as wanted
 use Rattle.session_answers.specs.declared.forms.AnswerForm.TheVariants as form
 use Rattle.session_answers.specs.declared.forms.Story.TheVariants as story
-use Rattle.session_story.specs.declared.topics.Topic.TheVariants as topic
+use Rattle.migration_types.specs.declared.topic.Topic.TheVariants as topic
 use Rattle.postcopy_c.specs.declared.answer.PostcopyAnswer.{PostcopyAnswer}
 use Rattle.postcopy_c.specs.declared.asking.PostcopyQuestion.{PostcopyQuestion}
 use Rattle.postcopy_c.specs.declared.showing.ShownAs.{ShownAs}

@@ -15,8 +15,8 @@ use crate::questions::{
 use crate::showing::{ShownAs, tell_all};
 use completeness::Extent;
 use judged_texts::AuditPart;
+use migration_types::Topic;
 use session_answers::{AnswerForm, Story};
-use session_story::Topic;
 use std::alloc::{AllocError, Global};
 
 /// A question about a session, as C has it.

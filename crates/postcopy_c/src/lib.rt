@@ -32,8 +32,8 @@ use crate::showing::{ShownAs, tell_shown};
 use crate::telling::tell_audit;
 use completeness::Extent;
 use judged_texts::{AuditPart, check_texts_alone, replay_texts};
+use migration_types::Topic;
 use session_answers::{AnswerForm, Story};
-use session_story::Topic;
 use std::alloc::Global;
 
 /// The version: 10,000 times its first number, plus 100 times its second, plus its third.

@@ -23,12 +23,11 @@ use audit_report::{OwnLines, Report, audit_by, print_first_line, print_refused_s
 use completeness::Extent;
 use faulty_pages::{FaultyPage, clean_sessions_have_no_faulty_page, faulty_pages};
 use judged_texts::TextAudit;
-use migration_types::{Cert, Session};
+use migration_types::{Cert, Session, Topic};
 use order_picture::print_picture_on;
 use page_facts::OneThread;
 use session_answers::{AnswerForm, LackForm, print_lack_of, print_refusal, print_told};
 use session_log::{read_session, session_texts_are_unambiguous};
-use session_story::Topic;
 use std::alloc::{AllocError, Global};
 
 /// How a session is shown.

@@ -11,11 +11,11 @@ use Rattle.session_log.proofs.Laws.{held_line}
 use Rattle.recordings.specs.declared.RecordingFault.{RecordingFault}
 use Rattle.recordings.specs.declared.RecordingFault.TheVariants.{Line, File, Memory}
 use Rattle.recordings.specs.declared.place.Place.{Place}
-use Rattle.recordings.specs.declared.place.Stage.{Stage}
-use Rattle.recordings.specs.declared.place.Stage.TheVariants.{Header}
+use Rattle.session_log.specs.declared.parts.Stage.{Stage}
+use Rattle.session_log.specs.declared.parts.Stage.TheVariants.{Header}
 use Rattle.recordings.specs.declared.walker.Walker.{Walker}
 use Rattle.recordings.specs.inner.Held.{recorded_of}
-use Rattle.recordings.specs.inner.Stands.{Taken, Refuses, Lists, Stands, HasMet, draft_of, text_stage, lines_onto}
+use Rattle.recordings.specs.inner.Stands.{Taken, Refuses, Lists, Stands, HasMet, draft_of, lines_onto}
 use Rattle.recordings.specs.inner.Goings.{Came, Grows, Stops, RefusesAll, line_fault}
 use Rattle.session_log.proofs.Sections.{fresh}
 use Rattle.recordings.proofs.Goes.{live_begins}
@@ -45,13 +45,13 @@ line_taken IsNew Met w place next line before after taken lines came =
       lists = t.lists;
       stands = t.stands;
       met = t.met;
-      whole = t.lines ∙ held_line (text_stage w.stage) (draft_of w.place came.lists) lines line came.whole;
+      whole = t.lines ∙ held_line w.stage (draft_of w.place came.lists) lines line came.whole;
       number = omega (arith, length-append lines (line ∷ []));
     }
 
 pub line_stops : {V : Type 0} (IsNew : V → Type 0) (Met : V → Recorded → Type 0) (w : Walker) (line : List ℕ) (visitor : V) (kind : FaultKind) → (kind ≢ NoMemory → Refuses w.stage w.place line) → (lines : List (List ℕ)) → Came IsNew Met w visitor lines → Stops lines line (line_fault w.number kind)
 line_stops IsNew Met w line visitor kind refuses lines came =
-    let other = λ (ne : kind ≢ NoMemory) (b : Begins SpellsRecording (lines ++ line ∷ [])). refuses ne came.lists came.stands (subst (Begins SpellsRecording) (sym (held_line (text_stage w.stage) (draft_of w.place came.lists) lines line came.whole)) b) in
+    let other = λ (ne : kind ≢ NoMemory) (b : Begins SpellsRecording (lines ++ line ∷ [])). refuses ne came.lists came.stands (subst (Begins SpellsRecording) (sym (held_line w.stage (draft_of w.place came.lists) lines line came.whole)) b) in
     by_kind kind w.number lines line came.number other
   where
     by_kind : (kind : FaultKind) (number : ℕ) (lines : List (List ℕ)) (line : List ℕ) → number ≡ length lines + 1 → (kind ≢ NoMemory → Begins SpellsRecording (lines ++ line ∷ []) → ⊥) → Stops lines line (line_fault number kind)
@@ -73,7 +73,7 @@ one_grew IsNew Met w new before after lines bytes rest line behind g cut takes =
 }
 
 pub came_begins : {V : Type 0} (IsNew : V → Type 0) (Met : V → Recorded → Type 0) (w : Walker) (visitor : V) (lines : List (List ℕ)) → Came IsNew Met w visitor lines → Begins SpellsRecording lines
-came_begins IsNew Met w visitor lines came = subst (Begins SpellsRecording) came.whole (live_begins (text_stage w.stage) (draft_of w.place came.lists) came.stands.live)
+came_begins IsNew Met w visitor lines came = subst (Begins SpellsRecording) came.whole (live_begins w.stage (draft_of w.place came.lists) came.stands.live)
 
 -- the bytes behind those lines, and the lines among them
 pub behind_both : (lines more : List (List ℕ)) (bytes rest : List ℕ) → bytes ≡ ended more ++ rest → ended lines ++ bytes ≡ ended (lines ++ more) ++ rest

@@ -14,16 +14,15 @@ use Rattle.text_lines.proofs.Cut.{refused_at_line, refused_at_end}
 use Rattle.migration_types.specs.Sessions.{Recorded}
 use Rattle.recordings.specs.Lines.{longest_line}
 use Rattle.recordings.specs.Recordings.{SpellsRecording}
-use Rattle.session_log.specs.declared.parts.Stage.TheVariants as text
 use Rattle.recordings.specs.declared.RecordingFault.{RecordingFault}
 use Rattle.recordings.specs.declared.RecordingFault.TheVariants.{Line, File, Memory}
-use Rattle.recordings.specs.declared.place.Stage.{Stage}
-use Rattle.recordings.specs.declared.place.Stage.TheVariants.{Header, Pages, Cells, InitCount, Init, Guest, Source, Link, Lane, Pager, Done}
+use Rattle.session_log.specs.declared.parts.Stage.{Stage}
+use Rattle.session_log.specs.declared.parts.Stage.TheVariants.{Header, Pages, Cells, InitCount, Init, Guest, Source, Link, Lane, Pager, Done}
 use Rattle.recordings.specs.declared.walker.Walker.{Walker}
 use Rattle.recordings.specs.Reading.{ReadsBehind}
 use Rattle.recordings.specs.Walking.{Walks, IsRefusedAt, IsRefusedBy}
 use Rattle.recordings.specs.inner.Held.{recorded_of, Live}
-use Rattle.recordings.specs.inner.Stands.{HasMet, draft_of, text_stage, lines_onto}
+use Rattle.recordings.specs.inner.Stands.{HasMet, draft_of, lines_onto}
 use Rattle.recordings.specs.inner.Goings.{Came, CameTo, Grows, RefusesAll}
 use Rattle.recordings.proofs.Goes.{done_spells, not_whole}
 use Rattle.recordings.proofs.Coming.{came_begins, behind_both}
@@ -140,7 +139,7 @@ read_none mid rest before after kept filled within same read =
 pub whole_walked : {V : Type 0} (IsNew : V → Type 0) (Met : V → Recorded → Type 0) (w : Walker) (visitor : V) (known rest : Option (List ℕ)) (unended : List ℕ) (lines : List (List ℕ)) → Came IsNew Met w visitor lines → Consumes known rest (ended lines ++ unended) → IsAtEnd rest → w.stage ≡ Done → unended ≡ [] → Walks Met known visitor
 whole_walked IsNew Met w visitor known rest unended lines came consumed at_end done none =
     let d = draft_of w.place came.lists in
-    let live = subst (λ (s : Stage). Live (text_stage s) d) done came.stands.live in
+    let live = subst (λ (s : Stage). Live s d) done came.stands.live in
     let whole = subst (λ (s : Stage). lines_onto s w.place came.lists [] ≡ lines) done came.whole in
     let all : ended lines ++ unended ≡ ended lines = ap (λ (t : List ℕ). ended lines ++ t) none ∙ append-nil (ended lines) in
     record {
@@ -151,7 +150,7 @@ whole_walked IsNew Met w visitor known rest unended lines came consumed at_end d
       met = subst (λ (s : Stage). HasMet IsNew Met s visitor (recorded_of d)) done came.met;
     }
 
-not_done : (s : Stage) → s ≢ Done → text_stage s ≢ text.Done
+not_done : (s : Stage) → s ≢ Done → s ≢ Done
 not_done Header other e = absurd cc
 not_done Pages other e = absurd cc
 not_done Cells other e = absurd cc
@@ -168,7 +167,7 @@ pub end_refused : {V : Type 0} (IsNew : V → Type 0) (Met : V → Recorded → 
 end_refused IsNew Met w visitor known rest unended lines came consumed at_end plain more =
     let d = draft_of w.place came.lists in
     let input = ended lines ++ unended in
-    let fails = λ (none : unended ≡ []) (v : Recorded) (s : SpellsRecording v lines). not_whole (text_stage w.stage) d lines came.whole came.stands.live (not_done w.stage (more none)) v s in
+    let fails = λ (none : unended ≡ []) (v : Recorded) (s : SpellsRecording v lines). not_whole w.stage d lines came.whole came.stands.live (not_done w.stage (more none)) v s in
     let refused = refused_at_end SpellsRecording plain_recording lines input unended (came_begins IsNew Met w visitor lines came) refl plain fails in
     record {
       text = input;

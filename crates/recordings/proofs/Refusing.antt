@@ -16,7 +16,7 @@ use Rattle.session_log.specs.Records.{guest_line, source_line, link_line, lane_l
 use Rattle.session_log.specs.Grammar.{init_key, guest_key, source_key, link_key, lane_key, pager_key, page_line, closing}
 use Rattle.session_log.proofs.Laws.{page_same}
 use Rattle.recordings.specs.declared.place.Place.{Place}
-use Rattle.recordings.specs.declared.place.Stage.TheVariants.{InitCount, Init, Guest, Source, Link, Lane, Pager, Done}
+use Rattle.session_log.specs.declared.parts.Stage.TheVariants.{InitCount, Init, Guest, Source, Link, Lane, Pager, Done}
 use Rattle.recordings.specs.inner.Stands.{Refuses, draft_of}
 use Rattle.recordings.proofs.TextLaws.{init_count_refused, page_refused, guest_count_refused, source_count_refused, link_count_refused, pager_count_refused, lane_count_refused, behind_lane_refused, closing_refused, more_refused, guest_refused, source_refused, link_refused, lane_refused, pager_refused}
 use Rattle.recordings.proofs.Goes.{all_came}

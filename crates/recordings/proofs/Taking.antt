@@ -22,8 +22,8 @@ use Rattle.session_log.specs.inner.Held.{part_onto, geometry_onto, init_onto, gu
 use Rattle.session_log.proofs.Sections.{with_items, onto_push, fresh, push_fits, fresh_fits}
 use Rattle.session_log.proofs.ByVersion.{lane_is}
 use Rattle.recordings.specs.declared.place.Place.{Place}
-use Rattle.recordings.specs.declared.place.Stage.{Stage}
-use Rattle.recordings.specs.declared.place.Stage.TheVariants.{InitCount, Init, Guest, Source, Link, Lane, Pager, Done}
+use Rattle.session_log.specs.declared.parts.Stage.{Stage}
+use Rattle.session_log.specs.declared.parts.Stage.TheVariants.{InitCount, Init, Guest, Source, Link, Lane, Pager, Done}
 use Rattle.recordings.specs.inner.Held.{Part, most_count, StartFits, GuestFits, SourceFits, LinkFits, LaneFits, recorded_of}
 use Rattle.recordings.specs.inner.Stands.{Taken, Refuses, Steps, draft_of, announcing, behind_one}
 use Rattle.recordings.proofs.TextLaws.{page_push, up_to}

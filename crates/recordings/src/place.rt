@@ -13,39 +13,11 @@ use crate::{
 };
 use migration_types::{MOST_CELLS, Version};
 use session_log::{
-    CELLS_KEY, GUEST_KEY, INIT_KEY, LANE_KEY, LINK_KEY, PAGER_KEY, PAGES_KEY, SOURCE_KEY,
+    CELLS_KEY, GUEST_KEY, INIT_KEY, LANE_KEY, LINK_KEY, PAGER_KEY, PAGES_KEY, SOURCE_KEY, Stage,
     read_header,
 };
 use std::alloc::Global;
 use text_lines::{CLOSING, FaultKind, after_key, expect_line, read_decimal, read_some};
-
-/// The kind of line that comes next.
-#[derive(Clone, Copy, PartialEq, Eq)]
-pub(crate) enum Stage {
-    /// The header.
-    Header,
-    /// The number of pages.
-    Pages,
-    /// The number of cells.
-    Cells,
-    /// The number of pages that do not begin as zeros.
-    InitCount,
-    /// One of these pages, or after the last the number of the guest's records.
-    Init,
-    /// A record of the guest, or after the last the number of the source's records.
-    Guest,
-    /// A record of the source, or after the last the number of the link's records.
-    Source,
-    /// A record of the link, or after the last the number of the pager's records; in the second version, that of the
-    /// lane's records.
-    Link,
-    /// A record of the lane, or after the last the number of the pager's records.
-    Lane,
-    /// A record of the pager, or after the last the closing line.
-    Pager,
-    /// No line.
-    Done,
-}
 
 /// What the lines so far say about those to come.
 #[derive(Clone, Copy)]

@@ -5,10 +5,11 @@ ghost use Rattle.text_lines.specs.Text.{ended, IsLine};
 ghost use Rattle.recordings.specs.Lines.{longest_line};
 ghost use Rattle.recordings.specs.inner.Goings.{Came, Goes, Grows, Stops, RefusesAll, line_fault};
 
-use crate::place::{Place, Stage};
+use crate::place::Place;
 use crate::{RecordingFault, Visitor, WideMachine};
 use migration_types::{Size, Version};
 use refusal_words::Misread;
+use session_log::Stage;
 use std::alloc::Global;
 use text_lines::{FaultKind, next_line};
 

@@ -2,13 +2,13 @@
 //! of 64 bits.
 
 use crate::BEYOND;
-use crate::place::{Place, Stage};
+use crate::place::Place;
 use crate::walker::{LONGEST_LINE, Walker};
 use migration_types::Version;
 use refusal_words::{Misread, WideWanted};
 use session_log::{
     CELLS_KEY, GUEST_KEY, INIT_KEY, LANE_KEY, LINK_KEY, PAGER_KEY, PAGES_KEY, SOURCE_KEY,
-    SessionLines, session_header,
+    SessionLines, Stage, session_header,
 };
 use std::alloc::AllocError;
 use text_lines::{CLOSING, FaultKind, Wanted, push_keyed, push_line, read_or_why};

@@ -8,7 +8,7 @@ const SPACE: u8 = b' ';
 
 /// Where a line departs from a form.
 #[derive(Clone, Copy)]
-pub(crate) enum Stop<'a> {
+pub(crate) enum Departure<'a> {
     /// Nowhere: it has the form.
     Nowhere,
     /// At its end, where the form continues with this word.
@@ -33,15 +33,17 @@ pub(crate) struct Fit<'a> {
     pub(crate) words: usize,
     /// How many bytes come before the place where it departs.
     pub(crate) at: usize,
-    pub(crate) stop: Stop<'a>,
+    pub(crate) stop: Departure<'a>,
 }
 
 impl<'a> Fit<'a> {
     /// Returns the word of the form at which the line departs, if it has one there.
     pub(crate) fn slot(&self) -> Option<&'static str> {
         match self.stop {
-            Stop::Missing(slot) | Stop::Cut(slot) | Stop::Word { slot, .. } => Some(slot),
-            Stop::Nowhere | Stop::Surplus => None,
+            Departure::Missing(slot) | Departure::Cut(slot) | Departure::Word { slot, .. } => Some(
+                slot,
+            ),
+            Departure::Nowhere | Departure::Surplus => None,
         }
     }
 
@@ -49,14 +51,14 @@ impl<'a> Fit<'a> {
     /// without fields.
     pub(crate) fn is_of_line(&self) -> bool {
         match self.stop {
-            Stop::Word { word, .. } => !word.is_empty() && !has_field(self.form),
+            Departure::Word { word, .. } => !word.is_empty() && !has_field(self.form),
             _ => false,
         }
     }
 
     /// Returns whether the text ends in the middle of a word.
     pub(crate) fn is_cut(&self) -> bool {
-        matches!(self.stop, Stop::Cut(_))
+        matches!(self.stop, Departure::Cut(_))
     }
 
     /// Returns whether the line fits this form as far as it fits another.
@@ -115,15 +117,15 @@ fn stop_at<'a>(
     slot: &'static str,
     word: &'a [u8],
     is_end: bool,
-) -> Option<(usize, Stop<'a>)> {
+) -> Option<(usize, Departure<'a>)> {
     if word.is_empty() && is_end {
-        return Some((0, Stop::Missing(slot)));
+        return Some((0, Departure::Missing(slot)));
     }
     let misfit = misfit_at(slot, word, &refused.misread.wanted)?;
     if refused.misread.is_last && is_end && is_front(slot, word, &refused.misread.wanted) {
-        return Some((word.len(), Stop::Cut(slot)));
+        return Some((word.len(), Departure::Cut(slot)));
     }
-    Some((depth(misfit), Stop::Word { slot, word, misfit }))
+    Some((depth(misfit), Departure::Word { slot, word, misfit }))
 }
 
 /// Returns how a refused line fits a form.
@@ -137,7 +139,7 @@ pub(crate) fn fit_of<'a>(refused: &'a Refused, form: &'static str) -> Fit<'a> {
                 form,
                 words,
                 at: line.len(),
-                stop: Stop::Missing(slot),
+                stop: Departure::Missing(slot),
             };
         };
         let (word, after) = first_word(text);
@@ -153,8 +155,8 @@ pub(crate) fn fit_of<'a>(refused: &'a Refused, form: &'static str) -> Fit<'a> {
         left = after;
     }
     let (at, stop) = match left {
-        None => (line.len(), Stop::Nowhere),
-        Some(text) => (before(line, text).saturating_sub(1), Stop::Surplus),
+        None => (line.len(), Departure::Nowhere),
+        Some(text) => (before(line, text).saturating_sub(1), Departure::Surplus),
     };
     Fit {
         form,

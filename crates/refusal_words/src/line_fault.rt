@@ -2,7 +2,7 @@
 
 ghost use Rattle.std.specs.Prelude.{◌≤◌};
 
-use crate::fitting::{Fit, Stop, best_fit};
+use crate::fitting::{Departure, Fit, best_fit};
 use crate::refused::Refused;
 use crate::special::{Special, special_of};
 use text_lines::FaultKind;
@@ -32,9 +32,9 @@ fn line_fault_in(refused: &Refused) -> LineFault<'_> {
         return LineFault::Other;
     };
     match fit.stop {
-        Stop::Nowhere if refused.misread.is_last => LineFault::Unended,
-        Stop::Nowhere => LineFault::Rule,
-        Stop::Cut(_) => LineFault::Stops(fit),
+        Departure::Nowhere if refused.misread.is_last => LineFault::Unended,
+        Departure::Nowhere => LineFault::Rule,
+        Departure::Cut(_) => LineFault::Stops(fit),
         _ if fit.words == 0 => LineFault::Other,
         _ => LineFault::Stops(fit),
     }

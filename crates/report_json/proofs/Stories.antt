@@ -18,8 +18,8 @@ use Rattle.session_story.specs.declared.explaining.Explanation.TheVariants as ex
 use Rattle.session_story.specs.declared.faults.FaultStory.{FaultStory}
 use Rattle.session_story.specs.declared.topics.FullPageStory.{FullPageStory}
 use Rattle.session_story.specs.declared.topics.LineStory.{LineStory}
-use Rattle.session_story.specs.declared.topics.Topic.{Topic}
-use Rattle.session_story.specs.declared.topics.Topic.TheVariants as topic
+use Rattle.migration_types.specs.declared.topic.Topic.{Topic}
+use Rattle.migration_types.specs.declared.topic.Topic.TheVariants as topic
 use Rattle.session_story.specs.declared.topics.TopicStory.{TopicStory}
 use Rattle.session_story.specs.declared.topics.TopicStory.TheVariants as told
 use Rattle.report_json.specs.inner.Faults.{IsFaultThere}

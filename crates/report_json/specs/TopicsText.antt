@@ -8,7 +8,7 @@ use Rattle.session_story.specs.Topics.{IsTold}
 use Rattle.session_story.specs.declared.faults.FaultStory.{FaultStory}
 use Rattle.session_story.specs.declared.topics.FullPageStory.{FullPageStory}
 use Rattle.session_story.specs.declared.topics.LineStory.{LineStory}
-use Rattle.session_story.specs.declared.topics.Topic.{Topic}
+use Rattle.migration_types.specs.declared.topic.Topic.{Topic}
 use Rattle.session_story.specs.declared.topics.TopicStory.{TopicStory}
 use Rattle.session_story.specs.declared.topics.TopicStory.TheVariants as story
 use Rattle.report_json.specs.JsonText.{listed, number, opened, record_in, report_begun, word}

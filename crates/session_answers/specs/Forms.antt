@@ -14,7 +14,7 @@ use Rattle.judged_texts.specs.declared.audit_part.AuditPart.{AuditPart}
 use Rattle.report_json.specs.TopicsText.{told_object}
 use Rattle.session_story.specs.Told.{IsRefusedText, IsToldText}
 use Rattle.session_story.specs.Topics.{IsTold}
-use Rattle.session_story.specs.declared.topics.Topic.{Topic}
+use Rattle.migration_types.specs.declared.topic.Topic.{Topic}
 use Rattle.session_story.specs.declared.topics.TopicStory.{TopicStory}
 use Rattle.session_answers.specs.Judged.{Judged, Refused, Reported}
 use Rattle.session_answers.specs.declared.forms.AnswerForm.{AnswerForm}

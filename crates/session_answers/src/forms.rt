@@ -6,7 +6,7 @@ ghost use Rattle.session_answers.specs.Lacks.{lack_form, story_lack};
 
 use completeness::Extent;
 use judged_texts::AuditPart;
-use session_story::Topic;
+use migration_types::Topic;
 
 /// The form in which the story of a session is written.
 #[derive(Clone, Copy)]

@@ -7,9 +7,9 @@ ghost use Rattle.session_answers.specs.Forms.{TellsRecords, TellsRefusalObject, 
 
 use crate::forms::Story;
 use audit_report::{Lines, Report};
-use migration_types::Session;
+use migration_types::{Session, Topic};
 use report_json::{push_refused, push_told};
-use session_story::{Topic, print_refused, print_topic, tell};
+use session_story::{print_refused, print_topic, tell};
 use std::alloc::{AllocError, Global};
 
 /// Returns the object of the report with the records of the story on a topic, with its line numbers from `lines`. Fails

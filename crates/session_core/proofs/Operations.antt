@@ -13,7 +13,8 @@ use Rattle.page_store.specs.Frames.{IsPageOf}
 use Rattle.migration_events.specs.declared.events.Fate.{Fate}
 use Rattle.migration_events.specs.declared.ops.Op.{Op}
 use Rattle.guest_script.specs.declared.vcpus.Vcpu.{Vcpu as Scheduled}
-use Rattle.guest_script.specs.Scenarios.{Scenario, IsScenario, LaneFits, VcpuFits as ScheduledFits}
+use Rattle.guest_script.specs.declared.script.Scenario.{Scenario}
+use Rattle.guest_script.specs.Scenarios.{IsScenario, LaneFits, VcpuFits as ScheduledFits}
 use Rattle.target_side.specs.TargetPart.{TargetPart, Accessed, target_access}
 use Rattle.target_side.specs.declared.Access.{Access}
 use Rattle.target_side.specs.declared.Access.TheVariants.{Done, Missed, Waiting}

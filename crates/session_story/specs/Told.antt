@@ -10,8 +10,8 @@ use Rattle.audit_report.specs.RefusalText.{refusal_text}
 use Rattle.completeness.specs.declared.lack.Lack.{Lack}
 use Rattle.session_story.specs.declared.sentences.Sentence.{Sentence}
 use Rattle.session_story.specs.declared.topics.TopicStory.{TopicStory}
-use Rattle.session_story.specs.declared.topics.Topic.{Topic}
-use Rattle.session_story.specs.declared.topics.Topic.TheVariants as topic
+use Rattle.migration_types.specs.declared.topic.Topic.{Topic}
+use Rattle.migration_types.specs.declared.topic.Topic.TheVariants as topic
 use Rattle.session_story.specs.Lacks.{missing_told}
 use Rattle.session_story.specs.Sentences.{told_in_full}
 use Rattle.session_story.specs.Topics.{IsTold}

@@ -16,8 +16,8 @@ use Rattle.session_story.specs.declared.topics.LineStory.{LineStory}
 use Rattle.session_story.specs.declared.topics.FullPageStory.{FullPageStory}
 use Rattle.session_story.specs.declared.topics.TopicStory.{TopicStory}
 use Rattle.session_story.specs.declared.topics.TopicStory.TheVariants as told
-use Rattle.session_story.specs.declared.topics.Topic.{Topic}
-use Rattle.session_story.specs.declared.topics.Topic.TheVariants as topic
+use Rattle.migration_types.specs.declared.topic.Topic.{Topic}
+use Rattle.migration_types.specs.declared.topic.Topic.TheVariants as topic
 
 -- the story of the page's first fault
 pub record IsFirstFaultStory (s : Recorded) (page : ℕ) (f : FaultStory) : Type 0 where

@@ -41,7 +41,7 @@ pub use subjects::page_of;
 pub use telling::{
     print_explained, print_missing, print_refused, print_topic, push_summary, words_on,
 };
-pub use topics::{FullPageStory, LineStory, Topic, TopicStory, tell};
+pub use topics::{FullPageStory, LineStory, TopicStory, tell};
 pub use values::CellValue;
 pub use waits::{Knot, Waiting};
 pub use writing::Writer;

@@ -10,13 +10,13 @@ ghost use Rattle.session_story.specs.Writing.{Adds, AreWritten, IsLine};
 use crate::english::{BY_OWN_LINES, English, NO_TEXT};
 use crate::sentences::lacks::missing_told;
 use crate::sentences::topics::{told_first, told_in_full};
-use crate::topics::{Topic, TopicStory, tell};
+use crate::topics::{TopicStory, tell};
 use crate::writing::{Writer, push_sentences};
 use audit_report::{
     Lines, OwnLines, Report, push_first_line_by, push_missing, push_refused_session_by,
 };
 use completeness::Lack;
-use migration_types::Session;
+use migration_types::{Session, Topic};
 use std::alloc::{AllocError, Global};
 
 /// Returns the story of a session on a topic, in a writer's words. Makes a few passes over each log, and allocates as

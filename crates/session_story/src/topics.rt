@@ -13,20 +13,9 @@ use crate::lines::record_on;
 use crate::pages::{Handover, PageStory, handover_of, story_of};
 use crate::subjects::page_of;
 use audit_report::Report;
-use migration_types::{LogName, PageNo, Session};
+use migration_types::{LogName, PageNo, Session, Topic};
 use page_facts::fault_of;
 use std::alloc::{AllocError, Global};
-
-/// The topic of a story.
-#[derive(Clone, Copy, Debug, PartialEq, Eq)]
-pub enum Topic {
-    /// What the report names.
-    Report,
-    /// The page of this number.
-    Page(u32),
-    /// The record at this line of the session's text, counted from 1, and its page.
-    Line(u32),
-}
 
 /// The story of a page, with its fault.
 #[derive(Clone, Copy, Debug, PartialEq, Eq)]

@@ -9,7 +9,7 @@ use Rattle.session_log.specs.declared.parts.Stage.{Stage}
 use Rattle.session_log.specs.inner.Held.{part_onto}
 use Rattle.session_log.proofs.Laws.{held_line}
 use Rattle.recordings.specs.inner.Held.{SessionDraft, Part, held_onto, came_at, announced_at}
-use Rattle.written_recordings.specs.declared.text.Section.{Section}
+use Rattle.written_recordings.specs.declared.text.ListKind.{ListKind}
 use Rattle.written_recordings.specs.declared.text.Text.{Text}
 use Rattle.written_recordings.specs.inner.Made.{stage_of, AreCounts, Lives, Stands, IsSame, lane_count}
 
@@ -53,24 +53,24 @@ counts_kept old new d is same = record {
 }
 
 -- the same of a text at this list
-pub record StandsAt (before : List ℕ) (t : Text) (at : Section) (d : SessionDraft) : Type 0 where
+pub record StandsAt (before : List ℕ) (t : Text) (at : ListKind) (d : SessionDraft) : Type 0 where
   pub counts : AreCounts t d
   pub lives : Lives at d
   pub came : t.left + came_at (stage_of at) d ≡ announced_at (stage_of at) d
   pub text : before ++ t.bytes.items ≡ ended (held_onto (stage_of at) d [])
 
-pub stands_at : (before : List ℕ) (t : Text) (at : Section) (d : SessionDraft) → t.section ≡ at → Stands before t d → StandsAt before t at d
+pub stands_at : (before : List ℕ) (t : Text) (at : ListKind) (d : SessionDraft) → t.section ≡ at → Stands before t d → StandsAt before t at d
 stands_at before t at d is s = record {
   counts = s.counts;
-  lives = subst (λ (x : Section). Lives x d) is s.lives;
-  came = subst (λ (x : Section). t.left + came_at (stage_of x) d ≡ announced_at (stage_of x) d) is s.came;
-  text = subst (λ (x : Section). before ++ t.bytes.items ≡ ended (held_onto (stage_of x) d [])) is s.text;
+  lives = subst (λ (x : ListKind). Lives x d) is s.lives;
+  came = subst (λ (x : ListKind). t.left + came_at (stage_of x) d ≡ announced_at (stage_of x) d) is s.came;
+  text = subst (λ (x : ListKind). before ++ t.bytes.items ≡ ended (held_onto (stage_of x) d [])) is s.text;
 }
 
-pub stands_there : (before : List ℕ) (t : Text) (at : Section) (d : SessionDraft) → t.section ≡ at → StandsAt before t at d → Stands before t d
+pub stands_there : (before : List ℕ) (t : Text) (at : ListKind) (d : SessionDraft) → t.section ≡ at → StandsAt before t at d → Stands before t d
 stands_there before t at d is s = record {
   counts = s.counts;
-  lives = subst (λ (x : Section). Lives x d) (sym is) s.lives;
-  came = subst (λ (x : Section). t.left + came_at (stage_of x) d ≡ announced_at (stage_of x) d) (sym is) s.came;
-  text = subst (λ (x : Section). before ++ t.bytes.items ≡ ended (held_onto (stage_of x) d [])) (sym is) s.text;
+  lives = subst (λ (x : ListKind). Lives x d) (sym is) s.lives;
+  came = subst (λ (x : ListKind). t.left + came_at (stage_of x) d ≡ announced_at (stage_of x) d) (sym is) s.came;
+  text = subst (λ (x : ListKind). before ++ t.bytes.items ≡ ended (held_onto (stage_of x) d [])) (sym is) s.text;
 }

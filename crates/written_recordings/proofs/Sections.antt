@@ -17,8 +17,8 @@ use Rattle.session_log.specs.inner.Held.{geometry_onto, init_onto, guest_onto, s
 use Rattle.session_log.proofs.Sections.{onto_push}
 use Rattle.session_log.proofs.ByVersion.{lane_is}
 use Rattle.recordings.specs.inner.Held.{SessionDraft, Part, IsWhole, held_onto, came_at, announced_at}
-use Rattle.written_recordings.specs.declared.text.Section.{Section}
-use Rattle.written_recordings.specs.declared.text.Section.TheVariants as section
+use Rattle.written_recordings.specs.declared.text.ListKind.{ListKind}
+use Rattle.written_recordings.specs.declared.text.ListKind.TheVariants as section
 use Rattle.written_recordings.specs.declared.text.Text.{Text}
 use Rattle.written_recordings.specs.inner.Made.{stage_of, rank, lane_count, AreCounts, Lives, Stands, IsSame, Begins, Takes, IsEnded, with_item, and_init, and_guest, and_source, and_link, and_lane, and_pager}
 use Rattle.written_recordings.proofs.Lines.{text_more, fresh_onto, counts_kept, StandsAt, stands_at, stands_there}
@@ -29,7 +29,7 @@ use Rattle.written_recordings.proofs.Lines.{text_more, fresh_onto, counts_kept, 
 whole : {X : Type 0} (part : Part X) (left : ℕ) → left ≡ 0 → left + length part.items ≡ part.count → IsWhole part
 whole part left none came = omega arith
 
-begun : (before : List ℕ) (old new : Text) (d : SessionDraft) (at next : Section) (key : List ℕ) (count : ℕ) → StandsAt before old at d → Begins old new next key count → Lives next d → count + came_at (stage_of next) d ≡ announced_at (stage_of next) d → held_onto (stage_of next) d [] ≡ held_onto (stage_of at) d ((key ++ decimal count) ∷ []) → Stands before new d
+begun : (before : List ℕ) (old new : Text) (d : SessionDraft) (at next : ListKind) (key : List ℕ) (count : ℕ) → StandsAt before old at d → Begins old new next key count → Lives next d → count + came_at (stage_of next) d ≡ announced_at (stage_of next) d → held_onto (stage_of next) d [] ≡ held_onto (stage_of at) d ((key ++ decimal count) ∷ []) → Stands before new d
 begun before old new d at next key count s begins lives came held =
     let bytes : new.bytes.items ≡ old.bytes.items ++ ((key ++ decimal count) ++ 10 ∷ []) = begins.bytes ∙ ap (λ (xs : List ℕ). old.bytes.items ++ xs) (sym (append_assoc key (decimal count) (10 ∷ []))) in
     stands_there before new next d begins.section (record {
@@ -108,16 +108,16 @@ from_link before old new d is one begins stands =
 pub to_pager : (before : List ℕ) (old new : Text) (d : SessionDraft) → (old.section ≡ section.Pager → ⊥) → 3 ≤ rank old.section → (old.version ≡ Two → 4 ≤ rank old.section) → Begins old new section.Pager pager_key old.front.pager → Stands before old d → Stands before new d
 to_pager before old new d other reached two begins stands = go old.section old.version refl refl
   where
-    go : (at : Section) (v : Version) → old.section ≡ at → old.version ≡ v → Stands before new d
-    go section.Init v is version = let r : 3 ≤ rank section.Init = subst (λ (x : Section). 3 ≤ rank x) is reached in absurd (omega arith)
-    go section.Guest v is version = let r : 3 ≤ rank section.Guest = subst (λ (x : Section). 3 ≤ rank x) is reached in absurd (omega arith)
-    go section.Source v is version = let r : 3 ≤ rank section.Source = subst (λ (x : Section). 3 ≤ rank x) is reached in absurd (omega arith)
+    go : (at : ListKind) (v : Version) → old.section ≡ at → old.version ≡ v → Stands before new d
+    go section.Init v is version = let r : 3 ≤ rank section.Init = subst (λ (x : ListKind). 3 ≤ rank x) is reached in absurd (omega arith)
+    go section.Guest v is version = let r : 3 ≤ rank section.Guest = subst (λ (x : ListKind). 3 ≤ rank x) is reached in absurd (omega arith)
+    go section.Source v is version = let r : 3 ≤ rank section.Source = subst (λ (x : ListKind). 3 ≤ rank x) is reached in absurd (omega arith)
     go section.Link One is version = from_link before old new d is version begins stands
-    go section.Link Two is version = let r : 4 ≤ rank section.Link = subst (λ (x : Section). 4 ≤ rank x) is (two version) in absurd (omega arith)
+    go section.Link Two is version = let r : 4 ≤ rank section.Link = subst (λ (x : ListKind). 4 ≤ rank x) is (two version) in absurd (omega arith)
     go section.Lane v is version = from_lane before old new d is begins stands
     go section.Pager v is version = absurd (other is)
 
-pub at_pager : (at : Section) → 5 ≤ rank at → at ≡ section.Pager
+pub at_pager : (at : ListKind) → 5 ≤ rank at → at ≡ section.Pager
 at_pager section.Init le = absurd (omega arith)
 at_pager section.Guest le = absurd (omega arith)
 at_pager section.Source le = absurd (omega arith)
@@ -140,7 +140,7 @@ counted part x left less one came = omega (arith, length-append part.items (x �
 same_then : (a b c : Text) → IsSame a b → IsSame b c → IsSame a c
 same_then a b c p q = record { front = q.front ∙ p.front; init = q.init ∙ p.init; version = q.version ∙ p.version }
 
-pushed : (before : List ℕ) (old taken new : Text) (d e : SessionDraft) (at : Section) (line : List ℕ) → StandsAt before old at d → Takes old taken at → IsPushed taken new line → (AreCounts old d → AreCounts old e) → Lives at e → (taken.left + came_at (stage_of at) e ≡ announced_at (stage_of at) e) → held_onto (stage_of at) e [] ≡ held_onto (stage_of at) d (line ∷ []) → Stands before new e
+pushed : (before : List ℕ) (old taken new : Text) (d e : SessionDraft) (at : ListKind) (line : List ℕ) → StandsAt before old at d → Takes old taken at → IsPushed taken new line → (AreCounts old d → AreCounts old e) → Lives at e → (taken.left + came_at (stage_of at) e ≡ announced_at (stage_of at) e) → held_onto (stage_of at) e [] ≡ held_onto (stage_of at) d (line ∷ []) → Stands before new e
 pushed before old taken new d e at line s takes push counts lives came held =
     let bytes : new.bytes.items ≡ old.bytes.items ++ (line ++ 10 ∷ []) = push.bytes ∙ ap (λ (v : _). v.items ++ (line ++ 10 ∷ [])) takes.bytes in
     stands_there before new at e (push.section ∙ takes.section) (record {

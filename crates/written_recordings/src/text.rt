@@ -6,7 +6,7 @@ ghost use Rattle.command_texts.specs.Written.{Gains};
 ghost use Rattle.recordings.specs.Wide.{init_of, guest_of, source_of, link_of, lane_of, pager_of};
 ghost use Rattle.recordings.specs.inner.Held.{SessionDraft};
 
-use crate::faults::TextFault;
+use crate::faults::LineFault;
 use command_texts::{Cause, write_or_why};
 use migration_types::Version;
 use recorded_files::Front;
@@ -21,7 +21,7 @@ use text_lines::{CLOSING, push_keyed, push_line};
 
 /// A counted list of lines in the text.
 #[derive(Clone, Copy, PartialEq, Eq)]
-pub(crate) enum Section {
+pub(crate) enum ListKind {
     Init,
     Guest,
     Source,
@@ -39,7 +39,7 @@ pub(crate) struct Text {
     /// How many initial pages it has.
     pub(crate) init: u64,
     pub(crate) version: Version,
-    pub(crate) section: Section,
+    pub(crate) section: ListKind,
     /// How many lines of the list are still to come.
     pub(crate) left: u64,
 }
@@ -59,20 +59,20 @@ impl Text {
             front,
             init,
             version: Version::One,
-            section: Section::Init,
+            section: ListKind::Init,
             left: init,
         }
     }
 
     /// Appends the lines of the machine, and the number of initial pages.
-    pub(crate) fn push_machine(&mut self, machine: &WideMachine) -> Result<(), TextFault>
+    pub(crate) fn push_machine(&mut self, machine: &WideMachine) -> Result<(), LineFault>
         ensures { OnOk result (IsMachineSaid self.old self.new machine.now) }
     {
         let Ok(()) = self.push_head(machine) else {
-            return Err(TextFault::Memory);
+            return Err(LineFault::Memory);
         };
         self.version = machine.version;
-        self.section = Section::Init;
+        self.section = ListKind::Init;
         self.left = self.init;
         Ok(())
     }
@@ -90,14 +90,14 @@ impl Text {
     }
 
     /// Ends a list, none of whose lines is missing, and begins the next with the line of its number.
-    fn begin(&mut self, section: Section, key: &[u8], count: u64) -> Result<(), TextFault>
+    fn begin(&mut self, section: ListKind, key: &[u8], count: u64) -> Result<(), LineFault>
         ensures { OnOk result (Begins self.old self.new section key.now count) }
     {
         if self.left != 0 {
-            return Err(TextFault::Changed);
+            return Err(LineFault::Changed);
         }
         let Ok(()) = push_keyed(&mut self.bytes, key, count) else {
-            return Err(TextFault::Memory);
+            return Err(LineFault::Memory);
         };
         self.section = section;
         self.left = count;
@@ -105,56 +105,56 @@ impl Text {
     }
 
     /// Counts a line of a list, whose turn it is.
-    fn take(&mut self, section: Section) -> Result<(), TextFault>
+    fn take(&mut self, section: ListKind) -> Result<(), LineFault>
         ensures { OnOk result (Takes self.old self.new section) }
     {
         if self.section != section || self.left == 0 {
-            return Err(TextFault::Changed);
+            return Err(LineFault::Changed);
         }
         self.left -= 1;
         Ok(())
     }
 
     /// Begins the guest's log, if it has not begun.
-    fn reach_guest(&mut self) -> Result<(), TextFault>
+    fn reach_guest(&mut self) -> Result<(), LineFault>
         ensures stands { (before : List ℕ) (d : SessionDraft) → Stands before self.old d → OnOk result (Stands before self.new d) }
         ensures reached { OnOk result (1 ≤ rank self.new.section) }
         ensures same { OnOk result (IsSame self.old self.new) }
     {
         match self.section {
-            Section::Init => self.begin(Section::Guest, GUEST_KEY, self.front.guest),
+            ListKind::Init => self.begin(ListKind::Guest, GUEST_KEY, self.front.guest),
             _ => Ok(()),
         }
     }
 
     /// Begins the source's log, if it has not begun.
-    fn reach_source(&mut self) -> Result<(), TextFault>
+    fn reach_source(&mut self) -> Result<(), LineFault>
         ensures stands { (before : List ℕ) (d : SessionDraft) → Stands before self.old d → OnOk result (Stands before self.new d) }
         ensures reached { OnOk result (2 ≤ rank self.new.section) }
         ensures same { OnOk result (IsSame self.old self.new) }
     {
         self.reach_guest()?;
         match self.section {
-            Section::Guest => self.begin(Section::Source, SOURCE_KEY, self.front.source),
+            ListKind::Guest => self.begin(ListKind::Source, SOURCE_KEY, self.front.source),
             _ => Ok(()),
         }
     }
 
     /// Begins the link's log, if it has not begun.
-    fn reach_link(&mut self) -> Result<(), TextFault>
+    fn reach_link(&mut self) -> Result<(), LineFault>
         ensures stands { (before : List ℕ) (d : SessionDraft) → Stands before self.old d → OnOk result (Stands before self.new d) }
         ensures reached { OnOk result (3 ≤ rank self.new.section) }
         ensures same { OnOk result (IsSame self.old self.new) }
     {
         self.reach_source()?;
         match self.section {
-            Section::Source => self.begin(Section::Link, LINK_KEY, self.front.link),
+            ListKind::Source => self.begin(ListKind::Link, LINK_KEY, self.front.link),
             _ => Ok(()),
         }
     }
 
     /// Begins the lane's log, if it has not begun and the version has one.
-    fn reach_lane(&mut self) -> Result<(), TextFault>
+    fn reach_lane(&mut self) -> Result<(), LineFault>
         ensures stands { (before : List ℕ) (d : SessionDraft) → Stands before self.old d → OnOk result (Stands before self.new d) }
         ensures reached { OnOk result (3 ≤ rank self.new.section) }
         ensures version { OnOk result (self.new.version ≡ Two → 4 ≤ rank self.new.section) }
@@ -162,97 +162,97 @@ impl Text {
     {
         self.reach_link()?;
         match (self.section, self.version) {
-            (Section::Link, Version::Two) => self.begin(Section::Lane, LANE_KEY, self.front.lane),
+            (ListKind::Link, Version::Two) => self.begin(ListKind::Lane, LANE_KEY, self.front.lane),
             _ => Ok(()),
         }
     }
 
     /// Begins the pager's log, if it has not begun.
-    fn reach_pager(&mut self) -> Result<(), TextFault>
+    fn reach_pager(&mut self) -> Result<(), LineFault>
         ensures stands { (before : List ℕ) (d : SessionDraft) → Stands before self.old d → OnOk result (Stands before self.new d) }
         ensures reached { OnOk result (5 ≤ rank self.new.section) }
         ensures same { OnOk result (IsSame self.old self.new) }
     {
         self.reach_lane()?;
         match self.section {
-            Section::Pager => Ok(()),
-            _ => self.begin(Section::Pager, PAGER_KEY, self.front.pager),
+            ListKind::Pager => Ok(()),
+            _ => self.begin(ListKind::Pager, PAGER_KEY, self.front.pager),
         }
     }
 
     /// Appends the line of an initial page.
-    pub(crate) fn push_init(&mut self, page: &WideInit) -> Result<(), TextFault>
+    pub(crate) fn push_init(&mut self, page: &WideInit) -> Result<(), LineFault>
         ensures stands { (before : List ℕ) (d : SessionDraft) → Stands before self.old d → OnOk result (Stands before self.new (and_init d (init_of page.now))) }
         ensures same { OnOk result (IsSame self.old self.new) }
     {
-        self.take(Section::Init)?;
+        self.take(ListKind::Init)?;
         let Ok(()) = page.push(&mut self.bytes) else {
-            return Err(TextFault::Memory);
+            return Err(LineFault::Memory);
         };
         Ok(())
     }
 
     /// Appends the line of a record of the guest.
-    pub(crate) fn push_guest(&mut self, rec: &WideGuest) -> Result<(), TextFault>
+    pub(crate) fn push_guest(&mut self, rec: &WideGuest) -> Result<(), LineFault>
         ensures stands { (before : List ℕ) (d : SessionDraft) → Stands before self.old d → OnOk result (Stands before self.new (and_guest d (guest_of rec.now))) }
         ensures same { OnOk result (IsSame self.old self.new) }
     {
         self.reach_guest()?;
-        self.take(Section::Guest)?;
+        self.take(ListKind::Guest)?;
         let Ok(()) = rec.push(&mut self.bytes) else {
-            return Err(TextFault::Memory);
+            return Err(LineFault::Memory);
         };
         Ok(())
     }
 
     /// Appends the line of a record of the source.
-    pub(crate) fn push_source(&mut self, rec: &WideSource) -> Result<(), TextFault>
+    pub(crate) fn push_source(&mut self, rec: &WideSource) -> Result<(), LineFault>
         ensures stands { (before : List ℕ) (d : SessionDraft) → Stands before self.old d → OnOk result (Stands before self.new (and_source d (source_of rec.now))) }
         ensures same { OnOk result (IsSame self.old self.new) }
     {
         self.reach_source()?;
-        self.take(Section::Source)?;
+        self.take(ListKind::Source)?;
         let Ok(()) = rec.push(&mut self.bytes) else {
-            return Err(TextFault::Memory);
+            return Err(LineFault::Memory);
         };
         Ok(())
     }
 
     /// Appends the line of a record of the link.
-    pub(crate) fn push_link(&mut self, rec: &WideLink) -> Result<(), TextFault>
+    pub(crate) fn push_link(&mut self, rec: &WideLink) -> Result<(), LineFault>
         ensures stands { (before : List ℕ) (d : SessionDraft) → Stands before self.old d → OnOk result (Stands before self.new (and_link d (link_of rec.now))) }
         ensures same { OnOk result (IsSame self.old self.new) }
     {
         self.reach_link()?;
-        self.take(Section::Link)?;
+        self.take(ListKind::Link)?;
         let Ok(()) = rec.push(&mut self.bytes) else {
-            return Err(TextFault::Memory);
+            return Err(LineFault::Memory);
         };
         Ok(())
     }
 
     /// Appends the line of a record of the lane.
-    pub(crate) fn push_lane(&mut self, rec: &WideLane) -> Result<(), TextFault>
+    pub(crate) fn push_lane(&mut self, rec: &WideLane) -> Result<(), LineFault>
         ensures stands { (before : List ℕ) (d : SessionDraft) → Stands before self.old d → OnOk result (Stands before self.new (and_lane d (lane_of rec.now))) }
         ensures same { OnOk result (IsSame self.old self.new) }
     {
         self.reach_lane()?;
-        self.take(Section::Lane)?;
+        self.take(ListKind::Lane)?;
         let Ok(()) = rec.push(&mut self.bytes) else {
-            return Err(TextFault::Memory);
+            return Err(LineFault::Memory);
         };
         Ok(())
     }
 
     /// Appends the line of a record of the pager.
-    pub(crate) fn push_pager(&mut self, rec: &WidePager) -> Result<(), TextFault>
+    pub(crate) fn push_pager(&mut self, rec: &WidePager) -> Result<(), LineFault>
         ensures stands { (before : List ℕ) (d : SessionDraft) → Stands before self.old d → OnOk result (Stands before self.new (and_pager d (pager_of rec.now))) }
         ensures same { OnOk result (IsSame self.old self.new) }
     {
         self.reach_pager()?;
-        self.take(Section::Pager)?;
+        self.take(ListKind::Pager)?;
         let Ok(()) = rec.push(&mut self.bytes) else {
-            return Err(TextFault::Memory);
+            return Err(LineFault::Memory);
         };
         Ok(())
     }
@@ -269,15 +269,15 @@ impl Text {
     }
 
     /// Appends the numbers of the logs that have not begun, and the closing line.
-    pub(crate) fn push_end(&mut self) -> Result<(), TextFault>
+    pub(crate) fn push_end(&mut self) -> Result<(), LineFault>
         ensures { (before : List ℕ) (d : SessionDraft) → Stands before self.old d → OnOk result (IsEnded before self.new d) }
     {
         self.reach_pager()?;
         if self.left != 0 {
-            return Err(TextFault::Changed);
+            return Err(LineFault::Changed);
         }
         let Ok(()) = push_line(&mut self.bytes, CLOSING) else {
-            return Err(TextFault::Memory);
+            return Err(LineFault::Memory);
         };
         Ok(())
     }

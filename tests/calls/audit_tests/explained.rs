@@ -2,9 +2,10 @@
 
 use crate::texts::{HANDOVER, changed};
 use audit_report::{OwnLines, audit};
+use migration_types::Topic;
 use report_json::push_told;
 use session_log::read_session;
-use session_story::{Topic, tell};
+use session_story::tell;
 use std::alloc::{AllocError, Global};
 use std::marker::Sync;
 use std::thread::Threads;

@@ -5,9 +5,9 @@ use Rattle.migration_types.specs.Extents.{Extent}
 use Rattle.page_store.specs.Tables.{values, pages_of, all_at}
 use Rattle.balloon_ledger.specs.Released.{Marks, released, pages_below}
 use Rattle.bubbling.specs.Bubbling.{IsStart, rest_of}
-use Rattle.active_push.specs.declared.book.Opening.{Opening}
+use Rattle.active_push.specs.declared.book.OpeningParts.{OpeningParts}
 
-pub record IsOpening (e : Extent) (ledger : Marks) (halt most : ℕ) (o : Opening) : Type 0 where
+pub record IsOpening (e : Extent) (ledger : Marks) (halt most : ℕ) (o : OpeningParts) : Type 0 where
   pub log : o.log.items ≡ Halted halt ∷ State ∷ []
   pub table : pages_of o.sent ≡ e.pages
   pub sent : values o.sent ≡ all_at None

@@ -4,7 +4,7 @@ use Rattle.text_lines.specs.declared.FaultKind.{FaultKind}
 use Rattle.text_lines.specs.declared.FaultKind.TheVariants.{Memory}
 use Rattle.guest_script.specs.declared.script_steps.ScriptParts.{ScriptParts}
 use Rattle.guest_script.specs.declared.stages.ScriptStage.{ScriptStage}
-use Rattle.guest_script.specs.Scenarios.{Scenario}
+use Rattle.guest_script.specs.declared.script.Scenario.{Scenario}
 use Rattle.guest_script.specs.inner.ScriptHeld.{ScriptDraft, ScriptLive, ScriptRest, script_held, vcpu_of}
 
 abbrev pub draft_of : ScriptParts → ScriptDraft

@@ -19,7 +19,8 @@ use Rattle.session_log.specs.inner.InitPages.{next_from}
 use Rattle.guest_script.specs.declared.vcpus.Vcpu.{Vcpu}
 use Rattle.guest_script.specs.declared.stages.ScriptStage.{ScriptStage}
 use Rattle.guest_script.specs.declared.stages.ScriptStage.TheVariants.{Header, Pages, Cells, InitCount, Init, Window, Down, Up, Lanes, Lane, Count, First, Ops, Done}
-use Rattle.guest_script.specs.Scenarios.{Scenario, LaneFits, VcpuFits, IsScenario}
+use Rattle.guest_script.specs.declared.script.Scenario.{Scenario}
+use Rattle.guest_script.specs.Scenarios.{LaneFits, VcpuFits, IsScenario}
 use Rattle.guest_script.specs.Scripts.{script_header, pivots_key, window_key, down_key, up_key, vcpus_key, fates_text, op_line, counts_line, vcpus_onto, vcpus_lines, lane_key, with_lanes, lanes_lines, up_lines, down_lines, window_lines, pivots_lines, init_lines, cells_lines, pages_lines, SpellsScript}
 use Rattle.guest_script.specs.inner.Exact.{Exact}
 

@@ -19,7 +19,8 @@ use Rattle.session_log.specs.inner.InitPages.{rise_of, rise_long}
 use Rattle.session_log.specs.inner.Plain.{plain_page}
 use Rattle.session_log.specs.inner.RecordPlain.{plain_keyed, plain_number}
 use Rattle.guest_script.specs.declared.vcpus.Vcpu.{Vcpu}
-use Rattle.guest_script.specs.Scenarios.{Scenario, VcpuFits}
+use Rattle.guest_script.specs.declared.script.Scenario.{Scenario}
+use Rattle.guest_script.specs.Scenarios.{VcpuFits}
 use Rattle.guest_script.specs.Scripts.{script_header, pivots_key, window_key, down_key, up_key, lane_key, vcpus_key, vcpu_key, fate_letter, fates_text, place_text, value_text, op_line, vcpus_onto, vcpus_lines, with_lanes, lanes_lines, up_lines, down_lines, window_lines, pivots_lines, init_lines, SpellsScript}
 
 plain_header : (version : Version) → IsLine (script_header version)

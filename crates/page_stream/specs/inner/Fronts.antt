@@ -5,8 +5,8 @@ use Rattle.page_stream.specs.Packets.{number_of}
 use Rattle.page_stream.specs.Bytes.{kind_of, fields_of, packet_bytes, Fits}
 use Rattle.page_stream.specs.Streams.{HasFault, IsPartial}
 use Rattle.page_stream.specs.declared.Packet.{Packet}
-use Rattle.page_stream.specs.declared.stream.Front.{Front}
-use Rattle.page_stream.specs.declared.stream.Front.TheVariants.{Packet as FrontPacket, Partial as FrontPartial, Fault as FrontFault}
+use Rattle.page_stream.specs.declared.stream.StreamHead.{StreamHead}
+use Rattle.page_stream.specs.declared.stream.StreamHead.TheVariants.{Packet as HeadPacket, Partial as HeadPartial, Fault as HeadFault}
 use Rattle.page_stream.specs.declared.stream.StreamFaultKind.{StreamFaultKind}
 
 -- these bytes are the fields of this packet, after its record number
@@ -21,10 +21,10 @@ abbrev pub IsNoFields : Extent → ℕ → ℕ → List ℕ → Type 0
 IsNoFields e kind number fields = (p : Packet) → AreFields e kind number fields p → ⊥
 
 -- what some bytes begin with
-abbrev pub IsFront : Extent → List ℕ → Front → Type 0
-IsFront e bytes (FrontPacket p rest) = Fits e p × (bytes ≡ packet_bytes p ++ rest.now) × (length rest.now < length bytes)
-IsFront e bytes FrontPartial = IsPartial e bytes
-IsFront e bytes (FrontFault kind) = HasFault e bytes kind
+abbrev pub IsFront : Extent → List ℕ → StreamHead → Type 0
+IsFront e bytes (HeadPacket p rest) = Fits e p × (bytes ≡ packet_bytes p ++ rest.now) × (length rest.now < length bytes)
+IsFront e bytes HeadPartial = IsPartial e bytes
+IsFront e bytes (HeadFault kind) = HasFault e bytes kind
 
 -- the fault that a rest shows, if any
 abbrev pub IsEnd : Extent → List ℕ → Option StreamFaultKind → Type 0

@@ -14,11 +14,9 @@ use Rattle.migration_types.specs.declared.size.Size.{Size}
 use Rattle.migration_types.specs.Sessions.{Recorded}
 use Rattle.recordings.specs.Recordings.{SpellsRecording}
 use Rattle.recordings.specs.Wide.{extent_of}
-use Rattle.session_log.specs.declared.parts.Stage.{Stage as TextStage}
-use Rattle.session_log.specs.declared.parts.Stage.TheVariants as text
 use Rattle.recordings.specs.declared.place.Place.{Place}
-use Rattle.recordings.specs.declared.place.Stage.{Stage}
-use Rattle.recordings.specs.declared.place.Stage.TheVariants.{Header, Pages, Cells, InitCount, Init, Guest, Source, Link, Lane, Pager, Done}
+use Rattle.session_log.specs.declared.parts.Stage.{Stage}
+use Rattle.session_log.specs.declared.parts.Stage.TheVariants.{Header, Pages, Cells, InitCount, Init, Guest, Source, Link, Lane, Pager, Done}
 use Rattle.recordings.specs.inner.Held.{SessionDraft, Part, held_onto, recorded_of, Live, came_at, announced_at}
 
 -- the lists of a recording, as far as they were read
@@ -33,28 +31,15 @@ pub record Lists : Type 0 where
 abbrev pub draft_of : Place → Lists → SessionDraft
 draft_of p l = record { version = p.machine.version; geometry = extent_of p.machine; next_page = p.low; init = l.init; guest = l.guest; source = l.source; link = l.link; lane = l.lane; pager = l.pager }
 
-abbrev pub text_stage : Stage → TextStage
-text_stage Header = text.Header
-text_stage Pages = text.Pages
-text_stage Cells = text.Cells
-text_stage InitCount = text.InitCount
-text_stage Init = text.Init
-text_stage Guest = text.Guest
-text_stage Source = text.Source
-text_stage Link = text.Link
-text_stage Lane = text.Lane
-text_stage Pager = text.Pager
-text_stage Done = text.Done
-
 -- the lines so far, and then more
 abbrev pub lines_onto : Stage → Place → Lists → List (List ℕ) → List (List ℕ)
-lines_onto stage p l more = held_onto (text_stage stage) (draft_of p l) more
+lines_onto stage p l more = held_onto stage (draft_of p l) more
 
 -- what a place says is true of these lists
 pub record Stands (stage : Stage) (p : Place) (l : Lists) : Type 0 where
-  pub live : Live (text_stage stage) (draft_of p l)
-  pub came : p.came ≡ came_at (text_stage stage) (draft_of p l)
-  pub announced : p.came + p.left ≡ announced_at (text_stage stage) (draft_of p l)
+  pub live : Live stage (draft_of p l)
+  pub came : p.came ≡ came_at stage (draft_of p l)
+  pub announced : p.came + p.left ≡ announced_at stage (draft_of p l)
 
 -- the visitor met what was read, from the machine on
 abbrev pub HasMet : {V : Type 0} → (V → Type 0) → (V → Recorded → Type 0) → Stage → V → Recorded → Type 0

@@ -2,7 +2,7 @@
 
 use super::meanings::{push_meaning, push_new};
 use crate::fields::{field_of, has_field};
-use crate::fitting::{Fit, Stop, fit_of};
+use crate::fitting::{Departure, Fit, fit_of};
 use crate::line_fault::LineFault;
 use crate::quoting::push_quote;
 use crate::refused::{Refused, WideWanted};
@@ -114,12 +114,12 @@ fn push_slip(out: &mut String, slip: Option<Slip>, wanted: &WideWanted) -> Resul
 
 /// The forms that a line fits equally far, and the words that they have where it departs, each once.
 #[derive(Drop)]
-struct Choices {
+struct BestForms {
     forms: Vec<&'static str>,
     slots: Vec<&'static str>,
 }
 
-fn choices_of(alloc: Global, refused: &Refused, best: &Fit<'_>) -> Result<Choices, AllocError> {
+fn best_forms(alloc: Global, refused: &Refused, best: &Fit<'_>) -> Result<BestForms, AllocError> {
     let mut forms = Vec::new(alloc);
     let mut slots = Vec::new(alloc);
     for form in refused.misread.wanted.forms {
@@ -131,7 +131,7 @@ fn choices_of(alloc: Global, refused: &Refused, best: &Fit<'_>) -> Result<Choice
             }
         }
     }
-    Ok(Choices { forms, slots })
+    Ok(BestForms { forms, slots })
 }
 
 /// Appends the meaning of a word of a form.
@@ -159,7 +159,7 @@ fn push_slots(
 
 /// Returns what is unusual about the word at which a line departs.
 fn slip_at(fit: &Fit<'_>, wanted: &WideWanted) -> Option<Slip> {
-    let Stop::Word { slot, word, .. } = fit.stop else {
+    let Departure::Word { slot, word, .. } = fit.stop else {
         return None;
     };
     match field_of(slot) {
@@ -186,7 +186,7 @@ fn push_stop(out: &mut String, refused: &Refused, fit: &Fit<'_>) -> Result<(), A
     if fit.slot().is_none() {
         return out.push_str("the end of the line");
     }
-    let choices = choices_of(*out.allocator(), refused, fit)?;
+    let choices = best_forms(*out.allocator(), refused, fit)?;
     if has_field(fit.form) {
         push_slots(out, choices.slots.as_slice(), &refused.misread.wanted)?;
         out.push_str(", as in ")?;
@@ -217,7 +217,7 @@ pub(crate) fn expected_forms(
     fault: &LineFault<'_>,
 ) -> Result<Vec<&'static str>, AllocError> {
     match fault {
-        LineFault::Stops(fit) => Ok(choices_of(alloc, refused, fit)?.forms),
+        LineFault::Stops(fit) => Ok(best_forms(alloc, refused, fit)?.forms),
         LineFault::Special(Special::Swapped { .. } | Special::Report { .. })
         | LineFault::Ends
         | LineFault::Empty

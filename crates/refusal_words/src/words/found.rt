@@ -1,7 +1,7 @@
 //! What was found at a line, in words.
 
 use crate::fields::Misfit;
-use crate::fitting::{Fit, Stop};
+use crate::fitting::{Departure, Fit};
 use crate::line_fault::LineFault;
 use crate::quoting::push_quote;
 use crate::refused::Refused;
@@ -26,14 +26,14 @@ fn unfit_in(word: &[u8], misfit: Misfit) -> Option<&[u8]> {
 /// Returns what of a line does not fit a form, or `None` if the line ends where it departs from the form.
 fn unfit_at<'a>(line: &'a [u8], fit: &Fit<'a>) -> Option<&'a [u8]> {
     match fit.stop {
-        Stop::Missing(_) | Stop::Cut(_) => None,
+        Departure::Missing(_) | Departure::Cut(_) => None,
         _ if fit.is_of_line() => Some(line),
-        Stop::Word { word, misfit, .. } => unfit_in(word, misfit),
-        Stop::Surplus => {
+        Departure::Word { word, misfit, .. } => unfit_in(word, misfit),
+        Departure::Surplus => {
             let (_, surplus) = line.split_at(fit.at.min(line.len()));
             Some(surplus)
         }
-        Stop::Nowhere => Some(line),
+        Departure::Nowhere => Some(line),
     }
 }
 
@@ -73,17 +73,17 @@ fn push_context(out: &mut String, line: &[u8], fault: &LineFault<'_>) -> Result<
     };
     match fit.stop {
         _ if fit.is_of_line() => Ok(()),
-        Stop::Word {
+        Departure::Word {
             misfit: Misfit::Whole,
             ..
         } if is_keyed(fit.form) => Ok(()),
-        Stop::Word { .. } => push_in_line(out, line),
-        Stop::Surplus => {
+        Departure::Word { .. } => push_in_line(out, line),
+        Departure::Surplus => {
             let (before, _) = line.split_at(fit.at.min(line.len()));
             out.push_str(" after ")?;
             push_quote(out, before)
         }
-        Stop::Missing(_) | Stop::Cut(_) | Stop::Nowhere => Ok(()),
+        Departure::Missing(_) | Departure::Cut(_) | Departure::Nowhere => Ok(()),
     }
 }
 
@@ -95,7 +95,7 @@ fn push_missing(
     fit: &Fit<'_>,
 ) -> Result<(), AllocError> {
     match fit.stop {
-        Stop::Missing(_) | Stop::Cut(_) => {
+        Departure::Missing(_) | Departure::Cut(_) => {
             out.push_str(if is_last {
                 "the text ends in the middle of a line, after "
             } else {
@@ -103,7 +103,7 @@ fn push_missing(
             })?;
             push_quote(out, line)
         }
-        Stop::Word { .. } | Stop::Surplus | Stop::Nowhere => {
+        Departure::Word { .. } | Departure::Surplus | Departure::Nowhere => {
             out.push_str("found a second space")?;
             push_in_line(out, line)
         }

@@ -23,15 +23,15 @@ use Rattle.recordings.specs.declared.machine.WideMachine.{WideMachine}
 use Rattle.recordings.specs.Wide.{extent_of}
 use Rattle.recorded_files.specs.declared.fronts.Front.{Front}
 use Rattle.recorded_files.specs.Fronts.{cursors_of}
-use Rattle.written_recordings.specs.declared.faults.TextFault.{TextFault}
-use Rattle.written_recordings.specs.declared.text.Section.{Section}
-use Rattle.written_recordings.specs.declared.text.Section.TheVariants as section
+use Rattle.written_recordings.specs.declared.faults.LineFault.{LineFault}
+use Rattle.written_recordings.specs.declared.text.ListKind.{ListKind}
+use Rattle.written_recordings.specs.declared.text.ListKind.TheVariants as section
 use Rattle.written_recordings.specs.declared.text.Text.{Text}
 
 abbrev pub no_front : Front
 no_front = record { guest = 0; source = 0; link = 0; lane = 0; pager = 0 }
 
-abbrev pub stage_of : Section → Stage
+abbrev pub stage_of : ListKind → Stage
 stage_of section.Init = stage.Init
 stage_of section.Guest = stage.Guest
 stage_of section.Source = stage.Source
@@ -40,7 +40,7 @@ stage_of section.Lane = stage.Lane
 stage_of section.Pager = stage.Pager
 
 -- the place of a list among the lists of a text
-abbrev pub rank : Section → ℕ
+abbrev pub rank : ListKind → ℕ
 rank section.Init = 0
 rank section.Guest = 1
 rank section.Source = 2
@@ -84,7 +84,7 @@ pub record AreCounts (t : Text) (d : SessionDraft) : Type 0 where
   pub pager : d.pager.count ≡ t.front.pager
 
 -- the lists before this one are complete, and nothing was written of those after it
-abbrev pub Lives : Section → SessionDraft → Type 0
+abbrev pub Lives : ListKind → SessionDraft → Type 0
 Lives section.Init d = NoGuest d
 Lives section.Guest d = IsWhole d.init × NoSource d
 Lives section.Source d = IsWhole d.init × IsWhole d.guest × NoLink d
@@ -122,7 +122,7 @@ pub record IsMachineSaid (old new : Text) (machine : WideMachine) : Type 0 where
   pub left : new.left ≡ old.init
 
 -- a list ended, and another began
-pub record Begins (old new : Text) (next : Section) (key : List ℕ) (count : ℕ) : Type 0 where
+pub record Begins (old new : Text) (next : ListKind) (key : List ℕ) (count : ℕ) : Type 0 where
   pub same : IsSame old new
   pub none : old.left ≡ 0
   pub section : new.section ≡ next
@@ -130,7 +130,7 @@ pub record Begins (old new : Text) (next : Section) (key : List ℕ) (count : �
   pub bytes : new.bytes.items ≡ old.bytes.items ++ (key ++ (decimal count ++ 10 ∷ []))
 
 -- the turn of a list's line came
-pub record Takes (old new : Text) (at : Section) : Type 0 where
+pub record Takes (old new : Text) (at : ListKind) : Type 0 where
   pub same : IsSame old new
   pub was : old.section ≡ at
   pub section : new.section ≡ at
@@ -186,7 +186,7 @@ pub record Holds (start known : Option (List ℕ)) (t : Text) (d : SessionDraft)
   pub stands : Stands before t d
 
 -- nothing was met
-pub record IsNothing (start : Option (List ℕ)) (cut : Front) (pages : ℕ) (known : Option (List ℕ)) (t : Text) (fault : Option TextFault) : Type 0 where
+pub record IsNothing (start : Option (List ℕ)) (cut : Front) (pages : ℕ) (known : Option (List ℕ)) (t : Text) (fault : Option LineFault) : Type 0 where
   pub front : t.front ≡ cut
   pub init : t.init ≡ pages
   pub bytes : t.bytes.items ≡ []
@@ -199,5 +199,5 @@ pub record MeetsWell (start : Option (List ℕ)) (cut : Front) (pages : ℕ) (kn
   pub init : t.init ≡ pages
   pub holds : Holds start known t (draft_of t.init (cursors_of cut) s)
 
-abbrev pub Meets : Option (List ℕ) → Front → ℕ → Option (List ℕ) → Text → Option TextFault → Recorded → Type 0
+abbrev pub Meets : Option (List ℕ) → Front → ℕ → Option (List ℕ) → Text → Option LineFault → Recorded → Type 0
 Meets start cut pages known t fault s = fault ≡ None → MeetsWell start cut pages known t s

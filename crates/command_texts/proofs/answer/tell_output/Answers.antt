@@ -1,5 +1,4 @@
 use Rattle.std.proofs.Common.{◌≡◌, codes, true}
-use Rattle.command_texts.specs.Answers.{file_line}
 use Rattle.command_texts.specs.Shown.{line_on}
 use Rattle.command_texts.proofs.Fronts.{front_before, front_behind}
 use Rattle.command_texts.proofs.answer.tell_output.Goals as goal

@@ -1,9 +1,7 @@
-use Rattle.std.proofs.Common.{◌≡◌, ◌∙◌, List, ℕ, ap, ap₂, inl, inr}
+use Rattle.std.proofs.Common.{◌≡◌, List, ℕ, ap, inl, inr}
 use Rattle.std.proofs.lemmas.Result.{err_from_is_err_and}
-use Rattle.std.specs.Option.{option_map, option_or}
-use Rattle.command_texts.specs.Reasons.{told_place}
 use Rattle.command_texts.proofs.Endings.{read_fault_in, read_faults_in}
-use Rattle.command_texts.proofs.Names.{are_named, dashes, map_or}
+use Rattle.command_texts.proofs.Names.{are_named, dashes}
 use Rattle.command_texts.proofs.naming.read_pair.Goals as goal
 
 pub returns-then-are_input-clause-named : goal.returns-then-are_input-clause-named
@@ -32,5 +30,6 @@ returns-clause-named g c =
       are_named c.args.first.now c.args.second.now (g.S.TextSource.bytes_of c.args.texts.now) (g.I.Read.remaining c.args.input.now) _ n.0 m.0 c.if-are_input.ensures (λ e. ap g.I.Read.remaining (c.in_ok-found.ensures.apart e)) n.1 m.1,
       n.2,
       m.2,
-      (n.3.0, m.3.0, n.3.1, m.3.1, ap (option_map told_place) c.or.ensures ∙ (map_or told_place _ _ ∙ ap₂ option_or n.3.2 m.3.2)),
+      n.3,
+      m.3,
     )

@@ -1,4 +1,4 @@
-use Rattle.command_texts.specs.Several.{TellsUnread, style_of}
+use Rattle.command_texts.specs.Several.{style_of}
 use Rattle.command_texts.proofs.Fronts.{same_gains}
 use Rattle.command_texts.proofs.Listed.{few_listed, few_read, named_anyhow, unread_known, unread_listed, unread_there}
 use Rattle.command_texts.proofs.several.list_one.Goals as goal

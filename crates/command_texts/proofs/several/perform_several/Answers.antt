@@ -1,9 +1,8 @@
 use Rattle.std.proofs.Common.{◌≡◌, ℕ, List, sym}
 use Rattle.std.proofs.lemmas.List.{length-map}
-use Rattle.std.proofs.lemmas.Result.{err_from_is_err_and}
 use Rattle.std.specs.Borrow.{Bor}
 use Rattle.command_texts.specs.Several.{IsListStatus, TellsOneUnread, names_of, style_of}
-use Rattle.command_texts.proofs.Fronts.{both_gain, same_gains}
+use Rattle.command_texts.proofs.Fronts.{both_gain}
 use Rattle.command_texts.proofs.Listed.{same_status, several_ends}
 use Rattle.command_texts.proofs.several.perform_several.Goals as goal
 

@@ -1,5 +1,3 @@
-use Rattle.std.proofs.Common.{◌≡◌, List, ℕ}
-use Rattle.std.proofs.lemmas.Result.{err_from_is_err_and}
 use Rattle.command_texts.proofs.Endings.{outputs_stop}
 use Rattle.command_texts.proofs.Fronts.{front_gains, same_gains}
 use Rattle.command_texts.proofs.several.write_end.Goals as goal

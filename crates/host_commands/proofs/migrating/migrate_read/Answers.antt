@@ -1,6 +1,6 @@
 use Rattle.std.proofs.Common.{ℕ, Result, subst}
 use Rattle.text_lines.specs.Answer.{IsRead}
-use Rattle.guest_script.specs.Scenarios.{Scenario}
+use Rattle.guest_script.specs.declared.script.Scenario.{Scenario}
 use Rattle.guest_script.specs.Scripts.{SpellsScript}
 use Rattle.host_commands.specs.Migrations.{IsMigrateAnswer, ScriptText}
 use Rattle.command_texts.proofs.Said.{given_holds}

@@ -1,24 +1,10 @@
-use Rattle.std.proofs.Common.{◌∙◌, ap}
-use Rattle.command_texts.specs.Reasons.{line_of}
+use Rattle.std.proofs.Common.{refl}
 use Rattle.command_texts.proofs.Cuts.{cut_at}
-use Rattle.command_texts.proofs.Names.{lines_or}
 use Rattle.command_texts.proofs.cutting.BothTaker.end.Goals as goal
 
 pub returns : goal.returns
 returns g c = λ text came.
     let one = c.in_ok-first.ensures came.first came.first_came in
     let other = c.in_ok-second.ensures came.second came.second_came in
-    let cut = cut_at c.args.self.ended c.args.self.lacking text came.first came.second came.parts came.cut in (
-      ((came.first, came.second), cut, one.0, other.0),
-      (
-        (came.first, came.second),
-        cut,
-        record {
-          one = line_of c.in_ok-first.why;
-          other = line_of c.in_ok-second.later;
-          is_one = one.1;
-          is_other = other.1;
-          first = ap line_of c.or.ensures ∙ lines_or c.in_ok-first.why c.in_ok-second.later;
-        },
-      ),
-    )
+    let cut = cut_at c.args.self.ended c.args.self.lacking text came.first came.second came.parts came.cut in
+    (((came.first, came.second), cut, one.0, other.0, one.1, other.1), refl)

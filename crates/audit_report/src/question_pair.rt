@@ -6,14 +6,14 @@ use std::alloc::{AllocError, Global};
 
 /// Two questions that are answered in one pass. The answer is the pair of their answers.
 #[derive(Clone, Copy)]
-pub struct Both<A, B> {
+pub struct QuestionPair<A, B> {
     /// The first question.
     pub one: A,
     /// The second question.
     pub other: B,
 }
 
-impl<A: Question, B: Question> Question for Both<A, B> {
+impl<A: Question, B: Question> Question for QuestionPair<A, B> {
     type Answer = (A::Answer, B::Answer);
 
     ghost IsFor = { λ q s. A.IsFor q.one s × B.IsFor q.other s };
