@@ -224,6 +224,21 @@ static int has_room(struct part *part, size_t length)
     return 1;
 }
 
+/* Makes a file and opens it, or gives -1, with errno. It gets no number of a standard file that is closed: what the process prints would
+   go there. */
+static int open_new(const char *path)
+{
+    int file = open(path, O_RDWR | O_CREAT | O_EXCL | O_CLOEXEC, 0666);
+    if (file < 0 || file > STDERR_FILENO)
+        return file;
+    int above = fcntl(file, F_DUPFD_CLOEXEC, STDERR_FILENO + 1), error = errno;
+    close(file);
+    if (above < 0)
+        unlink(path);
+    errno = error;
+    return above;
+}
+
 /* Begins a part of the calling thread: NULL, with errno, where that cannot be done. */
 static struct part *begin_part(postcopy_log *log)
 {
@@ -238,7 +253,7 @@ static struct part *begin_part(postcopy_log *log)
     do {
         number = atomic_fetch_add(&log->files, 1);
         sprintf(path, "%s.%u", log->stem, number);
-        part->file = open(path, O_RDWR | O_CREAT | O_EXCL | O_CLOEXEC, 0666);
+        part->file = open_new(path);
     } while (part->file < 0 && errno == EEXIST);
     if (part->file < 0 || !has_room(part, WORDS_MAX) || (errno = pthread_setspecific(log->mine, part))) {
         int error = errno;
@@ -343,7 +358,7 @@ static uint32_t append(postcopy_log *log, unsigned parties, struct record record
     if (why)
         return lose(log, why);
     uint64_t number = atomic_fetch_add(&log->next, 1);
-    if (number >= POSTCOPY_LOST)
+    if (number >= POSTCOPY_LOST - 1) /* the number behind the last record is one too */
         return lose(log, EOVERFLOW);
     put_line(part, number, &record);
     return number;

@@ -42,6 +42,10 @@ class Verdict:
     def is_clean(self):
         return self.line == "clean, yes" and not self.restart
 
+    def status(self, is_whole):
+        """Returns the status of a recorder: 0 if the session is clean, and both sides came to the end. If they did not, the logs are cut."""
+        return 0 if self.is_clean and is_whole else 1
+
 
 def session_of(folder, is_whole, is_from_halt):
     """Returns the recording's session. If a QEMU ended early, the logs are cut so that no record names a missing one."""
@@ -51,7 +55,7 @@ def session_of(folder, is_whole, is_from_halt):
 
 
 def judge(folder, is_whole=True, is_from_halt=False):
-    """Judges a recording, and writes what was found to its folder."""
+    """Judges a recording, and writes what was found to its folder. If both QEMUs came to the end, it has to tell of a whole migration."""
     restart = restart_of(folder)
     try:
         session, left_out = session_of(folder, is_whole, is_from_halt)
@@ -59,7 +63,7 @@ def judge(folder, is_whole=True, is_from_halt=False):
     except (Hole, OSError) as fault:
         verdict = Verdict(f"not judged: {fault}")
     else:
-        verdict = Verdict(complete_line(folder) if restart else verdict_line(folder), session, left_out)
+        verdict = Verdict(complete_line(folder) if is_whole or restart else verdict_line(folder), session, left_out)
     verdict.restart = restart
     if verdict.restart:
         write(f"{folder}/restart", verdict.restart.line() + "\n")

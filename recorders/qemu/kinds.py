@@ -24,6 +24,7 @@ class Plan:
     pre_pages: int = 0        # the switch waits until pre-copy has sent this many pages of the window,
     pre: float = 0.5          # and then this many seconds
     left: int = -1            # or until at most this many bytes are left to send; -1: any number
+    is_precopy: bool = False  # there is no switch: pre-copy goes on to its end, without post-copy's capabilities
     after: int = 3000         # at the target, behind the end
     preempt: bool = False
     multifd: int = 0          # separate connections for the pages of pre-copy, which the relay does not read
@@ -44,6 +45,8 @@ class Plan:
 
     def capabilities(self):
         """Returns the capabilities that both QEMUs are asked for."""
+        if self.is_precopy:
+            return []
         return ["postcopy-ram", "postcopy-blocktime", *["postcopy-preempt"] * self.preempt, *["multifd"] * bool(self.multifd)]
 
     def to_text(self):

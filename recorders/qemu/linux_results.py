@@ -16,8 +16,11 @@ OWN = "own kernel"  # the workload of a kernel that the user has brought
 WRONG = re.compile(r"guest: WRONG|\bBUG: |kernel BUG at|\bOops: |Kernel panic|segfault at|general protection")
 IN_FIRST_ROUND = "the switch in pre-copy's first round"
 LATER = "the switch in a later round"
+PLAIN = "pre-copy alone"
+NO_POSTCOPY = "not judged: there was no post-copy"
 NOT_REACHED = ", not reached"
-RUIN = ("clean", "faulty", "incomplete", "not judged", "nothing lost", "lost pages", "something wrong")
+BARE = ("nothing lost", "lost pages", "something wrong")
+RUIN = ("clean", "faulty", "incomplete", "not judged", *BARE, *(f"{word} in pre-copy" for word in BARE))
 
 
 @dataclass
@@ -29,12 +32,13 @@ class Result:
     is_first_round: bool  # whether the switch came before pre-copy had sent each page once
     fault: str           # the kind that was put in, or that had no chance to be
     verdict: str         # of the audit, or `not judged: ..`; for a bare migration nothing, or the latter
-    lost: int            # pages that were left at the target, and differ from the source's at the halt; None where this is not known
+    lost: int            # pages that pre-copy left at the target, and that differ from the source's at the halt; None where this is not known
     says: list           # what the guest reports on its console as wrong
     seconds: float = 0.0
     load: float = 0.0    # of the machine, at the end; 0 where this is not known
     made: str = ""       # when it ended, by UTC
     word: str = ""       # what became of it, where this alone is known
+    is_precopy: bool = False  # whether pre-copy alone was asked for
 
     def to_text(self):
         return json.dumps(asdict(self))
@@ -43,11 +47,20 @@ class Result:
     def in_a_word(self):
         if self.word:
             return self.word
-        if self.verdict.startswith("not judged") and not (self.is_bare and self.is_wrong_at_target):
-            return "not judged"
         if self.is_bare:
-            return "lost pages" if self.lost else "something wrong" if self.says else "nothing lost"
+            return self.word_of_bare
+        if self.verdict.startswith("not judged"):
+            return "not judged"
         return "clean" if self.verdict == "clean, yes" else self.verdict.split(" ")[0]
+
+    @property
+    def word_of_bare(self):
+        """Returns what became of a bare migration. If post-copy was asked for and pre-copy came to its end before it, the word says so."""
+        is_known = self.lost is not None and self.verdict in ("", NO_POSTCOPY)
+        if not (is_known or self.is_wrong_at_target):
+            return "not judged"
+        word = "lost pages" if self.lost else "something wrong" if self.says else "nothing lost"
+        return word + " in pre-copy" * (self.verdict == NO_POSTCOPY)
 
     @property
     def is_wrong_at_target(self):
@@ -57,8 +70,9 @@ class Result:
     @property
     def row(self):
         """Returns a row about the runs that are counted together."""
+        switch = PLAIN if self.is_precopy else IN_FIRST_ROUND if self.is_first_round else LATER
         return (f"{'bare' if self.is_bare else 'recorded'}, {self.cpus} processor{'s' if self.cpus > 1 else ''}, `{self.workload}`, "
-                f"{IN_FIRST_ROUND if self.is_first_round else LATER}" + (f", with {self.fault}" if self.fault else ""))
+                f"{switch}" + (f", with {self.fault}" if self.fault else ""))
 
 
 def result_from_text(text):
@@ -79,14 +93,15 @@ def what_guest_says(folder):
 def result_of(folder, workload, is_bare, verdict, seconds):
     """Returns the result of the migration in a folder, and writes it there."""
     recording = recording_in(folder)
-    plan, lost = recording.plan, []
-    if os.path.exists(f"{folder}/halt.mem"):
-        lost, _ = pages_that_differ(recording)
-    else:
-        verdict = verdict or "not judged: there was no post-copy"
+    plan, lost = recording.plan, None
+    if os.path.exists(f"{folder}/halt.mem") and not recording.wire.strange:
+        lost = len(pages_that_differ(recording)[0])
+    if not recording.wire.has_state and not plan.is_precopy:
+        verdict = verdict or NO_POSTCOPY
     fault = plan.fault and (plan.fault if was_put_in(folder) else plan.fault + NOT_REACHED)
-    result = Result(plan.source_version, is_bare, plan.cpus, workload, plan.pre_pages <= plan.pages, fault, verdict, len(lost),
-                    what_guest_says(folder), round(seconds, 1), round(os.getloadavg()[0], 1), time.strftime("%Y-%m-%dT%H:%M:%S", time.gmtime()))
+    result = Result(plan.source_version, is_bare, plan.cpus, workload, plan.pre_pages <= plan.pages, fault, verdict, lost,
+                    what_guest_says(folder), round(seconds, 1), round(os.getloadavg()[0], 1), time.strftime("%Y-%m-%dT%H:%M:%S", time.gmtime()),
+                    is_precopy=plan.is_precopy)
     with open(f"{folder}/{FILE}", "w", encoding="utf-8") as out:
         print(result.to_text(), file=out)
     return result

@@ -10,7 +10,7 @@ from dialect import interface_of
 from machine import Machine
 from qmp import Gone
 from roots import Missing
-from run import Migration
+from run import Migration, PrecopyEnded
 
 BOOTED = "guest: booted"
 RECORD_BYTES = 16
@@ -157,6 +157,17 @@ class LinuxMigration(Migration):
     def run_on(self):
         self.wait_with_words(self.plan.run_on, lambda: "runs on at the target" + ("" if self.is_bare else f": {self.rate(self.target)}"))
 
+    def switch(self):
+        """Switches, unless pre-copy comes to its end first. The guest goes on at the target then too, and may be wrong there."""
+        try:
+            super().switch()
+        except PrecopyEnded as fault:
+            if fault.status not in ("device", "completed"):
+                raise
+            self.remark(str(fault))
+
     def at_end(self):
+        if not self.relay.is_post:
+            self.save_memory()  # pre-copy came to its end, and the source has stood still since then
         if not self.is_bare:
             self.target("pmemsave", val=self.plan.base, size=self.plan.pages * 4096, filename="end.mem")

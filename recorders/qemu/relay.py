@@ -33,6 +33,7 @@ from dialect import PC_RAM
 from faults import fault_of
 
 LONGEST_LOSS = 0.5  # seconds from the first page that is lost to the cut
+PRECOPY_ENDED = "pre-copy came to its end, and nothing was left to post-copy"
 LONGEST_SILENCE = 0.3  # seconds within which a connection of multifd begins
 
 
@@ -260,7 +261,7 @@ class Relay:
                     self.take(connection, item)
         except stream.Strange as fault:
             if isinstance(fault, stream.DeviceOutside) and not self.is_post:
-                self.complaint = "pre-copy came to its end, and nothing was left to post-copy"
+                self.complaint = PRECOPY_ENDED
             else:
                 self.complaint = f"the stream has what is not known here: {fault}"
                 with self.lock:

@@ -8,10 +8,19 @@ import folders
 from dialect import ENDS, IN_POSTCOPY
 from machine import DEAD, Machine
 from qmp import Gone, Refused
-from relay import CutPlan, Relay, Window
+from relay import PRECOPY_ENDED, CutPlan, Relay, Window
 
 TOO_LONG = ("it took more than", "gave up: the guest does not walk")  # the beginnings of messages about a time limit
 SECONDS_TO_END = 2  # within which a target whose load failed ends, if it does
+QEMUS_DOWNTIME = 300  # milliseconds: QEMU's own limit, where no other is asked for
+
+
+class PrecopyEnded(Gone):
+    """Pre-copy was over before the switch."""
+
+    def __init__(self, status):
+        super().__init__(f"pre-copy: {status}")
+        self.status = status
 
 
 @dataclass
@@ -69,7 +78,7 @@ class Migration:
             self.record(library, machine, traces)
         finally:
             self.room.end()
-        if self.relay.complaint:
+        if self.relay.complaint and not (self.plan.is_precopy and self.relay.complaint == PRECOPY_ENDED):
             self.remark(self.relay.complaint)
         self.outcome.seconds = round(time.monotonic() - began, 1)
         if self.outcome.is_held_up:
@@ -138,11 +147,16 @@ class Migration:
         if plan.paused:
             self.source("stop")
         self.source("migrate", uri=f"unix:{self.relay.path}")
+        if not plan.is_precopy:
+            self.switch()
+        self.follow()
+        self.finish()
+
+    def switch(self):
+        """Waits for pre-copy, and asks for post-copy. Raises PrecopyEnded if pre-copy comes to its end first, or fails."""
         self.wait_for_precopy()
         self.say(f"pre-copy: {self.relay.sent_before} pages; now post-copy")
         self.source("migrate-start-postcopy")
-        self.follow()
-        self.finish()
 
     def guest_line(self):
         plan = self.plan
@@ -165,7 +179,8 @@ class Migration:
                 machine("migrate-set-parameters", **{"multifd-channels": self.plan.multifd})
         # With a downtime of 1 ms, pre-copy does not end by itself. If it did, nothing would be left for post-copy.
         self.source("migrate-set-parameters", **{
-            "max-bandwidth": self.plan.bandwidth, "max-postcopy-bandwidth": self.plan.post_bandwidth, "downtime-limit": 1})
+            "max-bandwidth": self.plan.bandwidth, "max-postcopy-bandwidth": self.plan.post_bandwidth,
+            "downtime-limit": QEMUS_DOWNTIME if self.plan.is_precopy else 1})
 
     def wait_for_precopy(self):
         """Waits for pre-copy, which must run before post-copy can be asked for. It may come to its end by itself."""
@@ -176,7 +191,7 @@ class Migration:
             time.sleep(0.005)
             status = self.source.migration()
         if status != "active":
-            raise Gone(f"pre-copy: {status}")
+            raise PrecopyEnded(status)
         time.sleep(self.plan.pre)
         while 0 <= self.plan.left < self.source("query-migrate").get("ram", {}).get("remaining", 0) and time.monotonic() < until:
             pass  # the moment is short: pre-copy comes to its end at its next look
@@ -210,12 +225,12 @@ class Migration:
                 return
             if time.monotonic() - told > self.seconds_between_lines:
                 told = time.monotonic()
-                self.say(f"post-copy: {self.stands()}")
+                self.say(self.stands())
             time.sleep(0.02)
 
     def stands(self):
-        """Returns how far post-copy has come."""
-        return f"{self.relay.sent_after} pages"
+        """Returns how far the migration has come."""
+        return f"pre-copy: {self.relay.sent_before} pages" if self.plan.is_precopy else f"post-copy: {self.relay.sent_after} pages"
 
     def paused(self, machine):
         """Waits until a QEMU has noticed the cut. If it does not notice, tells it to pause."""

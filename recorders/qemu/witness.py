@@ -1,6 +1,7 @@
 """What can be seen of a lost write without the auditor.
 
-For each page that the target was not told to forget, the contents that pre-copy sent last must be those at the source at the halt.
+For each page that the target was not told to forget, the contents that pre-copy sent last must be those at the source at the halt. If
+pre-copy came to its end, no page is forgotten.
 """
 import os
 
@@ -11,7 +12,7 @@ from stream import PAGE_BYTES
 def pages_that_differ(recording):
     """Returns the pages that were left at the target and differ from the source's memory at the halt, and how many were left."""
     memory, wire = recording.read("halt.mem"), recording.wire
-    left = [page for page in getattr(wire, "left", ()) if page in wire.last_before]
+    left = sorted(wire.last_before.keys() - wire.discarded)
     differ = [page for page in left
               if recording.contents.page("relay.pages", wire.last_before[page]) != memory[page * PAGE_BYTES:(page + 1) * PAGE_BYTES]]
     return differ, len(left)

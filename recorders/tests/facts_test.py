@@ -367,6 +367,23 @@ def of_restarts(tests):
         tests.wants(f"where the source of {name} goes on", (verdict.line, verdict.is_clean, verdict.restart.line(), left), (line, False, ran, f"{ran}\n"))
 
 
+def of_statuses(tests):
+    """What ends early is no success, though what is left is clean; nor is a migration of which QEMU says that it came to its end, and
+    whose logs do not tell that each page came."""
+    files = files_of("example-live")
+    with tempfile.TemporaryDirectory() as room:
+        for name, data in files.items():
+            with open(f"{room}/{name}", "wb") as out:
+                out.write(data)
+        for is_whole, line, status in ((True, "clean, yes", 0), (False, "clean, yes", 1)):
+            verdict = judge.judge(room, is_whole)
+            tests.wants(f"a recording where both came to the end: {is_whole}", (verdict.line, verdict.status(is_whole)), (line, status))
+        with open(f"{room}/source.raw", "wb") as out:
+            out.write(replaced(files["source.raw"], (b"source_return_path_thread_shut 0x0\n", b"")))
+        verdict = judge.judge(room)
+        tests.wants("a source that did not learn of the end", (verdict.line, verdict.status(True)), ("incomplete done", 1))
+
+
 def of_the_last_of_the_source(tests):
     """Nothing of the source stands behind the record that it starts its guest again, and what was sent before stands in front of it."""
     files = files_of("11.1-both-ran")
@@ -434,6 +451,7 @@ def run(tests):
     of_the_first_access(tests)
     of_a_source_that_goes_on(tests)
     of_restarts(tests)
+    of_statuses(tests)
     of_the_last_of_the_source(tests)
     of_a_strange_stream(tests)
     of_ends(tests)

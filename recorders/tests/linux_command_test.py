@@ -10,6 +10,7 @@ import subprocess
 import sys
 import tarfile
 import tempfile
+from types import SimpleNamespace
 
 import debian
 import dialect
@@ -18,10 +19,10 @@ import linux_results
 import linux_run
 from kinds import Plan
 from linux_results import Result, result_from_text
-from linux_test import BASE, made, write
+from linux_test import BASE, CELLS, HALT, LOG, PAGES, made, write
 from qmp import Gone
 from roots import Missing
-from run import Outcome
+from run import Migration, Outcome
 from stream import PAGE_BYTES
 from versions_test import QEMU, command, program, qemu_like, read
 
@@ -55,12 +56,17 @@ def of_results(tests):
 
     results = [result(), result(verdict="faulty line 7 read", lost=3, says=["target: guest: WRONG"]), result(verdict="not judged: .."), result("10.0.13"),
                result(is_bare=True, verdict="", lost=4), result(is_bare=True, verdict="", says=["target: kernel BUG"]), result(is_bare=True, verdict=""),
-               result(is_bare=True, verdict="not judged: there was no post-copy"), result(verdict="incomplete page 3", is_first_round=False)]
+               result(is_bare=True, verdict="not judged: there was no post-copy", lost=None), result(verdict="incomplete page 3", is_first_round=False)]
     tests.wants("in a word", [one.in_a_word for one in results], ["clean", "faulty", "not judged", "clean", "lost pages", "something wrong", "nothing lost", "not judged", "incomplete"])
     tests.wants("one of which the word alone was kept", Result("7.2.22", True, 2, "busy", True, "", "", None, [], word="lost pages").in_a_word, "lost pages")
     tests.wants("a bare one without post-copy, of which the guest is wrong at the target, at the source, or says nothing", [
-        result(is_bare=True, verdict="not judged: there was no post-copy", says=says).in_a_word for says in (["target: guest: WRONG"], ["source: Kernel panic"], [])],
-                ["something wrong", "not judged", "not judged"])
+        result(is_bare=True, verdict="not judged: there was no post-copy", lost=None, says=says).in_a_word for says in (["target: guest: WRONG"], ["source: Kernel panic"], [])],
+                ["something wrong in pre-copy", "not judged", "not judged"])
+    tests.wants("one of which the memory at the end of pre-copy was kept", [
+        result(is_bare=True, verdict="not judged: there was no post-copy", lost=lost).in_a_word for lost in (3, 0)], ["lost pages in pre-copy", "nothing lost in pre-copy"])
+    alone = Result("7.2.22", True, 2, "busy", True, "", "", 3, [], is_precopy=True)
+    tests.wants("one of pre-copy alone", (alone.row, alone.in_a_word), ("bare, 2 processors, `busy`, pre-copy alone", "lost pages"))
+    tests.wants("one that did not come to its end", Result("7.2.22", True, 2, "busy", True, "", "not judged: gave up: ..", 0, []).in_a_word, "not judged")
     tests.wants("the line above the table", [linux_results.heading(some) for some in (results[:1], [Result("7.2.22", True, 1, "busy", True, "", "", 0, [], load=load) for load in (0.0, 7.2, 3.9)])],
                 ["1 migrations:", "3 migrations, 2 of them at a load of 4 to 7:"])
     tests.wants("as a text and back", [result_from_text(one.to_text()) for one in results], results)
@@ -86,9 +92,19 @@ def of_results(tests):
         for log, told in (("", "flip, not reached"), ("fault flip 2\n", "flip")):
             write({"plan.json": Plan(kind="linux", fault="flip").to_text().encode(), "relay.log": log.encode()}, folder)
             tests.wants("the fault that was put in", linux_results.result_of(folder, "busy", True, "", 1).fault, told)
+        without_state = "".join(line for line in LOG.splitlines(True) if " discard " not in line and " state " not in line and " post " not in line)
+        write({**made(log=without_state, halt=HALT.with_cells({7: 1})), "target.console": b"guest: booted\n"}, folder)
+        found = linux_results.result_of(folder, "busy", True, "", 1)
+        tests.wants("where pre-copy came to its end", (found.verdict, found.lost, found.in_a_word), ("not judged: there was no post-copy", 1, "lost pages in pre-copy"))
+        write(made(log=without_state + "strange a command 12\n", halt=HALT.with_cells({7: 1})), folder)
+        tests.wants("and the rest of the stream was not understood", linux_results.result_of(folder, "busy", True, "", 1).lost, None)
+        plan = Plan(kind="linux", pages=PAGES, words=CELLS, base=BASE, is_precopy=True)
+        write({**made(log=without_state, halt=HALT.with_cells({7: 1})), "plan.json": plan.to_text().encode()}, folder)
+        found = linux_results.result_of(folder, "busy", True, "", 1)
+        tests.wants("where nothing else was asked for", (found.verdict, found.lost, found.is_precopy, found.in_a_word), ("", 1, True, "lost pages"))
         write({**made(), "target.console": b"guest: booted\n"}, folder)
         os.unlink(f"{folder}/halt.mem")
-        tests.wants("without post-copy", linux_results.result_of(folder, "busy", True, "", 1).in_a_word, "not judged")
+        tests.wants("without the memory at the halt", linux_results.result_of(folder, "busy", True, "", 1).in_a_word, "not judged")
 
 
 def of_the_machine(tests):
@@ -125,6 +141,42 @@ class Booting:
     @staticmethod
     def last_error():
         return "no such machine"
+
+
+class Asked:
+    """In the place of a QEMU: keeps what it is asked for."""
+
+    def __init__(self, status="active"):
+        self.asked, self.status = [], status
+
+    def __call__(self, command, **arguments):
+        self.asked.append((command, arguments))
+
+    def wait_for(self, wanted, seconds):
+        return self.status
+
+
+def of_precopy_alone(tests):
+    """Without a switch neither side has post-copy's capabilities, and the limit of the downtime is QEMU's. Then, and where pre-copy came to
+    its end before the switch, the source's memory at the end is that at the halt."""
+    for is_precopy, wanted in ((True, ([], 300)), (False, (["postcopy-ram", "postcopy-blocktime"], 1))):
+        one = linux_run.LinuxMigration.__new__(linux_run.LinuxMigration)
+        one.plan, one.source, one.target = Plan(kind="linux", is_precopy=is_precopy), Asked(), Asked()
+        one.set_up()
+        names = [capability["capability"] for _, told in one.target.asked for capability in told["capabilities"]]
+        tests.wants(f"what is asked for, {is_precopy}", (names, one.source.asked[-1][1]["downtime-limit"]), wanted)
+        one.relay = SimpleNamespace(is_post=False, sent_before=7, sent_after=9)
+        tests.wants("how far it is told to be", Migration.stands(one), "pre-copy: 7 pages" if is_precopy else "post-copy: 9 pages")
+    for status, remarks, commands in (("active", [], ["migrate-start-postcopy"]), ("device", ["pre-copy: device"], []), ("completed", ["pre-copy: completed"], [])):
+        one.plan, one.source, one.outcome, one.say = Plan(kind="linux", pre=0.0), Asked(status), Outcome(), lambda line: None
+        one.switch()
+        tests.wants(f"the switch where pre-copy is {status}", (one.outcome.remarks, [command for command, _ in one.source.asked]), (remarks, commands))
+    one.source = Asked("failed")
+    tests.wants("one that fails", tests.refuses("one that fails", Gone, one.switch), "pre-copy: failed")
+    for is_post, wanted in ((False, ["pmemsave"]), (True, [])):
+        one.relay, one.is_bare, one.source = SimpleNamespace(is_post=is_post), True, Asked()
+        one.at_end()
+        tests.wants(f"what is saved at the end, {is_post}", [command for command, _ in one.source.asked], wanted)
 
 
 def of_boots(tests):
@@ -192,7 +244,7 @@ def of_words(tests, room):
     with open(f"{room}/others/file", "w", encoding="ascii"):
         pass
     for words, status, said in ((("--memory", "200"), 2, "--memory is 64 to 129"), (("--cpus", "9"), 2, "--cpus is 1 to 4"),
-                                (("--kernel", "any"), 2, "--kernel and --initrd go together"), (("--fault", "keep"), 2, "invalid choice: 'keep'"),
+                                (("--kernel", "any"), 2, "--kernel and --initrd go together"), (("--precopy",), 2, "--precopy goes with --bare"), (("--fault", "keep"), 2, "invalid choice: 'keep'"),
                                 (("--kernel", qemu, "--initrd", qemu, "--boot", "1", "--workload", "spread"), 2, "--workload goes with Debian's kernel"),
                                 (("--kernel", qemu, "--initrd", qemu), 2, "with --kernel, --ready or --boot has to say when the guest is up"),
                                 (("--kernel", f"{room}/none", "--initrd", qemu, "--qemu", qemu, "--boot", "1"), 3, f"{room}/none cannot be read"),
@@ -297,6 +349,7 @@ def run(tests):
     of_kept_results(tests)
     of_workloads(tests)
     of_the_machine(tests)
+    of_precopy_alone(tests)
     of_boots(tests)
     for of_them in (of_packages, of_words, of_a_guest_that_does_not_boot, of_runs):
         with tempfile.TemporaryDirectory() as room:

@@ -249,7 +249,8 @@ static void refuse(const char *folder)
     uint64_t contents[513] = {0};
     log = postcopy_log_open(folder, "source", POSTCOPY_LOST - 2);
     want(postcopy_record_send(log, 0, contents, 512) == POSTCOPY_LOST - 2, "the longest record");
-    want(postcopy_record_state(log) == POSTCOPY_LOST - 1, "the greatest number");
+    want(postcopy_log_hand_over(log) == POSTCOPY_LOST - 1, "the greatest number");
+    log = postcopy_log_open(folder, "source", POSTCOPY_LOST - 1);
     want(postcopy_record_state(log) == POSTCOPY_LOST && postcopy_log_error(log) == EOVERFLOW, "no number left");
     postcopy_log_close(log);
     log = postcopy_log_open(folder, "source", 0);

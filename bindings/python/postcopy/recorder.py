@@ -22,6 +22,7 @@ from __future__ import annotations
 
 import contextlib
 import errno
+import fcntl
 import os
 import re
 import secrets
@@ -98,7 +99,7 @@ class Log:
             number += 1
             path = f"{stem}.{number}"
             with contextlib.suppress(FileExistsError):
-                self._file = os.open(path, os.O_WRONLY | os.O_APPEND | os.O_CREAT | os.O_EXCL | os.O_CLOEXEC, 0o666)
+                self._file = _above_standard(os.open(path, os.O_WRONLY | os.O_APPEND | os.O_CREAT | os.O_EXCL | os.O_CLOEXEC, 0o666))
         try:
             self._put(f"postcopy-records 1\nrecording {self.recording}\nlog {self._party} {self._next} {number}\n")
         except OSError:
@@ -163,7 +164,7 @@ class Log:
             number = self._next
             self._next += 1
             try:
-                if number >= LOST:
+                if number >= LOST - 1:  # the number behind the last record is one too
                     raise OSError(errno.EOVERFLOW, os.strerror(errno.EOVERFLOW))
                 self._put(" ".join(map(str, (number, *record))) + "\n")
             except OSError as error:
@@ -281,12 +282,25 @@ class Log:
         return self._append("pager", "all")
 
 
+def _above_standard(file: int) -> int:
+    """Returns the file with a number that is none of a standard file. What the process prints would go there, if that was closed."""
+    if file > 2:
+        return file
+    try:
+        return fcntl.fcntl(file, fcntl.F_DUPFD_CLOEXEC, 3)
+    finally:
+        os.close(file)
+
+
 def _spelled(contents: Iterable[int]) -> str:
     return "".join(f"{cell:016x}" for cell in contents)
 
 
 def page_hash(page: bytes) -> int:
-    """Returns a page's contents as one cell, as postcopy_page_hash does in C: 0 if all bytes are 0, and otherwise a hash."""
+    """Returns a page's contents as one cell, as postcopy_page_hash does in C: 0 if all bytes are 0, and otherwise a hash. Raises
+    ValueError if the length is no multiple of 8."""
+    if len(page) % 8:
+        raise ValueError(f"a page of {len(page)} bytes: the length must be a multiple of 8")
     if page.count(0) == len(page):
         return 0
     value, mask = 0, 2**64 - 1
