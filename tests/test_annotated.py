@@ -140,6 +140,24 @@ class Tests:
         self.same("none that is there", self.told("nothing", "nothing")[:2], (3, gone * 2))
         self.same("a program that always fails", self.told("early", "clean", program="false")[:2],
                   (3, "early: not judged: the program ended with the status 1\nclean: not judged: the program ended with the status 1\n"))
+        self.same("a program that says nothing", self.told("early", "clean", program="true")[:2],
+                  (3, "early: not judged: the program ended with the status 0\nclean: not judged: the program ended with the status 0\n"))
+
+    def outputs(self):
+        """Where what is found cannot be written, and where its reader has closed the pipe."""
+        words = [SCRIPT, "--program", self.program, "--as", "junit", "clean"]
+        said = "postcopy-annotate: standard output: "
+        with open("/dev/full", "w", encoding="ascii") as full:
+            child = subprocess.run(words, cwd=self.room, stdout=full, stderr=subprocess.PIPE, text=True)
+        self.same("a full disk", (child.returncode, child.stderr), (3, f"{said}No space left on device\n"))
+        child = subprocess.run(words, cwd=self.room, stderr=subprocess.PIPE, text=True, preexec_fn=lambda: os.close(1))
+        self.same("an output that is closed", (child.returncode, child.stderr), (3, f"{said}it is closed\n"))
+        for name, status in (("clean", 0), ("early", 1)):
+            reader, writer = os.pipe()
+            os.close(reader)
+            child = subprocess.run([*words[:-1], name], cwd=self.room, stdout=writer, stderr=subprocess.PIPE, text=True)
+            os.close(writer)
+            self.same(f"a pipe that nobody reads, of {name}", (child.returncode, child.stderr), (status, ""))
 
     def odd_names(self):
         """Names that a list of lines could be read wrong by, and one that is no text."""
@@ -208,7 +226,7 @@ class Tests:
 
 @pytest.mark.parametrize("part", (
     pytest.param(Tests.each, marks=pytest.mark.cases(86)), pytest.param(Tests.many, marks=pytest.mark.cases(10)),
-    pytest.param(Tests.calls, marks=pytest.mark.cases(7)), pytest.param(Tests.odd_names, marks=pytest.mark.cases(3)),
+    pytest.param(Tests.calls, marks=pytest.mark.cases(8)), pytest.param(Tests.outputs, marks=pytest.mark.cases(4)), pytest.param(Tests.odd_names, marks=pytest.mark.cases(3)),
     pytest.param(Tests.meanings, marks=pytest.mark.cases(1)), pytest.param(Tests.incomplete, marks=pytest.mark.cases(23)),
     pytest.param(Tests.refused, marks=pytest.mark.cases(4)), pytest.param(Tests.wrong_words, marks=pytest.mark.cases(3))),
     ids=lambda it: it.__name__)

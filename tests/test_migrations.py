@@ -9,6 +9,8 @@ channel than the window allows; and of each line at least as many packets are lo
 fails where there is no network, and one in memory does not.
 Where a script has a lane, that brings the pages that were pushed, each of them if it loses none and the guest has not released
 the page at the target, and the link all else; some of them are taken from the lane; and `audit` says that the session is clean.
+Over a link that loses and repeats nothing, the pager says at most twice that all is there: once, and once more if it looks just
+before the source learns of it. The connection of a link over TCP is one of the loopback address, which no other machine reaches.
 A guest whose log has no room is answered by log-full. Nothing waits for ever: each run ends within two minutes.
 """
 import os
@@ -190,6 +192,13 @@ def lost_too_few(text, session):
     return None
 
 
+def told_too_often(text, session):
+    """How often the pager said that all is there, where each packet arrives once and it said so more than twice, or None."""
+    fates = dict(re.findall("^(down|up|lane) (.*)$", text, re.MULTILINE))
+    often = session.logs["pager"].count("all")
+    return often if often > 2 and set("".join(fates.values())) <= set("-d") else None
+
+
 def fault_of(program, text, words, kinds):
     """What is wrong with a run of a script, or None. The kinds of the pager's records join those that are given."""
     written, told, status = ran(program, words, text)
@@ -219,6 +228,9 @@ def fault_of(program, text, words, kinds):
     many = pushed_too_many(script, read)
     if many:
         return f"{many}, with a window of {script.window}"
+    often = told_too_often(text, read)
+    if often:
+        return f"the pager said {often} times that all is there"
     line = lost_too_few(text, read)
     if line:
         return f"fewer packets were lost on the line `{line}` than the script says"
@@ -242,6 +254,38 @@ def is_carried_wrongly(program):
         if (done[1].returncode, done[1].stdout, done[1].stderr) != (3, b"", b"link\n"):
             return f"a link over TCP wants no network: status {done[1].returncode}, {done[1].stderr[:60]!r}", None
     return None, None
+
+
+# Stands before the system's call, and tells the address to which a socket is bound.
+BOUND = """
+#define _GNU_SOURCE
+#include <arpa/inet.h>
+#include <dlfcn.h>
+#include <stdio.h>
+#include <stdlib.h>
+int bind(int socket, const struct sockaddr *address, socklen_t length)
+{
+    int (*real)(int, const struct sockaddr *, socklen_t) = (int (*)(int, const struct sockaddr *, socklen_t))dlsym(RTLD_NEXT, "bind");
+    char words[64] = "another";
+    if (address->sa_family == AF_INET)
+        inet_ntop(AF_INET, &((const struct sockaddr_in *)address)->sin_addr, words, sizeof words);
+    FILE *file = fopen(getenv("BOUND"), "a");
+    fprintf(file, "%s\\n", words);
+    fclose(file);
+    return real(socket, address, length);
+}
+"""
+
+
+def addresses(program, cc, room):
+    """The addresses to which a migration over TCP binds sockets."""
+    with open(f"{room}/bound.c", "w", encoding="ascii") as file:
+        file.write(BOUND)
+    subprocess.run([cc, "-shared", "-fPIC", "-o", f"{room}/bound.so", file.name, "-ldl"], check=True)
+    subprocess.run([program, "migrate", "--link", "tcp", "-"], input=WORKED[0].replace(" / ", "\n").encode() + b"\n", stdout=subprocess.DEVNULL, check=True,
+                   env={"LD_PRELOAD": f"{room}/bound.so", "BOUND": f"{room}/bound"}, timeout=SECONDS)
+    with open(f"{room}/bound", encoding="ascii") as file:
+        return file.read().split()
 
 
 def late_script(reads):
@@ -301,6 +345,10 @@ def test_migrations(program):
 
 def test_full_log(program):
     assert ran(program, ["migrate", "-"], full_script()) == ("log-full\n", "", 1)
+
+
+def test_loopback(program, cc, room):
+    assert addresses(program, cc, room) == ["127.0.0.1"]
 
 
 def test_network(program):

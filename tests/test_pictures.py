@@ -238,7 +238,23 @@ def used_often(text):
     return session.text()
 
 
+def sent_often(repeats):
+    """A page is released often before the halt, sent, and then sent again so often; what is placed of it is altered. So its `send`,
+    which the fault concerns, is neither among the first of its records nor among those nearest to the fault. Behind it the source
+    sends another page, which does not concern the fault: a single record, if what comes next has a row."""
+    one, two, three = ("%016x" % it for it in (5, 6, 7))
+    logs = {
+        "guest": ["z 0 0"] * 8 + ["w 0 0 0 5", "w 0 1 0 6", "halt", "resume 1"],
+        "source": ["halted 10", "state", f"send 0 {one}", f"send 1 {two}", *["again 2"] * repeats],
+        "link": ["down 1", "down 2", "down 3"],
+        "pager": ["got 0", "ready", "got 1", f"place 0 2 {three}", "got 2", f"place 1 4 {two}"],
+    }
+    return "".join(["postcopy-session 1\npages 2\ncells 1\ninit 0\n", *("\n".join([f"{log} {len(records)}", *records, ""]) for log, records in logs.items()), "end\n"])
+
+
 def sessions():
+    for repeats in range(36, 41):
+        yield f"a page that is sent {repeats} times again", sent_often(repeats)
     for file in sorted(glob.glob(TOP + "/examples/*/session") + glob.glob(TOP + "/tests/cases/*/session")):
         with open(file, encoding="latin-1") as text:
             yield file[len(TOP) + 1 :], text.read()

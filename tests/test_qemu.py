@@ -126,8 +126,9 @@ def run(case, qemu, room, is_in_gate):
     began = time.monotonic()
     done = subprocess.run([f"{TOP}/recorders/qemu/migrate", *words, "--qemu", qemu, "--quiet", folder], stdout=subprocess.PIPE, text=True)
     said = dict(re.findall(r"^(QEMU|The audit) says: (.*)$", done.stdout, re.MULTILINE))
-    is_right = bool(re.fullmatch(verdict, said.get("The audit", "")) and re.fullmatch(outcome, said.get("QEMU", "")))
-    line = f"{said.get('The audit', 'no verdict')}; {said.get('QEMU', 'nothing of QEMU')}; {time.monotonic() - began:.1f} s"
+    status = 0 if (said.get("The audit"), said.get("QEMU")) == (CLEAN, DONE) else 1
+    is_right = bool(re.fullmatch(verdict, said.get("The audit", "")) and re.fullmatch(outcome, said.get("QEMU", ""))) and done.returncode == status
+    line = f"{said.get('The audit', 'no verdict')}; {said.get('QEMU', 'nothing of QEMU')}; status {done.returncode}; {time.monotonic() - began:.1f} s"
     if is_right:
         shutil.rmtree(folder)
         return True, f"{name}: {line}"

@@ -5,6 +5,7 @@ recorders; sessions of files beside known ones (made_sessions.py); and a real mi
 and with each of its three, and with one of its processes or both killed. What is wanted comes of what the mistake is.
 """
 import contextlib
+import errno
 import glob
 import os
 import random
@@ -279,9 +280,42 @@ class Recorders:
                 count(True, "")
         log.close()
         self.tests.same("a closed log", log.halt(), LOST)
+        self.of_greatest_numbers()
+        self.of_closed_outputs()
         words = "import postcopy.recorder, postcopy.records, postcopy.sessions"
         env = {**os.environ, "PYTHONPATH": f"{TOP}/bindings/python", "POSTCOPY_LIBRARY": "/none"}
         self.tests.same("the recorder with no library", subprocess.run([sys.executable, "-B", "-c", words], env=env).returncode, 0)
+
+    def of_greatest_numbers(self):
+        """The number behind a log's last record is one that its last line may have: the files are refused at no line."""
+        folder = self.folder()
+        log = Log(folder, "source", LOST - 2)
+        self.tests.same("the greatest number, in Python", (log.state(), log.hand_over()), (LOST - 2, LOST - 1))
+        log = Log(folder, "source", LOST - 1)
+        self.tests.same("no number left, in Python", (log.state(), log.error.errno), (LOST, errno.EOVERFLOW))
+        log.close()
+        with Log(folder, "machine") as machine:
+            machine.machine(1, 1)
+        ran = subprocess.run([self.tests.program, "session", folder], capture_output=True, encoding="ascii")
+        wanted = f"a record was not written: {os.strerror(errno.EOVERFLOW)}\n"
+        self.tests.same("the files with the greatest number", (ran.returncode, wanted in ran.stderr, "found" in ran.stderr), (1, True, False))
+
+    def of_closed_outputs(self):
+        """What a process prints whose standard output is closed goes into no file of its logs."""
+        folder = self.folder()
+        calls = "machine machine 2 1\nguest halt\n" + "pager want 1\n" * 3000
+        self.run_c("calls", folder, given=calls.encode(), preexec_fn=lambda: os.close(1))
+        self.tests.same("the heads of files in C", {text.split(b"\n")[0] for text in lines_of(folder).values()}, {b"postcopy-records 1"})
+        folder = self.folder()
+        child = os.fork()
+        if child == 0:
+            os.close(1)
+            log = Log(folder, "guest")
+            with contextlib.suppress(OSError):
+                os.write(1, b"told\n")
+            os._exit(0 if log.halt() == 0 else 1)
+        self.tests.same("a child whose output is closed", os.waitpid(child, 0)[1], 0)
+        self.tests.same("its file in Python", b"told" in b"".join(lines_of(folder).values()), False)
 
     def of_hashes(self):
         chance = random.Random(3)
@@ -292,6 +326,9 @@ class Recorders:
         self.tests.same("hashes", by_c, [page_hash(page) for page in pages])
         self.tests.same("of zeros", by_c[0], 0)
         self.tests.same("of different pages", len(set(by_c)), len(pages))
+        for length in (1, 7, 12, 4095):
+            with contextlib.suppress(ValueError):
+                self.tests.same(f"a hash of {length} bytes", page_hash(b"\1" * length), None)
 
 
 class Migrations:
@@ -375,14 +412,14 @@ def test_made_sessions(program, room):
 
 
 @pytest.mark.slow
-@pytest.mark.cases(405)
+@pytest.mark.cases(408)
 def test_recorders(program, room, cc):
     tests = Tests(program)
     Recorders(tests, room).run(MadeSessions(tests, room).known)
 
 
 @pytest.mark.slow
-@pytest.mark.cases(285)
+@pytest.mark.cases(291)
 def test_faults(program, room, cc):
     tests = Tests(program)
     Faults(tests, room, program, Recorders(tests, room).program).run()

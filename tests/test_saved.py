@@ -428,8 +428,9 @@ def a_long_answer_that_gets_no_name(run):
         yield f"a long window whose lines are to go to {lines}", (found, run.has("new")), ((3, b"", f"output\n{lines}: {why}\n".encode()), b"as it was\n")
     name = f"{'./' * 45}session"
     shutil.copy(f"{TOP}/examples/handover/session", f"{run.room}/session")
-    status, _, errors = run("audit", "-o", "new", *[name] * 12_000, "not-there")
+    status, output, errors = run("audit", "-o", "new", *[name] * 12_000, "not-there")
     yield "many sessions, and one that is not there", (status, errors, run.has("new")), (3, b"file not-there\nnot-there: no such file or directory\n", b"as it was\n")
+    yield "their list", (output.count(b": clean\n"), output.splitlines()[-1]), (12_000, b"12000 of 12001 sessions are clean")
     yield "no other files", sorted(os.listdir(run.room)), ["full", "new", "recording", "session"]
 
 
@@ -473,7 +474,7 @@ ALL = (a_new_file, an_old_file, the_users_own, who_may_read, who_owns_it, whose_
 
 
 # How many cases each has at least.
-LEAST = {other_commands: 28, a_link: 14, two_writers: 62, two_names: 23, who_may_read: 21, the_users_own: 8, a_new_file: 11, refused_memory: 750, one_file_without_memory: 40, a_device: 6, a_long_answer: 11, a_write_that_fails: 13, a_long_answer_that_gets_no_name: 5, a_long_list: 4, a_folder_without_memory: 300}
+LEAST = {other_commands: 28, a_link: 14, two_writers: 62, two_names: 23, who_may_read: 21, the_users_own: 8, a_new_file: 11, refused_memory: 750, one_file_without_memory: 40, a_device: 6, a_long_answer: 11, a_write_that_fails: 13, a_long_answer_that_gets_no_name: 6, a_long_list: 4, a_folder_without_memory: 300}
 
 
 @pytest.mark.parametrize("tested", [pytest.param(it, marks=pytest.mark.cases(LEAST.get(it, 1)), id=it.__name__) for it in ALL])

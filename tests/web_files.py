@@ -111,7 +111,7 @@ def tests_of_memory(browser, room):
     text = read(example("handover")[0]).decode()
     long = text.replace("guest 9", "guest 1000009").replace("see 7\n", "see 7\n" * 1_000_001)
     wide = f"postcopy-session 3\npages {1 << 20}\ncells 1\ninit 0\n" + "".join(f"{it} 0\n" for it in ("guest", "source", "link", "lane", "pager")) + "end\n"
-    for what, given, most in (("a long session", long, 9.3 * len(long)), ("a session of many pages", wide, 76 * (1 << 20))):
+    for what, given, most in (("a long session", long, 7.4 * len(long)), ("a session of many pages", wide, 76 * (1 << 20))):
         browser.choose(write(f"{room}/{what}", given))
         taken = float(re.search(r"with ([\d.]+) MiB of memory", browser.text("#numbers"))[1]) * (1 << 20)
         count(most / 2 < taken < most, f"the memory for {what}: {taken}, of {most}")
