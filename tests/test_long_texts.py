@@ -10,6 +10,8 @@ pages, and one of more bytes than a text may have that is not long, are read by 
 
 A text takes 1,048,576 reads, with the one that finds its end, and a table of lines, which may be long, takes more. A line that has
 not ended has 268,435,456 bytes. One read more and one byte more are refused.
+
+A text has 268,435,456 bytes. By its first bytes it may be longer: a session or a certificate of the third version, runs, and a report.
 """
 import errno
 import os
@@ -250,7 +252,48 @@ def long_lines(program, room, _library):
         yield f"a table with lines of {sizes} bytes", (ran.stdout or ran.stderr, ran.returncode), wanted
 
 
+TOO_LONG = b'file -\n-: longer than the limit for such a text; "postcopy window" takes a recording of any size\n'
+NOT_READ = 3, b"", TOO_LONG
+IS_ANOTHER = b"-:1:1: this is %s; expected a session%s\n"
+SWAPPED = b": are the two files swapped?"
+A_REPORT = 1, b"session-text line 1\n", IS_ANOTHER % (b"a report of audit", b"")
+NO_PAGES = 1, b"session-text line 2\n", b'-:2:1: found an empty line; expected "pages N", the number of pages\n'
+NO_FIRST_LINE = 1, b"session-text line 1\n", b'-:1:1: found an empty line; expected "postcopy-session 1", "postcopy-session 2" or "postcopy-session 3", the header of a session\n'
+
+# The most bytes of a text that may not be long.
+MOST_BYTES = 1 << 28
+
+# The first lines of a text, how many bytes come behind them, whether the first of these ends a line, and what comes of its audit.
+FRONTS = (
+    (b"", MOST_BYTES, True, NO_FIRST_LINE),
+    (b"", MOST_BYTES + 1, True, NOT_READ),
+    (b"postcopy-session 3\n", MOST_BYTES + 1, True, NO_PAGES),
+    (b"postcopy-session 2\n", MOST_BYTES + 1, True, NOT_READ),
+    (b"postcopy-session 3\n\n", LONGEST_LINE, False, NO_PAGES),
+    (b"postcopy-session 3\n\n", LONGEST_LINE + 1, False, NOT_READ),
+    (b"postcopy-certificate 3\n", MOST_BYTES + 1, True, (1, b"session-text line 1\n", IS_ANOTHER % (b"a certificate", SWAPPED))),
+    (b"postcopy-certificate 2\n", MOST_BYTES + 1, True, NOT_READ),
+    (b"postcopy-runs 1\n", MOST_BYTES + 1, True, (1, b"session-text line 1\n", IS_ANOTHER % (b"a text of runs", SWAPPED))),
+    (b"clean\npostcopy-certificate 3\n", MOST_BYTES + 1, True, A_REPORT),
+    (b"clean\npostcopy-certificate 2\n", MOST_BYTES + 1, True, NOT_READ),
+    (b"faulty line 9 read\n", MOST_BYTES + 1, True, A_REPORT),
+    (b"shape line 9 named\n", MOST_BYTES + 1, True, NOT_READ),
+)
+
+
+def long_inputs(program, room, _library):
+    """The same of inputs that are as long as may be, or longer."""
+    for front, count, ends_line, wanted in FRONTS:
+        with open(f"{room}/input", "wb") as file:
+            file.write(front + (b"\n" if ends_line else b""))
+            file.truncate(len(front) + count)
+        with open(f"{room}/input", "rb") as file:
+            ran = subprocess.run([program, "audit", "-"], cwd=room, stdin=file, capture_output=True)
+        yield f"{count} bytes behind {front}", (ran.returncode, ran.stdout, ran.stderr), wanted
+
+
 @pytest.mark.parametrize("tries", (
+    pytest.param(long_inputs, marks=pytest.mark.cases(len(FRONTS))),
     pytest.param(read_by_bytes, marks=pytest.mark.cases(3)), pytest.param(long_lines, marks=pytest.mark.cases(5))), ids=lambda it: it.__name__)
 def test_limits(program, room, refusing, tries):
     for case in tries(program, room, refusing):

@@ -845,7 +845,12 @@ fn tells_of_input<
         fails: true,
     };
     let found = ran_over(rt, words, &mut input);
-    is_outcome(&found, 3, b"", b"file -\n-: nobody reads the pipe any more\n")
+    is_outcome(
+        &found,
+        3,
+        b"",
+        b"file -\n-: nobody reads the pipe any more\n",
+    )
 }
 
 fn wrong_input<
@@ -864,34 +869,19 @@ fn an_input_that_fails(rt: HostRuntime) {
     none_is_wrong(&rt, wrong_input(&rt));
 }
 
-// Gives its first lines, and behind them so many bytes, each time as many as are asked for or one, and then an error or the
-// end. Where lines are to end, the first of these is LF each time, and it leaves the others as they are; else all are zeros.
+// Gives so many bytes, each time as many as are asked for, of which the first is LF, and then an error.
 #[derive(Drop)]
-struct Plenty {
-    head: &'static [u8],
-    ends_lines: bool,
+struct Broken {
     left: usize,
-    one_by_one: bool,
-    fails: bool,
 }
 
-impl Read for Plenty {
+impl Read for Broken {
     fn read(&mut self, buf: &mut [u8]) -> io::Result<usize> {
-        if !self.head.is_empty() {
-            let count = self.head.len().min(buf.len());
-            let (now, later) = self.head.split_at(count);
-            buf[..count].copy_from_slice(now);
-            self.head = later;
-            return Ok(count);
-        }
-        if self.fails && self.left == 0 {
+        if self.left == 0 {
             return Err(io::Error::from(ErrorKind::BrokenPipe));
         }
-        let most = if self.one_by_one { 1 } else { buf.len() };
-        let count = most.min(self.left).min(buf.len());
-        if !self.ends_lines {
-            buf[..count].fill(b'0');
-        } else if let Some(first) = buf.first_mut() {
+        let count = self.left.min(buf.len());
+        if let Some(first) = buf.first_mut() {
             *first = b'\n';
         }
         self.left -= count;
@@ -900,146 +890,6 @@ impl Read for Plenty {
 }
 
 static AUDIT: [&str; 3] = ["postcopy", "audit", "-"];
-
-// Inputs without first lines: how many bytes, whether one by one, and whether they are read.
-static LIMITS: [(usize, bool, bool); 4] = [
-    (268_435_456, false, true),
-    (268_435_457, false, false),
-    (1_048_575, true, true),
-    (1_048_576, true, false),
-];
-
-// Inputs with first lines: these, how many bytes come behind them, whether lines end there, and what is said of them: the
-// status, the line and the words.
-static LONG: [(&[u8], usize, bool, Said); 11] = [
-    (b"postcopy-session 3\n", 268_435_457, true, NO_PAGES),
-    (b"postcopy-session 2\n", 268_435_457, true, NOT_READ),
-    (b"postcopy-session 3\n\n", 268_435_456, false, NO_PAGES),
-    (b"postcopy-session 3\n\n", 268_435_457, false, NOT_READ),
-    (
-        b"postcopy-certificate 3\n",
-        268_435_457,
-        true,
-        A_CERTIFICATE,
-    ),
-    (b"postcopy-certificate 2\n", 268_435_457, true, NOT_READ),
-    (b"postcopy-runs 1\n", 268_435_457, true, RUNS),
-    (
-        b"clean\npostcopy-certificate 3\n",
-        268_435_457,
-        true,
-        A_REPORT,
-    ),
-    (
-        b"clean\npostcopy-certificate 2\n",
-        268_435_457,
-        true,
-        NOT_READ,
-    ),
-    (b"faulty line 9 read\n", 268_435_457, true, A_REPORT),
-    (b"shape line 9 named\n", 268_435_457, true, NOT_READ),
-];
-
-type Said = (u8, &'static [u8], &'static [u8]);
-
-const TOO_LONG: &[u8] = b"file -\n-: longer than the limit for such a text; \"postcopy window\" takes a recording of any size\n";
-
-const TOO_MANY_READS: &[u8] = b"file -\n-: the text comes in too many pieces\n";
-
-const NOT_READ: Said = (3, b"", TOO_LONG);
-
-const NO_PAGES: Said = (
-    1,
-    b"session-text line 2\n",
-    b"-:2:1: found an empty line; expected \"pages N\", the number of pages\n",
-);
-
-const A_CERTIFICATE: Said = (
-    1,
-    EMPTY_SESSION_LINE,
-    b"-:1:1: this is a certificate; expected a session: are the two files swapped?\n",
-);
-
-const RUNS: Said = (
-    1,
-    EMPTY_SESSION_LINE,
-    b"-:1:1: this is a text of runs; expected a session: are the two files swapped?\n",
-);
-
-const A_REPORT: Said = (
-    1,
-    EMPTY_SESSION_LINE,
-    b"-:1:1: this is a report of audit; expected a session\n",
-);
-
-// Whether an input of so many bytes is read, or refused.
-fn is_limit_kept<
-    R: Threads + Wait + Sync + AllocGlobal + Net<Listener = TcpListener, Stream = TcpStream>,
->(rt: &R, left: usize, one_by_one: bool, fits: bool) -> bool {
-    let mut input = Plenty {
-        head: b"",
-        ends_lines: true,
-        left,
-        one_by_one,
-        fails: false,
-    };
-    let found = ran_over(rt, AUDIT.as_slice(), &mut input);
-    if fits {
-        is_outcome(&found, 1, EMPTY_SESSION_LINE, EMPTY_LINE)
-    } else {
-        let why = if one_by_one { TOO_MANY_READS } else { TOO_LONG };
-        is_outcome(&found, 3, b"", why)
-    }
-}
-
-// A count of bytes that is not read, or refused, as it is to be.
-fn wrong_limit<
-    R: Threads + Wait + Sync + AllocGlobal + Net<Listener = TcpListener, Stream = TcpStream>,
->(rt: &R) -> Option<usize> {
-    for (left, one_by_one, fits) in &LIMITS {
-        if !is_limit_kept(rt, *left, *one_by_one, *fits) {
-            return Some(*left);
-        }
-    }
-    None
-}
-
-// An input of 268,435,456 bytes is read, and one in 1,048,576 reads, the last of which finds its end; no greater one is.
-#[test]
-fn limits_of_an_input(rt: HostRuntime) {
-    if let Some(left) = wrong_limit(&rt) {
-        panic!(rt; "at {left}");
-    }
-}
-
-// The place of a long input that is not read, or refused, as it is to be.
-fn wrong_long<
-    R: Threads + Wait + Sync + AllocGlobal + Net<Listener = TcpListener, Stream = TcpStream>,
->(rt: &R) -> Option<usize> {
-    for (place, (head, left, ends_lines, said)) in LONG.iter().enumerate() {
-        let mut input = Plenty {
-            head: *head,
-            ends_lines: *ends_lines,
-            left: *left,
-            one_by_one: false,
-            fails: false,
-        };
-        let found = ran_over(rt, AUDIT.as_slice(), &mut input);
-        let (status, line, words) = *said;
-        if !is_outcome(&found, status, line, words) {
-            return Some(place);
-        }
-    }
-    None
-}
-
-// By its first bytes a text may be longer; no line of it is longer than 268,435,456 bytes.
-#[test]
-fn limits_of_a_long_input(rt: HostRuntime) {
-    if let Some(place) = wrong_long(&rt) {
-        panic!(rt; "at {place}");
-    }
-}
 
 // After how many bytes an input fails: in the first pieces, and in each of some that are read ahead.
 static FAILING: [usize; 6] = [
@@ -1051,15 +901,14 @@ fn untold_failure<
     R: Threads + Wait + Sync + AllocGlobal + Net<Listener = TcpListener, Stream = TcpStream>,
 >(rt: &R) -> Option<usize> {
     for left in &FAILING {
-        let mut input = Plenty {
-            head: b"",
-            ends_lines: true,
-            left: *left,
-            one_by_one: false,
-            fails: true,
-        };
+        let mut input = Broken { left: *left };
         let found = ran_over(rt, AUDIT.as_slice(), &mut input);
-        if !is_outcome(&found, 3, b"", b"file -\n-: nobody reads the pipe any more\n") {
+        if !is_outcome(
+            &found,
+            3,
+            b"",
+            b"file -\n-: nobody reads the pipe any more\n",
+        ) {
             return Some(*left);
         }
     }
