@@ -42,6 +42,26 @@ def copied(source, folder):
     return f"{folder}/src/{os.path.basename(source).removesuffix('.rs')}.rt"
 
 
+def join_to(room, names):
+    """Makes one crate of these crates of tests, each a module of it, beside the copies of the others. Returns its folder."""
+    folder, lines = f"{room}/crates/calls", listed()
+    os.makedirs(f"{folder}/src")
+    for name in names:
+        os.makedirs(f"{folder}/src/{name}")
+        for source in sources(name):
+            module = os.path.basename(source).removesuffix(".rs")
+            with open(source, encoding="utf-8") as file:
+                text = file.read().replace("crate::", f"crate::{name}::")
+            with open(f"{folder}/src/{name}.rt" if module == "lib" else f"{folder}/src/{name}/{module}.rt", "w", encoding="utf-8") as file:
+                file.write(text)
+    with open(f"{folder}/src/lib.rt", "w", encoding="utf-8") as file:
+        file.write("//! The tests of the crates' calls.\n\n" + "".join(f"mod {name};\n" for name in sorted(names)))
+    needed = {it for name in names for it in lines[name].partition(":")[2].split()}
+    with open(f"{room}/crates.txt", "a", encoding="utf-8") as file:
+        file.write(f"calls: {' '.join(sorted(needed))}\n")
+    return folder
+
+
 def copy_to(room, lines):
     """Copies the crates' sources, and those of the crates of tests beside them."""
     for name in os.listdir(f"{TOP}/crates"):
