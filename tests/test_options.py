@@ -113,6 +113,7 @@ def test_options(program, room):
             else:
                 tests.pair(command, one, other, names)
     tests.refused(["audit", *ALL, *SESSIONS])
+    same("why several sessions clash", "several sessions" in tests.run("audit", *ALL, *SESSIONS)[2].split("\n")[0], True)
     lines = tests.run("audit", *SESSIONS)[:2]
     same("the first lines of several sessions", tests.run("audit", *QUIET, *SESSIONS)[:2], lines)
     objects = "".join(tests.run("audit", *ALL, *JSON, name)[1] for name in SESSIONS)

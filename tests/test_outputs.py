@@ -2,14 +2,17 @@
 output that fails otherwise is one.
 
 Over each folder of examples/ and tests/cases/, with a reader that is gone at the start; in pipelines of a shell, as they
-stand in scripts; and with answers that are longer than a pipe holds, whose reader takes some of them.
+stand in scripts; and with answers that are longer than a pipe holds, whose reader takes some of them. And the words on each error
+with which a file is not opened or read, or an output not written.
 """
+import errno
 import os
 import select
 import subprocess
 
 import pytest
 from cases import right, same
+from test_saved import Run
 
 TOP = os.path.dirname(os.path.dirname(os.path.realpath(__file__)))
 
@@ -178,3 +181,51 @@ def test_one_by_one(program, texts):
     """Of several sessions each is answered before the next is read, and one that is not there is told and left out."""
     wanted = (b"early: faulty line 9 early\n", b"pipe: clean\n1 of 3 sessions are clean\n", b"file none\nnone: no such file or directory\n", 3)
     same("an audit of a session, no session and a pipe", answers_of_a_pipe(program, texts), wanted)
+
+
+# What the words say of an error of the system: where a file is opened, where it is read, and where an output is written.
+CAUSES = {
+    "open": (
+        ("no such file or directory", ("ENOENT",)),
+        ("permission denied", ("EACCES", "EPERM")),
+        ("a part of its path is not a directory", ("ENOTDIR",)),
+        ("its path has too many symbolic links", ("ELOOP",)),
+        ("its name is too long", ("ENAMETOOLONG",)),
+        ("the system does not take this name", ("EINVAL",)),
+        ("the file system is read-only", ("EROFS",)),
+        ("the file is in use", ("EBUSY", "ETXTBSY")),
+        ("too many open files", ("ENFILE", "EMFILE")),
+        ("input/output error", ("EIO",)),
+        ("the system reports an error of another kind", ("ENXIO", "ENODEV", "EOVERFLOW")),
+    ),
+    "read": (
+        ("input/output error", ("EIO",)),
+        ("it is a directory", ("EISDIR",)),
+        ("it is closed, or not open for this", ("EBADF",)),
+        ("it has no bytes ready", ("EAGAIN",)),
+        ("the connection was closed", ("ECONNRESET", "ECONNABORTED")),
+        ("the system reports an error of another kind", ("ETIMEDOUT", "ESTALE")),
+    ),
+    "write": (
+        ("no space left on the device", ("ENOSPC",)),
+        ("the disk quota is exceeded", ("EDQUOT",)),
+        ("the file would be too large", ("EFBIG",)),
+        ("input/output error", ("EIO",)),
+        ("it is closed, or not open for this", ("EBADF",)),
+        ("it has no bytes ready", ("EAGAIN",)),
+        ("the connection was closed", ("ECONNRESET",)),
+    ),
+}
+
+
+@pytest.mark.quick
+@pytest.mark.cases(31)
+def test_causes(program, texts, refusing):
+    """The words on a file that is not opened or read, and on an output that is not written, are those on the error of the system."""
+    run = Run(program, texts, refusing)
+    for call, causes in CAUSES.items():
+        told = "output\nstandard output" if call == "write" else "file early\nearly"
+        for words, errors in causes:
+            for name in errors:
+                found, _ = run.counted(f"{call} 1 1 {getattr(errno, name)}", "audit", "early")
+                same(f"a call of {call} with the error {name}", found, (3, b"", f"{told}: {words}\n".encode()))

@@ -4,16 +4,19 @@ command ends with 1 if it writes nothing; the script does so if something is mis
 The recordings are whole, or lack something, or are none: those of recorded_faults.py, and sessions that are known, spread over
 files, whole and cut short at random.
 """
+import errno
 import os
 import random
+import re
 import subprocess
 
 import pytest
-from cases import same
-from made_sessions import files_of, known_sessions, run_script
+from cases import count, same
+from made_sessions import files_of, known_sessions, numbered, run_script, text_of_file
 from recorded_faults import MOVED, Faults
 from recorded_model import answer_of, model_of, told
 from session_text import SessionText
+from test_saved import Run
 
 TOP = os.path.dirname(os.path.dirname(os.path.realpath(__file__)))
 
@@ -193,3 +196,78 @@ def test_lone_halted_that_is_named(program, room):
                 file.write(f"postcopy-records 1\nrecording lone\nlog {party} 0 0\n0 {record}\nend 1\n")
         text = subprocess.run([program, "session", "--cut", folder], capture_output=True, encoding="ascii", timeout=60, check=True).stdout
         same("the text", text, "postcopy-session 1\npages 1\ncells 1\ninit 0\nguest 1\nhalt\nsource 0\nlink 0\npager 0\nend\n")
+
+
+# What is told where memory is refused, and of a file that a pass does not read to its end.
+MEMORY = (4, b"", b"out of memory\n")
+NOT_READ = b"the file was not read to its end, or has changed since"
+
+
+@pytest.mark.cases(1000)
+def test_refused_calls(program, room, refusing):
+    """A read that fails, in any pass, is told with the name of its file, and refused memory as such. Neither makes a session. An
+    interrupted read is made again."""
+    run, folder = Run(program, room, refusing), Beside(room, program).recording()
+    files = {f"{folder}/{name}".encode() for name in os.listdir(folder)}
+    for words, behind in ((("session", folder), ""), (("session", "--cut", folder), ""), (("audit", folder), f"file {folder}\n{folder}: its files make no session\n")):
+        plain, (growths, reads, *_) = run.counted("-", *words)
+        same(f"{words}: a whole recording", (plain[0], plain[2][:8]), (0, b""))
+        told_of = set()
+        for number in range(1, reads + 1):
+            (status, output, errors), _ = run.counted(f"read {number} {number} {errno.EIO}", *words)
+            name = errors.split(b"\n")[0].removeprefix(b"file ")
+            same(f"{words}: read {number} fails", (status, output, errors), (3, b"", b"file %s\n%s: %s\n%s" % (name, name, NOT_READ, behind.encode())))
+            told_of.add(name)
+            same(f"{words}: read {number} is interrupted", run.counted(f"read {number} {number} {errno.EINTR}", *words)[0], plain)
+        same(f"{words}: the files that are told", told_of, files)
+        for number in range(1, growths + 1):
+            found = run.counted(f"memory {number} {number} memory", *words)[0]
+            count(found in (MEMORY, plain), f"{words}: growth {number} is refused: {found}")
+            same(f"{words}: no growth from {number} on", run.counted(f"memory {number} 9999999 memory", *words)[0], MEMORY)
+
+
+# How many bytes of a file are read at a time where a line of it is looked for.
+PIECE = 65536
+
+
+def guest_up_to(place):
+    """The beginning of a guest's file with so many bytes, and how many lines these are. The last two have values of as many digits as that takes."""
+    text = text_of_file("guest", numbered(MOVED["guest"]))
+    number = len(MOVED["guest"])
+    while place - len(text) > 60:
+        text, number = f"{text}{number} r 0 0 0 5\n", number + 1
+    for size in ((place - len(text)) // 2, None):
+        front = f"{number} r 0 0 0 "
+        text, number = f"{text}{front.ljust((size or place - len(text)) - 1, '5')}\n", number + 1
+    return text, number + 3
+
+
+@pytest.mark.cases(36)
+def test_lines_of_long_files(program, room):
+    """A line that is no record is told with its number and its words, in whichever piece of its file it stands, and over two."""
+    beside, wrong = Beside(room, program), "no record at all"
+    for pieces in (1, 2, 3):
+        for more in (-len(wrong) - 1, -len(wrong), -9, -1, 0, 1):
+            front, lines = guest_up_to(pieces * PIECE + more)
+            same("the place of the line", len(front), pieces * PIECE + more)
+            folder = beside.recording(guest=f"{front}{wrong}\nend 5\n")
+            ran = beside.by_command(folder)
+            words = f"session: {folder}/guest.1.0:{lines + 1}: found '{wrong}', which is no record: expected its number, its word and its fields\n"
+            same(f"a line {more} bytes from the end of piece {pieces}", (ran.returncode, ran.stdout, ran.stderr), (1, "", words))
+
+
+@pytest.mark.quick
+@pytest.mark.cases(16)
+def test_second_record_behind_a_hole(program, room):
+    """Two records of one number are no session, with --cut as without, also where an earlier number is missing."""
+    beside = Beside(room, program)
+    for log, records in (("guest", ["w 0 0 0 5", "halt", "resume 1", "see 3", "r 0 0 0 5"]), ("pager", ["got 0", "ready", "got 1", "place 0 2 0000000000000005"])):
+        for missing in (1, 2):
+            lines = numbered(records)
+            folder = beside.recording(**{log: text_of_file(log, lines[:missing] + lines[missing + 1:], last=f"end {len(lines) + 9}")})
+            beside.put(f"{folder}/{log}.1.1", text_of_file(log, lines[3:4]))
+            place = f"{folder}/{log}.1.1:4: a second record 3 of the {log}'s log, beside {folder}/{log}.1.0:6: record 3 of the {log}'s log: "
+            for words in ((folder,), ("--cut", folder)):
+                ran = beside.by_command(*words)
+                same(f"{words}", (ran.returncode, ran.stdout, ran.stderr[:9 + len(place)]), (1, "", f"session: {place}"))
+                same(f"{words}: one line", ran.stderr.count("\n"), 1)
