@@ -18,6 +18,8 @@ from recorded_model import answer_of, model_of, told
 from session_text import SessionText
 from test_saved import Run
 
+from postcopy.records import RECORDS
+
 TOP = os.path.dirname(os.path.dirname(os.path.realpath(__file__)))
 
 
@@ -271,3 +273,24 @@ def test_second_record_behind_a_hole(program, room):
                 ran = beside.by_command(*words)
                 same(f"{words}", (ran.returncode, ran.stdout, ran.stderr[:9 + len(place)]), (1, "", f"session: {place}"))
                 same(f"{words}: one line", ran.stderr.count("\n"), 1)
+
+
+# A right text of each field, by its name, on a machine of two pages of one cell, and a number that is none, one too many, or past the
+# machine. Any other field is the number of a record.
+FIELDS = {"vcpu": ("0", ("64",)), "page": ("0", ("2", str(2**32))), "cell": ("0", ("1", "511", "512")), "value": ("5", (str(2**64),)),
+          "contents": ("0" * 15 + "5", ("0" * 15, "0" * 15 + "G", "0" * 32))}
+NUMBER = ("0", (str(2**32), "-1", ""))
+
+
+@pytest.mark.quick
+@pytest.mark.cases(155)
+def test_fields(program, room):
+    """Of a record with a wrong field it is told which one it is, and what it may be: each field of each record, beside the model."""
+    beside = Beside(room, program, has_script=False)
+    for log, kinds in RECORDS.items():
+        for word, kind in kinds.items():
+            texts = [FIELDS.get(field.name, NUMBER) for field in kind.fields]
+            for place, (_, wrong) in enumerate(texts):
+                for other in (*wrong, "x", "00"):
+                    fields = [other if at == place else right for at, (right, _) in enumerate(texts)]
+                    beside.session(beside.recording(**{log: [*MOVED.get(log, ()), " ".join([word, *fields])]}))
