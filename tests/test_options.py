@@ -129,3 +129,59 @@ def test_words_that_are_not_utf_8(program):
                                  ((b"audit", b"x" * 255 + b"\xff"), 2, f'"{"x" * 60}"..'), ((b"audit", b"x" * 1000 + b"\xff"), 2, f'"{"x" * 60}"..')):
         ran = subprocess.run([program, *words], stdin=subprocess.DEVNULL, capture_output=True)
         same(f"{words}", (ran.returncode, ran.stdout, ran.stderr), (2, b"", f"error: word {number} is not UTF-8: {shown}\n".encode()))
+
+
+# What the help says of each word and each option of a command.
+SESSION, RUNS = "Session file, folder with files of recorders, or - for standard input", "File of runs, or - for standard input"
+COMPLETE = {
+    "--complete": "Succeed only if the session has a whole migration, from the halt to the end",
+    "--complete-pages": "Succeed only if the guest was halted and resumed, and each owed page was placed or released at the target. --complete asks for more",
+}
+FORMAT = {"--format <FORM>": "Format of the answer: lines of text, or a JSON object on one line [default: text] [possible values: text, json]"}
+PICKED = {"--page <NUMBER>": "Show this page, whether it has a fault or not"}
+LINED = {"--lines <FILE>": "File of the recording's line numbers, one for each line of its window: window writes it, explain reads it"}
+COMMON = {"-o, --output <FILE>": "Write the answer to this file instead of standard output. The file gets all of it or stays as it was", "-h, --help": "Print help"}
+HELP = {
+    "check": ("Judge the certificate of a session. Example: postcopy check session cert",
+              {"<SESSION>": SESSION, "<CERT>": "Certificate file, or - for standard input"}, {**COMPLETE, **FORMAT}),
+    "certify": ("Write the certificate of a clean session, or the first line of the report on another. Example: postcopy certify session", {"<SESSION>": SESSION}, {}),
+    "audit": ("Write the report on a session, or a line on each of several. Example: postcopy audit session", {"<SESSION>...": SESSION},
+              {**COMPLETE, "--all": "List each page that has a fault, with its first fault", "--quiet": "Write only the first line of the answer", **FORMAT}),
+    "explain": ("Explain what happened in a session, with the records of its fault. Example: postcopy explain session", {"<SESSION>": SESSION},
+                {**COMPLETE, **PICKED, "--line <NUMBER>": "Show the record at this line of the session, and its page", **LINED, **FORMAT}),
+    "replay": ("Replay a session in the order of its runs. Example: postcopy replay session runs", {"<SESSION>": SESSION, "<RUNS>": RUNS}, {}),
+    "steps": ("Write the session that events record from a guest script. Example: postcopy steps script events",
+              {"<SCRIPT>": "File of a guest script, or - for standard input", "<EVENTS>": "File of events, or - for standard input"}, {}),
+    "migrate": ("Migrate the guest of a script, and write its session and certificate. Example: postcopy migrate script | postcopy",
+                {"<SCRIPT>": "File of a guest script, or - for standard input"},
+                {"--link <CARRIER>": "Transport of the migration's packets [default: memory] [possible values: memory, tcp]"}),
+    "draw": ("Draw the records of a session as SVG, in the order of its report or of runs. Example: postcopy draw session -o picture.svg",
+             {"<SESSION>": SESSION, "[RUNS]": RUNS}, PICKED),
+    "window": ("Write the session of some pages of a recording. Example: postcopy window recording 4096 1024 -o session",
+               {"<RECORDING>": "Recording file, of any size. It is read four times, so it cannot be - or a pipe", "<FIRST>": "Number of the first page", "<COUNT>": "Number of pages"}, LINED),
+    "session": ("Make the session of the files that recorders left in folders. Example: postcopy session recording -o session",
+                {"<FOLDER>...": "Folder with files of recorders. A recording may be spread over several folders"},
+                {"--cut": "If something is missing, write what is left, cut so that no record names one that is missing"}),
+}
+
+
+def listed(told, heading):
+    """What stands in a list of a help, by the word that it is about."""
+    part = told.partition(f"\n{heading}:\n")[2].partition("\n\n")[0]
+    return dict(re.split(r"  +", line.strip(), maxsplit=1) for line in part.splitlines())
+
+
+@pytest.mark.quick
+@pytest.mark.cases(4 * len(HELP) + 1)
+def test_help(program, room):
+    """What the help says of each command, each of its words and each of its options."""
+    tests = Tests(program, room)
+    overall = tests.run("--help")[1]
+    about = {name: words for name, (words, *_) in HELP.items()}
+    same("the commands", listed(overall, "Commands"), {**about, "help": "Print this message or the help of the given subcommand(s)"})
+    for name, (words, arguments, options) in HELP.items():
+        status, told, errors = tests.run(name, "--help")
+        same(f"the help of {name}", (status, errors, told.split("\n")[0]), (0, "", words))
+        same(f"the usage of {name}", told.split("\n")[2], f"Usage: postcopy {name} [OPTIONS] {' '.join(arguments)}")
+        same(f"the words of {name}", listed(told, "Arguments"), arguments)
+        same(f"the options of {name}", listed(told, "Options"), {**options, **COMMON})
