@@ -219,7 +219,7 @@ CAUSES = {
 
 
 @pytest.mark.quick
-@pytest.mark.cases(31)
+@pytest.mark.cases(32)
 def test_causes(program, texts, refusing):
     """The words on a file that is not opened or read, and on an output that is not written, are those on the error of the system."""
     run = Run(program, texts, refusing)
@@ -229,3 +229,4 @@ def test_causes(program, texts, refusing):
             for name in errors:
                 found, _ = run.counted(f"{call} 1 1 {getattr(errno, name)}", "audit", "early")
                 same(f"a call of {call} with the error {name}", found, (3, b"", f"{told}: {words}\n".encode()))
+    same("a write that takes nothing", run.counted("write 1 1 none", "audit", "early")[0], (3, b"", b"output\nstandard output: no more bytes are taken\n"))
