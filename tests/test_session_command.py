@@ -222,6 +222,10 @@ def test_refused_calls(program, room, refusing):
             told_of.add(name)
             same(f"{words}: read {number} is interrupted", run.counted(f"read {number} {number} {errno.EINTR}", *words)[0], plain)
         same(f"{words}: the files that are told", told_of, files)
+        if words[0] == "session":
+            run.put("kept", b"as it was\n")
+            found = run.counted(f"read {reads} {reads} {errno.EIO}", *words, "-o", "kept")[0]
+            same(f"{words}: the file of an answer whose last read fails", (found[:2], run.has("kept")), ((3, b""), b"as it was\n"))
         for number in range(1, growths + 1):
             found = run.counted(f"memory {number} {number} memory", *words)[0]
             count(found in (MEMORY, plain), f"{words}: growth {number} is refused: {found}")
