@@ -7,7 +7,6 @@ files, whole and cut short at random.
 import errno
 import os
 import random
-import re
 import subprocess
 
 import pytest
