@@ -199,6 +199,9 @@ def test_lone_halted_that_is_named(program, room):
         same("the text", text, "postcopy-session 1\npages 1\ncells 1\ninit 0\nguest 1\nhalt\nsource 0\nlink 0\npager 0\nend\n")
 
 
+# How many bytes of a file are read at a time, and of a text written.
+PIECE = 65536
+
 # What is told where memory is refused, and of a file that a pass does not read to its end.
 MEMORY = (4, b"", b"out of memory\n")
 NOT_READ = b"the file was not read to its end, or has changed since"
@@ -232,8 +235,19 @@ def test_refused_calls(program, room, refusing):
                 same(f"{words}: no growth from {number} on", run.counted(f"memory {number} 9999999 memory", *words)[0], MEMORY)
 
 
-# How many bytes of a file are read at a time where a line of it is looked for.
-PIECE = 65536
+@pytest.mark.quick
+@pytest.mark.cases(20)
+def test_failed_late(program, room, refusing):
+    """What is written of a longer text before a read fails is its beginning. Nothing is written before the last pass."""
+    run, folder = Run(program, room, refusing), Beside(room, program).recording(guest=[*MOVED["guest"], *["r 0 0 0 5"] * 20000])
+    plain, (_, reads, *_) = run.counted("-", "session", folder)
+    same("a longer recording", (plain[0], len(plain[1]) > 3 * PIECE, plain[2]), (0, True, b""))
+    lengths = []
+    for number in range(1, reads + 1):
+        (status, output, errors), _ = run.counted(f"read {number} {number} {errno.EIO}", "session", folder)
+        same(f"read {number} fails", (status, plain[1].startswith(output), errors.count(b"\n"), errors.endswith(b": %s\n" % NOT_READ)), (3, True, 2, True))
+        lengths.append(len(output))
+    same("how much is written", (lengths[0], lengths == sorted(lengths), PIECE < lengths[-1] < len(plain[1])), (0, True, True))
 
 
 def guest_up_to(place):
