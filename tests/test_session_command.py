@@ -238,15 +238,22 @@ def test_refused_calls(program, room, refusing):
 @pytest.mark.quick
 @pytest.mark.cases(20)
 def test_failed_late(program, room, refusing):
-    """What is written of a longer text before a read fails is its beginning. Nothing is written before the last pass."""
+    """What is written of a longer text before a read fails is its beginning, and so where a file is shorter than it was. Nothing is
+    written before the last pass."""
     run, folder = Run(program, room, refusing), Beside(room, program).recording(guest=[*MOVED["guest"], *["r 0 0 0 5"] * 20000])
     plain, (_, reads, *_) = run.counted("-", "session", folder)
     same("a longer recording", (plain[0], len(plain[1]) > 3 * PIECE, plain[2]), (0, True, b""))
-    lengths = []
+    lengths, changed = [], 0
     for number in range(1, reads + 1):
         (status, output, errors), _ = run.counted(f"read {number} {number} {errno.EIO}", "session", folder)
         same(f"read {number} fails", (status, plain[1].startswith(output), errors.count(b"\n"), errors.endswith(b": %s\n" % NOT_READ)), (3, True, 2, True))
         lengths.append(len(output))
+        if output:
+            found = run.counted(f"read {number} {number} none", "session", folder)[0]
+            changed += found != plain
+            is_told = (found[0], plain[1].startswith(found[1]), found[2].endswith(b": %s\n" % NOT_READ)) == (3, True, True)
+            count(found == plain or is_told, f"nothing more comes at read {number}: {str(found)[-300:]}")
+    same("a file that is shorter in the last pass", changed > 2, True)
     same("how much is written", (lengths[0], lengths == sorted(lengths), PIECE < lengths[-1] < len(plain[1])), (0, True, True))
 
 
