@@ -165,6 +165,17 @@ HELP = {
 }
 
 
+END_OF_HELP = """ - means standard input. Two such files share it: the first text ends at its first line 'end'.
+
+Exit status:
+  0  success
+  1  any other answer
+  2  usage error
+  3  a file, a link or an output failed
+  4  out of memory
+"""
+
+
 def listed(told, heading):
     """What stands in a list of a help, by the word that it is about."""
     part = told.partition(f"\n{heading}:\n")[2].partition("\n\n")[0]
@@ -172,11 +183,14 @@ def listed(told, heading):
 
 
 @pytest.mark.quick
-@pytest.mark.cases(4 * len(HELP) + 1)
+@pytest.mark.cases(4 * len(HELP) + 3)
 def test_help(program, room):
     """What the help says of each command, each of its words and each of its options."""
     tests = Tests(program, room)
     overall = tests.run("--help")[1]
+    same("the end of the help", overall.partition("\n\nThe file name")[2], END_OF_HELP)
+    with open(f"{TOP}/VERSION", encoding="ascii") as file:
+        same("the version", tests.run("--version"), (0, f"postcopy {file.read().strip()}\n", ""))
     about = {name: words for name, (words, *_) in HELP.items()}
     same("the commands", listed(overall, "Commands"), {**about, "help": "Print this message or the help of the given subcommand(s)"})
     for name, (words, arguments, options) in HELP.items():
