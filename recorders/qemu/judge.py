@@ -93,8 +93,10 @@ def verdict_line(folder):
 def complete_line(folder):
     """Returns the verdict as a line. It is `incomplete ..` if the session is clean, but does not tell of a whole migration."""
     line = verdict_line(folder)
+    if not line.startswith("clean, "):
+        return line
     whole = ask(folder, "audit", "--complete", "--quiet", "session")[0].strip()
-    return whole if whole.startswith("incomplete ") else line
+    return line if whole == "clean" else whole or "not judged: the program does not say whether the session tells of a whole migration"
 
 
 def explain_and_draw(folder, *options):

@@ -2,7 +2,9 @@
 import hashlib
 import os
 import re
+import shlex
 import tempfile
+from unittest import mock
 
 import convert
 import judge
@@ -382,6 +384,12 @@ def of_statuses(tests):
             out.write(replaced(files["source.raw"], (b"source_return_path_thread_shut 0x0\n", b"")))
         verdict = judge.judge(room)
         tests.wants("a source that did not learn of the end", (verdict.line, verdict.status(True)), ("incomplete done", 1))
+        with open(f"{room}/program", "w", encoding="utf-8") as out:
+            out.write(f'#!/bin/sh\ncase "$*" in *--complete*) kill -9 $$ ;; esac\nexec {shlex.quote(judge.program())} "$@"\n')
+        os.chmod(f"{room}/program", 0o755)
+        with mock.patch.dict(os.environ, POSTCOPY=f"{room}/program"):
+            verdict = judge.judge(room)
+        tests.wants("where the program is killed before it says so", (verdict.line.split(":")[0], verdict.status(True)), ("not judged", 1))
 
 
 def of_the_last_of_the_source(tests):
