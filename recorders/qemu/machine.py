@@ -24,11 +24,12 @@ def seconds_waited(path):
 
 
 class PipeReader:
-    """Reads a pipe into a file, until QEMU has ended and everything is read."""
+    """Reads a pipe into a file, until QEMU has ended and everything is read. If the file cannot be written, `fault` says why, and the rest of
+    the pipe is read all the same, because QEMU would wait."""
 
     def __init__(self, pipe, path):
         self.descriptor = os.open(pipe, os.O_RDONLY | os.O_NONBLOCK)
-        self.file, self.length, self.is_ending = open(path, "wb", buffering=0), 0, False
+        self.file, self.length, self.is_ending, self.fault = open(path, "wb", buffering=0), 0, False, None
         self.thread = threading.Thread(target=self.read, daemon=True)
         self.thread.start()
 
@@ -37,7 +38,7 @@ class PipeReader:
             is_last = self.is_ending
             if select.select([self.descriptor], [], [], 0 if is_last else 0.05)[0]:
                 data = os.read(self.descriptor, 1 << 20)
-                self.file.write(data)
+                self.keep(data)
                 self.length += len(data)
                 if data:
                     continue
@@ -46,6 +47,13 @@ class PipeReader:
                 break
         self.file.close()
         os.close(self.descriptor)
+
+    def keep(self, data):
+        try:
+            while data and not self.fault:
+                data = data[self.file.write(data):]
+        except OSError as fault:
+            self.fault = fault
 
     def end(self):
         self.is_ending = True
@@ -151,7 +159,8 @@ class Machine:
         return lines[-1] if lines else f"status {self.process.poll()}, and it said nothing"
 
     def end(self, is_well):
-        """Ends QEMU, and reads everything that it recorded. (A QEMU that is not well would not answer a command.)"""
+        """Ends QEMU, and reads everything that it recorded. Returns why something of this is lost, or nothing. (A QEMU that is not well would
+        not answer a command.)"""
         try:
             if is_well and self.is_running():
                 self("quit")
@@ -164,3 +173,4 @@ class Machine:
         if self.qmp:
             self.qmp.close()
         self.reader.end()
+        return f"{self.name}.raw: {self.reader.fault.strerror}" if self.reader.fault else ""

@@ -33,11 +33,12 @@ class Outcome:
     seconds: float = 0.0
     waited: float = 0.0  # seconds for which a thread of a QEMU has waited for a processor
     remarks: list = field(default_factory=list)
+    lost: list = field(default_factory=list)  # why something of what they recorded is in no file
 
     @property
     def is_whole(self):
         """Returns whether both came to the end, so that the logs must be whole."""
-        return self.source == self.target == "completed"
+        return self.source == self.target == "completed" and not self.lost
 
     @property
     def is_held_up(self):
@@ -120,9 +121,14 @@ class Migration:
             self.remark(f"gave up: {fault}")
         finally:
             self.outcome.waited = round(max((machine.waited() for machine in self.machines), default=0.0), 1)
-            for machine in reversed(self.machines):
-                machine.end(self.outcome.is_whole)
+            self.end_machines()
             self.relay.end()
+
+    def end_machines(self):
+        """Ends both QEMUs. A migration of whose recording something is lost is not whole, whatever they say."""
+        self.outcome.lost = [*filter(None, [machine.end(self.outcome.is_whole) for machine in reversed(self.machines)])]
+        for lost in self.outcome.lost:
+            self.remark(lost)
 
     def save_memory(self):
         """Saves the source's memory when the package has arrived and the target does not have it yet. So it is the memory at the halt, even if

@@ -37,9 +37,11 @@ def of_plans(tests):
 
 
 def of_results(tests):
-    whole = {"source": "completed", "target": "completed", "remarks": ["1 cut not reached"]}
-    ended = {"source": "postcopy-paused", "target": "ENDED", "remarks": ["no recovery: target ended"]}
+    whole = {"source": "completed", "target": "completed", "remarks": ["1 cut not reached"], "lost": []}
+    ended = {"source": "postcopy-paused", "target": "ENDED", "remarks": ["no recovery: target ended"], "lost": []}
+    cut_off = {**whole, "remarks": ["target.raw: File too large"], "lost": ["target.raw: File too large"]}
     tests.wants("both came to the end", outcome_in_words(whole), "completed")
+    tests.wants("and the end of a file is lost", outcome_in_words(cut_off), "source completed, target completed; target.raw: File too large")
     tests.wants("one did not", outcome_in_words(ended), "source postcopy-paused, target ENDED; no recovery: target ended")
     plan = Plan()
     clean = Result(plan, "clean, yes", "completed")

@@ -2,6 +2,7 @@
 import io
 import lzma
 import os
+import resource
 import shutil
 import socket
 import stat
@@ -17,6 +18,7 @@ import pack
 from kinds import plan_of
 from machine import Machine
 from relay import Relay, Window
+from run import Migration, Outcome
 
 HERE = os.path.dirname(os.path.abspath(__file__))
 QEMU = f"{os.path.dirname(HERE)}/qemu"
@@ -131,6 +133,28 @@ def of_the_sockets(tests, room):
     made.end()
 
 
+def of_a_full_disk(tests, room):
+    """A file of what QEMU recorded has no more room: the migration is not whole, though both sides came to their end."""
+    folder, qemu, limits = f"{room}/full", f"{room}/bin/talker", resource.getrlimit(resource.RLIMIT_FSIZE)
+    folders.take(folder)
+    with open(qemu, "w", encoding="ascii") as out:
+        out.write('#!/bin/sh\nunset LD_PRELOAD\nwhile [ "$1" != -D ]; do shift; done\nhead -c 30000 /dev/zero > "$2"\n')
+    os.chmod(qemu, 0o755)
+    for most, wanted in ((1 << 20, (30000, True, [])), (10000, (10000, False, ["target.raw: File too large"]))):
+        one, made = Migration.__new__(Migration), folders.Room()
+        one.outcome, one.say = Outcome("completed", "completed"), lambda line: None
+        resource.setrlimit(resource.RLIMIT_FSIZE, (most, limits[1]))
+        try:
+            one.machines = [Machine("target", folder, made, plan_of("live"), f"{room}/a library.so", qemu)]
+            one.machines[0].process.wait(10)
+            one.end_machines()
+        finally:
+            resource.setrlimit(resource.RLIMIT_FSIZE, limits)
+            made.end()
+        found = os.path.getsize(f"{folder}/target.raw"), one.outcome.is_whole, one.outcome.remarks
+        tests.wants(f"what is told with room for {most} bytes", found, wanted)
+
+
 def of_a_strange_name(tests, room):
     """A recording is judged in a folder whose name is no text."""
     folder = f"{room}/a, b %d\n" + os.fsdecode(b"\xff")
@@ -158,5 +182,6 @@ def run(tests):
         of_a_folder_of_its_own(tests, room)
         of_a_room(tests, room)
         of_the_sockets(tests, room)
+        of_a_full_disk(tests, room)
         of_a_strange_name(tests, room)
         of_packed(tests, room)
