@@ -186,15 +186,30 @@ class Tests:
         twice = changed(traces, {"pager": [(" p19 packet", " p16 packet")]})
         self.wants("a name that comes twice", self.written(twice), ("", "session_from_traces.py: pager.trace: line 20 names a second p16\n", 1))
         half = {**traces, "pager": traces["pager"] + "81354"}
-        self.wants("a line that ends early", self.written(half), (session, "", 0))
-        for log, ends, said, counts in (
-            ("link", "t8", "source.trace: a10 tells of t10, which link.trace has not", {"guest": 17, "source": 8, "link": 5, "pager": 13}),
-            ("source", "a2", "link.trace: t1 tells of a2, which source.trace has not", {"guest": 5, "source": 0, "link": 0, "pager": 0}),
+        said = "session_from_traces.py: pager.trace: the last line was not written to its end"
+        self.wants("a line that ends early", self.written(half), ("", f"{said}\n", 1))
+        self.wants("the same, cut", self.written(half, "--cut"), (session, f"{said}: left out\n", 0))
+        unknown = changed(traces, {"guest": [("g24 read", "g24 raed")]})
+        said = "session_from_traces.py: guest.trace: line 26 has the event 'raed', which is in no table here\n"
+        self.wants("an event that is not known", self.written(unknown), ("", said, 1))
+        alone = {log: "".join(traces[log].partition(f" {ends}\n")[:2]) for log, ends in (("guest", "g11 stop"), ("source", "a1 stopped guest=g11"))}
+        text, said, status = self.written({**alone, "link": "", "pager": ""})
+        verdict = self.answer("audit", text)[0].split("\n", 1)[0]
+        self.wants("a source's log that is one event is not left out", (said, status, verdict), ("", 0, "shape line 15 start"))
+        for log, ends, said, more, counts in (
+            ("link", "t8", "source.trace: a10 tells of t10, which link.trace has not",
+             (": 2 events left out", "pager.trace: p19 tells of t8, which link.trace has not: 5 events left out"),
+             {"guest": 17, "source": 8, "link": 5, "pager": 13}),
+            ("source", "a2", "link.trace: t1 tells of a2, which source.trace has not",
+             (": 10 events left out", "pager.trace: p1 tells of t1, which link.trace has not: 23 events left out",
+              "guest.trace: g12 tells of p3, which pager.trace has not: 13 events left out", "source.trace: a1 alone is no log of a source: left out"),
+             {"guest": 5, "source": 0, "link": 0, "pager": 0}),
         ):
             ended = {**traces, log: re.sub(f"^[^ \n]+ {ends} .*", "", traces[log], flags=re.MULTILINE | re.DOTALL)}
             self.wants(f"{log}.trace ends before {ends}", self.written(ended), ("", f"session_from_traces.py: {said}\n", 1))
             cut = front_of(session, counts)
-            self.wants("the same, cut", self.written(ended, "--cut"), (cut, "", 0))
+            told = "".join(f"session_from_traces.py: {it}\n" for it in (said + more[0], *more[1:]))
+            self.wants("the same, cut", self.written(ended, "--cut"), (cut, told, 0))
             self.wants("audit of what was cut", self.answer("audit", cut)[0].split("\n", 1)[0], "clean")
 
 

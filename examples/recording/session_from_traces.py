@@ -12,7 +12,8 @@ here looks at them.
 A page has one cell: the sum, which is a hash of 64 bits of the whole page, and 0 for a page of zeros.
 
 Where an event tells of one that no trace has, there is a hole, and no session is written. With --cut that event is left out
-with all that follow it in its trace, until there is no hole.
+with all that follow it in its trace, until there is no hole, and standard error says so. A last line that was not written to
+its end is a hole too. An event that is in no table here is refused.
 """
 import argparse
 import os
@@ -20,7 +21,7 @@ import sys
 
 LOGS = ("guest", "source", "link", "lane", "pager")
 
-# The records, by the log and by what happened. Other events become none.
+# The records, by the log and by what happened.
 RECORDS = {
     "guest": {
         "read": "r {actor} {frame} 0 {value}",
@@ -56,6 +57,8 @@ RECORDS = {
         "complete": "all",
     },
 }
+# The events that become no record.
+OTHERS = {"guest": ("begin", "found"), "source": (), "link": ("hold",), "lane": ("hold",), "pager": ("devices", "wake")}
 LOOKS = ("look", "woken")
 PLACEMENTS = ("place", "zero")
 
@@ -76,12 +79,15 @@ class Event:
         return {key: (logs[key], name) for key, name in self.fields.items() if key in logs}
 
 
-def trace(folder, log):
-    """The events of a trace by their names, in their order. A last line that was not written to its end is left out."""
-    events = {}
+def trace(folder, log, cut):
+    """The events of a trace by their names, in their order, and what is to be said of a last line that was not written to its end."""
+    events, said = {}, []
     with open(f"{folder}/{log}.trace", encoding="ascii") as lines:
         for number, line in enumerate(lines, 1):
-            if line.startswith("#") or not line.endswith("\n"):
+            if line.startswith("#"):
+                continue
+            if not line.endswith("\n"):
+                said.append(f"{log}.trace: the last line was not written to its end")
                 continue
             try:
                 _time, name, what, *fields = line.split()
@@ -90,8 +96,12 @@ def trace(folder, log):
                 raise Hole(f"{log}.trace: line {number} is no event") from None
             if name in events:
                 raise Hole(f"{log}.trace: line {number} names a second {name}")
+            if what not in (*RECORDS[log], *OTHERS[log]):
+                raise Hole(f"{log}.trace: line {number} has the event '{what}', which is in no table here")
             events[name] = event
-    return events
+    if said and not cut:
+        raise Hole(said[0])
+    return events, said
 
 
 class Recording:
@@ -99,7 +109,9 @@ class Recording:
 
     def __init__(self, folder, cut):
         self.has_lane = os.path.exists(f"{folder}/lane.trace")
-        self.traces = {log: trace(folder, log) if log != "lane" or self.has_lane else {} for log in LOGS}
+        read = {log: trace(folder, log, cut) if log != "lane" or self.has_lane else ({}, []) for log in LOGS}
+        self.traces = {log: events for log, (events, _) in read.items()}
+        self.left_out = [f"{it}: left out" for _, said in read.values() for it in said]
         self.cut_at_holes(cut)
         begin = next(iter(self.traces["guest"].values()), None)
         if begin is None or begin.what != "begin":
@@ -109,20 +121,23 @@ class Recording:
         self.actors = begin.fields["actors"].split(",")
         self.traces["guest"] = self.with_placements(self.traces["guest"])
         self.kept = {log: {name: event for name, event in self.traces[log].items() if self.is_kept(event)} for log in LOGS}
-        if len(self.kept["source"]) == 1:
-            self.kept["source"] = {}  # a `halted` that is alone is not of the right shape
+        if cut and len(self.kept["source"]) == 1:
+            self.left_out.append(f"source.trace: {next(iter(self.kept['source']))} alone is no log of a source: left out")
+            self.kept["source"] = {}
         self.numbers = {(log, name): number for log in LOGS for number, name in enumerate(self.kept[log])}
 
     def cut_at_holes(self, cut):
         """Refuses traces with a hole, or cuts each in front of its first one."""
         while hole := next(self.holes(), None):
             log, name, told = hole
+            said = f"{log}.trace: {name} tells of {told[1]}, which {told[0]}.trace has not" + (" before it" if told[0] == log else "")
             if not cut:
-                where = f"{told[0]}.trace has not" + (" before it" if told[0] == log else "")
-                raise Hole(f"{log}.trace: {name} tells of {told[1]}, which {where}")
+                raise Hole(said)
             names = list(self.traces[log])
-            for lost in names[names.index(name):]:
-                del self.traces[log][lost]
+            lost = names[names.index(name):]
+            self.left_out.append(f"{said}: {len(lost)} event{'s' if len(lost) > 1 else ''} left out")
+            for name in lost:
+                del self.traces[log][name]
 
     def holes(self):
         """The events that tell of one that no trace has: the log, the name, and the log and name of what is told."""
@@ -204,7 +219,10 @@ def main():
     words.add_argument("--cut", action="store_true", help="cut the traces in front of what tells of a missing event")
     asked = words.parse_args()
     try:
-        sys.stdout.write(Recording(asked.folder, asked.cut).text())
+        recording = Recording(asked.folder, asked.cut)
+        for said in recording.left_out:
+            print(f"session_from_traces.py: {said}", file=sys.stderr)
+        sys.stdout.write(recording.text())
     except (OSError, Hole) as fault:
         sys.exit(f"session_from_traces.py: {fault}")
 
