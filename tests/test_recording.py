@@ -16,6 +16,7 @@ import pytest
 from cases import same
 from page_text import commands_of
 
+from postcopy.recorder import Log
 from session_text import LOGS, SessionText, logs_of
 
 TOP = os.path.dirname(os.path.dirname(os.path.abspath(__file__)))
@@ -246,6 +247,47 @@ def test_skeleton(program, cc, room):
         shutil.rmtree(f"{room}/recording", ignore_errors=True)
         ran = subprocess.run(["bash", "-c", f"{strict} && {judging}"], cwd=room, stdout=subprocess.PIPE, encoding="ascii")
         assert ran.stdout.splitlines() == lines
+
+
+def record(folder, placed=lambda page: page + 1, is_closed=True):
+    """Writes the files of a migration of 8 pages. A page holds the cell page + 1, and `placed` is what stands in its place at the target."""
+    shutil.rmtree(folder, ignore_errors=True)
+    machine, guest, source, pager = logs = [Log(folder, party) for party in ("machine", "guest", "source", "pager")]
+    machine.machine(8, 1)
+    source.halted(guest.halt())
+    pager.got_sent(source.state())
+    guest.resume(pager.ready())
+    for page in range(8):
+        machine.initial(page, [page + 1])
+        guest.see(pager.place(page, pager.got_sent(source.send(page, [page + 1])), [placed(page)]))
+        guest.read(0, page, 0, placed(page))
+    source.ask_sent(pager.all())
+    source.done()
+    for log in logs if is_closed else logs[:-1]:
+        log.close()
+
+
+def test_lines_for_windows(program, room):
+    """The lines of docs/RECORDING.md that judge a larger machine through windows, on one machine. Their status is 0 if each window is
+    clean, and only then: not if what they show cannot be written, nor if the recording made no text and that of an earlier one is there."""
+    section = re.search(r"^## Larger machines\n(.*?)^## ", read("docs/RECORDING.md"), re.M | re.S)[1]
+    written, cut, judged, *_, put_together = re.findall(r"^```sh\n(.*?)^```$", section, re.M | re.S)
+    os.symlink(program, f"{room}/postcopy")
+
+    def status(*how):
+        lines = "".join((written, cut, judged)).replace("16384", "2") + f"({put_together.strip()}){''.join(how)}"
+        ran = subprocess.run(["bash", "-c", lines], cwd=room, stdin=subprocess.DEVNULL, capture_output=True, encoding="ascii")
+        return ran.returncode, ran.stdout
+
+    recording = f"{room}/recording"
+    record(recording)
+    assert status() == (0, "")
+    record(recording, is_closed=False)
+    assert status()[0] == 1
+    record(recording, lambda page: page + 1 + (page == 5))
+    # (seven lines stand in front of the window's guest, whose sixth record reads its second page)
+    assert status() == (1, "4 faulty line 13 read\n")
+    assert [status(how)[0] for how in (" > /dev/full", " >&-")] == [1, 1]
 
 
 def test_page(cc):
