@@ -132,7 +132,7 @@ def was_put_in(folder):
 
 
 def outcome_in_words(outcome):
-    if outcome["source"] == outcome["target"] == "completed" and not outcome["lost"]:
+    if outcome["source"] == outcome["target"] == "completed" and not outcome["lost"] and not outcome["stands_still"]:
         return "completed"
     return "; ".join([f"source {outcome['source']}, target {outcome['target']}", *outcome["remarks"]])
 

@@ -34,11 +34,17 @@ class Outcome:
     waited: float = 0.0  # seconds for which a thread of a QEMU has waited for a processor
     remarks: list = field(default_factory=list)
     lost: list = field(default_factory=list)  # why something of what they recorded is in no file
+    stands_still: bool = False  # whether the guest did less at the target than it was waited for
 
     @property
     def is_whole(self):
         """Returns whether both came to the end, so that the logs must be whole."""
         return self.source == self.target == "completed" and not self.lost
+
+    @property
+    def is_success(self):
+        """Returns whether the guest also went on at the target."""
+        return self.is_whole and not self.stands_still
 
     @property
     def is_held_up(self):
@@ -175,7 +181,9 @@ class Migration:
 
     def run_on(self):
         """Waits until the guest has done its accesses at the target, after the end."""
-        self.target.wait_for_accesses(self.plan.after, self.plan.limit / 4)
+        if not self.target.wait_for_accesses(self.plan.after, self.plan.limit / 4):
+            self.outcome.stands_still = True
+            self.remark(f"it took more than {self.plan.limit / 4:.0f} s for {self.plan.after} accesses at the target")
 
     def set_up(self):
         capabilities = [{"capability": name, "state": True} for name in self.plan.capabilities()]

@@ -1,7 +1,8 @@
 """Plans of a campaign, and the table of what became of them."""
 import itertools
 import random
-from dataclasses import replace
+from dataclasses import asdict, replace
+from types import SimpleNamespace
 
 import results
 import series
@@ -9,7 +10,7 @@ from faults import NEED_CUT
 from kinds import Plan, plan_from_text, plan_of
 from plans import DRAWN, random_plan
 from results import Result, outcome_in_words, result_from_text
-from run import Outcome
+from run import Migration, Outcome
 
 
 def plans(seed, count=300, **options):
@@ -37,8 +38,8 @@ def of_plans(tests):
 
 
 def of_results(tests):
-    whole = {"source": "completed", "target": "completed", "remarks": ["1 cut not reached"], "lost": []}
-    ended = {"source": "postcopy-paused", "target": "ENDED", "remarks": ["no recovery: target ended"], "lost": []}
+    whole = {"source": "completed", "target": "completed", "remarks": ["1 cut not reached"], "lost": [], "stands_still": False}
+    ended = {"source": "postcopy-paused", "target": "ENDED", "remarks": ["no recovery: target ended"], "lost": [], "stands_still": False}
     cut_off = {**whole, "remarks": ["target.raw: File too large"], "lost": ["target.raw: File too large"]}
     tests.wants("both came to the end", outcome_in_words(whole), "completed")
     tests.wants("and the end of a file is lost", outcome_in_words(cut_off), "source completed, target completed; target.raw: File too large")
@@ -95,6 +96,18 @@ def of_a_busy_machine(tests):
         tests.wants(f"held up: {outcome}", outcome.is_held_up, wanted)
 
 
+def of_a_guest_that_stands_still(tests):
+    """Both QEMUs say that they came to the end, and the guest does not go on at the target: that is no success."""
+    for goes_on, is_success, remarks in ((True, True, []), (False, False, ["it took more than 10 s for 3000 accesses at the target"])):
+        one = Migration.__new__(Migration)
+        one.plan, one.say, one.outcome = Plan(), lambda line: None, Outcome("completed", "completed")
+        one.target = SimpleNamespace(wait_for_accesses=lambda count, seconds, goes_on=goes_on: goes_on)
+        one.run_on()
+        tests.wants(f"a guest that goes on: {goes_on}", (one.outcome.is_whole, one.outcome.is_success, one.outcome.remarks), (True, is_success, remarks))
+        words = "completed" if is_success else f"source completed, target completed; {remarks[0]}"
+        tests.wants("in words", outcome_in_words(asdict(one.outcome)), words)
+
+
 class Clock:
     """In the place of the module time: at each look a second has passed."""
 
@@ -114,4 +127,5 @@ def run(tests):
     of_plans(tests)
     of_results(tests)
     of_a_busy_machine(tests)
+    of_a_guest_that_stands_still(tests)
     of_the_limit(tests)
