@@ -159,6 +159,14 @@ def tests_of_page(room):
         same(f"the digest of the page with another {it}", digest(), first)
     same("a build of the page with no toolchain", run(sys.executable, f"{copy}/tools/page", "--build", path=room.plain),
          Ran(1, b"", b"tools/page: the Rattle toolchain is not installed: there is no command rt\n"))
+    other, page = room.copy(of=copy), b"page" * 4096
+    os.remove(f"{other}/{PAGE}")
+    write(f"{other}/{SHIPPED_PAGE}/postcopy.html", page)
+    rewrite(other, "postcopy.html", sum_of(f"{other}/{SHIPPED_PAGE}/postcopy.html"), SHIPPED_PAGE)
+    words = [sys.executable, f"{other}/tools/page"]
+    ran = run("sh", "-c", 'ulimit -f 1; exec "$@"', "sh", *words, path=room.plain)
+    same("a page for which the disk has no room", (ran.status, b"File too large" in ran.err), (1, True))
+    same("the next time it is put whole", (run(*words, path=room.plain), read(f"{other}/{PAGE}")), (Ran(0, b"", b""), page))
     append(f"{copy}/{PAGE}", b"x")
     ran = compare()
     same("a page that was built to other bytes", (ran.status, b"postcopy.html does not have the bytes" in ran.out), (1, True))
