@@ -34,6 +34,10 @@ class Tests:
         child = subprocess.run([self.program, command, path], cwd=self.room, stdin=subprocess.DEVNULL, capture_output=True, text=True)
         return child.returncode, child.stdout.splitlines(), child.stderr.removeprefix(path)
 
+    def notes(self, names):
+        """What the program notes of clean sessions."""
+        return subprocess.run([self.program, "audit", *names], cwd=self.room, stdin=subprocess.DEVNULL, capture_output=True, text=True).stderr
+
     def told(self, *words, program=None):
         words = [SCRIPT, "--program", program or self.program, *words]
         child = subprocess.run(words, cwd=self.room, stdin=subprocess.DEVNULL, capture_output=True, text=True)
@@ -186,7 +190,10 @@ class Tests:
         front = "the session does not tell of a whole migration: incomplete"
         for case, place, rest in (("four-empty-logs", "", "halt"), ("placement-left-out", "", "page 2"), ("drop-left-out", ":60", "line 60")):
             shutil.copy(f"{TOP}/tests/cases/complete-{case}/session", f"{self.room}/{case}")
-            self.same(f"{case}, without asking", self.told(case), (0, "", ""))
+            for times in (1, 2):
+                notes = self.notes([case] * times)
+                self.same(f"whether something is noted of {case}, {times} times", bool(notes), case == "four-empty-logs")
+                self.same(f"{case}, {times} times, without asking", self.told(*[case] * times), (0, "", notes))
             told = 1, f"{case}{place}: incomplete: {front} {rest}\n", ""
             self.same(case, self.told("--complete", case), told)
             self.same(f"{case}, twice", self.told("--complete", case, case), (1, told[1] * 2, ""))
