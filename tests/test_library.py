@@ -444,6 +444,11 @@ def tests_of_examples(postcopy, prefix, room):
             answer = postcopy.audit(session)
             ran = subprocess.run([f"{room}/audit-{how}"], input=read(session, "rb"), stdout=subprocess.PIPE)
             same(f"the audit in C, {how}, {folder}", (ran.stdout, ran.returncode), (answer.text, int(not answer.is_safe)))
+        texts = [f"{TOP}/examples/handover/{it}" for it in ("session", "certificate")]
+        for name, words, given in (("audit", [], read(texts[0], "rb")), ("check", texts, b"")):
+            with open("/dev/full", "wb") as full:
+                ran = subprocess.run([f"{room}/{name}-{how}", *words], input=given, stdout=full)
+            same(f"the {name} in C, {how}, whose answer cannot be written", ran.returncode, 3)
     if shutil.which("c++"):
         headers = [f"{prefix}/include/{it}.h" for it in ("postcopy", "postcopy_record")]
         ran = subprocess.run(["c++", "-Wall", "-Wextra", "-Werror", "-fsyntax-only", "-x", "c++", *headers])

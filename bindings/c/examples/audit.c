@@ -16,6 +16,6 @@ int main(void) {
         answer = postcopy_audit(session, session_len, room, room_len);
     }
     if (answer.kind == POSTCOPY_NO_MEMORY) return 4;
-    fwrite(room, 1, answer.text_len, stdout);
+    if (fwrite(room, 1, answer.text_len, stdout) != answer.text_len || fflush(stdout)) return 3;
     return answer.kind != POSTCOPY_CLEAN;
 }

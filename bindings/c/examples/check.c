@@ -20,6 +20,6 @@ int main(int count, char **words) {
     const uint8_t *cert = count == 3 ? text(words[2], &cert_len) : NULL;
     if (!session || !cert) return 3;
     postcopy_answer answer = postcopy_check(session, session_len, cert, cert_len);
-    printf("kind %u line %u reason %u\n", answer.kind, answer.line, answer.reason);
+    if (printf("kind %u line %u reason %u\n", answer.kind, answer.line, answer.reason) < 0 || fflush(stdout)) return 3;
     return answer.kind != POSTCOPY_YES;
 }
