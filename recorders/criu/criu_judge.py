@@ -43,6 +43,12 @@ def wrong_reads(folder):
     return wrong
 
 
+def was_put_in(folder):
+    """Returns whether the relay or the library recorded a fault."""
+    with open(f"{folder}/relay.log", encoding="ascii") as relay, open(f"{folder}/log", encoding="ascii") as log:
+        return any(line.startswith("fault ") for line in relay) or any(line.startswith("p early ") for line in log)
+
+
 def waited_for(folder):
     """Returns the pages that threads wait for at the end, from the process's own record alone."""
     with open(f"{folder}/log", "rb") as log:

@@ -1,14 +1,20 @@
 """Kept recordings of CRIU 4.1.1 and 4.2.1, and each fact that their conversion rests on, told wrong in one of them."""
+import importlib.machinery
+import importlib.util
+import io
 import os
 import re
+import sys
 import tempfile
+from types import SimpleNamespace
+from unittest import mock
 
 import criu_judge
 import judge
 import kept
 from criu_plans import BASE, plan_of
 from criu_session import Recording, Sides, Wire
-from lazy_migration import RECORDED
+from lazy_migration import RECORDED, Outcome
 from page_server import NARROW, PAGE_BYTES, Message, Strange
 from records import Hole
 
@@ -51,6 +57,30 @@ def of_cut(tests):
         tests.wants("cut: reads of what was not written", criu_judge.wrong_reads(room) > 0, True)
         judge.write(f"{room}/log", kept.files_of("live")["log"].decode())
         tests.wants("live: reads of what was not written", criu_judge.wrong_reads(room), 0)
+
+
+def of_what_is_not_put_in(tests):
+    """A clean migration in which a fault was to be put in, and was not, is told as such."""
+    loader = importlib.machinery.SourceFileLoader("criu_migrate", f"{os.path.dirname(os.path.abspath(kept.__file__))}/migrate")
+    recorder = importlib.util.module_from_spec(importlib.util.spec_from_loader(loader.name, loader))
+    loader.exec_module(recorder)
+    files = kept.files_of("live")
+    for words, log, wanted in (((), b"", (None, 0)), (("--fault", "flip"), b"", ("flip not reached", 4)), (("--fault", "flip"), b"fault flip 1000\n", (None, 0)),
+                               (("--fault", "flip", "--plain"), b"", ("flip not reached", 4))):
+        with tempfile.TemporaryDirectory() as room:
+            def run(room=room, log=log):
+                for name, data in {**files, "relay.log": log + files["relay.log"]}.items():
+                    with open(f"{room}/{name}", "wb") as out:
+                        out.write(data)
+                return Outcome(0, 0, 0)
+
+            made = mock.Mock(return_value=SimpleNamespace(run=run))
+            given = mock.patch.object(sys, "argv", ["migrate", "live", room, "--quiet", *words])
+            with given, mock.patch.object(recorder, "Migration", made), mock.patch.object(sys, "stdout", io.TextIOWrapper(io.BytesIO())) as out:
+                status = recorder.main()
+                out.seek(0)
+                told = re.search("^Put in: (.*)$", out.read(), re.MULTILINE)
+        tests.wants(f"what is told of {words} with {log}", (told and told[1], status), wanted)
 
 
 def of_hang(tests):
@@ -217,6 +247,7 @@ def of_facts(tests):
 
 def run(tests):
     of_kept(tests)
+    of_what_is_not_put_in(tests)
     of_hang(tests)
     of_cut(tests)
     of_repeats(tests)

@@ -1,9 +1,12 @@
 """Kept recordings of QEMU, and each fact that their conversion rests on, told wrong in one of them."""
 import hashlib
+import io
 import os
 import re
 import shlex
+import sys
 import tempfile
+from types import SimpleNamespace
 from unittest import mock
 
 import convert
@@ -12,9 +15,11 @@ from dialect import Moments
 from pack import unpacked
 from pipe import Access, InFlight, Pipe
 from records import Hole
+from run import Outcome
 from source_side import SourceSide
 from stream import PAGE_BYTES
 from target_side import TargetSide
+from versions_test import command
 from wire import ZERO
 from witness import pages_that_differ
 
@@ -392,6 +397,29 @@ def of_statuses(tests):
         tests.wants("where the program is killed before it says so", (verdict.line.split(":")[0], verdict.status(True)), ("not judged", 1))
 
 
+def of_what_is_not_put_in(tests):
+    """A clean migration in which a fault or a cut was to be put in, and was not, is told as such."""
+    recorder, files = command("migrate"), files_of("example-live")
+    for words, log, remarks, wanted in (
+            ((), b"", [], (None, 0)), (("--fault", "flip"), b"", [], ("flip not reached", 4)), (("--fault", "flip"), b"fault flip 3\n", [], (None, 0)),
+            (("--cut", "9"), b"", ["1 cut not reached"], ("1 cut not reached", 4)), (("--cut", "9"), b"", [], (None, 0))):
+        with tempfile.TemporaryDirectory() as room:
+            def run(room=room, log=log, remarks=remarks):
+                for name, data in {**files, "relay.log": log + files["relay.log"]}.items():
+                    with open(f"{room}/{name}", "wb") as out:
+                        out.write(data)
+                return Outcome("completed", "completed", remarks=remarks)
+
+            words_of_all = ["migrate", "live", room, "--quiet", *words]
+            replaced_here = mock.patch.multiple(recorder, Emulator=mock.Mock(NAME="any"), Migration=mock.Mock(return_value=SimpleNamespace(run=run)))
+            with replaced_here, mock.patch.object(sys, "argv", words_of_all), mock.patch.object(sys, "stdout", io.TextIOWrapper(io.BytesIO())) as out:
+                status = recorder.main()
+                out.seek(0)
+                told = out.read()
+        found = re.search("^Put in: (.*)$", told, re.MULTILINE)
+        tests.wants(f"what is told of {words} with {log}", (found and found[1], status), wanted)
+
+
 def of_the_last_of_the_source(tests):
     """Nothing of the source stands behind the record that it starts its guest again, and what was sent before stands in front of it."""
     files = files_of("11.1-both-ran")
@@ -460,6 +488,7 @@ def run(tests):
     of_a_source_that_goes_on(tests)
     of_restarts(tests)
     of_statuses(tests)
+    of_what_is_not_put_in(tests)
     of_the_last_of_the_source(tests)
     of_a_strange_stream(tests)
     of_ends(tests)
