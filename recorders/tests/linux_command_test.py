@@ -11,12 +11,14 @@ import sys
 import tarfile
 import tempfile
 from types import SimpleNamespace
+from unittest import mock
 
 import debian
 import dialect
 import found_page
 import linux_results
 import linux_run
+from campaign_test import Clock
 from kinds import Plan
 from linux_results import Result, result_from_text
 from linux_test import BASE, CELLS, HALT, LOG, PAGES, made, write
@@ -317,6 +319,9 @@ def of_runs(tests, room):
 
     tests.wants("the statuses", [made("2", f"{room}/seen", "--", "0"), made("1", f"{room}/seen", "--keep", "--", "1"), made("1", f"{room}/seen", "--", "3"),
                                  made("0", f"{room}/seen", "--write"), made("1", room, "--", "0")], [0, 0, 3, 0, 2])
+    with mock.patch.object(runs, "time", Clock()):
+        tests.wants("where the minutes are over before the last was made", made("3", f"{room}/late", "--minutes", "0.02", "--", "0"), 3)
+    tests.wants("those that were made", len(linux_results.results_in(f"{room}/late/results")), 1)
     tests.wants("what is kept", [sorted(os.listdir(f"{room}/seen/{number:04}")) for number in range(3)],
                 [["result.json", "verdict"]] * 2 + [["halt.mem", "result.json", "session", "verdict"]])
     tests.wants("the results", linux_results.results_in(f"{room}/seen/results"), [results[0], results[0], results[1]])

@@ -1,4 +1,5 @@
 """What differs between QEMUs: what one lacks is told before, roots of other releases, one that hangs, and a guest at both sides."""
+import contextlib
 import functools
 import importlib.machinery
 import importlib.util
@@ -7,10 +8,13 @@ import itertools
 import os
 import socket
 import stat
+import sys
 import tarfile
 import tempfile
 import threading
 import time
+from types import SimpleNamespace
+from unittest import mock
 
 import build
 import emulator
@@ -247,6 +251,27 @@ def of_the_table(tests):
                 ["| | 7.2.22 | 10.0.13 |", "| --- | --- | --- |", "| none | not there | 2 clean, 1 both ran |"])
 
 
+def of_comparisons(tests, room):
+    """Each migration has a folder of its own, also where two QEMUs are of one version; and where no QEMU can make any case, nothing was compared."""
+    compare, made = command("compare"), []
+
+    def make_all(todo, jobs):
+        made.extend(os.path.basename(folder) for _, folder, _ in todo)
+        return [Result(plan, "clean, yes", "completed") for plan, _, _ in todo]
+
+    def emulator_of(name):
+        return SimpleNamespace(path=f"/{name}", version_text="10.0.13")
+
+    words = ["compare", "one", "other", "one", "--case", "live", "--runs", "2", "--folder", f"{room}/compared"]
+    for lacks, wanted in (("", (0, ["live-10.0.13-0", "live-10.0.13-1", "live-10.0.13-by-1-0", "live-10.0.13-by-1-1"])), ("no userfaultfd", (3, []))):
+        made.clear()
+        with contextlib.ExitStack() as patches, contextlib.redirect_stdout(io.StringIO()):
+            for where, changes in ((compare, {"Emulator": emulator_of, "lacks": lambda *_, lacks=lacks: lacks}), (sys, {"argv": words}),
+                                   (compare.build, {"require_tools": lambda: None, "build": lambda: ("rom", "library")}), (compare.series, {"make_all": make_all})):
+                patches.enter_context(mock.patch.multiple(where, **changes))
+            tests.wants(f"the status and the folders where QEMU lacks '{lacks}'", (compare.main(), made), wanted)
+
+
 def of_what_was_found(tests, room):
     """The tables of campaigns: by version, from old to new, and of each kind; and where they stand in the page."""
     found = command("found")
@@ -273,7 +298,7 @@ def of_what_was_found(tests, room):
 
 
 def run(tests):
-    for of_them in (of_what_is_lacking, of_roots, of_one_that_hangs, of_the_forwarder, of_what_was_found):
+    for of_them in (of_what_is_lacking, of_roots, of_one_that_hangs, of_the_forwarder, of_comparisons, of_what_was_found):
         with tempfile.TemporaryDirectory() as room:
             of_them(tests, room)
     of_the_table(tests)
