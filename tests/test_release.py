@@ -323,6 +323,12 @@ def refusals(tree):
             run(*git, message)
             if text == new:
                 says(why)
+    os.mkdir(f"{tree}/release/bin")
+    with open(f"{tree}/release/bin/tar", "w") as file:
+        file.write(f'#!/bin/sh\n{shutil.which("tar")} "$@"\necho "tar: read error" >&2\nexit 2\n')
+    os.chmod(file.name, 0o755)
+    said, status = ran(f"{tree}/tools/release", f"{tree}/none", env={**os.environ, "PATH": f"{tree}/release/bin:{os.environ['PATH']}"})
+    same("a release of which the archive is not whole", (said, status, os.path.exists(f"{tree}/none")), ("tar: read error\n", 2, False))
     same("tools/release --help", ran(f"{tree}/tools/release", "--help")[1], 2)
 
 
