@@ -290,6 +290,21 @@ def test_lines_for_windows(program, room):
     assert [status(how)[0] for how in (" > /dev/full", " >&-")] == [1, 1]
 
 
+def test_lines_of_the_man_page(program, room):
+    """The lines of the man page that make a session and judge it: they judge no session of before, if none is made."""
+    lines, = re.findall(r"^Make the session of a recording, and judge it:\n.*?^\.nf\n(.*?)^\.fi$", read("share/man/man1/postcopy.1"), re.M | re.S)
+    os.symlink(program, f"{room}/postcopy")
+
+    def status():
+        env = {**os.environ, "PATH": f"{room}:{os.environ['PATH']}"}
+        return subprocess.run(["sh", "-c", lines.replace("\\-", "-")], cwd=room, stdin=subprocess.DEVNULL, capture_output=True, env=env).returncode
+
+    record(f"{room}/recording")
+    assert status() == 0
+    record(f"{room}/recording", is_closed=False)
+    assert status() == 1
+
+
 def test_page(cc):
     """The further C that docs/RECORDING.md shows. Its other commands are run by test_pages.py."""
     shown, = re.findall(r"```c\n(static void place\(.*?)```", read("docs/RECORDING.md"), re.S)
