@@ -329,6 +329,8 @@ class Recorders:
         for length in (1, 7, 12, 4095):
             with contextlib.suppress(ValueError):
                 self.tests.same(f"a hash of {length} bytes", page_hash(b"\1" * length), None)
+            short = first[:length]
+            self.tests.same(f"a hash of {length} bytes in C", int(self.run_c("hash", given=short)), page_hash(short + bytes(-length % 8)))
 
 
 class Migrations:

@@ -498,18 +498,28 @@ uint32_t postcopy_record_place(postcopy_log *pager, uint32_t page, uint32_t got,
     return append(pager, OF(PAGER), (struct record){"place", 2, {page, got}, 1, contents, cells});
 }
 
+static inline uint64_t mix(uint64_t hash, uint64_t word)
+{
+    hash = (hash ^ word) * UINT64_C(0x9e3779b97f4a7c15);
+    hash = (hash ^ hash >> 29) * UINT64_C(0xbf58476d1ce4e5b9);
+    return hash ^ hash >> 32;
+}
+
 uint64_t postcopy_page_hash(const void *page, size_t length)
 {
     const unsigned char *bytes = page;
-    uint64_t hash = 0, any = 0;
-    for (size_t at = 0; at + 8 <= length; at += 8) {
+    uint64_t hash = 0, any = 0, rest = 0;
+    size_t at = 0;
+    for (; length - at >= 8; at += 8) {
         uint64_t word = 0;
         for (int byte = 7; byte >= 0; byte--)
             word = word << 8 | bytes[at + byte];
         any |= word;
-        hash = (hash ^ word) * UINT64_C(0x9e3779b97f4a7c15);
-        hash = (hash ^ hash >> 29) * UINT64_C(0xbf58476d1ce4e5b9);
-        hash ^= hash >> 32;
+        hash = mix(hash, word);
     }
-    return any ? (hash ? hash : 1) : 0;
+    for (size_t end = length; end > at; end--)
+        rest = rest << 8 | bytes[end - 1];
+    if (at < length)
+        hash = mix(hash, rest);
+    return any | rest ? (hash ? hash : 1) : 0;
 }

@@ -106,9 +106,9 @@ uint32_t postcopy_record_got_sent(postcopy_log *pager, uint32_t sent);
 uint32_t postcopy_record_pull_sent(postcopy_log *pager, uint32_t sent);
 uint32_t postcopy_record_ask_sent(postcopy_log *source, uint32_t sent);
 
-/* Returns a page's contents as one cell: 0 if all bytes are 0, and otherwise a hash. The length must be a multiple of 8. Two pages
-   that differ in only one word have different hashes. The hash does not resist an attacker, who can make two pages with the same
-   one. */
+/* Returns a page's contents as one cell: 0 if all bytes are 0, and otherwise a hash. If the length is no multiple of 8, bytes 0
+   count behind it, up to one. Two pages that differ in only one word have different hashes. The hash does not resist an attacker,
+   who can make two pages with the same one. */
 uint64_t postcopy_page_hash(const void *page, size_t length);
 
 #ifdef __cplusplus

@@ -388,8 +388,9 @@ static void move(const char *folder, uint32_t pages)
 static void hash(void)
 {
     char page[4096];
-    while (fread(page, sizeof page, 1, stdin) == 1)
-        printf("%" PRIu64 "\n", postcopy_page_hash(page, sizeof page));
+    size_t length;
+    while ((length = fread(page, 1, sizeof page, stdin)) > 0)
+        printf("%" PRIu64 "\n", postcopy_page_hash(page, length));
 }
 
 static void measure(const char *folder, long count)
