@@ -13,7 +13,7 @@ LEFT_OUT = "left out: the Rattle toolchain is not installed: there is no command
 pytestmark = pytest.mark.quick
 
 
-def gate(room, failing=(), has_rt=True):
+def gate(room, failing=(), has_rt=True, out=subprocess.PIPE):
     """What the gate says where these parts fail, over commands that do nothing else; what came of each part; and its status."""
     for name in ("tools/library", "tools/page", "tools/compare-shipped", "tests/pytest", "bin/rt", "postcopy"):
         if has_rt or name != "bin/rt":
@@ -25,12 +25,17 @@ def gate(room, failing=(), has_rt=True):
     os.makedirs(f"{room}/bin", exist_ok=True)
     for name in ("bash", "dirname"):
         os.symlink(shutil.which(name), f"{room}/bin/{name}")
-    ran = subprocess.run([f"{room}/tests/run"], env={"PATH": f"{room}/bin"}, stdin=subprocess.DEVNULL, stdout=subprocess.PIPE, stderr=subprocess.STDOUT, text=True)
-    return dict(re.findall(r"^ *\d+:\d\d  (.*?): (.*)$", ran.stdout, re.M)), ran.returncode
+    ran = subprocess.run([f"{room}/tests/run"], env={"PATH": f"{room}/bin"}, stdin=subprocess.DEVNULL, stdout=out, stderr=subprocess.STDOUT, text=True)
+    return dict(re.findall(r"^ *\d+:\d\d  (.*?): (.*)$", ran.stdout or "", re.M)), ran.returncode
 
 
 def test_right(room):
     assert gate(room) == (dict.fromkeys(PARTS, "ok"), 0)
+
+
+def test_full_disk(room):
+    with open("/dev/full", "w", encoding="ascii") as full:
+        assert gate(room, out=full) == ({}, 1)
 
 
 @pytest.mark.parametrize("name, part", (("bin/rt", PARTS[0]), ("tools/page", PARTS[2]), ("tests/pytest", PARTS[4])))
