@@ -1,4 +1,5 @@
-"""The gate goes on after a part that fails, tells what came of each part, and is red where the toolchain is not there."""
+"""The gate goes on after a part that fails, tells what came of each part, and is red where the toolchain is not there. And the list of expensive
+functions says where it has nothing to list."""
 import os
 import re
 import shutil
@@ -41,6 +42,11 @@ def test_full_disk(room):
 @pytest.mark.parametrize("name, part", (("bin/rt", PARTS[0]), ("tools/page", PARTS[2]), ("tests/pytest", PARTS[4])))
 def test_failing(room, name, part):
     assert gate(room, [name]) == ({**dict.fromkeys(PARTS, "ok"), part: "FAILED"}, 1)
+
+
+def test_nothing_kept():
+    ran = subprocess.run([f"{TOP}/tools/expensive-functions", "no_such_crate"], stdin=subprocess.DEVNULL, capture_output=True, text=True)
+    assert (ran.returncode, ran.stdout, "nothing is kept" in ran.stderr) == (1, "", True)
 
 
 def test_no_toolchain(room):
