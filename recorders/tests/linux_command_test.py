@@ -19,6 +19,7 @@ import found_page
 import linux_results
 import linux_run
 from campaign_test import Clock
+from judge import Verdict
 from kinds import Plan
 from linux_results import Result, result_from_text
 from linux_test import BASE, CELLS, HALT, LOG, PAGES, made, write
@@ -297,6 +298,20 @@ def of_a_guest_that_does_not_boot(tests, room):
         tests.wants(f"what is told of it {words}", (status, result_from_text(read(f"{room}/result.json")).verdict), (4, wanted))
 
 
+def of_a_guest_that_says_what_is_wrong(tests, room):
+    """A guest that says at the target that something is wrong there is no success, also if what was recorded is clean. At the source it may
+    have said so before."""
+    linux = command("linux")
+    asked = linux.words().parse_args([room])
+    for console, words, status in (("target", "guest: booted\n", 0), ("target", "Oops: general protection\n", 1), ("source", "Oops: general protection\n", 0)):
+        with tempfile.TemporaryDirectory() as folder:
+            write({**made(), f"{console}.console": words.encode()}, folder)
+            clean = mock.patch.multiple(linux.linux_session, judged=lambda *_: (Verdict("clean, yes"), None), explain_and_draw=lambda *_: None)
+            with clean, contextlib.redirect_stdout(io.StringIO()):
+                found = linux.found_recorded(folder, Outcome("completed", "completed"), asked, 1.0, lambda line: None)
+        tests.wants(f"the status where the {console} says {words!r}", found, status)
+
+
 def of_runs(tests, room):
     """Runs one after another: each adds a line, big files go, and the table of all is written."""
     results = [Result("7.2.22", False, 1, "spread", True, "", verdict, 0, [], 60.0, 4.0) for verdict in ("clean, yes", "faulty line 7 read")]
@@ -356,6 +371,6 @@ def run(tests):
     of_the_machine(tests)
     of_precopy_alone(tests)
     of_boots(tests)
-    for of_them in (of_packages, of_words, of_a_guest_that_does_not_boot, of_runs):
+    for of_them in (of_packages, of_words, of_a_guest_that_does_not_boot, of_a_guest_that_says_what_is_wrong, of_runs):
         with tempfile.TemporaryDirectory() as room:
             of_them(tests, room)
