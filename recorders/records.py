@@ -30,6 +30,7 @@ class Session:
 
     def __init__(self, pages, cells, has_lane=False):
         self.pages, self.cells, self.has_lane = pages, cells, has_lane
+        self.is_from_halt = False  # whether it begins with the memory at the halt
         self.logs = {log: [] for log in LOGS}
         self.numbers = {log: {} for log in LOGS}
         self.initial = {}  # the initial contents of pages, by page

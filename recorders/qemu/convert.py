@@ -51,6 +51,7 @@ class Recording:
         """Returns the session. With `is_from_halt` it begins with the memory at the halt."""
         plan = self.plan
         session = Session(plan.pages, plan.words, plan.preempt)
+        session.is_from_halt = is_from_halt
         if not self.wire.has_state and self.wire.strange:
             raise Hole(f"the stream has what is not known here: {self.wire.strange}")
         if not self.wire.has_state:

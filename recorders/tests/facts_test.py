@@ -403,21 +403,35 @@ def of_what_is_not_put_in(tests):
     for words, log, remarks, wanted in (
             ((), b"", [], (None, 0)), (("--fault", "flip"), b"", [], ("flip not reached", 4)), (("--fault", "flip"), b"fault flip 3\n", [], (None, 0)),
             (("--cut", "9"), b"", ["1 cut not reached"], ("1 cut not reached", 4)), (("--cut", "9"), b"", [], (None, 0))):
-        with tempfile.TemporaryDirectory() as room:
-            def run(room=room, log=log, remarks=remarks):
-                for name, data in {**files, "relay.log": log + files["relay.log"]}.items():
-                    with open(f"{room}/{name}", "wb") as out:
-                        out.write(data)
-                return Outcome("completed", "completed", remarks=remarks)
-
-            words_of_all = ["migrate", "live", room, "--quiet", *words]
-            replaced_here = mock.patch.multiple(recorder, Emulator=mock.Mock(NAME="any"), Migration=mock.Mock(return_value=SimpleNamespace(run=run)))
-            with replaced_here, mock.patch.object(sys, "argv", words_of_all), mock.patch.object(sys, "stdout", io.TextIOWrapper(io.BytesIO())) as out:
-                status = recorder.main()
-                out.seek(0)
-                told = out.read()
+        told, status = migrated(recorder, {**files, "relay.log": log + files["relay.log"]}, remarks, *words)
         found = re.search("^Put in: (.*)$", told, re.MULTILINE)
         tests.wants(f"what is told of {words} with {log}", (found and found[1], status), wanted)
+
+
+def migrated(recorder, files, remarks, *words):
+    """What the recorder writes of a migration that both QEMUs say they completed, of which these files are left; and its status."""
+    with tempfile.TemporaryDirectory() as room:
+        def run():
+            for name, data in files.items():
+                with open(f"{room}/{name}", "wb") as out:
+                    out.write(data)
+            return Outcome("completed", "completed", remarks=remarks)
+
+        of_qemu = mock.patch.multiple(recorder, Emulator=mock.Mock(NAME="any"), Migration=mock.Mock(return_value=SimpleNamespace(run=run)))
+        given = mock.patch.object(sys, "argv", ["migrate", "live", room, "--quiet", *words])
+        with of_qemu, given, mock.patch.object(sys, "stdout", io.TextIOWrapper(io.BytesIO())) as out:
+            status = recorder.main()
+            out.seek(0)
+            return out.read(), status
+
+
+def of_a_long_log(tests):
+    """A guest's log that is too long for a session is cut at the halt, and that is told where it was not asked for."""
+    recorder, files = command("migrate"), files_of("example-live")
+    for most, words, wanted in ((1 << 20, (), False), (100, (), True), (100, ("--from-halt",), False)):
+        with mock.patch.object(convert, "SMALL", convert.SMALL._replace(records=most)):
+            told, status = migrated(recorder, files, [], *words)
+        tests.wants(f"with room for {most} records {words}", ("begins with the memory at the halt" in told, status), (wanted, 0))
 
 
 def of_the_last_of_the_source(tests):
@@ -489,6 +503,7 @@ def run(tests):
     of_restarts(tests)
     of_statuses(tests)
     of_what_is_not_put_in(tests)
+    of_a_long_log(tests)
     of_the_last_of_the_source(tests)
     of_a_strange_stream(tests)
     of_ends(tests)
