@@ -26,6 +26,7 @@ import mmap
 import operator
 import os
 import subprocess
+import warnings
 from dataclasses import dataclass, field, replace
 from pathlib import Path
 from typing import Callable, List, NamedTuple, Optional, Tuple, TypeVar, Union
@@ -335,7 +336,7 @@ def _line(text: Text, number: int) -> str:
 
 def _beside() -> Optional[str]:
     """The library of the wheel, or that of a checkout: the one for the sources there, as tools/library says, or else the one that
-    was built there last."""
+    was built there last, with a warning."""
     here = Path(__file__).resolve().parent
     top = here.parent.parent.parent
     of_wheel, built = here / "libpostcopy.so", top / "crates/postcopy_c/out/libpostcopy.so"
@@ -345,6 +346,8 @@ def _beside() -> Optional[str]:
         ran = subprocess.run(["sh", str(top / "tools/library"), "--where"], stdin=subprocess.DEVNULL, stdout=subprocess.PIPE)
         if ran.returncode == 0:
             return os.path.join(os.fsdecode(ran.stdout)[:-1], "libpostcopy.so")
+        if built.is_file():
+            warnings.warn(f"{built} is not of the sources that are there: tools/library builds it anew", RuntimeWarning, stacklevel=2)
     return str(built) if built.is_file() else None
 
 
