@@ -11,6 +11,7 @@ import glob
 import json
 import os
 import re
+import runpy
 import shutil
 import subprocess
 import sys
@@ -616,6 +617,14 @@ def test_installed(prefix):
 @pytest.mark.cases(25)
 def test_examples(postcopy, prefix, room):
     tests_of_examples(postcopy, prefix, room)
+
+
+def test_example_for_python(postcopy, monkeypatch, capsys):
+    """The example for Python goes by what the check answers, and not by the report alone."""
+    for answer, status in ((postcopy.Answer(postcopy.Kind.YES), 0), (postcopy.Answer(postcopy.Kind.RUNS, 7), 1)):
+        monkeypatch.setattr(postcopy, "check", lambda *_, answer=answer: answer)
+        main = runpy.run_path(f"{TOP}/bindings/python/examples/check.py")["main"]
+        same(f"where the check says {answer}", (main(f"{TOP}/examples/handover/session"), capsys.readouterr().out), (status, f"clean\n{answer}\n"))
 
 
 @pytest.mark.cases(6)

@@ -9,8 +9,9 @@ def main(session: str) -> int:
     print(report)
     if report.certificate is None:
         return 1
-    print(postcopy.check(session, report.certificate))
-    return 0
+    answer = postcopy.check(session, report.certificate)
+    print(answer)
+    return 0 if answer.is_safe else 1
 
 
 if __name__ == "__main__":
