@@ -1,12 +1,15 @@
 """What the package for Python says of sessions that lack something: `missing`, `missing_pages` and `testing.assert_clean`."""
 import glob
 import os
+import warnings
 
 from session_text import SessionText
 
 TOP = os.path.dirname(os.path.dirname(os.path.abspath(__file__)))
 WHOLE = f"{TOP}/tests/cases/complete-whole-migration/session"
 EMPTY = b"postcopy-session 1\npages 2\ncells 1\ninit 0\nguest 0\nsource 0\nlink 0\npager 0\nend\n"
+# What docs/ANSWERS.md says that the program notes.
+NOTE = "the guest neither reads nor writes a page after a resume, so no use of one was judged"
 CLEAR = 'complete="pages"', "complete=None"
 
 
@@ -72,6 +75,12 @@ def of_assertions(postcopy, same):
               "faulty line 18 stale\n", "Line 18 (source 4) is wrong: ")
         fails(same, f"a text that is refused, {how}", said(lambda: assert_clean(f"{TOP}/examples/leading-zero/session", **how)),
               "session-text line 7\n", 'Line 7, column 9: found "03" in "r 0 0 0 03"; expected X', "a number has no leading zero")
+    for how in ({}, {"complete": "whole"}, {"complete": None}):
+        for what, text, notes in (("with uses", WHOLE, []), ("without any", f"{TOP}/tests/cases/complete-with-nothing-owed/session", [NOTE])):
+            with warnings.catch_warnings(record=True) as caught:
+                warnings.simplefilter("always")
+                assert_clean(text, **how)
+            same(f"what is noted of a whole migration {what}, {how}", [str(it.message) for it in caught], notes)
     for word in ("page", "", "all", True, 1, ()):
         kind, told = said(lambda: assert_clean(WHOLE, complete=word)) or ("nothing", "")
         same(f"{word!r} as what is asked", (kind, '"pages", "whole" or None' in told, repr(word) in told), ("ValueError", True, True))

@@ -7,6 +7,8 @@
 """
 from __future__ import annotations
 
+import re
+import warnings
 from typing import Optional
 
 from . import Answer, Kind, Report, Text, audit, missing, missing_pages
@@ -31,11 +33,16 @@ _MISSING = {
 }
 
 
+#: The entry of a page that the guest uses after the resume, in a certificate: it ends with a number.
+_USE = re.compile(rb"^page [0-9]+ .*[0-9]$", re.MULTILINE)
+
+
 def assert_clean(session: Text, complete: Optional[str] = "pages") -> Report:
     """Fails if a session is not clean, and says what happened, in the words of `explain`, or why its text is refused. Returns the
     session's report.
 
-    Empty logs are clean, so it also fails if a session does not tell of a migration. With "pages", the guest must have been halted
+    Empty logs are clean, so it also fails if a session does not tell of a migration. It warns, as the program notes, if the session
+    tells of no use of a page after the resume, because then no use was judged. With "pages", the guest must have been halted
     and resumed, and each page that the target was owed must have been placed or released there. With "whole", the pager must also
     have said that every owed page had come, the source must have learned of it, and everything that the pager took must have been
     placed or dropped. With None, none of that is required. Raises ValueError for any other word."""
@@ -50,6 +57,8 @@ def assert_clean(session: Text, complete: Optional[str] = "pages") -> Report:
         lacks = call(session)
         if lacks.kind is not Kind.CLEAN:
             raise AssertionError(f"{lacks}\n{_what_is_missing(lacks)}\n{less}")
+    if not _USE.search(report.certificate or b""):
+        warnings.warn("the guest neither reads nor writes a page after a resume, so no use of one was judged", stacklevel=2)
     return report
 
 
