@@ -365,7 +365,15 @@ class Migrations:
         shutil.rmtree(folder)
         return status, session.text(), said
 
+    def of_words(self):
+        """Words that are not known are refused, and not left out: without its mistake, a migration is clean."""
+        for words in (["--wake-frist", "other"], ["other", "--seed"], ["other", "more"], []):
+            ran = subprocess.run([self.program, *words], cwd=self.room, capture_output=True, encoding="ascii")
+            found = ran.returncode, ran.stdout, ran.stderr.startswith("usage: "), os.path.exists(f"{self.room}/other")
+            self.tests.same(f"the words {words}", found, (2, "", True, False))
+
     def run(self):
+        self.of_words()
         ran = subprocess.run([self.program, f"{self.room}/moved"], stdout=subprocess.DEVNULL, stderr=subprocess.PIPE, encoding="ascii")
         if ran.returncode == 3:
             self.tests.left_out(f"migrations by userfaultfd: {ran.stderr.strip()}")

@@ -384,6 +384,7 @@ static void be_target(void)
 static uint64_t asked(int count, char **words)
 {
     uint64_t seed = 1;
+    int is_known = 1;
     for (int n = 1; n < count; n++) {
         if (!strcmp(words[n], "--wake-first"))
             mistake = WAKE_FIRST;
@@ -395,10 +396,12 @@ static uint64_t asked(int count, char **words)
             seed = strtoull(words[++n], NULL, 10);
         else if (!strcmp(words[n], "--operations") && n + 1 < count)
             operations = strtol(words[++n], NULL, 10);
-        else
+        else if (*words[n] != '-' && !folder)
             folder = words[n];
+        else
+            is_known = 0;
     }
-    if (!folder || *folder == '-') {
+    if (!folder || !is_known) {
         fprintf(stderr, "usage: uffd FOLDER [--wake-first | --old-page | --place-twice] [--seed N] [--operations N]\n");
         _exit(2);
     }
