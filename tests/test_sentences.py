@@ -18,7 +18,7 @@ import pytest
 from cases import count, same
 
 TOP = os.path.dirname(os.path.dirname(os.path.realpath(__file__)))
-SOURCE = f"{TOP}/crates/session_story/src/sentences.rt"
+SOURCE = f"{TOP}/crates/story_types/src/sentences.rt"
 
 PLACE = r"line \d+ \((?:guest|source|link|lane|pager) \d+\)"
 

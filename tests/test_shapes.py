@@ -16,7 +16,7 @@ from cases import count, same
 from picture_lines import lines_of
 
 TOP = os.path.dirname(os.path.dirname(os.path.realpath(__file__)))
-SOURCES = f"{TOP}/crates/order_picture/src"
+SOURCES = f"{TOP}/crates/picture_plan/src"
 
 NAME = r"(?:guest|source|link|lane|pager) \d+"
 ROW = r"box \d+: line \d+, " + NAME

@@ -9,8 +9,8 @@ use cert_text::push_entry_line;
 use migration_types::{Entry, First, LogName, PageNo, Session};
 use page_facts::{Findings, fault_of, findings_for};
 use refusal_words::push_quote;
-use session_story::{push_place, push_record};
 use std::alloc::AllocError;
+use story_words::{push_place, push_record};
 
 /// Appends the line of a page's entry between quotation marks, as it is in a certificate.
 fn push_line(out: &mut String, page: u32, entry: Entry) -> Result<(), AllocError> {

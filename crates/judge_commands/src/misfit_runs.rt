@@ -3,8 +3,8 @@
 use cert_check::run_at;
 use merge_runs::{TakenCounts, goes_to};
 use migration_types::{LogName, Run, Session, logs};
-use session_story::{log_word, push_place, push_record};
 use std::alloc::AllocError;
+use story_words::{log_word, push_place, push_record};
 
 /// Returns how many records of each log these runs take.
 fn taken_by(runs: &[Run]) -> TakenCounts {

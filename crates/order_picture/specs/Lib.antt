@@ -1,12 +1,1 @@
-pub mod Marks
-pub mod OrderParts
-pub mod Rows
-pub mod Pictures
-pub mod Behind
-pub mod Headings
-pub mod Arrows
-pub mod Boxes
-pub mod Signs
-pub mod Shapes
 pub mod Svg
-pub mod inner

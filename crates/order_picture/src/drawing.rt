@@ -1,8 +1,5 @@
 //! The shapes of a picture as text: columns, boxes, folds and arrows, each at its place.
 
-use crate::arrows::{ArrowKind, Seat};
-use crate::behind::Obstacle;
-use crate::boxes::{BoxKind, Label};
 use crate::elements::{
     begin_at, begin_text, end_arrow, end_text, push, push_attribute, push_colours, push_ends,
     push_length, push_paint, push_path,
@@ -18,8 +15,9 @@ use crate::style::{
 use crate::words::{LINES, push_records, push_title};
 use merge_runs::TakenCounts;
 use migration_types::LogName;
-use session_story::Name;
+use picture_plan::{ArrowKind, BoxKind, Label, Obstacle, Seat};
 use std::alloc::{AllocError, Global};
+use story_facts::Name;
 use text_lines::push_number;
 
 /// An arrow from one record to another.
@@ -274,6 +272,26 @@ fn push_frame(out: &mut Vec<u8>, middle: u64, row: usize, letters: u64) -> Resul
     push(out, b"/>")
 }
 
+/// Appends a row of folded records, with these words.
+fn push_fold_words(
+    out: &mut Vec<u8>,
+    columns: Columns,
+    row: usize,
+    words: &[u8],
+) -> Result<(), AllocError> {
+    let middle = COLUMNS_LEFT.saturating_add(columns.width()) / 2;
+    push(out, b"<g class='row fold-row'>")?;
+    push_frame(out, middle, row, words.len() as u64)?;
+    begin_text(out, SOFT)?;
+    push_attribute(out, b"text-anchor", b"middle")?;
+    push_length(out, b"x", middle)?;
+    push_length(out, b"y", top_of(row).saturating_add(ROW_TEXT))?;
+    push(out, b">")?;
+    push(out, words)?;
+    end_text(out)?;
+    push(out, b"</g>\n")
+}
+
 /// Appends a row of folded records.
 pub(crate) fn push_fold(
     out: &mut Vec<u8>,
@@ -284,15 +302,5 @@ pub(crate) fn push_fold(
 ) -> Result<(), AllocError> {
     let mut words = Vec::new(alloc);
     push_records(&mut words, counts)?;
-    let middle = COLUMNS_LEFT.saturating_add(columns.width()) / 2;
-    push(out, b"<g class='row fold-row'>")?;
-    push_frame(out, middle, row, words.len() as u64)?;
-    begin_text(out, SOFT)?;
-    push_attribute(out, b"text-anchor", b"middle")?;
-    push_length(out, b"x", middle)?;
-    push_length(out, b"y", top_of(row).saturating_add(ROW_TEXT))?;
-    push(out, b">")?;
-    push(out, &words)?;
-    end_text(out)?;
-    push(out, b"</g>\n")
+    push_fold_words(out, columns, row, &words)
 }

@@ -1,17 +1,22 @@
 //! The heading of a picture as text.
 
+ghost use Rattle.std.specs.Prelude.{OnOk, string_bytes};
+ghost use Rattle.story_sentences.specs.Sentences.{told_first};
+ghost use Rattle.story_words.specs.Writing.{Adds, AreWritten, IsLine};
+
 use crate::elements::{begin_text, end_text, push, push_length};
-use crate::headings::OrderShown;
-use crate::shapes::Shape;
 use crate::style::{
     HEADING_END, HEADING_LEFT, HEADING_LETTER, HEADING_LINE, HEADING_TOP, INK, TITLE_FONT,
     TITLE_TOP,
 };
 use crate::words::{push_facts, push_order};
-use audit_report::{Report, push_first_line};
+use audit_report::{OwnLines, Report, push_first_line};
 use migration_types::Session;
-use session_story::{TopicStory, push_summary};
+use picture_plan::{OrderShown, Shape};
 use std::alloc::{AllocError, Global};
+use story_sentences::told_first;
+use story_types::TopicStory;
+use story_words::{English, push_sentences};
 
 /// The number of first sentences of the story in a heading.
 const MOST_SENTENCES: usize = 2;
@@ -22,6 +27,15 @@ pub(crate) struct Subject<'a> {
     pub session: &'a Session,
     pub report: &'a Report,
     pub told: &'a TopicStory,
+}
+
+/// Appends the first sentences of a story, each on a line of its own: what is wrong, or that nothing is. Fails only if
+/// memory runs out.
+fn push_summary(out: &mut String, session: &Session, told: &TopicStory) -> Result<(), AllocError>
+    ensures { OnOk result (Adds (AreWritten (λ _. IsLine) (told_first session.now told.now)) (string_bytes out.old) (string_bytes out.new)) }
+{
+    let sentences = told_first(*out.allocator(), session, told)?;
+    push_sentences(&English { lines: &OwnLines }, out, session, &sentences)
 }
 
 /// A heading while it is written.

@@ -1,12 +1,13 @@
 //! The labels in the boxes of a picture: what the record did, to which cell of which page, and which record it names.
 
-use crate::boxes::Label;
 use crate::drawing::RecordBox;
 use crate::heading::Subject;
 use crate::words::RIGHT_VALUE;
 use migration_types::{Field, GuestRec, LogName, Session};
-use session_story::{Amended, Name, amended_by};
+use picture_plan::Label;
 use std::alloc::AllocError;
+use story_facts::Name;
+use story_types::{Amended, amended_by};
 use text_lines::push_number;
 
 /// Appends a field: a page as in " p1", a cell as in "[0]", a value as in " = 9", and a record as in " guest 5".

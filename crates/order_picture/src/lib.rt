@@ -1,36 +1,17 @@
-//! The picture of a session's records in an order. It is made in three steps: first a plan of it as values (which
-//! records have a row, which are folded, what is marked, which record receives which), then a list of shapes, and last
-//! their text as SVG.
+//! The picture of a session's records in an order. It is made in three steps: first a plan of it as values, then a list
+//! of shapes, and last their text as SVG.
 #![tactic(auto)]
 
-mod arrows;
-mod behind;
-mod boxes;
 mod drawing;
 mod elements;
-mod focus;
 mod heading;
-mod headings;
-mod keeping;
 mod labels;
 mod layout;
 mod legend;
-mod order;
-mod picture;
-mod records;
-mod rows;
-mod shapes;
-mod signs;
+mod planning;
 mod style;
 mod svg;
 mod words;
 
-pub use arrows::ArrowKind;
-pub use behind::Obstacle;
-pub use boxes::{BoxKind, Label};
-pub use focus::{Focus, Mark};
-pub use headings::{OrderShown, Shown};
-pub use picture::{MOST_ROWS, Picture, PictureRow, plan_along, plan_on};
-pub use shapes::{Shape, picture_shapes};
-pub use signs::Sign;
+pub use planning::{plan_along, plan_on};
 pub use svg::{picture_text, print_picture_along, print_picture_on, write_shapes};

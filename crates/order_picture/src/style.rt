@@ -1,8 +1,7 @@
 //! How a picture looks: each size, in pixels, and each colour. The colours for a dark page are in [`DARK_COLOURS`], by
 //! the classes of the others.
 
-use crate::arrows::ArrowKind;
-use crate::boxes::BoxKind;
+use picture_plan::{ArrowKind, BoxKind};
 
 /// The left end of the heading's lines.
 pub(crate) const HEADING_LEFT: u64 = 20;

@@ -4,23 +4,21 @@ ghost use Rattle.std.specs.Prelude.{◌≡◌, ◌++◌, ℕ, List, IfOk, OnOk};
 ghost use Rattle.audit_report.specs.Reports.{IsReport};
 ghost use Rattle.order_picture.specs.Svg.{IsPictureText, IsPictureTextAlong, IsSvg};
 
-use crate::arrows::Seat;
 use crate::drawing::{
     Arrow, RecordBox, push_arrow, push_column, push_fold, push_margin_name, push_record, push_stub,
 };
 use crate::elements::{push, push_attribute, push_head, push_length, push_paint};
-use crate::heading::{Subject, heading_of};
-use crate::headings::Shown;
+use crate::heading::{Heading, Subject, heading_of};
 use crate::labels::push_label;
 use crate::layout::{Columns, top_of};
 use crate::legend::{legend_height, push_entry};
-use crate::picture::{Picture, plan_along, plan_on};
-use crate::shapes::{Shape, picture_shapes};
+use crate::planning::{plan_along, plan_on};
 use crate::style::{COLUMNS_LEFT, DARK_COLOURS, FONT, FONTS, LEGEND_GAP, PAPER, heads};
 use audit_report::{Report, push_first_line};
 use migration_types::{LOG_COUNT, Run, Session, Topic};
-use session_story::TopicStory;
+use picture_plan::{Picture, Seat, Shape, Shown, picture_shapes};
 use std::alloc::{AllocError, Global};
+use story_types::TopicStory;
 use text_lines::push_number;
 
 const OPENING: &[u8] = b"<svg ";
@@ -220,24 +218,35 @@ fn push_body(
     push_legend(out, size.rows, shapes)
 }
 
-/// Returns what comes between the opening and the closing tag.
-fn inside_of(alloc: Global, subject: Subject<'_>, shapes: &[Shape]) -> Result<Vec<u8>, AllocError> {
-    let size = size_of(alloc, subject, shapes)?;
-    let width = size.columns.width();
-    let heading = heading_of(alloc, subject, shapes, width)?;
+/// Appends what comes between the opening and the closing tag, with this heading.
+fn push_inside(
+    out: &mut Vec<u8>,
+    alloc: Global,
+    subject: Subject<'_>,
+    size: PictureSize,
+    heading: &Heading,
+    shapes: &[Shape],
+) -> Result<(), AllocError> {
     let more = heading.beyond();
     let height = top_of(size.rows)
         .saturating_add(legend_height(size.entries))
         .saturating_add(more);
+    push_size(out, size.columns.width(), height)?;
+    push_front(out, subject.report)?;
+    push(out, &heading.text)?;
+    push(out, b"<g transform='translate(0 ")?;
+    push_number(out, more)?;
+    push(out, b")'>\n")?;
+    push_body(out, alloc, subject, size, shapes)?;
+    push(out, b"</g>\n")
+}
+
+/// Returns what comes between the opening and the closing tag.
+fn inside_of(alloc: Global, subject: Subject<'_>, shapes: &[Shape]) -> Result<Vec<u8>, AllocError> {
+    let size = size_of(alloc, subject, shapes)?;
+    let heading = heading_of(alloc, subject, shapes, size.columns.width())?;
     let mut out = Vec::new(alloc);
-    push_size(&mut out, width, height)?;
-    push_front(&mut out, subject.report)?;
-    push(&mut out, &heading.text)?;
-    push(&mut out, b"<g transform='translate(0 ")?;
-    push_number(&mut out, more)?;
-    push(&mut out, b")'>\n")?;
-    push_body(&mut out, alloc, subject, size, shapes)?;
-    push(&mut out, b"</g>\n")?;
+    push_inside(&mut out, alloc, subject, size, &heading, shapes)?;
     Ok(out)
 }
 

@@ -1,14 +1,13 @@
 //! The words of a picture: how many records there are, what the heading says, and what the signs mean.
 
-use crate::behind::{Obstacle, tie_of};
 use crate::elements::push;
 use crate::heading::Subject;
-use crate::headings::OrderShown;
-use crate::signs::Sign;
 use merge_runs::{TakenCounts, all_of};
 use migration_types::{Session, logs};
-use session_story::{Name, push_record, push_wait};
+use picture_plan::{Obstacle, OrderShown, Sign, tie_of};
 use std::alloc::{AllocError, Global};
+use story_facts::Name;
+use story_words::{push_record, push_wait};
 use text_lines::push_number;
 
 /// The name of the lines in the margin.

@@ -1,3 +1,4 @@
 pub mod Judged
 pub mod Forms
 pub mod Lacks
+pub mod Told

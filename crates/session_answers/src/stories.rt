@@ -6,10 +6,11 @@ ghost use Rattle.session_answers.specs.Judged.{Refused, Reported};
 ghost use Rattle.session_answers.specs.Forms.{TellsRecords, TellsRefusalObject, TellsStory};
 
 use crate::forms::Story;
+use crate::telling::{print_refused, print_topic};
 use audit_report::{Lines, Report};
 use migration_types::{Session, Topic};
 use report_json::{push_refused, push_told};
-use session_story::{print_refused, print_topic, tell};
+use session_story::tell;
 use std::alloc::{AllocError, Global};
 
 /// Returns the object of the report with the records of the story on a topic, with its line numbers from `lines`. Fails

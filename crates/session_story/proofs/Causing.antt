@@ -18,14 +18,14 @@ use Rattle.page_facts.specs.Findings.{IsFindings}
 use Rattle.page_facts.specs.declared.findings.Findings.{Findings}
 use Rattle.page_facts.specs.Tables.{first_before}
 use Rattle.page_facts.proofs.Before.{first_some}
-use Rattle.session_story.specs.Explained.{IsCause, IsOtherIn, IsPlacedRight, IsSentRight, IsUnplaced, IsWrong, IsWrongPlacement, IsWrongSend, is_read, is_unplaced, is_used_by}
+use Rattle.story_types.specs.Explained.{IsCause, IsOtherIn, IsPlacedRight, IsSentRight, IsUnplaced, IsWrong, IsWrongPlacement, IsWrongSend, is_read, is_unplaced, is_used_by}
 use Rattle.session_story.specs.inner.Contents.{AreNotWrong, IsOtherAt, IsWrongAt}
-use Rattle.session_story.specs.Pages.{IsPageStory}
-use Rattle.session_story.specs.declared.contents.Wrong.{Wrong}
-use Rattle.session_story.specs.declared.faults.PageCause.{PageCause}
-use Rattle.session_story.specs.declared.pages.PageStory.{PageStory}
+use Rattle.story_facts.specs.Pages.{IsPageStory}
+use Rattle.story_types.specs.declared.faults.Wrong.{Wrong}
+use Rattle.story_types.specs.declared.faults.PageCause.{PageCause}
+use Rattle.story_facts.specs.declared.pages.PageStory.{PageStory}
 use Rattle.audit_model.specs.declared.reasons.PageReason.{PageReason}
-use Rattle.session_story.specs.declared.values.CellValue.{CellValue}
+use Rattle.story_facts.specs.declared.values.CellValue.{CellValue}
 
 -- ---- contents of records
 
@@ -127,11 +127,6 @@ module _ (s : Recorded) (page : ℕ) where
 
   pub placed_right : (placement : Option ℕ) → placement ≡ first_before (λ m. is_placement_of page) s.pager (length s.pager) → AreNotWrong s page (λ n. if_there pager_contents (slice_get s.pager n)) placement → IsPlacedRight s page
   placed_right placement is right w wrong = right w (record { content = wrong.content; is_at = is ∙ wrong.is_first; has = ap (λ (o : Option PagerRec). if_there pager_contents o) wrong.places; other = wrong.other })
-
--- where there is no value, what holds of none does
-pub none_of : {A P : Type 0} (Q : A → Type 0) (o : Option A) → MatchOption o P Q → ((x : A) → o ≡ Some x → ⊥) → P
-none_of Q None h never = h
-none_of Q (Some x) h never = absurd (never x refl)
 
 -- a page that is found to be placed, or not to need it, is not one that is never placed
 pub is_placed : (s : Recorded) (page : ℕ) (f : Findings) → IsFindings s page f → is_unplaced f ≡ false → IsUnplaced s page → ⊥

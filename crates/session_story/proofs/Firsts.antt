@@ -13,11 +13,11 @@ use Rattle.page_facts.specs.PageFaults.{page_at, IsFirstFault}
 use Rattle.page_facts.proofs.LeastReason.{least_is, least_rank}
 use Rattle.faulty_pages.specs.declared.FaultyPage.{FaultyPage}
 use Rattle.faulty_pages.specs.FaultyPages.{AreFaultyPages}
-use Rattle.session_story.specs.declared.faults.FaultStory.{FaultStory}
-use Rattle.session_story.specs.declared.topics.FullPageStory.{FullPageStory}
-use Rattle.session_story.specs.Explained.{IsFaultStory}
+use Rattle.story_types.specs.declared.faults.FaultStory.{FaultStory}
+use Rattle.story_types.specs.declared.topics.FullPageStory.{FullPageStory}
+use Rattle.story_types.specs.Explained.{IsFaultStory}
 use Rattle.session_story.proofs.Paged.{fault_paged, page_below}
-use Rattle.session_story.specs.Topics.{IsFirstFaultStory, IsPageTold, IsToldOfItsPage}
+use Rattle.story_types.specs.Topics.{IsFirstFaultStory, IsPageTold, IsToldOfItsPage}
 
 module _ (s : Recorded) where
   -- a record with a reason is a fault

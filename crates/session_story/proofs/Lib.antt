@@ -1,12 +1,5 @@
-pub mod Scanning
-pub mod Unasked
-pub mod Looking
 pub mod Paged
 pub mod Causing
 pub mod Firsts
 pub mod EveryOrder
-pub mod Reaching
 pub mod Circling
-pub mod Knotting
-pub mod Wording
-pub mod Setting

@@ -1,17 +1,1 @@
-pub mod Scans
-pub mod Places
-pub mod Pages
-pub mod Values
-pub mod Looks
-pub mod Counted
-pub mod Waits
-pub mod Explained
-pub mod Subjects
-pub mod Topics
-pub mod Concerned
-pub mod Amended
-pub mod Sentences
-pub mod Lacks
-pub mod Writing
-pub mod Told
 pub mod inner

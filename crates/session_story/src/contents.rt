@@ -6,18 +6,10 @@ ghost use Rattle.migration_types.specs.Follow.{ContentFits};
 ghost use Rattle.audit_model.specs.Names.{if_there};
 ghost use Rattle.session_story.specs.inner.Contents.{AreNotWrong, IsOtherAt, IsWrongAt};
 
-use crate::values::{CellValue, other_of};
 use migration_types::{PageNo, Record, Session};
 use std::alloc::{AllocError, Global};
-
-/// Contents of a page that differ from those that it had at the halt.
-#[derive(Clone, Copy, Debug, PartialEq, Eq)]
-pub struct Wrong {
-    /// The number of the record that has them.
-    pub place: u32,
-    /// The first cell that differs, with what the page has there at the halt.
-    pub held: CellValue,
-}
+use story_facts::{CellValue, other_of};
+use story_types::Wrong;
 
 /// Returns the first cell in which the contents of a record, if it has any, differ from the page's at the halt.
 pub(crate) fn other_at<R: Record>(

@@ -4,33 +4,17 @@ ghost use Rattle.std.specs.Prelude.{◌≡◌, IfOk};
 ghost use Rattle.audit_model.specs.FirstFault.{IsFirstPageFault};
 ghost use Rattle.faulty_pages.specs.FaultyPages.{AreManyFaulty};
 ghost use Rattle.audit_report.specs.Reports.{IsReport};
-ghost use Rattle.session_story.specs.Counted.{IsCounts};
-ghost use Rattle.session_story.specs.Explained.{AreMoreFaulty, IsExplanation};
+ghost use Rattle.story_facts.specs.Counted.{IsCounts};
+ghost use Rattle.story_types.specs.Explained.{AreMoreFaulty, IsExplanation};
 
-use crate::counting::{Counts, counts_of};
-use crate::faults::{FaultStory, ShapeStory, fault_at, shape_at};
-use crate::waits::{Knot, circle_of};
+use crate::faults::{fault_at, shape_at};
+use crate::waits::circle_of;
 use audit_report::Report;
 use migration_types::{Cert, Session};
 use page_facts::PageFault;
 use std::alloc::{AllocError, Global};
-
-/// The story of a report: what it names, with the records that led to it.
-#[derive(Debug, Drop)]
-pub enum Explanation {
-    /// A record that does not have the right shape.
-    Shape(ShapeStory),
-    /// No order of the records exists, because some wait for one another.
-    Knot(Knot),
-    /// A fault of a page.
-    Faulty {
-        story: FaultStory,
-        /// How many other pages have a fault too.
-        more: usize,
-    },
-    /// The session is clean.
-    Clean(Counts),
-}
+use story_facts::{Counts, counts_of};
+use story_types::Explanation;
 
 /// Returns the counts of a clean session.
 fn clean_counts(alloc: Global, session: &Session, cert: &Cert) -> Result<Counts, AllocError>

@@ -7,74 +7,20 @@ ghost use Rattle.audit_model.specs.FirstFault.{IsFirstPageFault};
 ghost use Rattle.page_facts.specs.PageFaults.{page_at, HasItsPage};
 ghost use Rattle.audit_report.specs.Reports.{IsReport};
 ghost use Rattle.cert_check.specs.Verdicts.{IsShapeFault};
-ghost use Rattle.session_story.specs.Pages.{IsPageStory, below, sent_before};
-ghost use Rattle.session_story.specs.Explained.{IsDetail, IsFaultStory, IsLookBeforeTouch, IsReportedStory, IsShapeStory, IsToldCause, is_read, is_unplaced, is_used_by};
+ghost use Rattle.story_facts.specs.Pages.{IsPageStory};
+ghost use Rattle.story_types.specs.Explained.{IsDetail, IsFaultStory, IsLookBeforeTouch, IsReportedStory, IsShapeStory, IsToldCause, is_read, is_unplaced, is_used_by};
 
-use crate::contents::{Wrong, wrong_at};
-use crate::looks::{Look, greatest_look};
+use crate::contents::wrong_at;
 use crate::orders::in_every_order;
-use crate::pages::{Handover, PageStory, handover_of, send_of, story_of};
 use crate::reasons::{detail_of, is_read};
-use crate::values::CellValue;
 use audit_model::PageReason;
 use audit_report::Report;
 use cert_check::ShapeFault;
-use migration_types::{LogName, PageNo, Paged, Session, SourceRec};
+use migration_types::Session;
 use page_facts::PageFault;
 use std::alloc::{AllocError, Global};
-
-/// What the story says about a faulty record besides its page's story.
-#[derive(Clone, Copy, Debug, PartialEq, Eq)]
-pub enum Detail {
-    /// For a wrong read: what one machine that never moved gives.
-    Instead(Option<CellValue>),
-    /// For an early access, and for a placement over a release: the look that reached furthest before that access, or
-    /// before that release, if there is one.
-    Seen(Option<Look>),
-    /// For contents that are not the page's: the first cell that differs, with what the page has there at the halt.
-    Other(Option<CellValue>),
-    /// For other faults: nothing.
-    Plain,
-}
-
-/// What went wrong with a page before the guest read it at the target.
-#[derive(Clone, Copy, Debug, PartialEq, Eq)]
-pub enum PageCause {
-    /// The source sent it with other contents than it had at the halt.
-    Sent(Wrong),
-    /// It was sent with the contents that it had at the halt, and the pager placed it with others.
-    Placed(Wrong),
-    /// The pager never placed it.
-    Unplaced,
-}
-
-/// A fault of a page, and the story of this page.
-#[derive(Clone, Copy, Debug, PartialEq, Eq)]
-pub struct FaultStory {
-    /// The faulty record, and why it is one.
-    pub fault: PageFault,
-    pub page: PageStory,
-    pub handover: Handover,
-    pub detail: Detail,
-    /// For a wrong read at the target: what went wrong with its page before, if anything did.
-    pub cause: Option<PageCause>,
-    /// Whether every order of the records shows it. If the session does not have the right shape, this means nothing.
-    pub in_every_order: bool,
-}
-
-/// Returns the page of a record, or `None` if it has none. A record of the link or of the lane has the page of what it
-/// delivers. Allocates no memory.
-pub fn page_at(session: &Session, log: LogName, place: u32) -> Option<PageNo>
-    ensures { result ≡ page_at session.now (log, place) }
-{
-    let place = place as usize;
-    match log {
-        LogName::Guest => session.guest().get(place)?.page(),
-        LogName::Source => session.source().get(place)?.page(),
-        LogName::Pager => session.pager().get(place)?.page(),
-        _ => None,
-    }
-}
+use story_facts::{Look, PageStory, greatest_look, handover_of, sent_before, story_of};
+use story_types::{Detail, FaultStory, PageCause, ShapeStory};
 
 /// Returns the look before a page's first use at the target that reached furthest.
 pub(crate) fn look_before(session: &Session, page: &PageStory) -> Option<Look>
@@ -188,39 +134,6 @@ pub(crate) fn fault_at(
     session.keeps_limits();
     let story = story_of(alloc, session, fault.page)?;
     story_of_fault(alloc, session, report, fault, &story)
-}
-
-/// The first record that does not have the right shape.
-#[derive(Clone, Copy, Debug, PartialEq, Eq)]
-pub struct ShapeStory {
-    /// The record, and why it does not have the right shape.
-    pub fault: ShapeFault,
-    pub handover: Handover,
-    /// If the record is a `send`: the first one of its page, if that comes before it.
-    pub sent: Option<u32>,
-}
-
-/// Returns the number, if it is below a place.
-fn below(place: u32, number: Option<u32>) -> Option<u32>
-    ensures { result ≡ below place number }
-{
-    match number {
-        Some(number) if number < place => Some(number),
-        _ => None,
-    }
-}
-
-/// Returns the first `send` of the record's page, if the record is a `send` and that comes before it.
-fn sent_before(session: &Session, log: LogName, place: u32) -> Option<u32>
-    ensures { result ≡ sent_before session.now (log, place) }
-{
-    match log {
-        LogName::Source => match session.source().get(place as usize) {
-            Some(SourceRec::Send { page, .. }) => below(place, send_of(session, *page)),
-            _ => None,
-        },
-        _ => None,
-    }
 }
 
 /// Returns the first record of a session that does not have the right shape. Makes a few passes over the logs, and

@@ -1,21 +1,18 @@
-//! What the reason of a page's fault decides: what the story says besides the page's story, whether a cause comes
-//! first, and which other record is concerned.
+//! What the reason of a page's fault decides: what the story says besides the page's story, and whether a cause comes
+//! first.
 
 ghost use Rattle.std.specs.Prelude.{◌≡◌, ◌<◌, IfOk};
 ghost use Rattle.migration_types.specs.Sessions.{log_length};
-ghost use Rattle.session_story.specs.Pages.{IsPageStory};
-ghost use Rattle.session_story.specs.Explained.{IsDetail, is_read};
-ghost use Rattle.session_story.specs.Concerned.{concerned_by, given_in};
+ghost use Rattle.story_facts.specs.Pages.{IsPageStory};
+ghost use Rattle.story_types.specs.Explained.{IsDetail, is_read};
 
-use crate::concerns::{Name, named_in};
 use crate::contents::other_at;
-use crate::faults::{Detail, FaultStory, look_before};
-use crate::looks::greatest_look;
-use crate::pages::PageStory;
-use crate::values::instead_of;
+use crate::faults::look_before;
 use audit_model::PageReason;
 use migration_types::{LogName, Session};
 use std::alloc::{AllocError, Global};
+use story_facts::{PageStory, greatest_look, instead_of};
+use story_types::Detail;
 
 /// Returns what the story says about a faulty record besides its page's story.
 pub(crate) fn detail_of(
@@ -64,32 +61,5 @@ pub(crate) fn is_read(reason: PageReason) -> bool
         | PageReason::Altered
         | PageReason::Unfit
         | PageReason::Over => false,
-    }
-}
-
-/// Returns the number of the guest's record that gave a cell its value in the story, if one did.
-pub(crate) fn given_in(detail: &Detail) -> Option<u32>
-    ensures { result ≡ given_in detail.now }
-{
-    match detail {
-        Detail::Instead(Some(held)) | Detail::Other(Some(held)) => held.by,
-        _ => None,
-    }
-}
-
-/// Returns the other record that a fault of a page concerns: for a wrong value, the record that gave the right one; for
-/// a repetition, the first record; for a record that must not exist, the record that rules it out.
-pub(crate) fn concerned_by(story: &FaultStory) -> Option<Name>
-    ensures { result ≡ concerned_by story.now }
-{
-    let page = &story.page;
-    match story.fault.reason {
-        PageReason::Read | PageReason::Stale => {
-            named_in(LogName::Guest, given_in(&story.detail))
-        }
-        PageReason::Given | PageReason::Unfit => named_in(LogName::Guest, page.changed),
-        PageReason::Early | PageReason::Twice => named_in(LogName::Pager, page.found.placement),
-        PageReason::Altered => named_in(LogName::Source, page.sent),
-        PageReason::Over => named_in(LogName::Guest, page.found.touch),
     }
 }

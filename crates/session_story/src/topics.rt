@@ -1,92 +1,20 @@
 //! The story of a session on a topic: its report, a page, or a line of its text.
 
-ghost use Rattle.std.specs.Prelude.{◌≡◌, ◌<◌, IfOk, MatchOption};
+ghost use Rattle.std.specs.Prelude.{◌<◌, IfOk, MatchOption};
 ghost use Rattle.page_facts.specs.PageFaults.{IsClean};
 ghost use Rattle.audit_report.specs.Reports.{IsReport};
-ghost use Rattle.session_story.specs.Pages.{IsPageStory};
-ghost use Rattle.session_story.specs.Subjects.{page_of};
-ghost use Rattle.session_story.specs.Topics.{IsFirstFaultStory, IsPageTold, IsShapeTold, IsTold, IsToldOfItsPage, IsToldOfLine, IsToldOfPage, fault_in, fault_reported, page_in};
+ghost use Rattle.story_facts.specs.Pages.{IsPageStory};
+ghost use Rattle.story_facts.specs.Subjects.{page_of};
+ghost use Rattle.story_types.specs.Topics.{IsFirstFaultStory, IsPageTold, IsShapeTold, IsTold, IsToldOfItsPage, IsToldOfLine, IsToldOfPage};
 
-use crate::explaining::{Explanation, explain};
-use crate::faults::{FaultStory, ShapeStory, shape_at, story_of_fault};
-use crate::lines::record_on;
-use crate::pages::{Handover, PageStory, handover_of, story_of};
-use crate::subjects::page_of;
+use crate::explaining::explain;
+use crate::faults::{shape_at, story_of_fault};
 use audit_report::Report;
 use migration_types::{LogName, PageNo, Session, Topic};
 use page_facts::fault_of;
 use std::alloc::{AllocError, Global};
-
-/// The story of a page, with its fault.
-#[derive(Clone, Copy, Debug, PartialEq, Eq)]
-pub struct FullPageStory {
-    pub story: PageStory,
-    pub handover: Handover,
-    /// Its first fault, if it has one.
-    pub fault: Option<FaultStory>,
-}
-
-/// A record, and the story of its page.
-#[derive(Clone, Copy, Debug, PartialEq, Eq)]
-pub struct LineStory {
-    pub log: LogName,
-    /// The record's number in its log.
-    pub place: u32,
-    /// What is wrong with its shape, if the report names it for that.
-    pub shape: Option<ShapeStory>,
-    /// The story of the page that it is about, directly or through the records that it names, if it is about one.
-    pub page: Option<FullPageStory>,
-}
-
-/// The story of a session on a topic.
-#[derive(Debug, Drop)]
-pub enum TopicStory {
-    /// The story of the report.
-    Report(Explanation),
-    /// The story of the page of this number, or `None` if the machine has no such page.
-    Page(u32, Option<FullPageStory>),
-    /// The story of the record at this line, or `None` if there is no record at the line.
-    Line(u32, Option<LineStory>),
-}
-
-impl TopicStory {
-    /// Returns the story of a page, if this is one. Allocates no memory.
-    pub fn page(&self) -> Option<FullPageStory>
-        ensures { result ≡ page_in self.now }
-    {
-        match self {
-            TopicStory::Report(_) => None,
-            TopicStory::Page(_, told) => *told,
-            TopicStory::Line(_, told) => match told {
-                Some(line) => line.page,
-                None => None,
-            },
-        }
-    }
-
-    /// Returns the story of the fault, if there is one: the report's, or the first of the page. Allocates no memory.
-    pub fn fault(&self) -> Option<FaultStory>
-        ensures { result ≡ fault_in self.now }
-    {
-        if let TopicStory::Report(explanation) = self {
-            return fault_reported(explanation);
-        }
-        match self.page() {
-            Some(page) => page.fault,
-            None => None,
-        }
-    }
-}
-
-/// Returns the story of the report's fault of a page, if it names one.
-fn fault_reported(explanation: &Explanation) -> Option<FaultStory>
-    ensures { result ≡ fault_reported explanation.now }
-{
-    match explanation {
-        Explanation::Faulty { story, .. } => Some(*story),
-        _ => None,
-    }
-}
+use story_facts::{PageStory, handover_of, page_of, record_on, story_of};
+use story_types::{FaultStory, FullPageStory, LineStory, ShapeStory, TopicStory};
 
 /// Returns a page's first fault, with its story, or `None` if the page has no fault.
 fn first_fault_of(

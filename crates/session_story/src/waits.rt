@@ -7,51 +7,14 @@ ghost use Rattle.audit_model.specs.Names.{log_length, receipt};
 ghost use Rattle.audit_model.specs.Shape.{IsRightShape};
 ghost use Rattle.audit_model.specs.FoundOrder.{first_ready};
 ghost use Rattle.cert_maker.specs.Orders.{IsTied};
-ghost use Rattle.session_story.specs.Waits.{IsCircle, next_in};
+ghost use Rattle.story_types.specs.Waits.{IsCircle};
 ghost use Rattle.session_story.specs.inner.Waits.{IsNext, IsCircleAt};
 
 use cert_maker::{FirstLeft, FoundRuns};
 use merge_runs::TakenCounts;
 use migration_types::{LogName, Session};
 use std::alloc::{AllocError, Global};
-
-/// A record that waits for a record of another log, because it is a receipt for it.
-#[derive(Clone, Copy, Debug, PartialEq, Eq)]
-pub struct Waiting {
-    pub log: LogName,
-    /// The number of the record that waits.
-    pub place: u32,
-    /// The log of the record that it waits for.
-    pub sent_log: LogName,
-    /// The number of that record.
-    pub sent_place: u32,
-}
-
-/// Records that wait for one another.
-#[derive(Debug, Drop)]
-pub struct Knot {
-    /// Each record is a receipt for the next, or for a record that comes after the next in its log.
-    pub waits: Vec<Waiting>,
-    /// The index of the record that the last one waits for. From it on, the records form a circle.
-    pub back: usize,
-}
-
-impl Knot {
-    /// Returns the record that the record of this index waits for: the next, or for the last, the one at which the
-    /// circle begins. Returns `None` if there is no such index. Allocates no memory.
-    pub fn next(&self, index: usize) -> Option<Waiting>
-        ensures { result ≡ next_in self.now index }
-    {
-        let waits = self.waits.as_slice();
-        if index >= waits.len() {
-            return None;
-        }
-        match waits.get(index + 1) {
-            Some(next) => Some(*next),
-            None => waits.get(self.back).copied(),
-        }
-    }
-}
+use story_types::{Knot, Waiting};
 
 /// Returns the next record of a log, if it is a receipt.
 fn next_of(session: &Session, taken: &TakenCounts, log: LogName) -> Option<Waiting>

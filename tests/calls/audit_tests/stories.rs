@@ -3,8 +3,10 @@
 use crate::texts::{HANDOVER, changed_session};
 use audit_report::{OwnLines, Report, audit};
 use migration_types::{LogName, Session, Topic};
-use order_picture::{Picture, plan_on, print_picture_on};
-use session_story::{print_topic, record_on};
+use order_picture::{plan_on, print_picture_on};
+use picture_plan::Picture;
+use session_answers::print_topic;
+use story_facts::record_on;
 use std::alloc::Global;
 use std::marker::Sync;
 use std::thread::Threads;

@@ -7,11 +7,12 @@ use Rattle.migration_types.specs.declared.records.PagerRec.{PagerRec}
 use Rattle.migration_types.specs.Follow.{ContentFits}
 use Rattle.migration_types.specs.Rows.{source_contents, pager_contents}
 use Rattle.audit_model.specs.Names.{if_there}
-use Rattle.session_story.specs.Explained.{IsCause}
+use Rattle.story_types.specs.Explained.{IsCause}
 use Rattle.session_story.specs.inner.Contents.{AreNotWrong, IsWrongAt}
-use Rattle.session_story.specs.declared.faults.PageCause.{PageCause}
-use Rattle.session_story.specs.declared.faults.PageCause.TheVariants.{Sent, Placed, Unplaced}
-use Rattle.session_story.proofs.Causing.{none_of, is_placed, not_placed, is_cause, in_log, source_fit, pager_fit, sent_wrong, sent_right, placed_wrong, placed_right}
+use Rattle.story_types.specs.declared.faults.PageCause.{PageCause}
+use Rattle.story_types.specs.declared.faults.PageCause.TheVariants.{Sent, Placed, Unplaced}
+use Rattle.story_facts.proofs.Absent.{none_of}
+use Rattle.session_story.proofs.Causing.{is_placed, not_placed, is_cause, in_log, source_fit, pager_fit, sent_wrong, sent_right, placed_wrong, placed_right}
 use Rattle.session_story.proofs.faults.cause_of.Goals as goal
 
 pub wrong_at-requires-clause-fits : goal.wrong_at-requires-clause-fits

@@ -1,0 +1,11 @@
+pub mod Marks
+pub mod OrderParts
+pub mod Rows
+pub mod Pictures
+pub mod Behind
+pub mod Headings
+pub mod Arrows
+pub mod Boxes
+pub mod Signs
+pub mod Shapes
+pub mod inner

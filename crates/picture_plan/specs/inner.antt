@@ -1,0 +1,3 @@
+-- Definitions that only proofs use.
+pub mod Built
+pub mod Along

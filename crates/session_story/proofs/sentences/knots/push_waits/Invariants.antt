@@ -1,7 +1,0 @@
-use Rattle.std.proofs.Common.{◌≡◌, ◌++◌}
-use Rattle.session_story.specs.Sentences.{waits_told}
-use Rattle.session_story.proofs.Knotting.{told_from}
-use Rattle.session_story.proofs.sentences.knots.push_waits.Given as goal
-
-abbrev pub invariant-loop-index : goal.invariant-loop-index
-invariant-loop-index l = l.out.items ++ told_from l.knot l.index ≡ l.initial.out.items ++ waits_told l.knot 0 l.knot.waits.items

@@ -1,6 +1,0 @@
-use Rattle.std.proofs.Common.{take}
-use Rattle.session_story.specs.Writing.{Adds, AreWritten}
-use Rattle.session_story.proofs.writing.push_sentences.Given as goal
-
-abbrev pub invariant-loop-sentence : goal.invariant-loop-sentence
-invariant-loop-sentence g l = Adds (AreWritten (g.W.Writer.is_written l.writer l.session) (take l.sentence-index l.sentences)) l.initial.out.bytes.items l.out.bytes.items

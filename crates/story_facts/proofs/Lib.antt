@@ -1,0 +1,6 @@
+pub mod Scanning
+pub mod Unasked
+pub mod Looking
+pub mod Reaching
+pub mod Setting
+pub mod Absent

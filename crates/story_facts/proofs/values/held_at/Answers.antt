@@ -1,0 +1,34 @@
+use Rattle.std.proofs.Common.{◌≡◌, ℕ, List, Option, Some, None, sym, ap, ◌∙◌, arith}
+use Rattle.std.specs.Prelude.{slice_get, slice_index}
+use Rattle.std.proofs.lemmas.Grind.{get_or_default_zero}
+use Rattle.migration_types.specs.declared.records.GuestRec.{GuestRec}
+use Rattle.story_facts.specs.Scans.{last_before}
+use Rattle.story_facts.specs.Values.{sets}
+use Rattle.story_facts.specs.inner.Cells.{set_by}
+use Rattle.story_facts.proofs.Setting.{value_by, flat_is_set}
+use Rattle.story_facts.proofs.values.held_at.Goals as goal
+
+pub returns-in-Some-clause-held : goal.returns-in-Some-clause-held
+returns-in-Some-clause-held c =
+    let s = c.args.session.now in
+    let page = c.args.page in
+    let cell = c.args.cell in
+    let n = c.in-Some.n in
+    let by : Some n ≡ last_before (λ m. sets page cell) s.guest c.args.to = c.in-Some.ensures ∙ ap (λ (log : List GuestRec). last_before (λ m. sets page cell) log c.args.to) c.guest-guest.ensures in
+    record {
+      value = c.set_by-value.ensures ∙ (ap (λ (log : List GuestRec). set_by (slice_get log n)) c.guest-guest.ensures ∙ (ap (λ (o : Option ℕ). value_by s page cell o) by ∙ sym (flat_is_set s page cell c.args.to)));
+      by = by;
+    }
+
+pub returns-in_ok-cells_at_start-in-None-clause-held : goal.returns-in_ok-cells_at_start-in-None-clause-held
+returns-in_ok-cells_at_start-in-None-clause-held c =
+    let s = c.args.session.now in
+    let page = c.args.page in
+    let cell = c.args.cell in
+    let by : None ≡ last_before (λ m. sets page cell) s.guest c.args.to = c.in-None.ensures ∙ ap (λ (log : List GuestRec). last_before (λ m. sets page cell) log c.args.to) c.guest-guest.ensures in
+    let cells = c.in_ok-cells_at_start-in-None.field-0.items in
+    let read : c.index.result.now ≡ slice_index cells cell = c.index.ensures ∙ get_or_default_zero cells cell c.index.result.now (omega (arith, c.requires.cell, c.in_ok-cells_at_start-in-None.ensures.size)) in
+    record {
+      value = read ∙ (c.in_ok-cells_at_start-in-None.ensures.same cell c.requires.cell ∙ (ap (λ (o : Option ℕ). value_by s page cell o) by ∙ sym (flat_is_set s page cell c.args.to)));
+      by = c.last_of-by.ensures ∙ ap (λ (log : List GuestRec). last_before (λ m. sets page cell) log c.args.to) c.guest-guest.ensures;
+    }

@@ -1,0 +1,9 @@
+pub mod Scans
+pub mod Places
+pub mod Named
+pub mod Pages
+pub mod Values
+pub mod Looks
+pub mod Counted
+pub mod Subjects
+pub mod inner

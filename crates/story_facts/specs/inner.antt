@@ -1,0 +1,4 @@
+-- Definitions that only proofs use.
+pub mod Asked
+pub mod Questions
+pub mod Cells

@@ -1,0 +1,42 @@
+//! Records by their names, and the record that a record names.
+
+ghost use Rattle.std.specs.Prelude.{◌≡◌};
+ghost use Rattle.story_facts.specs.Named.{named_among, named_by, named_in};
+
+use migration_types::{Field, LogName, Session};
+
+/// A record, by its log and its number there.
+pub type Name = (LogName, u32);
+
+/// Returns the record of this number in a log, if there is a number.
+pub fn named_in(log: LogName, place: Option<u32>) -> Option<Name>
+    ensures { result ≡ named_in log place }
+{
+    match place {
+        Some(place) => Some((log, place)),
+        None => None,
+    }
+}
+
+/// Returns the first record that fields name, if they name one.
+fn named_among(fields: &[Field]) -> Option<Name>
+    ensures { result ≡ named_among fields.now }
+{
+    for field in fields {
+        match *field {
+            Field::Number(log, number) | Field::Handover(log, number) => return Some((log, number)),
+            _ => {}
+        }
+    }
+    None
+}
+
+/// Returns the record that a record names, if it names one.
+pub fn named_by(session: &Session, name: Name) -> Option<Name>
+    ensures { result ≡ named_by session.now name }
+{
+    match session.row(name) {
+        Some(row) => named_among(row.fields()),
+        None => None,
+    }
+}

@@ -1,0 +1,56 @@
+-- The sentences about what a session lacks that does not tell of a whole migration.
+use Rattle.std.specs.Prelude.{ℕ, List, [], ◌∷◌, ◌++◌, length, Option, Some, None}
+use Rattle.std.specs.Option.{option_map}
+use Rattle.migration_types.specs.declared.records.LogName.TheVariants.{Guest, Source, Link, Lane, Pager}
+use Rattle.migration_types.specs.Receipts.{Name}
+use Rattle.migration_types.specs.Sessions.{Recorded}
+use Rattle.audit_model.specs.Shape.{delivers, is_halt, is_send_of}
+use Rattle.completeness.specs.Complete.{is_all, is_back}
+use Rattle.completeness.specs.declared.lack.Lack.{Lack}
+use Rattle.completeness.specs.declared.lack.Lack.TheVariants as missing
+use Rattle.page_facts.specs.Tables.{first_before}
+use Rattle.story_facts.specs.Named.{named_in}
+use Rattle.story_facts.specs.Pages.{carries, lane_carries}
+use Rattle.story_facts.specs.Scans.{last_before}
+use Rattle.story_sentences.specs.Sentences.{listed}
+use Rattle.story_types.specs.declared.sentences.Sentence.{Sentence}
+use Rattle.story_types.specs.declared.sentences.Sentence.TheVariants as say
+
+-- the first of these records that exists
+abbrev pub or_else : Option Name → Option Name → Option Name
+or_else None other = other
+or_else (Some name) other = Some name
+
+-- how far a page came: to the pager, or else to a delivery by the link, or by the lane, or to the source's sending
+abbrev pub furthest : Option ℕ → Option ℕ → Option ℕ → Option ℕ → Option Name
+furthest got delivered by_lane sent =
+    or_else (named_in Pager got) (or_else (named_in Link delivered) (or_else (named_in Lane by_lane) (named_in Source sent)))
+
+abbrev pub came_to : Recorded → ℕ → Option Name
+came_to s page =
+    furthest (first_before (λ m r. delivers s (is_send_of page) m) s.pager (length s.pager))
+    (first_before (λ m. carries s page) s.link (length s.link))
+    (first_before (λ m. lane_carries s page) s.lane (length s.lane))
+    (first_before (λ m. is_send_of page) s.source (length s.source))
+
+abbrev pub halted_of : Option ℕ → Option Sentence
+halted_of halt = option_map (λ n. say.HaltedAt n) halt
+
+abbrev pub started_of : Option ℕ → Option Sentence
+started_of back = option_map (λ n. say.StartedAgainAt n) back
+
+abbrev pub said_of : Option ℕ → Option Sentence
+said_of said = option_map (λ n. say.SaidAt n) said
+
+-- the sentences about what a session lacks
+unfoldable pub lack_told : Recorded → Lack → List Sentence
+lack_told s missing.Halt = say.NeverHalted ∷ []
+lack_told s missing.Returned = say.Returned ∷ [] ++ listed (started_of (first_before (λ m. is_back) s.source (length s.source)))
+lack_told s missing.Resume = say.NeverResumed ∷ [] ++ listed (halted_of (first_before (λ m. is_halt) s.guest (length s.guest)))
+lack_told s (missing.Page page) = say.Owed page ∷ say.CameTo (came_to s page) ∷ []
+lack_told s missing.All = say.NeverSaid ∷ []
+lack_told s missing.Done = say.NeverLearned ∷ [] ++ listed (said_of (last_before (λ m. is_all) s.pager (length s.pager)))
+lack_told s (missing.Taken n) = say.Untaken n ∷ []
+
+unfoldable pub missing_told : Recorded → Lack → List Sentence
+missing_told s m = say.NotWhole ∷ [] ++ lack_told s m

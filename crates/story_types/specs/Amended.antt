@@ -1,0 +1,97 @@
+-- What is wrong in a faulty record and what would be right, which uses of its page the story tells, and whether each
+-- order shows the fault.
+use Rattle.std.specs.Prelude.{ℕ, Bool, false, ◌==◌, ◌&&◌, ◌||◌, List, Option, Some, None, slice_get}
+use Rattle.migration_types.specs.declared.records.LogName.TheVariants.{Guest, Source, Pager}
+use Rattle.migration_types.specs.declared.records.GuestRec.{GuestRec}
+use Rattle.migration_types.specs.declared.records.GuestRec.TheVariants.{Read}
+use Rattle.migration_types.specs.Receipts.{Name}
+use Rattle.migration_types.specs.Rows.{source_contents, pager_contents}
+use Rattle.migration_types.specs.Sessions.{Recorded}
+use Rattle.audit_model.specs.Names.{if_there, same_log}
+use Rattle.story_types.specs.declared.amends.Amended.{Amended}
+use Rattle.story_facts.specs.declared.values.CellValue.{CellValue}
+use Rattle.story_types.specs.declared.faults.PageCause.{PageCause}
+use Rattle.story_types.specs.declared.faults.PageCause.TheVariants.{Sent, Placed}
+use Rattle.story_types.specs.declared.faults.Detail.{Detail}
+use Rattle.story_types.specs.declared.faults.Detail.TheVariants.{Instead, Other}
+use Rattle.story_types.specs.declared.faults.FaultStory.{FaultStory}
+use Rattle.story_types.specs.declared.explaining.Explanation.{Explanation}
+use Rattle.story_types.specs.declared.explaining.Explanation.TheVariants as told
+use Rattle.story_types.specs.declared.topics.FullPageStory.{FullPageStory}
+use Rattle.story_types.specs.declared.topics.TopicStory.{TopicStory}
+use Rattle.story_types.specs.Concerned.{given_in}
+use Rattle.story_types.specs.Topics.{fault_in, page_in}
+
+-- the value of a cell in contents, if there are any
+abbrev pub cell_in : Option (List ℕ) → ℕ → Option ℕ
+cell_in None cell = None
+cell_in (Some contents) cell = slice_get contents cell
+
+abbrev pub read_value : GuestRec → Option ℕ
+read_value (Read vcpu page cell value) = Some value
+read_value rec = None
+
+-- the value that a record has: for a read, the one that it gives; for a record with contents, that of the cell
+abbrev pub value_at : Recorded → Name → ℕ → Option ℕ
+value_at s (Guest, n) cell = if_there read_value (slice_get s.guest n)
+value_at s (Source, n) cell = cell_in (if_there source_contents (slice_get s.source n)) cell
+value_at s (Pager, n) cell = cell_in (if_there pager_contents (slice_get s.pager n)) cell
+value_at s name cell = None
+
+-- what the story says about a cell, if anything
+abbrev pub held_in : Detail → Option CellValue
+held_in (Instead held) = held
+held_in (Other held) = held
+held_in detail = None
+
+abbrev pub amended_with : ℕ → CellValue → Option ℕ → Option Amended
+amended_with page held None = None
+amended_with page held (Some wrong) = Some (record { page = page; cell = held.cell; wrong = wrong; right = held.value })
+
+abbrev pub amended_in : Recorded → FaultStory → Option CellValue → Option Amended
+amended_in s story None = None
+amended_in s story (Some held) = amended_with story.page.page held (value_at s (story.fault.log, story.fault.place) held.cell)
+
+abbrev pub amended_for : Recorded → Option FaultStory → Option Amended
+amended_for s None = None
+amended_for s (Some story) = amended_in s story (held_in story.detail)
+
+-- the wrong value in the faulty record, and the right one
+abbrev pub amended_by : Recorded → TopicStory → Option Amended
+amended_by s told = amended_for s (fault_in told)
+
+abbrev pub cause_in : Option PageCause → Option ℕ
+cause_in (Some (Sent wrong)) = wrong.held.by
+cause_in (Some (Placed wrong)) = wrong.held.by
+cause_in cause = None
+
+-- whether it is this number, if there is one
+abbrev pub is_number : Option ℕ → ℕ → Bool
+is_number None n = false
+is_number (Some m) n = m == n
+
+-- whether the story of a fault tells the guest's record of this number
+abbrev pub tells_in : FaultStory → ℕ → Bool
+tells_in story n =
+    (same_log story.fault.log Guest && (story.fault.place == n))
+    || (is_number story.page.changed n
+    || (is_number story.page.found.touch n
+    || (is_number (given_in story.detail) n
+    || is_number (cause_in story.cause) n)))
+
+abbrev pub tells_for : Option FaultStory → ℕ → Bool
+tells_for None n = false
+tells_for (Some story) n = tells_in story n
+
+-- whether the story of a page tells the guest's record of this number
+abbrev pub tells_on : Option FullPageStory → ℕ → Bool
+tells_on None n = false
+tells_on (Some t) n = is_number t.story.changed n || is_number t.story.found.touch n
+
+abbrev pub tells_of : TopicStory → ℕ → Bool
+tells_of told n = tells_for (fault_in told) n || tells_on (page_in told) n
+
+-- whether every order of the records shows the fault of the story
+abbrev pub is_always_wrong : Explanation → Bool
+is_always_wrong (told.Faulty story more) = story.in_every_order
+is_always_wrong other = false

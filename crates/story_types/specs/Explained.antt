@@ -1,0 +1,175 @@
+-- The story of the report on a session.
+use Rattle.std.specs.Prelude.{◌≡◌, ℕ, ◌+◌, ◌<◌, Bool, true, false, not, ◌&&◌, nat_le, is_some, Decides, List, length, MatchOption, Option, Some, None, slice_get, slice_index}
+use Rattle.migration_types.specs.declared.records.LogName.{LogName}
+use Rattle.migration_types.specs.declared.records.LogName.TheVariants.{Guest}
+use Rattle.migration_types.specs.declared.records.GuestRec.TheVariants.{Read}
+use Rattle.migration_types.specs.declared.records.SourceRec.TheVariants.{Send}
+use Rattle.migration_types.specs.declared.records.PagerRec.TheVariants.{Place}
+use Rattle.migration_types.specs.Receipts.{Name}
+use Rattle.migration_types.specs.Sessions.{Recorded, line_of}
+use Rattle.audit_model.specs.declared.reasons.PageReason.{PageReason}
+use Rattle.audit_model.specs.declared.reasons.PageReason.TheVariants.{Read as WrongRead, Early, Given, Stale, Twice, Altered, Unfit, Over}
+use Rattle.audit_model.specs.Flat.{flat, at_halt}
+use Rattle.audit_model.specs.FirstFault.{IsFirstFault, IsFirstPageFault}
+use Rattle.audit_model.specs.Laws.{BreaksAt, UnplacedBefore}
+use Rattle.audit_model.specs.Mergings.{IsMerging}
+use Rattle.audit_model.specs.Shape.{IsRightShape, is_send_of, is_placement_of}
+use Rattle.faulty_pages.specs.FaultyPages.{AreManyFaulty}
+use Rattle.page_facts.specs.declared.findings.Findings.{Findings}
+use Rattle.page_facts.specs.declared.page_fault.PageFault.{PageFault}
+use Rattle.page_facts.specs.Judged.{is_late_touch, releases_at}
+use Rattle.page_facts.specs.PageFaults.{page_at}
+use Rattle.page_facts.specs.Tables.{first_before}
+use Rattle.audit_report.specs.declared.report.Report.{Report}
+use Rattle.audit_report.specs.declared.report.Report.TheVariants as report
+use Rattle.story_facts.specs.Pages.{IsHandover, IsPageStory, sent_before}
+use Rattle.story_facts.specs.Values.{IsInstead, IsOther}
+use Rattle.story_facts.specs.Looks.{IsFurthestLook}
+use Rattle.story_facts.specs.Counted.{IsCounts}
+use Rattle.story_types.specs.Waits.{IsCircle}
+use Rattle.story_facts.specs.declared.looks.Look.{Look}
+use Rattle.story_facts.specs.declared.values.CellValue.{CellValue}
+use Rattle.story_types.specs.declared.faults.Detail.{Detail}
+use Rattle.story_types.specs.declared.faults.Detail.TheVariants.{Instead, Seen, Other, Plain}
+use Rattle.story_types.specs.declared.faults.Wrong.{Wrong}
+use Rattle.story_types.specs.declared.faults.PageCause.{PageCause}
+use Rattle.story_types.specs.declared.faults.PageCause.TheVariants.{Sent, Placed, Unplaced}
+use Rattle.story_types.specs.declared.faults.FaultStory.{FaultStory}
+use Rattle.story_types.specs.declared.faults.ShapeStory.{ShapeStory}
+use Rattle.story_types.specs.declared.explaining.Explanation.{Explanation}
+use Rattle.story_types.specs.declared.explaining.Explanation.TheVariants as told
+use Rattle.cert_check.specs.declared.verdict.ShapeFault.{ShapeFault}
+
+-- if these contents differ from the page's at the halt, the first cell that differs
+abbrev pub IsOtherIn : Recorded → ℕ → List ℕ → Option CellValue → Type 0
+IsOtherIn s page content held =
+    MatchOption held ((c : ℕ) → c < s.geometry.cells → slice_index content c ≡ flat s (at_halt s) page c) (IsOther s page content)
+
+-- the look that reached furthest before the page's first touch after handover
+abbrev pub IsLookBeforeTouch : Recorded → ℕ → Option Look → Type 0
+IsLookBeforeTouch s page look = (first : ℕ) → first_before (is_late_touch s page) s.guest (length s.guest) ≡ Some first → IsFurthestLook s first look
+
+-- What the story says besides. For a wrong read, what one machine gives. For an early access, the look that reached
+-- furthest before it. For contents that are not the page's, the first cell that differs. For a placement over a
+-- release, the look that reached furthest before this release.
+abbrev pub IsDetail : Recorded → PageReason → LogName → ℕ → ℕ → Detail → Type 0
+IsDetail s WrongRead log n page (Instead held) = (vcpu cell value : ℕ) → slice_get s.guest n ≡ Some (Read vcpu page cell value) → MatchOption held ⊥ (IsInstead s n page cell)
+IsDetail s Early log n page (Seen look) = IsFurthestLook s n look
+IsDetail s Stale log n page (Other held) = (content : List ℕ) → slice_get s.source n ≡ Some (Send page content) → IsOtherIn s page content held
+IsDetail s Altered log n page (Other held) = (got : ℕ) (content : List ℕ) → slice_get s.pager n ≡ Some (Place page got content) → IsOtherIn s page content held
+IsDetail s Over log n page (Seen look) = IsLookBeforeTouch s page look
+IsDetail s Given log n page Plain = Unit {0}
+IsDetail s Twice log n page Plain = Unit {0}
+IsDetail s Unfit log n page Plain = Unit {0}
+IsDetail s reason log n page detail = ⊥
+
+-- The first `send` of the page has contents that differ from the page's at the halt, first at this cell.
+pub record IsWrongSend (s : Recorded) (page : ℕ) (w : Wrong) : Type 0 where
+  pub content : List ℕ
+  pub is_first : first_before (λ m. is_send_of page) s.source (length s.source) ≡ Some w.place
+  pub sends : slice_get s.source w.place ≡ Some (Send page content)
+  pub other : IsOther s page content w.held
+
+-- The first placement of the page is a `place` whose contents differ from the page's at the halt, first at this cell.
+pub record IsWrongPlacement (s : Recorded) (page : ℕ) (w : Wrong) : Type 0 where
+  pub got : ℕ
+  pub content : List ℕ
+  pub is_first : first_before (λ m. is_placement_of page) s.pager (length s.pager) ≡ Some w.place
+  pub places : slice_get s.pager w.place ≡ Some (Place page got content)
+  pub other : IsOther s page content w.held
+
+-- there is no such `send`; there is no such placement
+abbrev pub IsSentRight : Recorded → ℕ → Type 0
+IsSentRight s page = (w : Wrong) → IsWrongSend s page w → ⊥
+
+abbrev pub IsPlacedRight : Recorded → ℕ → Type 0
+IsPlacedRight s page = (w : Wrong) → IsWrongPlacement s page w → ⊥
+
+-- whether the page is never placed, and is needed by its first use at the target, which is not a release
+abbrev pub unplaced : Option ℕ → Option ℕ → Bool → Bool
+unplaced placement touch releases = not (is_some placement) && is_some touch && not releases
+
+abbrev pub is_unplaced : Findings → Bool
+is_unplaced f = unplaced f.placement f.touch f.releases
+
+-- the page's first use at the target
+abbrev pub first_touch : Recorded → ℕ → Option ℕ
+first_touch s page = first_before (is_late_touch s page) s.guest (length s.guest)
+
+abbrev pub IsUnplaced : Recorded → ℕ → Type 0
+IsUnplaced s page = unplaced (first_before (λ m. is_placement_of page) s.pager (length s.pager)) (first_touch s page) (releases_at s (first_touch s page)) ≡ true
+
+-- What first went wrong with a page: its sending; or, if that is right, its placement, whose contents then differ from
+-- those that were sent; or that it has no placement.
+abbrev pub IsWrong : Recorded → ℕ → PageCause → Type 0
+IsWrong s page (Sent w) = IsWrongSend s page w
+IsWrong s page (Placed w) = IsSentRight s page × IsWrongPlacement s page w
+IsWrong s page Unplaced = IsSentRight s page × IsUnplaced s page
+
+-- whether the first use, if there is one, comes no later than guest record n
+abbrev pub is_used_by : Option ℕ → ℕ → Bool
+is_used_by None n = false
+is_used_by (Some first) n = nat_le first n
+
+abbrev pub is_read : PageReason → Bool
+is_read WrongRead = true
+is_read _ = false
+
+-- this is a wrong read at the target, and this first went wrong with its page
+pub record IsCause (s : Recorded) (reason : PageReason) (n page : ℕ) (c : PageCause) : Type 0 where
+  pub reads : is_read reason ≡ true
+  pub is_late : is_used_by (first_touch s page) n ≡ true
+  pub wrong : IsWrong s page c
+
+-- the cause in the story, or there is none
+abbrev pub IsToldCause : Recorded → PageReason → ℕ → ℕ → Option PageCause → Type 0
+IsToldCause s reason n page cause = MatchOption cause ((c : PageCause) → IsCause s reason n page c → ⊥) (IsCause s reason n page)
+
+-- Whether each order shows a fault. An early use: if no order has a placement of its page before it. A placement over a
+-- release: if no order has a placement of the page before this release. Any other fault: always.
+abbrev pub IsInEveryOrder : Recorded → PageReason → ℕ → ℕ → Type 0
+IsInEveryOrder s Early n page = (order : List Name) → IsMerging s order → UnplacedBefore s order page (Guest, n)
+IsInEveryOrder s Over n page = (release : ℕ) → first_touch s page ≡ Some release → (order : List Name) → IsMerging s order → UnplacedBefore s order page (Guest, release)
+IsInEveryOrder s reason n page = Unit {0}
+
+-- For a session of the right shape, the story says that each order shows the fault exactly when each does, and then the
+-- demand at the faulty record fails in each.
+pub record IsToldOfOrders (s : Recorded) (f : FaultStory) : Type 0 where
+  pub exactly : IsRightShape s → Decides f.in_every_order (IsInEveryOrder s f.fault.reason f.fault.place f.page.page)
+  pub breaks : IsRightShape s → f.in_every_order ≡ true → (order : List Name) → IsMerging s order → BreaksAt s order (f.fault.log, f.fault.place)
+
+-- The story of a fault of a page: the story of the page, and what the story says about the fault.
+pub record IsFaultStory (s : Recorded) (f : FaultStory) : Type 0 where
+  pub is_of : page_at s (f.fault.log, f.fault.place) ≡ Some f.page.page
+  pub page : IsPageStory s f.page.page f.page
+  pub handover : IsHandover s f.handover
+  pub detail : IsDetail s f.fault.reason f.fault.log f.fault.place f.page.page f.detail
+  pub cause : IsToldCause s f.fault.reason f.fault.place f.page.page f.cause
+  pub orders : IsToldOfOrders s f
+
+-- The story of the report's fault, which is the session's first fault of a page and is at this line.
+pub record IsReportedStory (s : Recorded) (line : ℕ) (fault : PageFault) (f : FaultStory) : Type 0 where
+  pub is_line : line ≡ line_of s (fault.log, fault.place)
+  pub is_fault : f.fault ≡ fault
+  pub is_first : IsFirstPageFault s fault.reason (fault.log, fault.place)
+  pub story : IsFaultStory s f
+
+-- this many pages have a fault besides that of the session's first fault
+abbrev pub AreMoreFaulty : Recorded → ℕ → Type 0
+AreMoreFaulty s more = AreManyFaulty s (more + 1)
+
+-- the first record that does not have the right shape, and the earlier records of its kind
+pub record IsShapeStory (s : Recorded) (fault : ShapeFault) (t : ShapeStory) : Type 0 where
+  pub is_line : fault.line ≡ line_of s (fault.log, fault.place)
+  pub is_fault : t.fault ≡ fault
+  pub is_first : IsFirstFault s fault.reason (fault.log, fault.place)
+  pub handover : IsHandover s t.handover
+  pub sent : t.sent ≡ sent_before s (fault.log, fault.place)
+
+-- the story of a session with this report
+abbrev pub IsExplanation : Recorded → Report → Explanation → Type 0
+IsExplanation s (report.Shape fault) (told.Shape story) = IsShapeStory s fault story
+IsExplanation s (report.Knot left found) (told.Knot knot) = IsCircle s knot
+IsExplanation s (report.Faulty line fault order many) (told.Faulty story more) = IsReportedStory s line fault story × AreMoreFaulty s more
+IsExplanation s (report.Clean cert) (told.Clean counts) = IsCounts s cert.entries counts
+IsExplanation s _ _ = ⊥

@@ -1,0 +1,5 @@
+pub mod Waits
+pub mod Explained
+pub mod Topics
+pub mod Concerned
+pub mod Amended

@@ -1,0 +1,20 @@
+//! The story of a session as a value, and what follows from it alone: which record a fault concerns, what would be right
+//! instead of a wrong value, and which uses of a page the story tells.
+#![tactic(auto)]
+
+mod amends;
+mod concerns;
+mod explaining;
+mod faults;
+mod reasons;
+mod sentences;
+mod topics;
+mod waits;
+
+pub use amends::{Amended, amended_by, is_always_wrong, tells_of, value_at};
+pub use concerns::{concerned_of, resumed_by};
+pub use explaining::Explanation;
+pub use faults::{Detail, FaultStory, PageCause, ShapeStory, Wrong};
+pub use sentences::Sentence;
+pub use topics::{FullPageStory, LineStory, TopicStory};
+pub use waits::{Knot, Waiting};
