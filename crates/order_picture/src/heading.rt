@@ -96,20 +96,30 @@ impl Heading {
         push(line, word)
     }
 
-    /// Appends the lines of a sentence.
-    fn push_sentence(&mut self, alloc: Global, sentence: &[u8]) -> Result<(), AllocError> {
-        let mut line = Vec::new(alloc);
-        let mut word = Vec::new(alloc);
+    /// Appends the lines of a sentence, given empty room for a line and for a word.
+    fn push_words(
+        &mut self,
+        line: &mut Vec<u8>,
+        word: &mut Vec<u8>,
+        sentence: &[u8],
+    ) -> Result<(), AllocError> {
         for letter in sentence {
             if *letter == b' ' {
-                self.push_word(&mut line, &word)?;
+                self.push_word(line, word)?;
                 word.clear();
             } else {
                 word.push(*letter)?;
             }
         }
-        self.push_word(&mut line, &word)?;
-        self.push_line(&line)
+        self.push_word(line, word)?;
+        self.push_line(line)
+    }
+
+    /// Appends the lines of a sentence.
+    fn push_sentence(&mut self, alloc: Global, sentence: &[u8]) -> Result<(), AllocError> {
+        let mut line = Vec::new(alloc);
+        let mut word = Vec::new(alloc);
+        self.push_words(&mut line, &mut word, sentence)
     }
 
     /// Appends the lines of the first sentences of a text, in which each sentence is a line.
