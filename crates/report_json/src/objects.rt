@@ -5,7 +5,9 @@ ghost use Rattle.completeness.specs.Complete.{IsFirstMissing};
 ghost use Rattle.report_json.specs.JsonText.{all_faults_object, at_line, begun, fault_told, missing_object, missing_told, number, pages_told, record_at, report_begun, report_object, shape_object, shape_told, table_object, verdict_object, word};
 ghost use Rattle.report_json.specs.TopicsText.{IsStory, told_object};
 
-use crate::fields::{begin, end, push_bare, push_number_under, push_page, push_record, push_word_under};
+use crate::fields::{
+    begin, end, push_bare, push_number_under, push_page, push_record, push_word_under,
+};
 use crate::lists::{push_list_under, push_runs};
 use crate::records::records_of;
 use crate::topics::push_topic;

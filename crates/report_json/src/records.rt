@@ -9,7 +9,9 @@ use audit_report::Lines;
 use migration_types::{LogName, Session};
 use std::alloc::{AllocError, Global};
 use story_facts::{Handover, PageStory, line_at};
-use story_types::{Explanation, FaultStory, FullPageStory, LineStory, ShapeStory, TopicStory, Waiting, resumed_by};
+use story_types::{
+    Explanation, FaultStory, FullPageStory, LineStory, ShapeStory, TopicStory, Waiting, resumed_by,
+};
 
 /// The role of a record in the story of a session.
 #[derive(Clone, Copy)]
