@@ -75,7 +75,7 @@ static struct {
 static unsigned current; /* the processor that runs, or ran last */
 
 static struct {
-    uint64_t records, accesses, implied, unseen, frames, frames_at_halt, frames_untold, parts_untold, marks, gates, misses,
+    uint64_t records, accesses, implied, unseen, frames, frames_at_halt, frames_untold, parts_untold, unlocated, marks, gates, misses,
         misses_before_first, words, unplaced, went_on;
 } counts;
 
@@ -121,7 +121,7 @@ static void write_counts(void)
         return;
 #define TELL(what) fprintf(out, #what " %lu\n", (unsigned long)counts.what)
     TELL(records); TELL(accesses); TELL(implied); TELL(unseen); TELL(frames); TELL(frames_at_halt); TELL(frames_untold);
-    TELL(parts_untold); TELL(marks); TELL(gates); TELL(misses); TELL(misses_before_first); TELL(words); TELL(unplaced); TELL(went_on);
+    TELL(parts_untold); TELL(unlocated); TELL(marks); TELL(gates); TELL(misses); TELL(misses_before_first); TELL(words); TELL(unplaced); TELL(went_on);
     fclose(out);
 }
 
@@ -222,6 +222,8 @@ static void accessed(unsigned vcpu, qemu_plugin_meminfo_t info, uint64_t address
 {
     struct qemu_plugin_hwaddr *where = qemu_plugin_get_hwaddr(info, address);
     counts.accesses++;
+    if (!where)
+        counts.unlocated++;
     if (!where || qemu_plugin_hwaddr_is_io(where))
         return;
     bool is_store = qemu_plugin_mem_is_store(info);

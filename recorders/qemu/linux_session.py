@@ -121,9 +121,11 @@ class SelfTest:
     def line(self):
         """Returns the line about a recording that passes."""
         log, target = self.counts["log"], self.counts["target"]
+        unlocated = sum(self.counts[side].get("unlocated", 0) for side in SIDES)  # (a recording of before does not count them)
         return (f"memory at the halt and at the end is what was recorded, but for {log['halt-marks']} and {log['end-marks']} marks in page "
                 f"tables; frames {self.counts['source']['frames']} and {target['frames']}, unseen writes 0; the target waited {target['misses']} "
-                f"times, and {target['words']} times it is the kernel's word alone that it waited")
+                f"times, and {target['words']} times it is the kernel's word alone that it waited"
+                + (f"; of {unlocated} accesses QEMU does not say where they were, and they are not recorded" if unlocated else ""))
 
 
 class LinuxRecording(Recording):

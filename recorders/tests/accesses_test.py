@@ -59,6 +59,8 @@ def of_the_source(tests, program):
         tests.wants(f"no mark: {what}", source(f"store 0 0x1008 8 {was}", f"poke 0x1008 {now}", "load 0 0x1008 8")[1]["unseen"], 1)
     records, counts = source("store 0 0x1ffc 8 0x600000002")
     tests.wants("an access to two pages", records, [("w", 0, 1023, 2 << 32), ("w", 0, 1024, 6)])
+    records, counts = source("load 0 0x10000000000 8")
+    tests.wants("one of which QEMU does not say where it was", (records, counts["accesses"], counts["unlocated"]), ([], 1, 1))
     tests.wants("one whose second page is nowhere", source(f"store 0 {PAGES * PAGE - 4:#x} 8 1")[1]["parts_untold"], 1)
 
 

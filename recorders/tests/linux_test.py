@@ -154,6 +154,9 @@ def of_one_by_hand(tests):
     tests.wants("its verdict", verdict.line, "clean, yes")
     tests.wants("what is left of it", left, ["certificate", "report", "self-test"])
     tests.wants("the self-test", (list(found.faults()), found.counts["log"]["halt-marks"], found.counts["log"]["end-marks"]), ([], 1, 0))
+    for unlocated, is_told in ((0, False), (3, True)):
+        found.counts["target"]["unlocated"] = unlocated
+        tests.wants(f"what it says of {unlocated} accesses that nobody knows the place of", f"of {unlocated} accesses QEMU does not say where" in found.line(), is_told)
 
 
 def of_facts(tests):

@@ -72,7 +72,7 @@ struct qemu_plugin_hwaddr *qemu_plugin_get_hwaddr(qemu_plugin_meminfo_t info, ui
     static struct qemu_plugin_hwaddr found;
     (void)info;
     found.address = address;
-    return &found;
+    return address >> 40 ? NULL : &found; /* (of such addresses QEMU does not say where they are) */
 }
 
 /* QEMU's code calls with the processor's state in rbp. */
