@@ -164,8 +164,8 @@ class LinuxRecording(Recording):
         """Makes the lines of the guest's log, and enters the numbers of its records into the session. Returns the SelfTest."""
         self.write_placements(session)
         done = subprocess.run([build.build_guest_log(), str(session.pages), str(session.numbers["pager"][("ready",)])], cwd=self.folder, capture_output=True, text=True)
-        if done.returncode > 1:
-            raise Hole(f"the guest's log: {done.stderr.strip()}")
+        if done.returncode not in (0, 1):
+            raise Hole(f"the guest's log: {done.stderr.strip() or f'the program that makes it ended with the status {done.returncode}'}")
         found = SelfTest({side: self.counts(side) for side in SIDES}, has_end=done.returncode == 0)
         found.counts["log"] = log = {}
         for line in done.stdout.splitlines():

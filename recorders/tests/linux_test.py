@@ -9,6 +9,7 @@ import re
 import shutil
 import struct
 import tempfile
+from unittest import mock
 
 import judge
 import linux_cut
@@ -248,6 +249,13 @@ def of_the_self_test(tests):
             ("a source that was never halted", made(source=SOURCE[:2]), "not judged: the guest's log: source.accesses: the guest was never halted"),
             ("bytes that are no record", made(source=(("x", 0, 0, 0), *SOURCE)), "not judged: the guest's log: source.accesses: record 0 is none")):
         tests.wants(f"the self-test: {what}", verdict_of(files), wanted)
+    with tempfile.TemporaryDirectory() as room:
+        with open(f"{room}/guest_log", "w", encoding="ascii") as out:
+            out.write("#!/bin/sh\necho halt 3\nkill -9 $$\n")
+        os.chmod(out.name, 0o755)
+        with mock.patch.object(linux_session.build, "build_guest_log", lambda: out.name):
+            tests.wants("a program that is killed while it makes the guest's log", verdict_of(made()),
+                        "not judged: the guest's log: the program that makes it ended with the status -9")
     tests.wants("a migration that did not end", verdict_of(made(), is_whole=False),
                 "not judged: the migration did not come to its end: source failed, target ENDED")
     tests.wants("one of which there is no session either", verdict_of({**made(), "source.accesses": b"", "target.raw": b""}, is_whole=False),
