@@ -1,12 +1,3 @@
-pub mod Few
-pub mod Finding
 pub mod Gained
-pub mod Late
 pub mod Opened
-pub mod Pushed
-pub mod Seen
 pub mod Spelled
-pub mod Surveying
-pub mod Told
-pub mod Unsaid
-pub mod Walked

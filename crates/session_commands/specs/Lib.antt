@@ -1,4 +1,3 @@
 pub mod Files
-pub mod Found
 pub mod Texts
 pub mod inner

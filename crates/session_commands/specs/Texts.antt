@@ -3,8 +3,8 @@ use Rattle.std.specs.Prelude.{ℕ, List, Option}
 use Rattle.std.specs.Io.KnownBytes.{Appends}
 use Rattle.command_words.specs.declared.requests.Lacking.{Lacking}
 use Rattle.session_commands.specs.Files.{IsTextOf}
-use Rattle.session_commands.specs.Found.{IsFoundIn}
-use Rattle.session_commands.specs.declared.found.FoundLogs.{FoundLogs}
+use Rattle.found_logs.specs.Found.{IsFoundIn}
+use Rattle.found_logs.specs.declared.found.FoundLogs.{FoundLogs}
 
 -- This is the text of the recording that the files of recorders in these folders make.
 pub record IsSessionText (names_in : List ℕ → Option (List (List ℕ))) (files : List ℕ → Option (List ℕ)) (folders : List (List ℕ)) (lacking : Lacking) (text : List ℕ) : Type 0 where

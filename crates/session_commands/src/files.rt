@@ -4,8 +4,8 @@ ghost use Rattle.std.specs.Prelude.{◌≡◌, [], IfErr, IfOk};
 ghost use Rattle.recorded_files.specs.declared.files.FileFault.{FileFault as Why};
 ghost use Rattle.recorded_files.specs.Said.{CameTo, IsFault};
 
-use crate::found::FoundLogs;
 use command_texts::TextSource;
+use found_logs::FoundLogs;
 use gathered_logs::GatherFault;
 use migration_types::LogName;
 use recorded_files::{FileFault, FileReader, Party};
@@ -46,7 +46,7 @@ impl<S: TextSource> LogFiles for OpenedLogs<'_, S> {
 
     fn open(&self, alloc: Global, log: LogName) -> Result<Vec<FileReader<S::Text>>, GatherFault> {
         let mut files = Vec::new(alloc);
-        let paths = self.logs.paths(log);
+        let paths = self.logs.log(Party::Of(log)).paths.as_slice();
         for place in 0..paths.len() {
             let Ok(text) = self.texts.text(paths[place].as_str()) else {
                 return Err(GatherFault::File(place, FileFault::File));

@@ -12,26 +12,23 @@ ghost use Rattle.command_texts.specs.Written.{BothGain, Gains};
 ghost use Rattle.session_commands.specs.Files.{bytes_in, WritesText};
 ghost use Rattle.session_commands.specs.Texts.{WritesSession};
 ghost use Rattle.session_commands.specs.inner.Seen.{HasFacts, HasSeen, IsKnown};
-ghost use Rattle.session_commands.specs.inner.Telling.{ReachIn, SaysUnless, SomeIn};
+ghost use Rattle.session_facts.specs.Facts.{ReachIn, SomeIn};
+ghost use Rattle.session_words.specs.Telling.{SaysUnless};
 
-use crate::ends::{Ends, tell_cuts};
-use crate::facts::Facts;
 use crate::files::OpenedLogs;
-use crate::found::{FoundLogs, find_files};
-use crate::machines::describe;
+use crate::forms::form_of;
 use crate::recording::FileRecording;
-use crate::stops::Stop;
-use crate::surveys::survey_files;
-use crate::telling::{check_logs, tell_empty, tell_logs, tell_machine, tell_unresumed};
 use crate::walk_stops::{check_facts, walk_stop, write_stop};
-use crate::words::push_message;
 use command_texts::{
     ACCEPTED, Console, Fault, REFUSED, STANDARD_OUTPUT, TextSource, given, tell, write_whole,
 };
 use command_words::Lacking;
-use migration_types::{Size, Version};
+use found_logs::{FoundLogs, check_logs, describe, find_logs, tell_logs, tell_machine};
+use migration_types::{LogName, Size, Version};
 use recorded_files::Front;
 use recordings::{Visitor, WideInit, WideMachine};
+use session_facts::{Ends, Facts, tell_cut, tell_empty, tell_unresumed};
+use session_words::{Stop, push_message};
 use std::alloc::{AllocError, Global};
 use std::io::Write;
 use walked_logs::{Messages, note_messages, walk_logs};
@@ -103,6 +100,58 @@ fn messages_of<S: TextSource>(
     }
 }
 
+/// Adds what is said of the logs that are cut to a front.
+fn tell_cuts<S: TextSource>(
+    said: &mut Vec<u8>,
+    alloc: Global,
+    texts: &S,
+    logs: &FoundLogs,
+    facts: &Facts,
+    front: Front,
+    ends: &Ends,
+) -> Result<(), Stop>
+    ensures { OnOk result ((s : Recorded) → IsNaming facts.now.naming s → SaysUnless said.old.items said.new.items (ReachIn s front)) }
+{
+    let guest = logs.guest.paths.as_slice();
+    tell_cut(
+        said,
+        alloc,
+        texts,
+        guest,
+        facts,
+        front,
+        ends,
+        LogName::Guest,
+    )?;
+    let source = logs.source.paths.as_slice();
+    tell_cut(
+        said,
+        alloc,
+        texts,
+        source,
+        facts,
+        front,
+        ends,
+        LogName::Source,
+    )?;
+    let link = logs.link.paths.as_slice();
+    tell_cut(said, alloc, texts, link, facts, front, ends, LogName::Link)?;
+    let lane = logs.lane.paths.as_slice();
+    tell_cut(said, alloc, texts, lane, facts, front, ends, LogName::Lane)?;
+    let pager = logs.pager.paths.as_slice();
+    tell_cut(
+        said,
+        alloc,
+        texts,
+        pager,
+        facts,
+        front,
+        ends,
+        LogName::Pager,
+    )?;
+    Ok(())
+}
+
 /// Adds which records a front leaves out, and why.
 fn tell_left_out<S: TextSource>(
     said: &mut Vec<u8>,
@@ -136,7 +185,8 @@ fn tell_facts<S: TextSource>(
     requires { IsMachine (extent_of machine.now) }
     ensures { OnOk result ((s : Recorded) → IsNaming facts.now.naming s → SaysUnless said.old.items said.new.items (ReachIn s front × SomeIn (log_length s))) }
 {
-    tell_unresumed(said, alloc, files.texts, files.logs, facts)?;
+    let guest = files.logs.guest.paths.as_slice();
+    tell_unresumed(said, alloc, files.texts, guest, facts)?;
     tell_left_out(said, alloc, machine, files, messages, facts, front)?;
     tell_empty(said, alloc, facts.naming.counts())?;
     Ok(())
@@ -188,7 +238,7 @@ fn see<S: TextSource>(
     )?;
     let front = facts.written_front();
     tell_facts(said, alloc, machine, files, &messages, facts, front)?;
-    let form = facts.form(front, machine, &files.logs.lane);
+    let form = form_of(facts, front, machine, &files.logs.lane);
     Ok(Seen {
         messages,
         front,
@@ -204,7 +254,7 @@ fn know<S: TextSource>(alloc: Global, texts: &S, logs: &FoundLogs) -> Result<Kno
     check_logs(alloc, texts, logs)?;
     let description = describe(alloc, texts, &logs.machine)?;
     let mut said = Vec::new(alloc);
-    tell_machine(&mut said, alloc, logs, &description)?;
+    tell_machine(&mut said, alloc, texts, &logs.machine, &description)?;
     let expected = tell_logs(&mut said, alloc, texts, logs)?;
     let machine = WideMachine {
         version: Version::Two,
@@ -316,8 +366,7 @@ fn make<S: TextSource, O: Write, E: Write>(
     ensures written { IfOk result (λ status. status ≡ 0 → WritesSession (S.names_in texts.now) (S.bytes_of texts.now) (names_of folders.now) lacking (O.contents output.old) (O.contents output.new)) }
     ensures gains { BothGain (O.contents output.old, E.contents errors.old) (O.contents output.new, E.contents errors.new) }
 {
-    let files = find_files(alloc, texts, folders)?;
-    let logs = survey_files(alloc, texts, files.as_slice())?;
+    let logs = find_logs(alloc, texts, folders)?;
     let known = know(alloc, texts, &logs)?;
     settle(alloc, texts, lacking, &logs, known, output, errors)
 }

@@ -2,20 +2,19 @@
 
 ghost use Rattle.std.specs.Prelude.{◌≡◌, [], IsTrue, OnOk};
 
-use crate::facts::Facts;
-use crate::fields::record_words;
 use crate::files::OpenedLogs;
-use crate::found::FoundLogs;
-use crate::lacks::{find_hole, unopened_file, unread_file};
-use crate::places::{find_record, push_placed};
-use crate::stops::Stop;
-use crate::words::{push, push_spelled};
 use command_texts::TextSource;
+use found_logs::{FoundLogs, find_hole};
 use gathered_logs::{GatherFault, LogFault};
 use migration_types::{LOGS, LogName};
 use recorded_files::{FileFault, Front, Party};
 use recordings::WideMachine;
-use std::alloc::Global;
+use session_facts::Facts;
+use session_words::{
+    FoundRecord, Piece, Stop, find_record, push_placed, push_sentence, record_words, unopened_file,
+    unread_file,
+};
+use std::alloc::{AllocError, Global};
 use walked_logs::WalkFault;
 use written_recordings::WriteFault;
 
@@ -26,7 +25,7 @@ fn two_records<S: TextSource>(alloc: Global, texts: &S, logs: &FoundLogs, name: 
     let log = logs.log(party);
     match find_hole(alloc, texts, party, log) {
         Err(stop) => stop,
-        Ok(_) => unread_file(alloc, log, 0),
+        Ok(_) => unread_file(alloc, log.paths.as_slice(), 0),
     }
 }
 
@@ -39,17 +38,17 @@ fn log_stop<S: TextSource>(
     name: LogName,
     fault: LogFault,
 ) -> Result<Stop, Stop> {
-    let log = logs.log(Party::Of(name));
+    let paths = logs.log(Party::Of(name)).paths.as_slice();
     match fault {
         LogFault::Record(number) => Ok(Stop::Unfit(record_words(
-            alloc, texts, machine, name, log, number,
+            alloc, texts, machine, name, paths, number,
         )?)),
         LogFault::Files(GatherFault::Twice(_, _)) => Ok(two_records(alloc, texts, logs, name)),
         LogFault::Files(GatherFault::File(_, FileFault::Memory))
         | LogFault::Files(GatherFault::Memory)
         | LogFault::Memory => Ok(Stop::Memory),
-        LogFault::Files(GatherFault::File(file, _)) => Ok(unopened_file(alloc, texts, log, file)),
-        LogFault::Files(GatherFault::Missing(_)) => Ok(unread_file(alloc, log, 0)),
+        LogFault::Files(GatherFault::File(file, _)) => Ok(unopened_file(alloc, texts, paths, file)),
+        LogFault::Files(GatherFault::Missing(_)) => Ok(unread_file(alloc, paths, 0)),
     }
 }
 
@@ -58,37 +57,51 @@ fn before_dash(text: &[u8]) -> &[u8] {
     text.split(|byte| *byte == b'-').next().unwrap_or(text)
 }
 
-/// Returns the words on a record that takes a message of a log, which has records of its own.
-fn own_log_words<S: TextSource>(
+/// Returns the words on a record that takes a message of a log, which has records of its own, given where it stands.
+fn own_log_words(
+    alloc: Global,
+    party: Party,
+    paths: &[String],
+    own: LogName,
+    number: u64,
+    placed: &Option<FoundRecord>,
+) -> Result<Vec<u8>, AllocError> {
+    let mut words = Vec::new(alloc);
+    push_placed(&mut words, alloc, party, paths, number, placed)?;
+    let (line, word) = match placed {
+        Some(placed) => {
+            let text = placed.text.as_slice();
+            (Piece::Spelled(text), Piece::Bytes(before_dash(text)))
+        }
+        None => (Piece::Text(""), Piece::Text("")),
+    };
+    push_sentence(
+        &mut words,
+        alloc,
+        ", {}: the {} has a log of its own, whose number '{}' names",
+        &[line, Piece::Text(own.word()), word],
+    )?;
+    Ok(words)
+}
+
+/// Returns why a log was not gone through: this record takes a message of a log, which has records of its own.
+fn own_log_stop<S: TextSource>(
     alloc: Global,
     texts: &S,
     logs: &FoundLogs,
     own: LogName,
     name: LogName,
     number: u64,
-) -> Result<Vec<u8>, Stop> {
+) -> Result<Stop, Stop> {
     let party = Party::Of(name);
-    let log = logs.log(party);
-    let placed = find_record(alloc, texts, party, log, number)?;
-    let mut words = Vec::new(alloc);
-    push_placed(&mut words, party, log, number, &placed)?;
-    push(&mut words, ", ")?;
-    if let Some(placed) = &placed {
-        push_spelled(&mut words, placed.text.as_slice())?;
-    }
-    push(&mut words, ": the ")?;
-    push(&mut words, own.word())?;
-    push(&mut words, " has a log of its own, whose number '")?;
-    if let Some(placed) = &placed {
-        words.extend_from_slice(before_dash(placed.text.as_slice()))?;
-    }
-    push(&mut words, "' names")?;
-    Ok(words)
+    let paths = logs.log(party).paths.as_slice();
+    let placed = find_record(alloc, texts, party, paths, number)?;
+    Ok(Stop::Unfit(own_log_words(alloc, party, paths, own, number, &placed)?))
 }
 
 /// Returns the fault of files that have changed since they were surveyed.
 pub(crate) fn changed(alloc: Global, logs: &FoundLogs) -> Stop {
-    unread_file(alloc, &logs.machine, 0)
+    unread_file(alloc, logs.machine.paths.as_slice(), 0)
 }
 
 /// Returns why the logs were not gone through.
@@ -101,12 +114,7 @@ pub(crate) fn walk_stop<S: TextSource>(
 ) -> Stop {
     let stop = match fault {
         WalkFault::Log(name, fault) => log_stop(alloc, texts, machine, logs, name, fault),
-        WalkFault::OwnLog(own, name, number) => {
-            match own_log_words(alloc, texts, logs, own, name, number) {
-                Ok(words) => Ok(Stop::Unfit(words)),
-                Err(stop) => Err(stop),
-            }
-        }
+        WalkFault::OwnLog(own, name, number) => own_log_stop(alloc, texts, logs, own, name, number),
         WalkFault::Changed => Ok(changed(alloc, logs)),
         WalkFault::Memory => Ok(Stop::Memory),
     };
@@ -158,8 +166,8 @@ fn check_numbers<S: TextSource>(
     let Some((name, number)) = facts.beyond else {
         return Ok(());
     };
-    let log = logs.log(Party::Of(name));
-    Err(Stop::Unfit(record_words(alloc, texts, machine, name, log, number)?))
+    let paths = logs.log(Party::Of(name)).paths.as_slice();
+    Err(Stop::Unfit(record_words(alloc, texts, machine, name, paths, number)?))
 }
 
 /// Checks that a hole in a log was told, if one was met.

@@ -1,5 +1,5 @@
 use Rattle.std.proofs.Common.{◌∙◌, arith}
-use Rattle.session_commands.proofs.Unsaid.{within}
+use Rattle.session_facts.proofs.Some.{within}
 use Rattle.session_commands.proofs.making.see.Goals as goal
 
 pub returns : goal.returns
@@ -10,7 +10,7 @@ returns g c =
       s = h.s;
       made = h.made;
       written = written;
-      form = c.form-form.ensures h.s h.collected;
+      form = c.form_of-form.ensures h.s h.collected;
       whole = λ none.
           let told = c.in_ok-tell_facts.ensures h.s h.collected.naming none in (
             told.0,

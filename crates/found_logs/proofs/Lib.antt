@@ -1,0 +1,5 @@
+pub mod Finding
+pub mod Firsts
+pub mod Surveying
+pub mod Told
+pub mod Unsaid

@@ -1,0 +1,7 @@
+use Rattle.std.proofs.Common.{take}
+use Rattle.command_texts.specs.Several.{names_of}
+use Rattle.found_logs.specs.inner.Finding.{AreFound}
+use Rattle.found_logs.proofs.found.find_files.Given as goal
+
+abbrev pub invariant-loop-place : goal.invariant-loop-place
+invariant-loop-place g l = AreFound (g.S.TextSource.names_in l.texts) (names_of (take l.place l.folders)) l.files.items

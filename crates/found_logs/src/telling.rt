@@ -1,0 +1,148 @@
+//! What the logs lack by their files, told before anything is written.
+
+ghost use Rattle.std.specs.Prelude.{◌≡◌, None, OnOk};
+ghost use Rattle.migration_types.specs.declared.records.LogName.{LogName as Log};
+ghost use Rattle.session_words.specs.Telling.{SaysUnless};
+ghost use Rattle.found_logs.specs.Logs.{log_in, HasAll};
+
+use crate::found::{FoundLog, FoundLogs};
+use crate::lacks::{Hole, count_of, find_hole, tell_lacks, tell_missing};
+use command_texts::TextSource;
+use migration_types::LogName;
+use recorded_files::{Front, Party};
+use session_words::Stop;
+use std::alloc::Global;
+use surveyed_logs::Description;
+
+/// The parties in the order of the names of their files.
+static PARTIES: [Party; 6] = [
+    Party::Of(LogName::Guest),
+    Party::Of(LogName::Lane),
+    Party::Of(LogName::Link),
+    Party::Machine,
+    Party::Of(LogName::Pager),
+    Party::Of(LogName::Source),
+];
+
+/// Checks that the files of each log fit together, and that they do not have more records than the log.
+pub fn check_logs<S: TextSource>(alloc: Global, texts: &S, logs: &FoundLogs) -> Result<(), Stop> {
+    for party in PARTIES {
+        let log = logs.log(party);
+        if log.records()? > count_of(alloc, party, log)? {
+            find_hole(alloc, texts, party, log)?;
+        }
+    }
+    Ok(())
+}
+
+/// Adds what is said of a log. It has this hole, if one is known already. Returns how many records come before the first number
+/// that no record has.
+fn tell_log<S: TextSource>(
+    said: &mut Vec<u8>,
+    alloc: Global,
+    texts: &S,
+    party: Party,
+    log: &FoundLog,
+    known: Option<Hole>,
+) -> Result<u64, Stop>
+    ensures { OnOk result (SaysUnless said.old.items said.new.items (HasAll log.now × (known ≡ None))) }
+{
+    let count = tell_lacks(said, alloc, party, log)?;
+    let hole = match known {
+        Some(hole) => hole,
+        None => {
+            if log.records()? == count {
+                return Ok(count);
+            }
+            find_hole(alloc, texts, party, log)?
+        }
+    };
+    tell_missing(said, alloc, party, log, count, hole)?;
+    Ok(hole.first)
+}
+
+/// Returns the hole in the machine's log, if it has one.
+fn hole_in(machine: &Description) -> Option<Hole>
+    ensures { result ≡ None → machine.now.behind ≡ None }
+{
+    match machine.behind {
+        Some(behind) => Some(Hole {
+            first: machine.front,
+            behind: Some(behind),
+        }),
+        None => None,
+    }
+}
+
+/// Adds what is said of the machine's log.
+pub fn tell_machine<S: TextSource>(
+    said: &mut Vec<u8>,
+    alloc: Global,
+    texts: &S,
+    log: &FoundLog,
+    machine: &Description,
+) -> Result<(), Stop>
+    ensures { OnOk result (SaysUnless said.old.items said.new.items (HasAll log.now × (machine.now.behind ≡ None))) }
+{
+    let known = hole_in(machine);
+    tell_log(said, alloc, texts, Party::Machine, log, known)?;
+    Ok(())
+}
+
+/// Adds what is said of each log. Returns how many records of each come before the first number that no record has.
+pub fn tell_logs<S: TextSource>(
+    said: &mut Vec<u8>,
+    alloc: Global,
+    texts: &S,
+    logs: &FoundLogs,
+) -> Result<Front, Stop>
+    ensures { OnOk result (SaysUnless said.old.items said.new.items ((name : Log) → HasAll (log_in logs.now name))) }
+{
+    let guest = tell_log(
+        said,
+        alloc,
+        texts,
+        Party::Of(LogName::Guest),
+        &logs.guest,
+        None,
+    )?;
+    let source = tell_log(
+        said,
+        alloc,
+        texts,
+        Party::Of(LogName::Source),
+        &logs.source,
+        None,
+    )?;
+    let link = tell_log(
+        said,
+        alloc,
+        texts,
+        Party::Of(LogName::Link),
+        &logs.link,
+        None,
+    )?;
+    let lane = tell_log(
+        said,
+        alloc,
+        texts,
+        Party::Of(LogName::Lane),
+        &logs.lane,
+        None,
+    )?;
+    let pager = tell_log(
+        said,
+        alloc,
+        texts,
+        Party::Of(LogName::Pager),
+        &logs.pager,
+        None,
+    )?;
+    Ok(Front {
+        guest,
+        source,
+        link,
+        lane,
+        pager,
+    })
+}

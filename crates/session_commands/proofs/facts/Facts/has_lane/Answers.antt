@@ -1,9 +1,0 @@
-use Rattle.std.proofs.Common.{inr, ◌∙◌, sym, arith}
-use Rattle.session_commands.proofs.Few.{right_of}
-use Rattle.session_commands.proofs.facts.Facts.has_lane.Goals as goal
-
-pub returns : goal.returns
-returns c = λ s facts. (
-  λ pull. inr (inr (sym facts.pull ∙ pull)),
-  λ lane. facts.pull ∙ right_of (λ more. omega (arith, c.if-front-gt0.false, more)) (right_of (λ some. some (c.is_empty.ensures.0 c.if-not-is_empty.false)) lane),
-)

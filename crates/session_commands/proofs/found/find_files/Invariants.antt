@@ -1,7 +1,0 @@
-use Rattle.std.proofs.Common.{take}
-use Rattle.command_texts.specs.Several.{names_of}
-use Rattle.session_commands.specs.inner.Finding.{AreFound}
-use Rattle.session_commands.proofs.found.find_files.Given as goal
-
-abbrev pub invariant-loop-place : goal.invariant-loop-place
-invariant-loop-place g l = AreFound (g.S.TextSource.names_in l.texts) (names_of (take l.place l.folders)) l.files.items

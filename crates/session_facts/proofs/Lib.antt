@@ -1,0 +1,4 @@
+pub mod Few
+pub mod Late
+pub mod Seen
+pub mod Some

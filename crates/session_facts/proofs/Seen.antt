@@ -1,0 +1,13 @@
+-- What is known of a recording before its text is written.
+use Rattle.std.proofs.Common.{◌≡◌, ℕ, ◌++◌, List, [], ◌∷◌, length, refl, arith}
+use Rattle.migration_types.specs.declared.records.SourceRec.{SourceRec}
+use Rattle.session_facts.specs.Written.{begins_halted, is_halted}
+
+-- the source's first record is the one that came first
+pub halted_first : (records : List SourceRec) (rec : SourceRec) → length records ≡ 0 → begins_halted (records ++ rec ∷ []) ≡ is_halted rec
+halted_first [] rec none = refl
+halted_first (first ∷ records) rec none = absurd (omega arith)
+
+pub halted_later : (records : List SourceRec) (rec : SourceRec) → (length records ≡ 0 → ⊥) → begins_halted (records ++ rec ∷ []) ≡ begins_halted records
+halted_later [] rec some = absurd (some refl)
+halted_later (first ∷ records) rec some = refl

@@ -1,0 +1,354 @@
+//! What is to be known of a recording before its text is written.
+
+ghost use Rattle.std.specs.Prelude.{◌≡◌, ◌<◌, ◌≤◌, ◌-◌, ◌⊎◌, ◌↔◌, ◌==◌, ◌&&◌, ◌||◌, ◌++◌, ℕ, [], ◌∷◌, List, IsTrue, None, length};
+ghost use Rattle.std.specs.List.{list_any};
+ghost use Rattle.migration_types.specs.declared.records.GuestRec.{GuestRec};
+ghost use Rattle.migration_types.specs.declared.records.PagerRec.{PagerRec};
+ghost use Rattle.migration_types.specs.declared.records.SourceRec.{SourceRec};
+ghost use Rattle.migration_types.specs.declared.records.LogName.{LogName as Log};
+ghost use Rattle.recorded_files.specs.Fronts.{cursors_of};
+ghost use Rattle.migration_types.specs.Sessions.{Recorded};
+ghost use Rattle.recorded_files.specs.Named.{IsBlank};
+ghost use Rattle.recordings.specs.Wide.{guest_of, pager_of, source_of};
+ghost use Rattle.session_facts.specs.Written.{begins_halted, has_lone_halted, is_back, is_halted, is_pull, is_release, is_resume, IsLateRelease, IsSmall, IsWrittenFront, NeedsLarge};
+ghost use Rattle.session_facts.specs.Facts.{HasNone, IsBefore, IsFacts, IsFirstLate};
+
+use crate::names::{
+    LOST, named_by_guest, named_by_lane, named_by_link, named_by_pager, named_by_source,
+};
+use migration_types::{LogName, Size};
+use recorded_files::{Front, Naming};
+use recordings::{
+    Visitor, WideGuest, WideInit, WideLane, WideLink, WideMachine, WidePager, WideSource,
+};
+use std::alloc::{AllocError, Global};
+
+/// A visitor that collects what is to be known of a recording before its text is written.
+#[derive(Drop)]
+pub struct Facts {
+    pub naming: Naming,
+    /// Whether the source tells that it started the guest again.
+    has_back: bool,
+    /// Whether the pager took a packet of the lane.
+    has_pull: bool,
+    /// The guest's first halt.
+    halt: Option<u64>,
+    /// Whether the guest has a resume.
+    has_resume: bool,
+    /// The guest's first release behind its resume.
+    late: Option<u64>,
+    /// Whether the guest's last record is a halt.
+    halts_at_last: bool,
+    /// Whether the source's first record tells that the guest was halted.
+    begins_halted: bool,
+    /// The first record that names a number that no recorder answers.
+    pub beyond: Option<(LogName, u64)>,
+}
+
+/// Returns whether a record of the guest is a halt.
+fn is_halt(rec: &WideGuest) -> bool {
+    match rec {
+        WideGuest::Halt => true,
+        _ => false,
+    }
+}
+
+/// Returns the guest's first halt, with one more record, whose number this is.
+fn with_halt(halt: Option<u64>, number: u64, rec: &WideGuest) -> Option<u64> {
+    if halt.is_none() && is_halt(rec) {
+        Some(number)
+    } else {
+        halt
+    }
+}
+
+/// Keeps the record of this number, if it is the first that names a number which no recorder answers.
+fn keep_beyond(
+    beyond: &mut Option<(LogName, u64)>,
+    log: LogName,
+    number: u64,
+    named: Option<(LogName, u64)>,
+) {
+    if let Some((_, named)) = named {
+        if named > LOST && beyond.is_none() {
+            *beyond = Some((log, number));
+        }
+    }
+}
+
+/// Returns whether a record is there, and in the first so many.
+fn is_before(place: Option<u64>, count: u64) -> bool
+    ensures { IsTrue result ↔ IsBefore place count }
+{
+    match place {
+        Some(number) => number < count,
+        None => false,
+    }
+}
+
+/// Returns whether a record of the source tells that the guest was halted.
+fn is_halted(rec: &WideSource) -> bool
+    ensures { result ≡ is_halted (source_of rec.now) }
+{
+    match rec {
+        WideSource::Halted { .. } => true,
+        _ => false,
+    }
+}
+
+/// Returns whether a record of the source tells that it started the guest again.
+fn is_back(rec: &WideSource) -> bool
+    ensures { result ≡ is_back (source_of rec.now) }
+{
+    match rec {
+        WideSource::Back => true,
+        _ => false,
+    }
+}
+
+/// Returns whether a record of the pager takes a packet of the lane.
+fn is_pull(rec: &WidePager) -> bool
+    ensures { result ≡ is_pull (pager_of rec.now) }
+{
+    match rec {
+        WidePager::Pull { .. } => true,
+        _ => false,
+    }
+}
+
+/// Returns whether a record of the guest is a resume.
+fn is_resume(rec: &WideGuest) -> bool
+    ensures { result ≡ is_resume (guest_of rec.now) }
+{
+    match rec {
+        WideGuest::Resume { .. } => true,
+        _ => false,
+    }
+}
+
+/// Returns whether a record of the guest is a release.
+fn is_release(rec: &WideGuest) -> bool
+    ensures { result ≡ is_release (guest_of rec.now) }
+{
+    match rec {
+        WideGuest::Release { .. } => true,
+        _ => false,
+    }
+}
+
+/// Returns whether the source's first record tells that the guest was halted, with one more record, whose number this is.
+fn with_halted(begins: bool, number: u64, rec: &WideSource) -> bool
+    ensures { (source : List SourceRec) → length source ≡ number → begins ≡ begins_halted source → result ≡ begins_halted (source ++ source_of rec.now ∷ []) }
+{
+    if number == 0 { is_halted(rec) } else { begins }
+}
+
+/// Returns whether the source tells that it started the guest again, with one more record.
+#[tactic(auto, using(session_words::proofs::Pushed::any_push))]
+fn with_back(has_back: bool, rec: &WideSource) -> bool
+    ensures { (source : List SourceRec) → has_back ≡ list_any is_back source → result ≡ list_any is_back (source ++ source_of rec.now ∷ []) }
+{
+    has_back || is_back(rec)
+}
+
+/// Returns whether the pager took a packet of the lane, with one more record.
+#[tactic(auto, using(session_words::proofs::Pushed::any_push))]
+fn with_pull(has_pull: bool, rec: &WidePager) -> bool
+    ensures { (pager : List PagerRec) → has_pull ≡ list_any is_pull pager → result ≡ list_any is_pull (pager ++ pager_of rec.now ∷ []) }
+{
+    has_pull || is_pull(rec)
+}
+
+/// Returns whether the guest has a resume, with one more record.
+#[tactic(auto, using(session_words::proofs::Pushed::any_push))]
+fn with_resume(has_resume: bool, rec: &WideGuest) -> bool
+    ensures { (guest : List GuestRec) → has_resume ≡ list_any is_resume guest → result ≡ list_any is_resume (guest ++ guest_of rec.now ∷ []) }
+{
+    has_resume || is_resume(rec)
+}
+
+/// Returns the number of a record of the guest, if it is a release behind a resume. No record in front of it is one.
+fn first_late(has_resume: bool, number: u64, rec: &WideGuest) -> Option<u64>
+    ensures { (guest : List GuestRec) → length guest ≡ number → has_resume ≡ list_any is_resume guest → IsFirstLate None guest → IsFirstLate result (guest ++ guest_of rec.now ∷ []) }
+{
+    if !has_resume {
+        return None;
+    }
+    if is_release(rec) {
+        return Some(number);
+    }
+    None
+}
+
+/// Returns the first release behind the resume, with one more record of the guest, whose number this is.
+fn with_late(late: Option<u64>, has_resume: bool, number: u64, rec: &WideGuest) -> Option<u64>
+    ensures { (guest : List GuestRec) → length guest ≡ number → has_resume ≡ list_any is_resume guest → IsFirstLate late guest → IsFirstLate result (guest ++ guest_of rec.now ∷ []) }
+{
+    match late {
+        Some(first) => Some(first),
+        None => first_late(has_resume, number, rec),
+    }
+}
+
+/// Returns whether no log has more records in a front than this.
+fn are_few(front: Front, most: u64) -> bool
+    ensures { IsTrue result ↔ ((log : Log) → cursors_of front log ≤ most) }
+{
+    let greatest = front
+        .guest
+        .max(front.source)
+        .max(front.link)
+        .max(front.lane)
+        .max(front.pager);
+    greatest <= most
+}
+
+/// Returns whether a machine and the first records of its logs are within the limits of the small size.
+fn is_small(front: Front, pages: u64, cells: u32) -> bool
+    ensures { IsTrue result ↔ IsSmall pages cells front }
+{
+    let limits = Size::Small.limits();
+    pages <= u64::from(limits.pages)
+        && pages.saturating_mul(u64::from(cells)) <= u64::from(limits.cells)
+        && are_few(front, u64::from(limits.records))
+}
+
+impl Facts {
+    /// Returns a visitor that has met nothing.
+    pub fn new(alloc: Global) -> Self
+        ensures naming { IsBlank result.naming }
+        ensures none { HasNone result }
+    {
+        Facts {
+            naming: Naming::new(alloc),
+            has_back: false,
+            has_pull: false,
+            halt: None,
+            has_resume: false,
+            late: None,
+            halts_at_last: false,
+            begins_halted: false,
+            beyond: None,
+        }
+    }
+
+    /// Returns how many records of each log are written: those of the greatest front. If a `halted` of the source is
+    /// alone in that, it is left out, with what names it.
+    pub fn written_front(&self) -> Front
+        ensures { (s : Recorded) → IsFacts self.now s → IsWrittenFront s result }
+    {
+        let front = self.naming.greatest_front();
+        if self.is_lone(front) {
+            self.naming.front_within(Front { source: 0, ..front })
+        } else {
+            front
+        }
+    }
+
+    /// Returns whether the source has one record in a front, and that tells that the guest was halted.
+    pub(crate) fn is_lone(&self, front: Front) -> bool
+        ensures { (s : Recorded) → IsFacts self.now s → result ≡ has_lone_halted s front }
+    {
+        front.source == 1 && self.begins_halted
+    }
+
+    /// Returns the guest's first halt, if it runs after that and there is no resume.
+    pub fn unresumed(&self) -> Option<u64> {
+        if self.has_resume || self.halts_at_last {
+            return None;
+        }
+        self.halt
+    }
+
+    /// Returns whether only a text of the large size has a machine of these pages and cells and these first records.
+    pub fn needs_large(&self, front: Front, pages: u64, cells: u32) -> bool
+        ensures { (s : Recorded) → IsFacts self.now s → IsTrue result ↔ NeedsLarge pages cells s front }
+    {
+        self.has_back || !is_small(front, pages, cells)
+    }
+
+    /// Returns whether there is a record of the lane, or the pager took a packet of it.
+    pub fn takes_lane(&self, front: Front) -> bool
+        ensures { (s : Recorded) → IsFacts self.now s → IsTrue result ↔ ((0 < front.lane) ⊎ IsTrue (list_any is_pull s.pager)) }
+    {
+        if front.lane > 0 {
+            return true;
+        }
+        self.has_pull
+    }
+
+    /// Returns whether a release behind the resume is among these first records.
+    pub fn has_late(&self, front: Front) -> bool
+        ensures { (s : Recorded) → IsFacts self.now s → IsTrue result ↔ ((n : ℕ) × (n < front.guest) × IsLateRelease s.guest n) }
+    {
+        is_before(self.late, front.guest)
+    }
+}
+
+impl Visitor for Facts {
+    ghost use Rattle.recorded_files.specs.Named.{IsBlank};
+    ghost use Rattle.session_facts.specs.Facts.{HasNone, IsFacts};
+
+    ghost IsNew = { λ a. IsBlank a.naming × HasNone a };
+
+    ghost Met = { IsFacts };
+
+    fn machine(&mut self, machine: &WideMachine) -> Result<(), AllocError> {
+        self.naming.machine(machine)?;
+        Ok(())
+    }
+
+    fn init(&mut self, page: WideInit) -> Result<(), AllocError> {
+        self.naming.init(page)?;
+        Ok(())
+    }
+
+    fn guest(&mut self, number: u64, rec: WideGuest) -> Result<(), AllocError> {
+        self.halts_at_last = is_halt(&rec);
+        self.halt = with_halt(self.halt, number, &rec);
+        self.late = with_late(self.late, self.has_resume, number, &rec);
+        self.has_resume = with_resume(self.has_resume, &rec);
+        let named = named_by_guest(&rec);
+        keep_beyond(&mut self.beyond, LogName::Guest, number, named);
+        self.naming.guest(number, rec)?;
+        Ok(())
+    }
+
+    fn source(&mut self, number: u64, rec: WideSource) -> Result<(), AllocError> {
+        self.begins_halted = with_halted(self.begins_halted, number, &rec);
+        self.has_back = with_back(self.has_back, &rec);
+        let named = named_by_source(&rec);
+        keep_beyond(&mut self.beyond, LogName::Source, number, named);
+        self.naming.source(number, rec)?;
+        Ok(())
+    }
+
+    fn link(&mut self, number: u64, rec: WideLink) -> Result<(), AllocError> {
+        let named = named_by_link(&rec);
+        keep_beyond(&mut self.beyond, LogName::Link, number, named);
+        self.naming.link(number, rec)?;
+        Ok(())
+    }
+
+    fn lane(&mut self, number: u64, rec: WideLane) -> Result<(), AllocError> {
+        let named = named_by_lane(&rec);
+        keep_beyond(&mut self.beyond, LogName::Lane, number, named);
+        self.naming.lane(number, rec)?;
+        Ok(())
+    }
+
+    fn pager(&mut self, number: u64, rec: WidePager) -> Result<(), AllocError> {
+        self.has_pull = with_pull(self.has_pull, &rec);
+        let named = named_by_pager(&rec);
+        keep_beyond(&mut self.beyond, LogName::Pager, number, named);
+        self.naming.pager(number, rec)?;
+        Ok(())
+    }
+}
+
+/// Returns how many records of a log come behind a front.
+pub(crate) fn left_out(counts: Front, front: Front, log: LogName) -> u64
+    ensures { result ≡ cursors_of counts log - cursors_of front log }
+{
+    counts.of(log).saturating_sub(front.of(log))
+}
