@@ -137,6 +137,27 @@ fn push_surveyed(
     }
 }
 
+/// Adds a file to one of the five logs, with what was surveyed of it, if it has a head.
+fn push_log(
+    alloc: Global,
+    logs: &mut FoundLogs,
+    file: &FoundFile,
+    log: LogName,
+    found: Option<Surveyed>,
+) -> Result<(), AllocError>
+    requires { file.now.party ≡ Writer.Of log }
+    ensures { OnOk result ((bytes_of : List ℕ → Option (List ℕ)) (name : List ℕ) → IsReadAs file.now.party (bytes_of (string_bytes file.now.path)) name found → TakesFile bytes_of name file.now logs.old logs.new) }
+{
+    let path = file.path.as_str();
+    match log {
+        LogName::Guest => push_surveyed(alloc, &mut logs.guest, path, found),
+        LogName::Source => push_surveyed(alloc, &mut logs.source, path, found),
+        LogName::Link => push_surveyed(alloc, &mut logs.link, path, found),
+        LogName::Lane => push_surveyed(alloc, &mut logs.lane, path, found),
+        LogName::Pager => push_surveyed(alloc, &mut logs.pager, path, found),
+    }
+}
+
 /// Adds a file to the log of its party, with what was surveyed of it, if it has a head.
 fn push_of(
     alloc: Global,
@@ -149,11 +170,7 @@ fn push_of(
     let path = file.path.as_str();
     match file.party {
         Party::Machine => push_surveyed(alloc, &mut logs.machine, path, found),
-        Party::Of(LogName::Guest) => push_surveyed(alloc, &mut logs.guest, path, found),
-        Party::Of(LogName::Source) => push_surveyed(alloc, &mut logs.source, path, found),
-        Party::Of(LogName::Link) => push_surveyed(alloc, &mut logs.link, path, found),
-        Party::Of(LogName::Lane) => push_surveyed(alloc, &mut logs.lane, path, found),
-        Party::Of(LogName::Pager) => push_surveyed(alloc, &mut logs.pager, path, found),
+        Party::Of(log) => push_log(alloc, logs, file, log, found),
     }
 }
 

@@ -1,4 +1,4 @@
+pub mod Counts
 pub mod Few
 pub mod Late
 pub mod Seen
-pub mod Some

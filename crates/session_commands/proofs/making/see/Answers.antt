@@ -1,5 +1,5 @@
 use Rattle.std.proofs.Common.{◌∙◌, arith}
-use Rattle.session_facts.proofs.Some.{within}
+use Rattle.session_facts.proofs.Counts.{within}
 use Rattle.session_commands.proofs.making.see.Goals as goal
 
 pub returns : goal.returns

@@ -1,5 +1,5 @@
 use Rattle.recorded_files.specs.Fronts.{cursors_of}
-use Rattle.session_facts.proofs.Some.{some_in}
+use Rattle.session_facts.proofs.Counts.{some_in}
 use Rattle.session_facts.proofs.telling.tell_empty.Goals as goal
 
 pub returns : goal.returns
