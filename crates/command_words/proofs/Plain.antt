@@ -1,16 +1,13 @@
 -- What the command line takes of plain names.
-use Rattle.std.proofs.Common.{◌≡◌, ◌∙◌, ◌≤◌, Bool, true, false, List, [], ◌∷◌, ◌++◌, map, length, Some, None, refl, sym, ap, ap₂, subst, arith, codes, cond, option_and_then, is_some, ◌&&◌}
-use Rattle.std.specs.List.{AllByRecursion, list_all}
+use Rattle.std.proofs.Common.{◌≡◌, ◌∙◌, ◌≤◌, Bool, true, false, List, [], ◌∷◌, map, length, Some, None, refl, sym, ap, subst, arith, codes, cond, option_and_then}
+use Rattle.std.specs.List.{AllByRecursion}
 use Rattle.std.specs.Str.{bytes_eq}
 use Rattle.std.proofs.lemmas.Slice.Eq.{bytes_eq-Decides}
-use Rattle.clap.specs.Simple.{App, Shape, built, entered, is_simple, names_of, new_shape}
-use Rattle.clap.specs.Takes.{default_passes, entered_passes, is_valid, level_passes, settle_passes, turn_passes, walk_passes}
-use Rattle.clap.specs.Walk.{Held, Walk, finished, nothing_held, stop_after, walk, walk_from, walked}
-use Rattle.clap.specs.Words.{Row, Text, subcommand_of, takes}
-use Rattle.clap.specs.declared.builder.value_parser.Reading.TheVariants.{AsWritten}
-use Rattle.clap.specs.declared.parser.matches.ValueSource.{ValueSource}
-use Rattle.clap.specs.declared.parser.matches.ValueSource.TheVariants.{CommandLine, DefaultValue}
+use Rattle.clap.specs.Simple.{Shape, built, is_simple, new_shape}
+use Rattle.clap.specs.Walk.{Held, finished, nothing_held}
+use Rattle.clap.specs.Words.{Text, takes}
 use Rattle.clap.proofs.OnLiterals.{clap_on_literals}
+use Rattle.command_words.specs.declared.building.Choices.{Choices}
 use Rattle.command_words.specs.declared.requests.Request.{Request}
 use Rattle.command_words.specs.declared.requests.Request.TheVariants.{One, Two, Migrate, Draw, Window}
 use Rattle.command_words.specs.declared.requests.Carrier.TheVariants.{Memory}
@@ -21,242 +18,141 @@ use Rattle.command_words.specs.declared.requests.TwoTexts.TheVariants.{Check, Re
 use Rattle.command_words.specs.declared.requests.Takes.{Takes}
 use Rattle.command_words.specs.declared.requests.Takes.TheVariants as by
 use Rattle.migration_types.specs.declared.topic.Topic.TheVariants.{Report}
-use Rattle.command_words.specs.Table.{plain as asked_plainly, plain_audit, plain_explanation, no_pages}
-use Rattle.command_words.proofs.Names.{Form, Dash, Empty, Other, IsName, at, form_of, is_name, turn_name, walked_name}
-use Rattle.command_words.specs.Words.{IsPlain, IsPlainName, asked, asked_by, asked_in, postcopy_words, with_names, with_texts}
+use Rattle.command_words.specs.Table.{carriers, carrier_name, format_name, formats, plain as asked_plainly, plain_audit, plain_explanation, no_pages}
+use Rattle.command_words.specs.Words.{IsPlain, IsPlainName, asked, asked_by, asked_in, one_of, postcopy_words, program_words, with_command, with_names, with_texts}
+use Rattle.command_words.proofs.Names.{Form, form_of, is_name}
+use Rattle.command_words.proofs.Entered.{Enters, Holds, found_plainly, taken_plainly, takes_one, takes_two, took}
 
 -- the words are taken, and ask for this
 pub record IsTaken (words : List Text) (job : Request Text) : Type 0 where
   pub taken : takes postcopy_words words ≡ true
   pub given : asked words ≡ Some job
 
-taken_certify : (program name : Text) → Form name → IsTaken (program ∷ codes "certify" ∷ name ∷ []) (One Certify name)
-unfolding clap_on_literals
-taken_certify program _ Dash = record { taken = refl; given = refl }
-taken_certify program _ Empty = record { taken = refl; given = refl }
-taken_certify program _ (Other b rest e) = record { taken = simp e; given = simp e }
-
--- what a word or an option is given, by the words or by default
-abbrev given_as : ValueSource → Text × Text → Row
-given_as source given = record { id = given.0; values = given.1 ∷ []; count = None; source = Some source; reading = AsWritten }
-
--- the options that `check` and `explain` have a value for where none is given
-abbrev by_default : List (Text × Text)
-by_default = (codes "complete", codes "false") ∷ (codes "complete-pages", codes "false") ∷ (codes "format", codes "text") ∷ []
-
--- what `check` is given with two plain names
-abbrev check_rows : Text → Text → List Row
-check_rows first second =
-    map (given_as CommandLine) ((codes "SESSION", first) ∷ (codes "CERT", second) ∷ [])
-    ++ map (given_as DefaultValue) by_default
-
--- the words are taken by a command, and it is given this
-record IsGiven (words : List Text) (command : Text) (rows : List Row) : Type 0 where
-  takes_them : takes postcopy_words words ≡ true
-  found : subcommand_of postcopy_words words ≡ Some (command, rows)
-
--- where `check` stands after its first name, and after both
-abbrev one_held : Text → Held
-one_held first = record { rows = []; pending = Some (codes "SESSION", first ∷ []); skip = 0 }
-
-abbrev two_held : Text → Text → Held
-two_held first second = record { rows = given_as CommandLine (codes "SESSION", first) ∷ []; pending = Some (codes "CERT", second ∷ []); skip = 0 }
-
--- the program as it is built, and its first command, which is `check`
-abbrev built_words : App
-built_words = built postcopy_words
+-- the parsers of the values of options, which lie at no place
+abbrev choices : Choices
+choices = record { carriers = one_of (map carrier_name carriers); formats = one_of (map format_name formats) }
 
 abbrev first_of : List Shape → Shape
 first_of [] = new_shape []
 first_of (s ∷ rest) = s
 
-abbrev check_shape : Shape
-check_shape = first_of built_words.subs
-
-check_stops : (first second : Text) → stop_after built_words.top.rules (names_of built_words) (codes "check" ∷ first ∷ second ∷ []) ≡ Some (codes "check", first ∷ second ∷ [])
-unfolding clap_on_literals
-check_stops first second = refl
-
-module _ (program first second : Text) (f : IsName first) (g : IsName second) where
-  check_walk : walk check_shape.rules [] nothing_held (first ∷ second ∷ []) ≡ at (two_held first second) 3
-  check_walk = ap (λ w. walked check_shape.rules [] w second) (walked_name check_shape.rules nothing_held 1 first f) ∙ walked_name check_shape.rules (one_held first) 2 second g
-
-  check_found : subcommand_of postcopy_words (program ∷ codes "check" ∷ first ∷ second ∷ []) ≡ Some (codes "check", check_rows first second)
-  check_found =
-      ap (entered built_words) (check_stops first second)
-      ∙ ap (λ (w : Walk). Some (check_shape.name, finished check_shape.rules w.held)) check_walk
-
-  check_turns : walk_passes check_shape [] (walk_from nothing_held) (first ∷ second ∷ []) ≡ true
-  unfolding walk_passes
-  check_turns = ap₂ (λ b d. b && d) (turn_name check_shape nothing_held 1 first f)
-      (ap (λ w. turn_passes check_shape [] w second && true) (walked_name check_shape.rules nothing_held 1 first f)
-      ∙ ap (λ b. b && true) (turn_name check_shape (one_held first) 2 second g))
-
-  check_ends : (w : Walk) → w ≡ at (two_held first second) 3 → (settle_passes check_shape.rules check_shape.args_override_self w.held && (list_all default_passes check_shape.rules && is_valid check_shape (finished check_shape.rules w.held) false)) ≡ true
-  check_ends w e = ap (λ (v : Walk). settle_passes check_shape.rules check_shape.args_override_self v.held && (list_all default_passes check_shape.rules && is_valid check_shape (finished check_shape.rules v.held) false)) e
-
-  check_level : level_passes check_shape [] nothing_held (first ∷ second ∷ []) false ≡ true
-  check_level = ap₂ (λ b d. b && d) check_turns (check_ends (walk check_shape.rules [] nothing_held (first ∷ second ∷ [])) check_walk)
-
-  check_below : entered_passes built_words (stop_after built_words.top.rules (names_of built_words) (codes "check" ∷ first ∷ second ∷ [])) ≡ true
-  check_below = ap (entered_passes built_words) (check_stops first second) ∙ check_level
-
-check_above : (first second : Text) → level_passes built_words.top (names_of built_words) nothing_held (codes "check" ∷ first ∷ second ∷ []) true ≡ true
-unfolding clap_on_literals
-check_above first second = refl
-
--- whether the command is entered that a walk stopped at
-check_entered : (first second : Text) → is_some (entered built_words (stop_after built_words.top.rules (names_of built_words) (codes "check" ∷ first ∷ second ∷ []))) ≡ true
-check_entered first second = ap (λ stop. is_some (entered built_words stop)) (check_stops first second)
+-- a command on texts, as a program that has no other builds it
+abbrev shape_of : Text → Request Text → Shape
+shape_of name asked = first_of (built (with_command choices program_words (name, by.Texts asked))).subs
 
 is_simple_line : is_simple postcopy_words ≡ true
 is_simple_line = refl
 
-is_check : (program first second : Text) → Form first → Form second → IsGiven (program ∷ codes "check" ∷ first ∷ second ∷ []) (codes "check") (check_rows first second)
-is_check program first second f g =
-    let names = codes "check" ∷ first ∷ second ∷ [] in
-    record {
-      takes_them = ap₂ (λ b d. b && d) is_simple_line
-          (ap₂ (λ b d. b && d) (check_below program first second (is_name first f) (is_name second g))
-          (ap (λ b. level_passes built_words.top (names_of built_words) nothing_held names b) (check_entered first second) ∙ check_above first second));
-      found = check_found program first second (is_name first f) (is_name second g);
-    }
+-- words are taken, and ask for this, where a command takes the names
+taken_by : (program command : Text) (names : List Text) (s : Shape) (h : Held) (job : Request Text) → Enters postcopy_words program command names s → Holds s names h → asked_in (s.name, finished s.rules h) ≡ Some job → IsTaken (program ∷ command ∷ names) job
+taken_by program command names s h job enters holds asks = record {
+  taken = taken_plainly postcopy_words program command names s h enters holds;
+  given = ap (option_and_then asked_in) (found_plainly postcopy_words program command names s h enters holds) ∙ asks;
+}
 
-check_asks : (first second : Text) → asked_in (codes "check", check_rows first second) ≡ Some (Two (Check asked_plainly) first second)
+abbrev check_shape : Shape
+check_shape = shape_of (codes "check") (Two (Check asked_plainly) (codes "SESSION") (codes "CERT"))
+
+check_enters : (program first second : Text) → Enters postcopy_words program (codes "check") (first ∷ second ∷ []) check_shape
 unfolding clap_on_literals
-check_asks first second = refl
+check_enters program first second = record { simple = is_simple_line; arguments = refl; stops = refl; passes = refl; shape = refl }
 
 taken_check : (program first second : Text) → Form first → Form second → IsTaken (program ∷ codes "check" ∷ first ∷ second ∷ []) (Two (Check asked_plainly) first second)
+unfolding clap_on_literals
 taken_check program first second f g =
-    let is = is_check program first second f g in
-    record { taken = is.takes_them; given = ap (option_and_then asked_in) is.found ∙ check_asks first second }
+    let h = (took check_shape 1 first nothing_held).held in
+    taken_by program (codes "check") (first ∷ second ∷ []) check_shape (took check_shape 2 second h).held (Two (Check asked_plainly) first second) (check_enters program first second) (takes_two check_shape h first second (is_name first f) (is_name second g) refl refl refl refl) refl
 
--- what `audit` is given with a plain name
-abbrev audit_rows : Text → List Row
-audit_rows name =
-    given_as CommandLine (codes "SESSION", name)
-    ∷ map (given_as DefaultValue) ((codes "complete", codes "false") ∷ (codes "complete-pages", codes "false") ∷ (codes "all", codes "false") ∷ (codes "quiet", codes "false") ∷ (codes "format", codes "text") ∷ [])
+abbrev certify_shape : Shape
+certify_shape = shape_of (codes "certify") (One Certify (codes "SESSION"))
 
-is_audit : (program name : Text) → Form name → IsGiven (program ∷ codes "audit" ∷ name ∷ []) (codes "audit") (audit_rows name)
+certify_enters : (program name : Text) → Enters postcopy_words program (codes "certify") (name ∷ []) certify_shape
 unfolding clap_on_literals
-is_audit program _ Dash = record { takes_them = refl; found = refl }
-is_audit program _ Empty = record { takes_them = refl; found = refl }
-is_audit program _ (Other b rest e) = record { takes_them = simp e; found = simp e }
+certify_enters program name = record { simple = is_simple_line; arguments = refl; stops = refl; passes = refl; shape = refl }
 
-audit_asks : (name : Text) → asked_in (codes "audit", audit_rows name) ≡ Some (One (Audit plain_audit) name)
+taken_certify : (program name : Text) → Form name → IsTaken (program ∷ codes "certify" ∷ name ∷ []) (One Certify name)
 unfolding clap_on_literals
-audit_asks name = refl
+taken_certify program name f = taken_by program (codes "certify") (name ∷ []) certify_shape (took certify_shape 1 name nothing_held).held (One Certify name) (certify_enters program name) (takes_one certify_shape name (is_name name f) refl refl) refl
+
+abbrev audit_shape : Shape
+audit_shape = shape_of (codes "audit") (One (Audit plain_audit) (codes "SESSION"))
+
+audit_enters : (program name : Text) → Enters postcopy_words program (codes "audit") (name ∷ []) audit_shape
+unfolding clap_on_literals
+audit_enters program name = record { simple = is_simple_line; arguments = refl; stops = refl; passes = refl; shape = refl }
 
 taken_audit : (program name : Text) → Form name → IsTaken (program ∷ codes "audit" ∷ name ∷ []) (One (Audit plain_audit) name)
-taken_audit program name f =
-    let is = is_audit program name f in
-    record { taken = is.takes_them; given = ap (option_and_then asked_in) is.found ∙ audit_asks name }
-
--- what `explain` is given with a plain name
-abbrev explain_rows : Text → List Row
-explain_rows name = given_as CommandLine (codes "SESSION", name) ∷ map (given_as DefaultValue) by_default
-
-is_explain : (program name : Text) → Form name → IsGiven (program ∷ codes "explain" ∷ name ∷ []) (codes "explain") (explain_rows name)
 unfolding clap_on_literals
-is_explain program _ Dash = record { takes_them = refl; found = refl }
-is_explain program _ Empty = record { takes_them = refl; found = refl }
-is_explain program _ (Other b rest e) = record { takes_them = simp e; found = simp e }
+taken_audit program name f = taken_by program (codes "audit") (name ∷ []) audit_shape (took audit_shape 1 name nothing_held).held (One (Audit plain_audit) name) (audit_enters program name) (takes_one audit_shape name (is_name name f) refl refl) refl
 
-explain_asks : (name : Text) → asked_in (codes "explain", explain_rows name) ≡ Some (One (Explain plain_explanation) name)
+abbrev explain_shape : Shape
+explain_shape = shape_of (codes "explain") (One (Explain plain_explanation) (codes "SESSION"))
+
+explain_enters : (program name : Text) → Enters postcopy_words program (codes "explain") (name ∷ []) explain_shape
 unfolding clap_on_literals
-explain_asks name = refl
+explain_enters program name = record { simple = is_simple_line; arguments = refl; stops = refl; passes = refl; shape = refl }
 
 taken_explain : (program name : Text) → Form name → IsTaken (program ∷ codes "explain" ∷ name ∷ []) (One (Explain plain_explanation) name)
-taken_explain program name f =
-    let is = is_explain program name f in
-    record { taken = is.takes_them; given = ap (option_and_then asked_in) is.found ∙ explain_asks name }
-
--- what `replay` is given with two plain names
-abbrev replay_rows : Text → Text → List Row
-replay_rows first second = map (given_as CommandLine) ((codes "SESSION", first) ∷ (codes "RUNS", second) ∷ [])
-
-is_replay : (program first second : Text) → Form first → Form second → IsGiven (program ∷ codes "replay" ∷ first ∷ second ∷ []) (codes "replay") (replay_rows first second)
 unfolding clap_on_literals
-is_replay program _ _ Dash Dash = record { takes_them = refl; found = refl }
-is_replay program _ _ Dash Empty = record { takes_them = refl; found = refl }
-is_replay program _ _ Dash (Other b rest e) = record { takes_them = simp e; found = simp e }
-is_replay program _ _ Empty Dash = record { takes_them = refl; found = refl }
-is_replay program _ _ Empty Empty = record { takes_them = refl; found = refl }
-is_replay program _ _ Empty (Other b rest e) = record { takes_them = simp e; found = simp e }
-is_replay program _ _ (Other a front d) Dash = record { takes_them = simp d; found = simp d }
-is_replay program _ _ (Other a front d) Empty = record { takes_them = simp d; found = simp d }
-is_replay program _ _ (Other a front d) (Other b rest e) = record { takes_them = simp (d, e); found = simp (d, e) }
+taken_explain program name f = taken_by program (codes "explain") (name ∷ []) explain_shape (took explain_shape 1 name nothing_held).held (One (Explain plain_explanation) name) (explain_enters program name) (takes_one explain_shape name (is_name name f) refl refl) refl
 
-replay_asks : (first second : Text) → asked_in (codes "replay", replay_rows first second) ≡ Some (Two Replay first second)
+abbrev replay_shape : Shape
+replay_shape = shape_of (codes "replay") (Two Replay (codes "SESSION") (codes "RUNS"))
+
+replay_enters : (program first second : Text) → Enters postcopy_words program (codes "replay") (first ∷ second ∷ []) replay_shape
 unfolding clap_on_literals
-replay_asks first second = refl
+replay_enters program first second = record { simple = is_simple_line; arguments = refl; stops = refl; passes = refl; shape = refl }
 
 taken_replay : (program first second : Text) → Form first → Form second → IsTaken (program ∷ codes "replay" ∷ first ∷ second ∷ []) (Two Replay first second)
+unfolding clap_on_literals
 taken_replay program first second f g =
-    let is = is_replay program first second f g in
-    record { taken = is.takes_them; given = ap (option_and_then asked_in) is.found ∙ replay_asks first second }
+    let h = (took replay_shape 1 first nothing_held).held in
+    taken_by program (codes "replay") (first ∷ second ∷ []) replay_shape (took replay_shape 2 second h).held (Two Replay first second) (replay_enters program first second) (takes_two replay_shape h first second (is_name first f) (is_name second g) refl refl refl refl) refl
 
--- what `steps` is given with two plain names
-abbrev steps_rows : Text → Text → List Row
-steps_rows first second = map (given_as CommandLine) ((codes "SCRIPT", first) ∷ (codes "EVENTS", second) ∷ [])
+abbrev steps_shape : Shape
+steps_shape = shape_of (codes "steps") (Two Steps (codes "SCRIPT") (codes "EVENTS"))
 
-is_steps : (program first second : Text) → Form first → Form second → IsGiven (program ∷ codes "steps" ∷ first ∷ second ∷ []) (codes "steps") (steps_rows first second)
+steps_enters : (program first second : Text) → Enters postcopy_words program (codes "steps") (first ∷ second ∷ []) steps_shape
 unfolding clap_on_literals
-is_steps program _ _ Dash Dash = record { takes_them = refl; found = refl }
-is_steps program _ _ Dash Empty = record { takes_them = refl; found = refl }
-is_steps program _ _ Dash (Other b rest e) = record { takes_them = simp e; found = simp e }
-is_steps program _ _ Empty Dash = record { takes_them = refl; found = refl }
-is_steps program _ _ Empty Empty = record { takes_them = refl; found = refl }
-is_steps program _ _ Empty (Other b rest e) = record { takes_them = simp e; found = simp e }
-is_steps program _ _ (Other a front d) Dash = record { takes_them = simp d; found = simp d }
-is_steps program _ _ (Other a front d) Empty = record { takes_them = simp d; found = simp d }
-is_steps program _ _ (Other a front d) (Other b rest e) = record { takes_them = simp (d, e); found = simp (d, e) }
-
-steps_asks : (first second : Text) → asked_in (codes "steps", steps_rows first second) ≡ Some (Two Steps first second)
-unfolding clap_on_literals
-steps_asks first second = refl
+steps_enters program first second = record { simple = is_simple_line; arguments = refl; stops = refl; passes = refl; shape = refl }
 
 taken_steps : (program first second : Text) → Form first → Form second → IsTaken (program ∷ codes "steps" ∷ first ∷ second ∷ []) (Two Steps first second)
+unfolding clap_on_literals
 taken_steps program first second f g =
-    let is = is_steps program first second f g in
-    record { taken = is.takes_them; given = ap (option_and_then asked_in) is.found ∙ steps_asks first second }
+    let h = (took steps_shape 1 first nothing_held).held in
+    taken_by program (codes "steps") (first ∷ second ∷ []) steps_shape (took steps_shape 2 second h).held (Two Steps first second) (steps_enters program first second) (takes_two steps_shape h first second (is_name first f) (is_name second g) refl refl refl refl) refl
+
+abbrev migrate_shape : Shape
+migrate_shape = shape_of (codes "migrate") (Migrate Memory (codes "SCRIPT"))
+
+migrate_enters : (program name : Text) → Enters postcopy_words program (codes "migrate") (name ∷ []) migrate_shape
+unfolding clap_on_literals
+migrate_enters program name = record { simple = is_simple_line; arguments = refl; stops = refl; passes = refl; shape = refl }
 
 taken_migrate : (program name : Text) → Form name → IsTaken (program ∷ codes "migrate" ∷ name ∷ []) (Migrate Memory name)
 unfolding clap_on_literals
-taken_migrate program _ Dash = record { taken = refl; given = refl }
-taken_migrate program _ Empty = record { taken = refl; given = refl }
-taken_migrate program _ (Other b rest e) = record { taken = simp e; given = simp e }
+taken_migrate program name f = taken_by program (codes "migrate") (name ∷ []) migrate_shape (took migrate_shape 1 name nothing_held).held (Migrate Memory name) (migrate_enters program name) (takes_one migrate_shape name (is_name name f) refl refl) refl
+
+abbrev draw_shape : Shape
+draw_shape = shape_of (codes "draw") (Draw Report (codes "SESSION") (Some (codes "RUNS")))
+
+draw_enters : (program name : Text) → Enters postcopy_words program (codes "draw") (name ∷ []) draw_shape
+unfolding clap_on_literals
+draw_enters program name = record { simple = is_simple_line; arguments = refl; stops = refl; passes = refl; shape = refl }
 
 taken_draw : (program name : Text) → Form name → IsTaken (program ∷ codes "draw" ∷ name ∷ []) (Draw Report name None)
 unfolding clap_on_literals
-taken_draw program _ Dash = record { taken = refl; given = refl }
-taken_draw program _ Empty = record { taken = refl; given = refl }
-taken_draw program _ (Other b rest e) = record { taken = simp e; given = simp e }
+taken_draw program name f = taken_by program (codes "draw") (name ∷ []) draw_shape (took draw_shape 1 name nothing_held).held (Draw Report name None) (draw_enters program name) (takes_one draw_shape name (is_name name f) refl refl) refl
 
--- what `draw` is given with two plain names
-abbrev draw_along_rows : Text → Text → List Row
-draw_along_rows first second = map (given_as CommandLine) ((codes "SESSION", first) ∷ (codes "RUNS", second) ∷ [])
-
-is_draw_along : (program first second : Text) → Form first → Form second → IsGiven (program ∷ codes "draw" ∷ first ∷ second ∷ []) (codes "draw") (draw_along_rows first second)
+draw_along_enters : (program first second : Text) → Enters postcopy_words program (codes "draw") (first ∷ second ∷ []) draw_shape
 unfolding clap_on_literals
-is_draw_along program _ _ Dash Dash = record { takes_them = refl; found = refl }
-is_draw_along program _ _ Dash Empty = record { takes_them = refl; found = refl }
-is_draw_along program _ _ Dash (Other b rest e) = record { takes_them = simp e; found = simp e }
-is_draw_along program _ _ Empty Dash = record { takes_them = refl; found = refl }
-is_draw_along program _ _ Empty Empty = record { takes_them = refl; found = refl }
-is_draw_along program _ _ Empty (Other b rest e) = record { takes_them = simp e; found = simp e }
-is_draw_along program _ _ (Other a front d) Dash = record { takes_them = simp d; found = simp d }
-is_draw_along program _ _ (Other a front d) Empty = record { takes_them = simp d; found = simp d }
-is_draw_along program _ _ (Other a front d) (Other b rest e) = record { takes_them = simp (d, e); found = simp (d, e) }
-
-draw_along_asks : (first second : Text) → asked_in (codes "draw", draw_along_rows first second) ≡ Some (Draw Report first (Some second))
-unfolding clap_on_literals
-draw_along_asks first second = refl
+draw_along_enters program first second = record { simple = is_simple_line; arguments = refl; stops = refl; passes = refl; shape = refl }
 
 taken_draw_along : (program first second : Text) → Form first → Form second → IsTaken (program ∷ codes "draw" ∷ first ∷ second ∷ []) (Draw Report first (Some second))
+unfolding clap_on_literals
 taken_draw_along program first second f g =
-    let is = is_draw_along program first second f g in
-    record { taken = is.takes_them; given = ap (option_and_then asked_in) is.found ∙ draw_along_asks first second }
+    let h = (took draw_shape 1 first nothing_held).held in
+    taken_by program (codes "draw") (first ∷ second ∷ []) draw_shape (took draw_shape 2 second h).held (Draw Report first (Some second)) (draw_along_enters program first second) (takes_two draw_shape h first second (is_name first f) (is_name second g) refl refl refl refl) refl
 
 -- a command with so many names, which are plain, is taken
 one_taken : (task : OneText) (command : Text) (taken : (program name : Text) → Form name → IsTaken (program ∷ command ∷ name ∷ []) (One task name)) (program word : Text) (names : List Text) (job : Request Text) → AllByRecursion IsPlainName names → with_texts names (One task word) ≡ Some job → IsTaken (program ∷ command ∷ names) job

@@ -1,3 +1,4 @@
 pub mod Table
 pub mod Words
 pub mod Readings
+pub mod Parameters

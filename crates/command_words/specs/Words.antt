@@ -94,8 +94,11 @@ abbrev pub with_line : App → App
 with_line app = with_rule app (number_rule (codes "line"))
 
 -- a command with the option for the file of its answer: `-o FILE` or `--output FILE`
+abbrev pub output_rule : Rule
+output_rule = record (new_rule (codes "output")) { short = Some 111; long = Some (codes "output"); value_names = 1 }
+
 abbrev pub with_output : App → App
-with_output app = with_rule app (record (new_rule (codes "output")) { short = Some 111; long = Some (codes "output"); value_names = 1 })
+with_output app = with_rule app output_rule
 
 -- a command with the option for the file of a recording's lines
 abbrev pub with_lines : App → App

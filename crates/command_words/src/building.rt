@@ -1,16 +1,15 @@
 //! The command line that the table makes.
 
-ghost use Rattle.std.specs.Prelude.{◌≡◌, IfOk, false};
-ghost use Rattle.command_words.specs.Table.{further_name, row_of, taken_names, word_names};
-ghost use Rattle.command_words.specs.Words.{choice_rule, command_words, flag_rule, line_words, needed, number_rule, program_words, with_all, with_complete, with_complete_pages, with_cut, with_demand, with_format, with_further, with_line, with_lines, with_one, with_output, with_page, with_quiet, with_taken, with_two, with_words, count_rule, repeated, text_word};
-ghost use Rattle.clap.specs.Words.{app_of, kind_of, rule_of, with_rule};
+ghost use Rattle.std.specs.Prelude.{◌≡◌, IfOk, false, fold};
+ghost use Rattle.command_words.specs.Parameters.{file_rule, option_rule, parameter_rule, with_parameter};
+ghost use Rattle.command_words.specs.Table.{row_of};
+ghost use Rattle.command_words.specs.Words.{choice_rule, command_words, count_rule, line_words, needed, number_rule, program_words};
+ghost use Rattle.clap.specs.Words.{app_of, kind_of, new_rule, rule_of};
 ghost use Rattle.clap.specs.declared.builder.command.Command.TheViews.{out-Command as fields_of};
 
-use crate::requests::{Format, OneText, Request, Takes, TwoTexts};
-use crate::table::{
-    ALL, COMPLETE, COMPLETE_PAGES, COUNT, CUT, CommandRow, FIRST, FORMAT, LINE, LINES, LINK,
-    OUTPUT, PAGE, QUIET, Word, commands,
-};
+use crate::parameters::{Parameter, parameters_of};
+use crate::requests::Format;
+use crate::table::{CommandRow, FORMAT, LINES, LINK, OUTPUT, Word, commands};
 use clap::builder::ValueParser;
 use clap::error::ErrorKind;
 use clap::{Arg, ArgAction, Command};
@@ -37,48 +36,27 @@ Exit status:
   3  a file, a link or an output failed
   4  out of memory";
 
-const COMPLETE_HELP: &str =
-    "Succeed only if the session has a whole migration, from the halt to the end";
+/// The option for the file of a recording's lines.
+const LINES_OPTION: Word = Word {
+    name: LINES,
+    help: "File of the recording's line numbers, one for each line of its window: window writes it, explain reads it",
+};
 
-const COMPLETE_PAGES_HELP: &str =
-    "Succeed only if the guest was halted and resumed, and each owed page was placed or released at the target. --complete asks for more";
+/// The option for the file of the answer.
+const OUTPUT_OPTION: Word = Word {
+    name: OUTPUT,
+    help: "Write the answer to this file instead of standard output. The file gets all of it or stays as it was",
+};
 
-const QUIET_HELP: &str = "Write only the first line of the answer";
-
-const ALL_HELP: &str = "List each page that has a fault, with its first fault";
-
-const PAGE_HELP: &str = "Show this page, whether it has a fault or not";
-
-const LINE_HELP: &str = "Show the record at this line of the session, and its page";
-
-const LINES_HELP: &str =
-    "File of the recording's line numbers, one for each line of its window: window writes it, explain reads it";
-
-const CUT_HELP: &str =
-    "If something is missing, write what is left, cut so that no record names one that is missing";
-
-const OUTPUT_HELP: &str =
-    "Write the answer to this file instead of standard output. The file gets all of it or stays as it was";
-
-/// An option that names one of several values.
-#[derive(Clone, Copy)]
-pub struct Choice {
-    /// Its word, without dashes.
-    pub option: &'static str,
-    /// The name of its value in the help.
-    pub value: &'static str,
-    pub help: &'static str,
-}
-
-const LINK_CHOICE: Choice = Choice {
-    option: LINK,
-    value: "CARRIER",
+/// The option for the carrier of a migration.
+const LINK_OPTION: Word = Word {
+    name: LINK,
     help: "Transport of the migration's packets",
 };
 
-const FORMAT_CHOICE: Choice = Choice {
-    option: FORMAT,
-    value: "FORM",
+/// The option for the form of the answer.
+const FORMAT_OPTION: Word = Word {
+    name: FORMAT,
     help: "Format of the answer: lines of text, or a JSON object on one line",
 };
 
@@ -91,371 +69,138 @@ pub struct Choices<'a> {
     pub formats: ValueParser<'a>,
 }
 
-// Returns the command with one more required word.
-fn with_word<'a>(
-    alloc: Global,
-    command: Command<'a>,
-    word: &Word,
-) -> Result<Command<'a>, AllocError>
-    requires { (fields_of command).has_globals ≡ false }
-    ensures app { IfOk result (λ c. app_of c ≡ with_rule (app_of command.entry) (needed word.now.name.now)) }
-    ensures local { IfOk result (λ c. (fields_of c).has_globals ≡ false) }
+// Returns the argument for a word.
+fn word_arg<'a>(alloc: Global, word: &Word) -> Arg<'a>
+    ensures rule { rule_of result ≡ new_rule word.now.name.now }
+    ensures local { result.global ≡ false }
 {
-    let arg = Arg::new(alloc, word.name).required(true).help(word.help);
-    command.arg(arg)
+    Arg::new(alloc, word.name).help(word.help)
 }
 
-// Returns the command with one more required word, which may be repeated.
-fn with_repeated<'a>(
-    alloc: Global,
-    command: Command<'a>,
-    word: &Word,
-) -> Result<Command<'a>, AllocError>
-    requires { (fields_of command).has_globals ≡ false }
-    ensures app { IfOk result (λ c. app_of c ≡ with_rule (app_of command.entry) (repeated word.now.name.now)) }
-    ensures local { IfOk result (λ c. (fields_of c).has_globals ≡ false) }
+// Returns the argument for a required word.
+fn required_arg<'a>(alloc: Global, word: &Word) -> Arg<'a>
+    ensures rule { rule_of result ≡ needed word.now.name.now }
+    ensures local { result.global ≡ false }
 {
-    let arg = Arg::new(alloc, word.name)
-        .required(true)
-        .action(ArgAction::Append)
-        .help(word.help);
-    command.arg(arg)
+    word_arg(alloc, word).required(true)
 }
 
-// Returns the command with one more required word, which gives a number of pages.
-fn with_count<'a>(
-    alloc: Global,
-    command: Command<'a>,
-    word: &Word,
-) -> Result<Command<'a>, AllocError>
-    requires { (fields_of command).has_globals ≡ false }
-    ensures app { IfOk result (λ c. app_of c ≡ with_rule (app_of command.entry) (count_rule word.now.name.now)) }
-    ensures local { IfOk result (λ c. (fields_of c).has_globals ≡ false) }
+// Returns the argument for a required word that gives a number of pages.
+fn count_arg<'a>(alloc: Global, word: &Word) -> Arg<'a>
+    ensures rule { rule_of result ≡ count_rule word.now.name.now }
+    ensures local { result.global ≡ false }
 {
-    let arg = Arg::new(alloc, word.name)
-        .required(true)
-        .help(word.help)
-        .value_parser(ValueParser::Unsigned(0, MOST_PAGES));
-    command.arg(arg)
+    required_arg(alloc, word).value_parser(ValueParser::Unsigned(0, MOST_PAGES))
 }
 
-// Returns the command with one more optional word.
-fn with_further_word<'a>(
+// Returns the argument for an option.
+fn option_arg<'a>(alloc: Global, option: &Word) -> Arg<'a>
+    ensures rule { rule_of result ≡ option_rule option.now.name.now }
+    ensures local { result.global ≡ false }
+{
+    word_arg(alloc, option).long(option.name)
+}
+
+// Returns the argument for an option that has a number as its value.
+fn number_arg<'a>(alloc: Global, option: &Word) -> Arg<'a>
+    ensures rule { rule_of result ≡ number_rule option.now.name.now }
+    ensures local { result.global ≡ false }
+{
+    option_arg(alloc, option)
+        .value_name("NUMBER")
+        .value_parser(ValueParser::Unsigned(0, MOST_NUMBER))
+}
+
+// Returns the argument for an option that names a file.
+fn file_arg<'a>(alloc: Global, option: &Word) -> Arg<'a>
+    ensures rule { rule_of result ≡ file_rule option.now.name.now }
+    ensures local { result.global ≡ false }
+{
+    option_arg(alloc, option).value_name("FILE")
+}
+
+// Returns the argument for an option whose value this parser accepts, and with this default. `value` is the name of its
+// value in the help.
+fn choice_arg<'a>(
+    alloc: Global,
+    option: &Word,
+    value: &'static str,
+    parser: ValueParser<'a>,
+    otherwise: &'static str,
+) -> Arg<'a>
+    ensures rule { rule_of result ≡ choice_rule option.now.name.now parser.entry otherwise.now }
+    ensures local { result.global ≡ false }
+{
+    option_arg(alloc, option)
+        .value_name(value)
+        .value_parser(parser)
+        .default_value(otherwise)
+}
+
+// Returns the argument for a word or an option. `choices` has the parsers of the values of options.
+fn arg_of<'a>(alloc: Global, choices: Choices<'a>, parameter: &Parameter) -> Arg<'a>
+    ensures rule { rule_of result ≡ parameter_rule choices.entry parameter.now }
+    ensures local { result.global ≡ false }
+{
+    match parameter {
+        Parameter::Text(word) => required_arg(alloc, word),
+        Parameter::Texts(word) => required_arg(alloc, word).action(ArgAction::Append),
+        Parameter::Count(word) => count_arg(alloc, word),
+        Parameter::Further(word) => word_arg(alloc, word),
+        Parameter::Flag(option) => option_arg(alloc, option).action(ArgAction::SetTrue),
+        Parameter::Number(option) => number_arg(alloc, option),
+        Parameter::Lines => file_arg(alloc, &LINES_OPTION),
+        Parameter::Output => file_arg(alloc, &OUTPUT_OPTION).short('o'),
+        Parameter::Link(carrier) => choice_arg(
+            alloc,
+            &LINK_OPTION,
+            "CARRIER",
+            choices.carriers,
+            carrier.name(),
+        ),
+        Parameter::Format => choice_arg(
+            alloc,
+            &FORMAT_OPTION,
+            "FORM",
+            choices.formats,
+            Format::Text.name(),
+        ),
+    }
+}
+
+// Returns the command with one more word or option, if there is one.
+fn with_parameter<'a>(
     alloc: Global,
     command: Command<'a>,
-    word: &Option<Word>,
+    choices: Choices<'a>,
+    parameter: &Option<Parameter>,
 ) -> Result<Command<'a>, AllocError>
     requires { (fields_of command).has_globals ≡ false }
-    ensures app { IfOk result (λ c. app_of c ≡ with_further (app_of command.entry) (further_name word.now)) }
+    ensures app { IfOk result (λ c. app_of c ≡ with_parameter choices.entry (app_of command.entry) parameter.now) }
     ensures local { IfOk result (λ c. (fields_of c).has_globals ≡ false) }
 {
-    match word {
-        Some(word) => command.arg(Arg::new(alloc, word.name).help(word.help)),
+    match parameter {
+        Some(parameter) => command.arg(arg_of(alloc, choices, parameter)),
         None => Ok(command),
     }
 }
 
-// Returns the command with an option whose value this parser accepts, and with this default.
-fn with_choice<'a>(
-    alloc: Global,
-    command: Command<'a>,
-    choice: &Choice,
-    parser: ValueParser<'a>,
-    otherwise: &'static str,
-) -> Result<Command<'a>, AllocError>
-    requires { (fields_of command).has_globals ≡ false }
-    ensures app { IfOk result (λ c. app_of c ≡ with_rule (app_of command.entry) (choice_rule choice.now.option.now parser.entry otherwise.now)) }
-    ensures local { IfOk result (λ c. (fields_of c).has_globals ≡ false) }
-{
-    let arg = Arg::new(alloc, choice.option)
-        .long(choice.option)
-        .value_name(choice.value)
-        .help(choice.help)
-        .value_parser(parser)
-        .default_value(otherwise);
-    command.arg(arg)
-}
-
-// Returns the command with an option without a value.
-fn with_flag<'a>(
-    alloc: Global,
-    command: Command<'a>,
-    option: &'static str,
-    help: &'static str,
-) -> Result<Command<'a>, AllocError>
-    requires { (fields_of command).has_globals ≡ false }
-    ensures app { IfOk result (λ c. app_of c ≡ with_rule (app_of command.entry) (flag_rule option.now)) }
-    ensures local { IfOk result (λ c. (fields_of c).has_globals ≡ false) }
-{
-    let arg = Arg::new(alloc, option)
-        .long(option)
-        .action(ArgAction::SetTrue)
-        .help(help);
-    command.arg(arg)
-}
-
-// Returns the command with the option that requires a session of a whole migration.
-fn with_complete<'a>(alloc: Global, command: Command<'a>) -> Result<Command<'a>, AllocError>
-    requires { (fields_of command).has_globals ≡ false }
-    ensures app { IfOk result (λ c. app_of c ≡ with_complete (app_of command.entry)) }
-    ensures local { IfOk result (λ c. (fields_of c).has_globals ≡ false) }
-{
-    with_flag(alloc, command, COMPLETE, COMPLETE_HELP)
-}
-
-// Returns the command with the option that requires a session that says how each owed page came.
-fn with_complete_pages<'a>(alloc: Global, command: Command<'a>) -> Result<Command<'a>, AllocError>
-    requires { (fields_of command).has_globals ≡ false }
-    ensures app { IfOk result (λ c. app_of c ≡ with_complete_pages (app_of command.entry)) }
-    ensures local { IfOk result (λ c. (fields_of c).has_globals ≡ false) }
-{
-    with_flag(alloc, command, COMPLETE_PAGES, COMPLETE_PAGES_HELP)
-}
-
-// Returns the command with both of these options.
-fn with_demand<'a>(alloc: Global, command: Command<'a>) -> Result<Command<'a>, AllocError>
-    requires { (fields_of command).has_globals ≡ false }
-    ensures app { IfOk result (λ c. app_of c ≡ with_demand (app_of command.entry)) }
-    ensures local { IfOk result (λ c. (fields_of c).has_globals ≡ false) }
-{
-    let command = with_complete(alloc, command)?;
-    with_complete_pages(alloc, command)
-}
-
-// Returns the command with an option that has a number as its value.
-fn with_number<'a>(
-    alloc: Global,
-    command: Command<'a>,
-    option: &'static str,
-    help: &'static str,
-) -> Result<Command<'a>, AllocError>
-    requires { (fields_of command).has_globals ≡ false }
-    ensures app { IfOk result (λ c. app_of c ≡ with_rule (app_of command.entry) (number_rule option.now)) }
-    ensures local { IfOk result (λ c. (fields_of c).has_globals ≡ false) }
-{
-    let arg = Arg::new(alloc, option)
-        .long(option)
-        .value_name("NUMBER")
-        .help(help)
-        .value_parser(ValueParser::Unsigned(0, MOST_NUMBER));
-    command.arg(arg)
-}
-
-// Returns the command with the option for the faults of all pages.
-fn with_all<'a>(alloc: Global, command: Command<'a>) -> Result<Command<'a>, AllocError>
-    requires { (fields_of command).has_globals ≡ false }
-    ensures app { IfOk result (λ c. app_of c ≡ with_all (app_of command.entry)) }
-    ensures local { IfOk result (λ c. (fields_of c).has_globals ≡ false) }
-{
-    with_flag(alloc, command, ALL, ALL_HELP)
-}
-
-// Returns the command with the option for a page.
-fn with_page<'a>(alloc: Global, command: Command<'a>) -> Result<Command<'a>, AllocError>
-    requires { (fields_of command).has_globals ≡ false }
-    ensures app { IfOk result (λ c. app_of c ≡ with_page (app_of command.entry)) }
-    ensures local { IfOk result (λ c. (fields_of c).has_globals ≡ false) }
-{
-    with_number(alloc, command, PAGE, PAGE_HELP)
-}
-
-// Returns the command with the option for a line of a session.
-fn with_line<'a>(alloc: Global, command: Command<'a>) -> Result<Command<'a>, AllocError>
-    requires { (fields_of command).has_globals ≡ false }
-    ensures app { IfOk result (λ c. app_of c ≡ with_line (app_of command.entry)) }
-    ensures local { IfOk result (λ c. (fields_of c).has_globals ≡ false) }
-{
-    with_number(alloc, command, LINE, LINE_HELP)
-}
-
-// Returns the command with the option for the file of a recording's lines.
-fn with_lines<'a>(alloc: Global, command: Command<'a>) -> Result<Command<'a>, AllocError>
-    requires { (fields_of command).has_globals ≡ false }
-    ensures app { IfOk result (λ c. app_of c ≡ with_lines (app_of command.entry)) }
-    ensures local { IfOk result (λ c. (fields_of c).has_globals ≡ false) }
-{
-    let arg = Arg::new(alloc, LINES)
-        .long(LINES)
-        .value_name("FILE")
-        .help(LINES_HELP);
-    command.arg(arg)
-}
-
-// Returns the command with the option for the file of its answer.
-fn with_output<'a>(alloc: Global, command: Command<'a>) -> Result<Command<'a>, AllocError>
-    requires { (fields_of command).has_globals ≡ false }
-    ensures app { IfOk result (λ c. app_of c ≡ with_output (app_of command.entry)) }
-    ensures local { IfOk result (λ c. (fields_of c).has_globals ≡ false) }
-{
-    let arg = Arg::new(alloc, OUTPUT)
-        .short('o')
-        .long(OUTPUT)
-        .value_name("FILE")
-        .help(OUTPUT_HELP);
-    command.arg(arg)
-}
-
-// Returns the command with the option for the first line alone.
-fn with_quiet<'a>(alloc: Global, command: Command<'a>) -> Result<Command<'a>, AllocError>
-    requires { (fields_of command).has_globals ≡ false }
-    ensures app { IfOk result (λ c. app_of c ≡ with_quiet (app_of command.entry)) }
-    ensures local { IfOk result (λ c. (fields_of c).has_globals ≡ false) }
-{
-    with_flag(alloc, command, QUIET, QUIET_HELP)
-}
-
-// Returns the command with the option that cuts a recording that lacks something.
-fn with_cut<'a>(alloc: Global, command: Command<'a>) -> Result<Command<'a>, AllocError>
-    requires { (fields_of command).has_globals ≡ false }
-    ensures app { IfOk result (λ c. app_of c ≡ with_cut (app_of command.entry)) }
-    ensures local { IfOk result (λ c. (fields_of c).has_globals ≡ false) }
-{
-    with_flag(alloc, command, CUT, CUT_HELP)
-}
-
-// Returns the command with the option for the form of its answer. The default is lines of text.
-fn with_format<'a>(
-    alloc: Global,
-    command: Command<'a>,
-    formats: ValueParser<'a>,
-) -> Result<Command<'a>, AllocError>
-    requires { (fields_of command).has_globals ≡ false }
-    ensures app { IfOk result (λ c. app_of c ≡ with_format formats.entry (app_of command.entry)) }
-    ensures local { IfOk result (λ c. (fields_of c).has_globals ≡ false) }
-{
-    with_choice(alloc, command, &FORMAT_CHOICE, formats, Format::Text.name())
-}
-
-// Returns the command with the word for its text. `audit` takes several sessions.
-fn with_text<'a>(
-    alloc: Global,
-    command: Command<'a>,
-    task: OneText,
-    word: &Word,
-) -> Result<Command<'a>, AllocError>
-    requires { (fields_of command).has_globals ≡ false }
-    ensures app { IfOk result (λ c. app_of c ≡ with_rule (app_of command.entry) (text_word task word.now.name.now)) }
-    ensures local { IfOk result (λ c. (fields_of c).has_globals ≡ false) }
-{
-    match task {
-        OneText::Audit(_) => with_repeated(alloc, command, word),
-        OneText::Certify | OneText::Explain(_) => with_word(alloc, command, word),
-    }
-}
-
-// Returns the command on one text, with its options.
-fn with_one<'a>(
-    alloc: Global,
-    command: Command<'a>,
-    formats: ValueParser<'a>,
-    task: OneText,
-) -> Result<Command<'a>, AllocError>
-    requires { (fields_of command).has_globals ≡ false }
-    ensures app { IfOk result (λ c. app_of c ≡ with_one formats.entry task (app_of command.entry)) }
-    ensures local { IfOk result (λ c. (fields_of c).has_globals ≡ false) }
-{
-    match task {
-        OneText::Audit(_) => {
-            let command = with_demand(alloc, command)?;
-            let command = with_all(alloc, command)?;
-            let command = with_quiet(alloc, command)?;
-            with_format(alloc, command, formats)
-        }
-        OneText::Explain(_) => {
-            let command = with_demand(alloc, command)?;
-            let command = with_page(alloc, command)?;
-            let command = with_line(alloc, command)?;
-            let command = with_lines(alloc, command)?;
-            with_format(alloc, command, formats)
-        }
-        OneText::Certify => Ok(command),
-    }
-}
-
-// Returns the command on two texts, with its options.
-fn with_two<'a>(
-    alloc: Global,
-    command: Command<'a>,
-    formats: ValueParser<'a>,
-    task: TwoTexts,
-) -> Result<Command<'a>, AllocError>
-    requires { (fields_of command).has_globals ≡ false }
-    ensures app { IfOk result (λ c. app_of c ≡ with_two formats.entry task (app_of command.entry)) }
-    ensures local { IfOk result (λ c. (fields_of c).has_globals ≡ false) }
-{
-    match task {
-        TwoTexts::Check(_) => {
-            let command = with_demand(alloc, command)?;
-            with_format(alloc, command, formats)
-        }
-        TwoTexts::Replay | TwoTexts::Steps | TwoTexts::Explain(_) => Ok(command),
-    }
-}
-
-// Returns the command with a word for each of its texts, and its own options. `choices` has the parsers of their
-// values.
-fn with_words<'a>(
+// Returns the command with these words and options.
+fn with_parameters<'a>(
     alloc: Global,
     command: Command<'a>,
     choices: Choices<'a>,
-    asked: &Request<Word>,
+    parameters: &[Option<Parameter>],
 ) -> Result<Command<'a>, AllocError>
     requires { (fields_of command).has_globals ≡ false }
-    ensures app { IfOk result (λ c. app_of c ≡ with_words choices.entry (app_of command.entry) (word_names asked.now)) }
+    ensures app { IfOk result (λ c. app_of c ≡ fold (with_parameter choices.entry) (app_of command.entry) parameters.now) }
     ensures local { IfOk result (λ c. (fields_of c).has_globals ≡ false) }
 {
-    match asked {
-        Request::One(task, word) => {
-            let command = with_text(alloc, command, *task, word)?;
-            with_one(alloc, command, choices.formats, *task)
-        }
-        Request::Two(task, first, second) => {
-            let command = with_word(alloc, command, first)?;
-            let command = with_word(alloc, command, second)?;
-            with_two(alloc, command, choices.formats, *task)
-        }
-        Request::Migrate(carrier, word) => {
-            let command = with_word(alloc, command, word)?;
-            with_choice(
-                alloc,
-                command,
-                &LINK_CHOICE,
-                choices.carriers,
-                carrier.name(),
-            )
-        }
-        Request::Draw(_, word, further) => {
-            let command = with_word(alloc, command, word)?;
-            let command = with_further_word(alloc, command, further)?;
-            with_page(alloc, command)
-        }
-        Request::Window(_, word, _) => {
-            let command = with_word(alloc, command, word)?;
-            let command = with_count(alloc, command, &FIRST)?;
-            let command = with_count(alloc, command, &COUNT)?;
-            with_lines(alloc, command)
-        }
+    let mut whole = command;
+    for parameter in parameters {
+        whole = with_parameter(alloc, whole, choices, parameter)?;
     }
-}
-
-// Returns the command with a word for each of its texts, or for its folders, and its own options.
-fn with_taken<'a>(
-    alloc: Global,
-    command: Command<'a>,
-    choices: Choices<'a>,
-    takes: &Takes<Word>,
-) -> Result<Command<'a>, AllocError>
-    requires { (fields_of command).has_globals ≡ false }
-    ensures app { IfOk result (λ c. app_of c ≡ with_taken choices.entry (app_of command.entry) (taken_names takes.now)) }
-    ensures local { IfOk result (λ c. (fields_of c).has_globals ≡ false) }
-{
-    match takes {
-        Takes::Texts(asked) => with_words(alloc, command, choices, asked),
-        Takes::Folders(word) => {
-            let command = with_repeated(alloc, command, word)?;
-            with_cut(alloc, command)
-        }
-    }
+    Ok(whole)
 }
 
 // Returns the command of a row. `choices` has the parsers of the values of options.
@@ -468,8 +213,8 @@ fn command_of<'a>(
     ensures local { IfOk result (λ c. (fields_of c).has_globals ≡ false) }
 {
     let command = Command::new(alloc, row.name).about(row.about);
-    let command = with_taken(alloc, command, choices, &row.takes)?;
-    with_output(alloc, command)
+    let command = with_parameters(alloc, command, choices, &parameters_of(&row.takes))?;
+    with_parameter(alloc, command, choices, &Some(Parameter::Output))
 }
 
 // Returns the program, with no command yet.

@@ -4,6 +4,7 @@ ghost use Rattle.std.specs.Prelude.{◌≡◌, None, Some, false, option_map, tr
 ghost use Rattle.std.specs.Str.{bytes_eq};
 ghost use Rattle.command_words.specs.Table.{asked_names, further_name, job_of, taken_names, word_names};
 ghost use Rattle.command_words.specs.Words.{all_faults_form_in, asked_of, audits_in, carrier_in, checks_in, count_in, count_of, demand_in, explains_in, further_in, given_in, has, is_set, lacking_in, list_form_in, lists_in, number_in, number_of, one_in, only_of, page_in, report_form_in, short_form_in, story_form_in, texts_in, told_with, topic_in, two_in, verdict_form_in, wants_object, window_in, word_texts};
+ghost use Rattle.command_words.specs.declared.requests.Request.TheVariants.{One, Two, Migrate, Draw};
 ghost use Rattle.clap.specs.Words.{all_of, first_of, found_of, rows_of, takes};
 
 use crate::requests::{
@@ -315,30 +316,60 @@ pub(crate) fn lacking_given(matches: &ArgMatches<'_>) -> Lacking
     }
 }
 
+// Returns what a command on one text asks for, with the name that was given for its word.
+fn on_one<'a>(task: OneText, word: &Word, matches: &ArgMatches<'a>) -> Option<Job<'a>>
+    ensures { option_map asked_names result ≡ texts_in (rows_of (found_of matches.now)) (One task word.now.name.now) }
+{
+    let name = only_given(word.name, matches)?;
+    let lines = name_given(LINES, matches);
+    Some(told_with(lines, one_given(task, matches), name))
+}
+
+// Returns what a command on two texts asks for, with the names that were given for its words.
+fn on_two<'a>(
+    task: TwoTexts,
+    first: &Word,
+    second: &Word,
+    matches: &ArgMatches<'a>,
+) -> Option<Job<'a>>
+    ensures { option_map asked_names result ≡ texts_in (rows_of (found_of matches.now)) (Two task first.now.name.now second.now.name.now) }
+{
+    let first = name_given(first.name, matches)?;
+    let second = name_given(second.name, matches)?;
+    Some(Request::Two(two_given(task, matches), first, second))
+}
+
+// Returns the migration that was given.
+fn migration_given<'a>(carrier: Carrier, word: &Word, matches: &ArgMatches<'a>) -> Option<Job<'a>>
+    ensures { option_map asked_names result ≡ texts_in (rows_of (found_of matches.now)) (Migrate carrier word.now.name.now) }
+{
+    let name = name_given(word.name, matches)?;
+    Some(Request::Migrate(carrier_given(carrier, matches), name))
+}
+
+// Returns the picture that was given.
+fn picture_given<'a>(
+    topic: Topic,
+    word: &Word,
+    further: &Option<Word>,
+    matches: &ArgMatches<'a>,
+) -> Option<Job<'a>>
+    ensures { option_map asked_names result ≡ texts_in (rows_of (found_of matches.now)) (Draw topic word.now.name.now (further_name further.now)) }
+{
+    let name = name_given(word.name, matches)?;
+    let further = further_given(further, matches);
+    Some(Request::Draw(page_given(topic, matches), name, further))
+}
+
 // Returns what a command asks for, with the names that were given for its words.
 fn given<'a>(asks: &Request<Word>, matches: &ArgMatches<'a>) -> Option<Job<'a>>
     ensures { option_map asked_names result ≡ texts_in (rows_of (found_of matches.now)) (word_names asks.now) }
 {
     match asks {
-        Request::One(task, word) => {
-            let name = only_given(word.name, matches)?;
-            let lines = name_given(LINES, matches);
-            Some(told_with(lines, one_given(*task, matches), name))
-        }
-        Request::Two(task, first, second) => {
-            let first = name_given(first.name, matches)?;
-            let second = name_given(second.name, matches)?;
-            Some(Request::Two(two_given(*task, matches), first, second))
-        }
-        Request::Migrate(carrier, word) => {
-            let name = name_given(word.name, matches)?;
-            Some(Request::Migrate(carrier_given(*carrier, matches), name))
-        }
-        Request::Draw(topic, word, further) => {
-            let name = name_given(word.name, matches)?;
-            let further = further_given(further, matches);
-            Some(Request::Draw(page_given(*topic, matches), name, further))
-        }
+        Request::One(task, word) => on_one(*task, word, matches),
+        Request::Two(task, first, second) => on_two(*task, first, second, matches),
+        Request::Migrate(carrier, word) => migration_given(*carrier, word, matches),
+        Request::Draw(topic, word, further) => picture_given(*topic, word, further, matches),
         Request::Window(_, word, _) => window_given(word, matches),
     }
 }

@@ -4,6 +4,7 @@
 mod building;
 mod giving;
 mod matching;
+mod parameters;
 mod reading;
 mod requests;
 mod table;

@@ -9,12 +9,12 @@ use crate::requests::{
 };
 use migration_types::Topic;
 
-/// A word of the command line that stands for a text.
+/// A word of the command line, or an option.
 #[derive(Clone, Copy)]
 pub struct Word {
-    /// The name of the word.
+    /// Its name; that of an option has no dashes here.
     pub name: &'static str,
-    /// The help for the text.
+    /// The help for it.
     pub help: &'static str,
 }
 
