@@ -1,6 +1,6 @@
 -- Answers as they are written.
-use Rattle.std.proofs.Common.{◌≡◌, ◌∙◌, ℕ, List, ◌++◌, Option, Some, None, take, drop, codes, subst, sym, refl, inl, inr}
-use Rattle.std.specs.Prelude.{Bool, true, false, is_some, option_map}
+use Rattle.std.proofs.Common.{◌≡◌, ◌∙◌, ℕ, List, ◌++◌, Option, Some, None, take, drop, codes, ap, subst, sym, refl, inl, inr}
+use Rattle.std.specs.Prelude.{Bool, true, false, is_some, option_map, if◌then◌else◌}
 use Rattle.command_texts.specs.declared.why.Telling.{Telling}
 use Rattle.command_texts.specs.declared.why.Telling.TheVariants.{Short, Full, Fields}
 use Rattle.command_texts.specs.declared.why.Why.{Why}
@@ -17,11 +17,23 @@ some_place (Some why) name None e = absurd cc
 some_place (Some why) name (Some n) e = refl
 
 -- and one of two texts, if there is a reason for one of them
-pub some_either : (first second : Option Why) (one_name other_name : List ℕ) (one other : Option ℕ) → option_map told_place first ≡ place_of one_name one → option_map told_place second ≡ place_of other_name other → is_some (option_or first second) ≡ is_some (option_or one other)
+some_either : (first second : Option Why) (one_name other_name : List ℕ) (one other : Option ℕ) → option_map told_place first ≡ place_of one_name one → option_map told_place second ≡ place_of other_name other → is_some (option_or first second) ≡ is_some (option_or one other)
 some_either None second one_name other_name None other e f = some_place second other_name other f
 some_either None second one_name other_name (Some n) other e f = absurd cc
 some_either (Some why) second one_name other_name None other e f = absurd cc
 some_either (Some why) second one_name other_name (Some n) other e f = refl
+
+-- the reason that is told is there if there is one for one of them
+some_told : (about_second : Bool) (why first second : Option Why) → why ≡ (if about_second then option_or second first else option_or first second) → is_some why ≡ is_some (option_or first second)
+some_told false why first second e = ap is_some e
+some_told true why None None e = ap is_some e
+some_told true why None (Some other) e = ap is_some e
+some_told true why (Some one) None e = ap is_some e
+some_told true why (Some one) (Some other) e = ap is_some e
+
+pub some_of_two : (about_second : Bool) (why first second : Option Why) (one_name other_name : List ℕ) (one other : Option ℕ) → why ≡ (if about_second then option_or second first else option_or first second)
+    → option_map told_place first ≡ place_of one_name one → option_map told_place second ≡ place_of other_name other → is_some why ≡ is_some (option_or one other)
+some_of_two about_second why first second one_name other_name one other told e f = some_told about_second why first second told ∙ some_either first second one_name other_name one other e f
 
 -- an answer that stays is one that may have fields
 same_told : (refused : Bool) (answer told : List ℕ) → told ≡ answer → IsTold Fields refused answer told

@@ -2,7 +2,7 @@
 //! command, and the system takes back all its memory at once. So what was found in the texts is forgotten, and not
 //! freed piece by piece.
 
-ghost use Rattle.std.specs.Prelude.{◌≡◌, ⊤, ◌<◌, ◌⊎◌, ℕ, List, [], IfOk, IfErr, MatchOption, OnOk};
+ghost use Rattle.std.specs.Prelude.{◌≡◌, ⊤, ◌<◌, ◌⊎◌, ℕ, Bool, List, [], IfOk, IfErr, MatchOption, OnOk};
 ghost use Rattle.command_texts.specs.Answers.{IsTextFault};
 ghost use Rattle.command_texts.specs.Fields.{IsAnswerTold};
 ghost use Rattle.command_texts.specs.Reasons.{IsFirstRefused, TellsBeside, TellsWhyOf};
@@ -86,22 +86,19 @@ pub trait OnTwo {
     /// How much the command says about a text that is refused.
     ghost how_much: { Self → HowMuch };
 
+    /// The answer is about the second text if both are refused.
+    ghost about_second: { Self → Bool };
+
     /// There is a note on these texts, for an answer that says that all is well.
     ghost has_note: { Self → List ℕ × List ℕ → Type 0 };
 
-    /// Returns how much the answer to what was found in two texts says about a text that is refused, besides one line.
-    fn telling(
-        &self,
-        first: &<Self::First as Taker>::Found,
-        second: &<Self::Second as Taker>::Found,
-    ) -> Telling
+    /// Returns how much the answer says about a text that is refused, besides one line.
+    fn telling(&self) -> Telling
         ensures { result ≡ HowMuch.Fields → how_much self.now ≡ HowMuch.Fields };
 
-    /// Returns whether the answer is about the second text if both are refused. Many answers are about the first. No proof
-    /// depends on it.
-    fn is_about_second(&self) -> bool {
-        false
-    }
+    /// Returns whether the answer is about the second text if both are refused. Many answers are about the first.
+    fn is_about_second(&self) -> bool
+        ensures { result ≡ about_second self.now };
 
     /// Returns the answer to what was found in two texts, with what it says. Its status is 0 or 1. Fails only if memory
     /// runs out.
@@ -244,7 +241,7 @@ pub fn perform_two<
         &mut console.input,
     )?;
     let (found_answer, said) = command.answer(console.alloc, &found, &other)?;
-    let telling = command.telling(&found, &other);
+    let telling = command.telling();
     let about = refusals.told(command.is_about_second());
     let answer = as_told(console.alloc, found_answer, telling, about)?;
     let status = written(&answer, &mut console.output)?;

@@ -1,6 +1,6 @@
 //! Why a text is refused, written with its name.
 
-ghost use Rattle.std.specs.Prelude.{◌≡◌, [], IfOk, is_some, option_map};
+ghost use Rattle.std.specs.Prelude.{◌≡◌, [], IfOk, if◌then◌else◌, option_map};
 ghost use Rattle.std.specs.Option.{option_or};
 ghost use Rattle.command_texts.specs.Reasons.{AreReasons, TellsWhy, line_of, place_of, told_place};
 
@@ -70,12 +70,13 @@ impl<'a> Refusals<'a> {
 
     /// Returns why a text is refused, if one is. If both are, it is the second one if this is asked, and else the first.
     pub(crate) fn told(&self, second: bool) -> &Option<Why<'a>>
-        ensures { is_some result.now ≡ is_some (option_or self.now.first self.now.second) }
+        ensures { result.now ≡ (if second then option_or self.now.second self.now.first else option_or self.now.first self.now.second) }
     {
         if second {
-            return either(&self.second, &self.first);
+            either(&self.second, &self.first)
+        } else {
+            self.earliest()
         }
-        self.earliest()
     }
 }
 

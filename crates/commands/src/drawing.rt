@@ -1,6 +1,6 @@
 //! The picture of a session, as a text and a status.
 
-ghost use Rattle.std.specs.Prelude.{◌≡◌, ℕ, List, IfOk, ⊤};
+ghost use Rattle.std.specs.Prelude.{◌≡◌, ℕ, List, IfOk, ⊤, false};
 ghost use Rattle.std.specs.Thread.{IsSync};
 ghost use Rattle.text_lines.specs.Answer.{IsRead};
 ghost use Rattle.session_log.specs.Grammar.{SpellsSession};
@@ -164,10 +164,16 @@ impl<R: Threads + Sync> OnTwo for DrawAlongCommand<'_, R> {
 
     ghost how_much = { λ _. Short };
 
+    ghost about_second = { λ _. false };
+
     ghost has_note = { λ _ _. ⊥ };
 
-    fn telling(&self, _session: &Result<Session, u32>, _runs: &Result<Seq<Run>, u32>) -> Telling {
+    fn telling(&self) -> Telling {
         Telling::Short
+    }
+
+    fn is_about_second(&self) -> bool {
+        false
     }
 
     fn answer(

@@ -1,6 +1,6 @@
 //! The session that events record from a script, as a text and a status.
 
-ghost use Rattle.std.specs.Prelude.{◌≡◌, ℕ, List, IfOk, ⊤};
+ghost use Rattle.std.specs.Prelude.{◌≡◌, ℕ, List, IfOk, ⊤, false};
 ghost use Rattle.text_lines.specs.Answer.{IsRead};
 ghost use Rattle.text_lines.specs.Text.{ended, IsSpelling};
 ghost use Rattle.session_log.specs.Grammar.{session_lines};
@@ -89,10 +89,16 @@ impl OnTwo for StepsCommand {
 
     ghost how_much = { λ _. Short };
 
+    ghost about_second = { λ _. false };
+
     ghost has_note = { λ _ _. ⊥ };
 
-    fn telling(&self, _script: &Result<Script, u32>, _events: &Result<Seq<Event>, u32>) -> Telling {
+    fn telling(&self) -> Telling {
         Telling::Short
+    }
+
+    fn is_about_second(&self) -> bool {
+        false
     }
 
     fn answer(

@@ -1,6 +1,6 @@
 //! The verdict on a session and its certificate, as a line and a status.
 
-ghost use Rattle.std.specs.Prelude.{◌≡◌, ◌++◌, ℕ, List, IfOk, OnOk};
+ghost use Rattle.std.specs.Prelude.{◌≡◌, ◌++◌, ℕ, List, IfOk, OnOk, false};
 ghost use Rattle.std.specs.Thread.{IsSync};
 ghost use Rattle.text_lines.specs.Answer.{IsRead};
 ghost use Rattle.session_log.specs.Grammar.{SpellsSession};
@@ -125,10 +125,16 @@ impl<R: Threads + Sync> OnTwo for CheckCommand<'_, R> {
 
     ghost how_much = { λ command. verdict_telling command.form };
 
+    ghost about_second = { λ _. false };
+
     ghost has_note = { λ _ texts. TellsNoUse texts.0 };
 
-    fn telling(&self, _session: &Result<Session, u32>, _cert: &Result<Cert, u32>) -> Telling {
+    fn telling(&self) -> Telling {
         telling_by(lack_beside(self.form))
+    }
+
+    fn is_about_second(&self) -> bool {
+        false
     }
 
     fn answer(

@@ -1,6 +1,6 @@
 //! Stories of sessions whose line numbers come from a table.
 
-ghost use Rattle.std.specs.Prelude.{◌≡◌, ℕ, List, IfOk, ⊤};
+ghost use Rattle.std.specs.Prelude.{◌≡◌, ℕ, List, IfOk, ⊤, true};
 ghost use Rattle.std.specs.Thread.{IsSync};
 ghost use Rattle.text_lines.specs.Answer.{IsRead};
 ghost use Rattle.session_log.specs.Grammar.{SpellsSession};
@@ -155,9 +155,11 @@ impl<R: Threads + Sync> OnTwo for ExplainByTable<'_, R> {
 
     ghost how_much = { λ command. story_telling command.story };
 
+    ghost about_second = { λ _. true };
+
     ghost has_note = { λ _ texts. TellsNoUse texts.0 };
 
-    fn telling(&self, _session: &Result<Session, u32>, _table: &Result<Seq<u64>, u32>) -> Telling {
+    fn telling(&self) -> Telling {
         telling_by(self.story.of_lack())
     }
 

@@ -1,6 +1,6 @@
 //! The outcome of a replay of a session along runs, as a line and a status.
 
-ghost use Rattle.std.specs.Prelude.{◌≡◌, ◌++◌, ℕ, List, IfOk, OnOk, ⊤};
+ghost use Rattle.std.specs.Prelude.{◌≡◌, ◌++◌, ℕ, List, IfOk, OnOk, ⊤, false};
 ghost use Rattle.text_lines.specs.Answer.{IsRead};
 ghost use Rattle.session_log.specs.Grammar.{SpellsSession};
 ghost use Rattle.cert_text.specs.Order.{SpellsOrder};
@@ -73,10 +73,16 @@ impl OnTwo for ReplayCommand {
 
     ghost how_much = { λ _. Short };
 
+    ghost about_second = { λ _. false };
+
     ghost has_note = { λ _ _. ⊥ };
 
-    fn telling(&self, _session: &Result<Session, u32>, _runs: &Result<Seq<Run>, u32>) -> Telling {
+    fn telling(&self) -> Telling {
         Telling::Short
+    }
+
+    fn is_about_second(&self) -> bool {
+        false
     }
 
     fn answer(

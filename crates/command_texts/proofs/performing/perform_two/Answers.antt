@@ -6,7 +6,7 @@ use Rattle.command_texts.specs.Reasons.{IsFirstRefused, Place, TellsWhy, told_pl
 use Rattle.command_texts.proofs.Endings.{no_memory, not_read, not_written, output_fault, text_fault, written_whole}
 use Rattle.command_texts.proofs.Fronts.{both_gain, front_gains, note_told, same_gains, told_gains, why_gains}
 use Rattle.command_texts.proofs.Names.{map_or}
-use Rattle.command_texts.proofs.Objects.{answer_told, some_either}
+use Rattle.command_texts.proofs.Objects.{answer_told, some_of_two}
 use Rattle.command_texts.proofs.performing.perform_two.Goals as goal
 
 pub returns-in_err-found-clause-told : goal.returns-in_err-found-clause-told
@@ -40,7 +40,7 @@ returns-in_err-status-clause-told g c =
     let n = c.in_ok-found.ensures.named in
     let IsName = λ (n : List ℕ). (n ≡ c.args.first.now) ⊎ (n ≡ c.args.second.now) in
     let p = err_from_is_err_and c.from_residual-in_err-status.result c.from_residual-in_err-status.ensures.1 in
-    rw (p.1, p.2) (not_written _ _ _ n.0 c.in_ok-answer.answer.text.items c.in_ok-answer.answer.status _ _ _ _ c.in_err-status.ensures.fault (output_fault IsName _ c.in_err-status.ensures.fault) n.1 (answer_told (IsFirstRefused _ _) (g.C.OnTwo.is_answer c.args.command.now) n.0 (option_or n.4.0 n.5.0) c.in_ok-found_answer.found_answer.text.items c.in_ok-answer.answer.text.items c.in_ok-answer.answer.status c.telling-telling.result (g.C.OnTwo.how_much c.args.command.now) _ c.telling-telling.ensures (c.told-about.ensures ∙ some_either _ _ c.args.first.now c.args.second.now n.4.0 n.5.0 n.4.2 n.5.2) (record { one = n.4.0; other = n.5.0; is_one = n.4.1; is_other = n.5.1; first = refl }) (rw c.in_ok-answer.ensures.status (c.in_ok-found_answer.ensures.told n.0 n.2 n.3)) c.in_ok-answer.ensures.text) c.in_err-status.ensures.front)
+    rw (p.1, p.2) (not_written _ _ _ n.0 c.in_ok-answer.answer.text.items c.in_ok-answer.answer.status _ _ _ _ c.in_err-status.ensures.fault (output_fault IsName _ c.in_err-status.ensures.fault) n.1 (answer_told (IsFirstRefused _ _) (g.C.OnTwo.is_answer c.args.command.now) n.0 (option_or n.4.0 n.5.0) c.in_ok-found_answer.found_answer.text.items c.in_ok-answer.answer.text.items c.in_ok-answer.answer.status c.telling-telling.result (g.C.OnTwo.how_much c.args.command.now) _ c.telling-telling.ensures (some_of_two _ _ _ _ c.args.first.now c.args.second.now n.4.0 n.5.0 c.told-about.ensures n.4.2 n.5.2) (record { one = n.4.0; other = n.5.0; is_one = n.4.1; is_other = n.5.1; first = refl }) (rw c.in_ok-answer.ensures.status (c.in_ok-found_answer.ensures.told n.0 n.2 n.3)) c.in_ok-answer.ensures.text) c.in_err-status.ensures.front)
 
 pub returns-in_err-status-clause-gains : goal.returns-in_err-status-clause-gains
 returns-in_err-status-clause-gains g c = (front_gains _ _ _ c.in_err-status.ensures.front, same_gains _)
@@ -55,7 +55,7 @@ returns-clause-told g c =
     let n = c.in_ok-found.ensures.named in
     let place = ap (option_map told_place) c.earliest-why.ensures ∙ (map_or told_place _ _ ∙ ap₂ option_or n.4.2 n.5.2) in
     let told = c.tell_more.ensures n.0 n.2 n.3 (c.in_ok-found_answer.ensures.said n.0 n.2 n.3) in
-    written_whole _ _ _ n.0 c.in_ok-answer.answer _ _ _ c.in_ok-status.ensures.status n.1 (answer_told (IsFirstRefused _ _) (g.C.OnTwo.is_answer c.args.command.now) n.0 (option_or n.4.0 n.5.0) c.in_ok-found_answer.found_answer.text.items c.in_ok-answer.answer.text.items c.in_ok-answer.answer.status c.telling-telling.result (g.C.OnTwo.how_much c.args.command.now) _ c.telling-telling.ensures (c.told-about.ensures ∙ some_either _ _ c.args.first.now c.args.second.now n.4.0 n.5.0 n.4.2 n.5.2) (record { one = n.4.0; other = n.5.0; is_one = n.4.1; is_other = n.5.1; first = refl }) (rw c.in_ok-answer.ensures.status (c.in_ok-found_answer.ensures.told n.0 n.2 n.3)) c.in_ok-answer.ensures.text) c.in_ok-status.ensures.text
+    written_whole _ _ _ n.0 c.in_ok-answer.answer _ _ _ c.in_ok-status.ensures.status n.1 (answer_told (IsFirstRefused _ _) (g.C.OnTwo.is_answer c.args.command.now) n.0 (option_or n.4.0 n.5.0) c.in_ok-found_answer.found_answer.text.items c.in_ok-answer.answer.text.items c.in_ok-answer.answer.status c.telling-telling.result (g.C.OnTwo.how_much c.args.command.now) _ c.telling-telling.ensures (some_of_two _ _ _ _ c.args.first.now c.args.second.now n.4.0 n.5.0 c.told-about.ensures n.4.2 n.5.2) (record { one = n.4.0; other = n.5.0; is_one = n.4.1; is_other = n.5.1; first = refl }) (rw c.in_ok-answer.ensures.status (c.in_ok-found_answer.ensures.told n.0 n.2 n.3)) c.in_ok-answer.ensures.text) c.in_ok-status.ensures.text
     (record {
       one = n.4.0;
       other = n.5.0;
