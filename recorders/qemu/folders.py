@@ -1,7 +1,7 @@
 """The folders of a recording: the user's folder, where it stays, and a folder for sockets and pipes while it is made.
 
 Nothing is removed from a folder that was not made here. A folder that was made here has the file MARK, and only the files that a
-recorder writes are replaced in it.
+recorder writes are replaced in it. Those of a recording, which MARK lists, are replaced by a recording of another recorder too.
 """
 import os
 import re
@@ -13,7 +13,8 @@ import build
 
 MARK = ".postcopy-recording"
 ON_MARK = "This folder was made by recorders/%s, which replaces its own files in it when it records into it again.\n"
-FILES = ("plan.json", "guest.bin", "outcome.json", "halt.mem", "relay.log", "relay.pages", "session", "report", "certificate",
+PLAN = "plan.json"  # which each recording has
+FILES = (PLAN, "guest.bin", "outcome.json", "halt.mem", "relay.log", "relay.pages", "session", "report", "certificate",
          "explained", "picture.svg", "verdict", "restart", "witness",
          *(f"{machine}.{what}" for machine in ("source", "target") for what in ("raw", "pages", "errors", "command")))
 
@@ -54,11 +55,21 @@ def take(folder, files=FILES, recorder="qemu"):
     look_at(folder, files)
     try:
         os.makedirs(folder, exist_ok=True)
+        is_recording, earlier = PLAN in files, listed(folder)
+        clear(folder, {*files, *earlier} if is_recording else files)
         with open(f"{folder}/{MARK}", "w", encoding="ascii") as mark:
-            mark.write(ON_MARK % recorder)
-        clear(folder, files)
+            mark.write(ON_MARK % recorder + "".join(f"{name}\n" for name in (files if is_recording else earlier)))
     except OSError as fault:
         raise NotOurs(f"{folder} cannot be recorded into: {fault.strerror}") from None
+
+
+def listed(folder):
+    """Returns the names of the files of the recording that was made there last."""
+    try:
+        with open(f"{folder}/{MARK}", encoding="ascii", errors="replace") as mark:
+            return [name for name in mark.read().splitlines()[1:] if "/" not in name]
+    except FileNotFoundError:
+        return []
 
 
 def clear(folder, files):

@@ -14,6 +14,8 @@ import time
 
 import folders
 import judge
+import lazy_migration
+import linux_run
 import pack
 from kinds import plan_of
 from machine import Machine
@@ -85,6 +87,30 @@ def of_a_folder_of_its_own(tests, room):
     said = tests.refuses("a folder that has a file's name", folders.NotOurs, lambda: folders.take(folder))
     tests.wants("it is named", f"{folder}/source.raw" in said, True)
     tests.wants("and nothing is gone", set(os.listdir(folder)), {folders.MARK, "session", "source.raw"})
+
+
+def of_another_recorder(tests, room):
+    """What another recorder left in a folder is no part of a recording that is made there later."""
+    folder = f"{room}/shared"
+    folders.take(folder, linux_run.FILES)
+    for name in ("restart", "self-test", "init.mem", "notes"):
+        with open(f"{folder}/{name}", "w", encoding="ascii") as out:
+            out.write(name)
+    folders.take(folder, lazy_migration.FILES, "criu")
+    tests.wants("what is left", set(os.listdir(folder)), {folders.MARK, "notes"})
+    for name in ("lazy-pages.log", "results"):
+        with open(f"{folder}/{name}", "w", encoding="ascii") as out:
+            out.write(name)
+    folders.take(folder, ("results",))
+    tests.wants("where a campaign is made, which is no recording", set(os.listdir(folder)), {folders.MARK, "notes", "lazy-pages.log"})
+    with open(f"{folder}/results", "w", encoding="ascii") as out, open(f"{folder}/{folders.MARK}", "a", encoding="ascii") as mark:
+        out.write("results")
+        mark.write("../elsewhere\n")
+    with open(f"{room}/elsewhere", "w", encoding="ascii") as out:
+        out.write("elsewhere")
+    folders.take(folder)
+    tests.wants("and a recording behind it", set(os.listdir(folder)), {folders.MARK, "notes", "results"})
+    tests.wants("nothing elsewhere is removed", os.path.exists(f"{room}/elsewhere"), True)
 
 
 def modes_of(path):
@@ -180,6 +206,7 @@ def run(tests):
     with tempfile.TemporaryDirectory() as room:
         of_a_users_folder(tests, room)
         of_a_folder_of_its_own(tests, room)
+        of_another_recorder(tests, room)
         of_a_room(tests, room)
         of_the_sockets(tests, room)
         of_a_full_disk(tests, room)
