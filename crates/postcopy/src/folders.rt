@@ -1,8 +1,8 @@
 //! Folders in the place of sessions: the text of a folder is that of the session of the files that recorders left in it.
 
-use crate::Disk;
 use command_texts::{Console, Fault, TextSource};
 use commands::Lacking;
+use process_io::Disk;
 use session_commands::perform_session;
 use std::alloc::Global;
 use std::fs::File;

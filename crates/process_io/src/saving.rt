@@ -83,7 +83,12 @@ fn is_one_name<F: Files>(files: &F, one: &PathBuf, other: &PathBuf) -> io::Resul
 
 /// Returns whether two names lead to the same file, as far as it can be known: they are equal, or, after all links are
 /// followed, they are the same name in the same folder.
-pub fn is_one_file<F: Files>(files: &F, alloc: Global, one: &str, other: &str) -> io::Result<bool> {
+pub(crate) fn is_one_file<F: Files>(
+    files: &F,
+    alloc: Global,
+    one: &str,
+    other: &str,
+) -> io::Result<bool> {
     if one == other {
         return Ok(true);
     }
@@ -234,7 +239,7 @@ fn copy_file<F: Files, O: Write>(files: &F, name: &PathBuf, output: &mut O) -> i
 
 /// A text that has been written, and gets its name with [`Draft::keep`].
 #[derive(Drop)]
-pub enum Draft {
+pub(crate) enum Draft {
     /// It has the first of these names, and gets the second.
     Part(PathBuf, PathBuf),
     /// It was written in place.
@@ -244,7 +249,7 @@ pub enum Draft {
 impl Draft {
     /// Writes a text that is to get this name. Until then it has a name of its own in the same folder. If the name
     /// leads to something that is written in place, such as a device or a pipe, writes to that at once.
-    pub fn new<F: Files + RandomSource>(
+    pub(crate) fn new<F: Files + RandomSource>(
         files: &F,
         alloc: Global,
         name: &str,
@@ -263,7 +268,7 @@ impl Draft {
     }
 
     /// Gives the text its name. If that fails, removes the text.
-    pub fn keep<F: Files>(self, files: &F) -> io::Result<()> {
+    pub(crate) fn keep<F: Files>(self, files: &F) -> io::Result<()> {
         let Draft::Part(draft, name) = &self else {
             return Ok(());
         };
@@ -275,7 +280,7 @@ impl Draft {
     }
 
     /// Removes the text.
-    pub fn remove<F: Files>(&self, files: &F) {
+    pub(crate) fn remove<F: Files>(&self, files: &F) {
         if let Draft::Part(draft, _) = self {
             let _ = fs::remove_file(files, draft.as_str());
         }
@@ -354,7 +359,7 @@ impl<'a, F: Files + RandomSource> Saved<'a, F> {
     }
 
     /// Ends the text, which has the name that it is to get.
-    pub fn end(self, name: &str) -> io::Result<Draft> {
+    pub(crate) fn end(self, name: &str) -> io::Result<Draft> {
         let Saved {
             files,
             alloc,
@@ -375,7 +380,7 @@ impl<'a, F: Files + RandomSource> Saved<'a, F> {
     }
 
     /// Returns the name that the text was to get, and what kept it from being written, if something did.
-    pub fn fault(&self) -> Option<(&'a str, &io::Error)> {
+    pub(crate) fn fault(&self) -> Option<(&'a str, &io::Error)> {
         match (self.name, &self.fault) {
             (Some(name), Some(fault)) => Some((name, fault)),
             _ => None,
@@ -383,14 +388,14 @@ impl<'a, F: Files + RandomSource> Saved<'a, F> {
     }
 
     /// Removes the text, which gets no name.
-    pub fn discard(self) {
+    pub(crate) fn discard(self) {
         if let Some(part) = &self.part {
             let _ = fs::remove_file(self.files, part.draft.as_str());
         }
     }
 
     /// Writes the text to an output.
-    pub fn write_to<O: Write>(&self, output: &mut O) -> io::Result<()> {
+    pub(crate) fn write_to<O: Write>(&self, output: &mut O) -> io::Result<()> {
         if let Some(part) = &self.part {
             copy_file(self.files, &part.draft, output)?;
         }

@@ -1,0 +1,131 @@
+//! Where an answer goes: to the output, or to the files that the words name for it.
+
+use crate::saving::{Draft, Saved, is_one_file};
+use command_texts::{Fault, STANDARD_OUTPUT, USAGE, cause_of, tell};
+use command_words::Targets;
+use std::alloc::Global;
+use std::io;
+use std::io::{ErrorKind, Write};
+use std::random::RandomSource;
+use std::rt::Files;
+
+// Returns the fault for an answer that could not be written to its file.
+fn put_fault<'a>(name: &'a str, error: &io::Error) -> Fault<'a> {
+    if error.kind() == ErrorKind::OutOfMemory {
+        Fault::Memory
+    } else {
+        Fault::Output(name, cause_of(error).words())
+    }
+}
+
+// Writes a text that is to get this name.
+fn draft<'a, R: Files + RandomSource>(
+    rt: &R,
+    alloc: Global,
+    name: &'a str,
+    text: &[u8],
+) -> Result<Draft, Fault<'a>> {
+    match Draft::new(rt, alloc, name, text) {
+        Ok(draft) => Ok(draft),
+        Err(error) => Err(put_fault(name, &error)),
+    }
+}
+
+// Gives a text its name.
+fn keep<'a, R: Files>(rt: &R, name: &'a str, draft: Draft) -> Result<(), Fault<'a>> {
+    match draft.keep(rt) {
+        Ok(()) => Ok(()),
+        Err(error) => Err(put_fault(name, &error)),
+    }
+}
+
+// Writes an answer that goes to no file to the output. It may be in a draft by then.
+fn write<'a, R: Files + RandomSource, O: Write>(
+    text: &Saved<'a, R>,
+    output: &mut O,
+) -> Result<(), Fault<'a>> {
+    if let Some((name, error)) = text.fault() {
+        return Err(put_fault(name, error));
+    }
+    match text.write_to(output) {
+        Ok(()) => Ok(()),
+        Err(error) => Err(put_fault(STANDARD_OUTPUT, &error)),
+    }
+}
+
+// Writes an answer to the file with this name, if there is one, or else to the output.
+fn keep_or_write<'a, R: Files + RandomSource, O: Write>(
+    rt: &R,
+    name: Option<&'a str>,
+    text: Saved<'a, R>,
+    output: &mut O,
+) -> Result<(), Fault<'a>> {
+    let Some(name) = name else {
+        let written = write(&text, output);
+        text.discard();
+        return written;
+    };
+    match text.end(name) {
+        Ok(draft) => keep(rt, name, draft),
+        Err(error) => Err(put_fault(name, &error)),
+    }
+}
+
+/// Writes an answer to the file that is named for it, or else to the output, and writes the table of a window's lines to
+/// its file. Each file gets all of its text or stays as it was. The table's file stays as it was if the answer could not
+/// be written.
+pub fn put<'a, R: Files + RandomSource, O: Write>(
+    rt: &R,
+    alloc: Global,
+    targets: Targets<'a>,
+    text: Saved<'a, R>,
+    table: &Option<Vec<u8>>,
+    output: &mut O,
+) -> Result<(), Fault<'a>> {
+    let (Some(name), Some(table)) = (targets.lines, table) else {
+        return keep_or_write(rt, targets.output, text, output);
+    };
+    let table = match draft(rt, alloc, name, table) {
+        Ok(table) => table,
+        Err(fault) => {
+            text.discard();
+            return Err(fault);
+        }
+    };
+    match keep_or_write(rt, targets.output, text, output) {
+        Ok(()) => keep(rt, name, table),
+        Err(fault) => {
+            table.remove(rt);
+            Err(fault)
+        }
+    }
+}
+
+// Returns whether the two files that the words name are the same file, as far as it can be known.
+fn are_one<R: Files>(rt: &R, alloc: Global, targets: Targets<'_>) -> io::Result<bool> {
+    match (targets.lines, targets.output) {
+        (Some(lines), Some(output)) => is_one_file(rt, alloc, lines, output),
+        _ => Ok(false),
+    }
+}
+
+// Reports that the two files that the words name are the same file.
+fn tell_one_file<E: Write>(errors: &mut E) -> u8 {
+    let _ = errors.write_all(b"error: --lines and --output name one file\n");
+    USAGE
+}
+
+/// Returns the status for files that the words name, if they are refused: they are the same file, or memory ran out.
+pub fn refuse_targets<R: Files, E: Write>(
+    rt: &R,
+    alloc: Global,
+    targets: Targets<'_>,
+    errors: &mut E,
+) -> Option<u8> {
+    match are_one(rt, alloc, targets) {
+        Ok(true) => Some(tell_one_file(errors)),
+        Err(error) if error.kind() == ErrorKind::OutOfMemory => Some(tell(Fault::Memory, errors)),
+        // If it cannot be known, the writing fails and says so.
+        Ok(false) | Err(_) => None,
+    }
+}
