@@ -120,30 +120,25 @@ where
     }
 }
 
-// Does what the words ask for.
-fn perform(rt: &HostRuntime, words: &[&str]) -> u8 {
-    let alloc = rt.alloc();
-    let mut errors = rt.stderr();
-    let texts = WithFolders {
-        rt,
-        disk: Disk { rt },
-        words,
-    };
-    let mut output = Closable::new(rt.stdout());
-    match read_words(alloc, words) {
-        Ok(reading) => answer_to(rt, alloc, &texts, reading, &mut output, &mut errors),
-        Err(_) => tell(Fault::Memory, &mut errors),
-    }
-}
-
 fn main(rt: HostRuntime) -> ExitCode {
     let alloc = rt.alloc();
     let mut errors = rt.stderr();
-    ExitCode::from(match words(&rt) {
-        Ok(words) => match slices(alloc, words.as_slice()) {
-            Ok(words) => perform(&rt, words.as_slice()),
-            Err(_) => tell(Fault::Memory, &mut errors),
-        },
-        Err(error) => refuse_words(&rt, alloc, &error, &mut errors),
+    let words = match words(&rt) {
+        Ok(words) => words,
+        Err(error) => return ExitCode::from(refuse_words(&rt, alloc, &error, &mut errors)),
+    };
+    let Ok(words) = slices(alloc, words.as_slice()) else {
+        return ExitCode::from(tell(Fault::Memory, &mut errors));
+    };
+    let words = words.as_slice();
+    let texts = WithFolders {
+        rt: &rt,
+        disk: Disk { rt: &rt },
+        words,
+    };
+    let mut output = Closable::new(rt.stdout());
+    ExitCode::from(match read_words(alloc, words) {
+        Ok(reading) => answer_to(&rt, alloc, &texts, reading, &mut output, &mut errors),
+        Err(_) => tell(Fault::Memory, &mut errors),
     })
 }
