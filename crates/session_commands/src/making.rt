@@ -12,7 +12,8 @@ ghost use Rattle.command_texts.specs.Written.{BothGain, Gains};
 ghost use Rattle.session_commands.specs.Files.{bytes_in, WritesText};
 ghost use Rattle.session_commands.specs.Texts.{WritesSession};
 ghost use Rattle.session_commands.specs.inner.Seen.{HasFacts, HasSeen, IsKnown};
-ghost use Rattle.session_facts.specs.Facts.{ReachIn, SomeIn};
+ghost use Rattle.session_facts.specs.Facts.{IsFacts, ReachIn, SomeIn};
+ghost use Rattle.session_facts.specs.Written.{IsWrittenFront};
 ghost use Rattle.session_words.specs.Telling.{SaysUnless};
 
 use crate::files::OpenedLogs;
@@ -204,13 +205,72 @@ pub(crate) struct Known {
     said: Vec<u8>,
 }
 
-/// What the records of the logs tell before they are written.
+/// How many records of each log are written, and the form of their text.
 #[derive(Drop)]
-pub(crate) struct Seen {
-    messages: Messages,
+pub(crate) struct Form {
     front: Front,
     version: Version,
     size: Size,
+}
+
+/// What the records of the logs tell before they are written.
+#[derive(Drop)]
+struct Seen {
+    messages: Messages,
+    form: Form,
+}
+
+/// Checks what is known of the records, and adds what is said of them. Returns how many of each log are written.
+fn judge_facts<S: TextSource>(
+    said: &mut Vec<u8>,
+    alloc: Global,
+    machine: &WideMachine,
+    files: &OpenedLogs<'_, S>,
+    messages: &Messages,
+    facts: &Facts,
+    has_all: bool,
+    expected: Front,
+) -> Result<Front, Stop>
+    requires { IsMachine (extent_of machine.now) }
+    ensures { IfOk result (λ front. (s : Recorded) → IsFacts facts.now s → IsWrittenFront s front × SaysUnless said.old.items said.new.items (IsTrue has_all × ReachIn s front × SomeIn (log_length s))) }
+{
+    check_facts(
+        alloc,
+        machine,
+        files,
+        facts,
+        expected,
+        said.as_slice(),
+        has_all,
+    )?;
+    let front = facts.written_front();
+    tell_facts(said, alloc, machine, files, messages, facts, front)?;
+    Ok(front)
+}
+
+/// Goes through the records of the logs, whose messages were noted, and adds what is said of them.
+fn see_facts<S: TextSource>(
+    said: &mut Vec<u8>,
+    alloc: Global,
+    machine: &WideMachine,
+    files: &OpenedLogs<'_, S>,
+    messages: &Messages,
+    expected: Front,
+) -> Result<Form, Stop>
+    requires { IsMachine (extent_of machine.now) }
+    ensures { IfOk result (HasSeen machine.now (bytes_in (S.bytes_of files.now.texts.now) files.now.logs.now) files.now.logs.now.lane said.old.items said.new.items) }
+{
+    let found = facts_of(alloc, machine, files, messages)?;
+    let facts = &found.0;
+    let front = judge_facts(
+        said, alloc, machine, files, messages, facts, found.1, expected,
+    )?;
+    let form = form_of(facts, front, machine, &files.logs.lane);
+    Ok(Form {
+        front,
+        version: form.0,
+        size: form.1,
+    })
 }
 
 /// Goes through the records of the logs, and adds what is said of them.
@@ -222,29 +282,11 @@ fn see<S: TextSource>(
     expected: Front,
 ) -> Result<Seen, Stop>
     requires { IsMachine (extent_of machine.now) }
-    ensures { IfOk result (λ seen. HasSeen machine.now (bytes_in (S.bytes_of files.now.texts.now) files.now.logs.now) files.now.logs.now.lane said.old.items said.new.items seen) }
+    ensures { IfOk result (λ seen. HasSeen machine.now (bytes_in (S.bytes_of files.now.texts.now) files.now.logs.now) files.now.logs.now.lane said.old.items said.new.items seen.form) }
 {
     let messages = messages_of(alloc, machine, files)?;
-    let found = facts_of(alloc, machine, files, &messages)?;
-    let facts = &found.0;
-    check_facts(
-        alloc,
-        machine,
-        files,
-        facts,
-        expected,
-        said.as_slice(),
-        found.1,
-    )?;
-    let front = facts.written_front();
-    tell_facts(said, alloc, machine, files, &messages, facts, front)?;
-    let form = form_of(facts, front, machine, &files.logs.lane);
-    Ok(Seen {
-        messages,
-        front,
-        version: form.0,
-        size: form.1,
-    })
+    let form = see_facts(said, alloc, machine, files, &messages, expected)?;
+    Ok(Seen { messages, form })
 }
 
 /// Goes through the files, up to what is to be known before the text is written.
@@ -266,13 +308,13 @@ fn know<S: TextSource>(alloc: Global, texts: &S, logs: &FoundLogs) -> Result<Kno
     let seen = see(&mut said, alloc, &machine, &files, expected)?;
     Ok(Known {
         machine: WideMachine {
-            version: seen.version,
-            size: seen.size,
+            version: seen.form.version,
+            size: seen.form.size,
             ..machine
         },
         init: description.init,
         messages: seen.messages,
-        front: seen.front,
+        front: seen.form.front,
         said,
     })
 }

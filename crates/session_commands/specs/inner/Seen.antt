@@ -11,7 +11,7 @@ use Rattle.session_facts.specs.declared.facts.Facts.{Facts}
 use Rattle.found_logs.specs.declared.found.FoundLog.{FoundLog}
 use Rattle.found_logs.specs.declared.found.FoundLogs.{FoundLogs}
 use Rattle.session_commands.specs.declared.making.Known.{Known}
-use Rattle.session_commands.specs.declared.making.Seen.{Seen}
+use Rattle.session_commands.specs.declared.making.Form.{Form}
 
 -- the files tell a recording of which this was collected; and whether no log has a hole
 pub record HasFacts (machine : WideMachine) (bytes : Bytes) (facts : Facts) (has_all : Bool) : Type 0 where
@@ -21,7 +21,7 @@ pub record HasFacts (machine : WideMachine) (bytes : Bytes) (facts : Facts) (has
   pub all : IsTrue has_all → HasNoHole made
 
 -- what is written of the recording that the files tell; and where nothing is said of what is lacking, nothing is left out
-pub record HasSeen (machine : WideMachine) (bytes : Bytes) (lane : FoundLog) (said_before said : List ℕ) (seen : Seen) : Type 0 where
+pub record HasSeen (machine : WideMachine) (bytes : Bytes) (lane : FoundLog) (said_before said : List ℕ) (seen : Form) : Type 0 where
   pub s : Recorded
   pub made : IsRecordingOf machine [] bytes s
   pub written : IsWrittenFront s seen.front
