@@ -1,6 +1,6 @@
 //! The command `session`, pass by pass.
 
-ghost use Rattle.std.specs.Prelude.{◌≡◌, ◌↔◌, ◌<◌, ◌⊎◌, [], Ok, IfOk, IsTrue, OnOk};
+ghost use Rattle.std.specs.Prelude.{◌≡◌, ◌↔◌, ◌<◌, ◌⊎◌, [], Ok, IfErr, IfOk, IsTrue, OnOk};
 ghost use Rattle.command_words.specs.declared.requests.Lacking.TheVariants.{Refused};
 ghost use Rattle.migration_types.specs.Sessions.{Recorded, log_length};
 ghost use Rattle.recordings.specs.Recordings.{IsMachine};
@@ -11,7 +11,8 @@ ghost use Rattle.command_texts.specs.Several.{IsListStatus, TellsOneUnread, name
 ghost use Rattle.command_texts.specs.Written.{BothGain, Gains};
 ghost use Rattle.session_commands.specs.Files.{bytes_in, WritesText};
 ghost use Rattle.session_commands.specs.Texts.{WritesSession};
-ghost use Rattle.session_commands.specs.inner.Seen.{HasFacts, HasSeen, IsKnown};
+ghost use Rattle.std.specs.Io.KnownBytes.{Keeps};
+ghost use Rattle.session_commands.specs.inner.Seen.{HasFacts, HasSeen, IsKnown, IsUnfit};
 ghost use Rattle.session_facts.specs.Facts.{IsFacts, ReachIn, SomeIn};
 ghost use Rattle.session_facts.specs.Written.{IsWrittenFront};
 ghost use Rattle.session_words.specs.Telling.{SaysUnless};
@@ -332,6 +333,7 @@ fn write<S: TextSource, O: Write>(
     requires asked { lacking ≡ Refused → known.said.items ≡ [] }
     ensures status { IfOk result (λ status. status ≡ 0) }
     ensures written { OnOk result (WritesText (S.bytes_of texts.now) logs.now lacking (O.contents output.old) (O.contents output.new)) }
+    ensures fit { IfErr result (λ stop. IsUnfit stop → ⊥) }
     ensures gains { Gains (O.contents output.old) (O.contents output.new) }
 {
     let Known {
@@ -380,6 +382,8 @@ fn settle<S: TextSource, O: Write, E: Write>(
     requires { IsKnown (S.bytes_of texts.now) logs.now known }
     ensures few { IfOk result (λ status. status < 2) }
     ensures written { IfOk result (λ status. status ≡ 0 → WritesText (S.bytes_of texts.now) logs.now lacking (O.contents output.old) (O.contents output.new)) }
+    ensures refused { IfOk result (λ status. status ≡ 1 → Keeps (O.contents output.old) (O.contents output.new)) }
+    ensures unfit { IfErr result (λ stop. IsUnfit stop → Keeps (O.contents output.old) (O.contents output.new)) }
     ensures gains { BothGain (O.contents output.old, E.contents errors.old) (O.contents output.new, E.contents errors.new) }
 {
     if known.said.is_empty() {
@@ -406,6 +410,8 @@ fn make<S: TextSource, O: Write, E: Write>(
 ) -> Result<u8, Stop>
     ensures few { IfOk result (λ status. status < 2) }
     ensures written { IfOk result (λ status. status ≡ 0 → WritesSession (S.names_in texts.now) (S.bytes_of texts.now) (names_of folders.now) lacking (O.contents output.old) (O.contents output.new)) }
+    ensures refused { IfOk result (λ status. status ≡ 1 → Keeps (O.contents output.old) (O.contents output.new)) }
+    ensures unfit { IfErr result (λ stop. IsUnfit stop → Keeps (O.contents output.old) (O.contents output.new)) }
     ensures gains { BothGain (O.contents output.old, E.contents errors.old) (O.contents output.new, E.contents errors.new) }
 {
     let logs = find_logs(alloc, texts, folders)?;
@@ -429,6 +435,7 @@ fn tell_unfit<E: Write>(alloc: Global, words: &[u8], errors: &mut E) -> Result<u
 #[tactic(auto, using(crate::proofs::Gained::same, crate::proofs::Gained::front, crate::proofs::Gained::both))]
 fn tell_stop<'a, E: Write>(alloc: Global, stop: Stop, errors: &mut E) -> Result<u8, Fault<'a>>
     ensures known { IfOk result (λ status. (status ≡ 1) ⊎ (status ≡ 3)) }
+    ensures unfit { IfOk result (λ status. status ≡ 1 → IsUnfit stop) }
     ensures unread { IfOk result (λ status. status ≡ 3 → TellsOneUnread (E.contents errors.old) (E.contents errors.new)) }
     ensures gains { Gains (E.contents errors.old) (E.contents errors.new) }
 {
@@ -453,6 +460,7 @@ pub fn perform_session<'a, R, S: TextSource, I, O: Write, E: Write>(
     ensures known { IfOk result IsListStatus }
     ensures unread { IfOk result (λ status. status ≡ 3 → TellsOneUnread (E.contents console.old.errors) (E.contents console.new.errors)) }
     ensures written { result ≡ Ok 0 → WritesSession (S.names_in console.old.texts.now) (S.bytes_of console.old.texts.now) (names_of folders.now) lacking (O.contents console.old.output) (O.contents console.new.output) }
+    ensures refused { result ≡ Ok 1 → Keeps (O.contents console.old.output) (O.contents console.new.output) }
     ensures gains { BothGain (O.contents console.old.output, E.contents console.old.errors) (O.contents console.new.output, E.contents console.new.errors) }
 {
     let alloc = console.alloc;

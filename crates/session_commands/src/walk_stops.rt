@@ -1,6 +1,7 @@
 //! Why the logs were not gone through, or their text was not written.
 
 ghost use Rattle.std.specs.Prelude.{◌≡◌, [], IsTrue, OnOk};
+ghost use Rattle.session_commands.specs.inner.Seen.{IsUnfit};
 
 use crate::files::OpenedLogs;
 use command_texts::TextSource;
@@ -99,9 +100,29 @@ fn own_log_stop<S: TextSource>(
     Ok(Stop::Unfit(own_log_words(alloc, party, paths, own, number, &placed)?))
 }
 
-/// Returns the fault of files that have changed since they were surveyed.
-pub(crate) fn changed(alloc: Global, logs: &FoundLogs) -> Stop {
-    unread_file(alloc, logs.machine.paths.as_slice(), 0)
+/// The cause if the files of a recording have changed since they were surveyed.
+const CHANGED: &str = "a file of this recording was not read to its end, or has changed since";
+
+/// Returns the folder of a file.
+fn folder_of(path: &str) -> &str {
+    match path.rsplit_once('/') {
+        Some((folder, _)) => folder,
+        None => path,
+    }
+}
+
+/// Returns the fault of files that have changed since they were surveyed. The folder of the machine's file stands for them all.
+pub(crate) fn changed(alloc: Global, logs: &FoundLogs) -> Stop
+    ensures { IsUnfit result → ⊥ }
+{
+    let first = match logs.machine.paths.as_slice().first() {
+        Some(path) => folder_of(path.as_str()),
+        None => "",
+    };
+    match String::from_str(alloc, first) {
+        Ok(folder) => Stop::File(folder, CHANGED),
+        Err(_) => Stop::Memory,
+    }
 }
 
 /// Returns why the logs were not gone through.
@@ -123,6 +144,17 @@ pub(crate) fn walk_stop<S: TextSource>(
     }
 }
 
+/// Returns why the logs were not gone through once more, which were gone through before. So files that make no session have
+/// changed.
+fn later_stop(alloc: Global, logs: &FoundLogs, stop: Stop) -> Stop
+    ensures { IsUnfit result → ⊥ }
+{
+    match stop {
+        Stop::Unfit(_) => changed(alloc, logs),
+        stop => stop,
+    }
+}
+
 /// Returns why the text was not written.
 pub(crate) fn write_stop<S: TextSource>(
     alloc: Global,
@@ -130,9 +162,13 @@ pub(crate) fn write_stop<S: TextSource>(
     machine: &WideMachine,
     logs: &FoundLogs,
     fault: WriteFault<WalkFault>,
-) -> Stop {
+) -> Stop
+    ensures { IsUnfit result → ⊥ }
+{
     match fault {
-        WriteFault::Recording(fault) => walk_stop(alloc, texts, machine, logs, fault),
+        WriteFault::Recording(fault) => {
+            later_stop(alloc, logs, walk_stop(alloc, texts, machine, logs, fault))
+        }
         WriteFault::Output(cause) => Stop::Output(cause.words()),
         WriteFault::Changed => changed(alloc, logs),
         WriteFault::Memory => Stop::Memory,

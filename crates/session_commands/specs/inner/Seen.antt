@@ -1,5 +1,5 @@
 -- What is known of a recording before its text is written.
-use Rattle.std.specs.Prelude.{◌≡◌, ℕ, Bool, List, [], Option, IsTrue}
+use Rattle.std.specs.Prelude.{◌≡◌, ℕ, Bool, List, [], Option, IsTrue, ⊤}
 use Rattle.migration_types.specs.Sessions.{Recorded}
 use Rattle.recordings.specs.declared.machine.WideMachine.{WideMachine}
 use Rattle.walked_logs.specs.Walks.{Bytes, HasNoHole, IsRecordingOf}
@@ -7,6 +7,8 @@ use Rattle.session_facts.specs.Facts.{IsFacts}
 use Rattle.session_facts.specs.Written.{IsWrittenFront}
 use Rattle.session_commands.specs.Files.{IsChosen, IsFormOf, LeavesNothing, LosesNothing}
 use Rattle.session_words.specs.Telling.{SaysUnless}
+use Rattle.session_words.specs.declared.stops.Stop.{Stop}
+use Rattle.session_words.specs.declared.stops.Stop.TheVariants.{Unfit}
 use Rattle.session_facts.specs.declared.facts.Facts.{Facts}
 use Rattle.found_logs.specs.declared.found.FoundLog.{FoundLog}
 use Rattle.found_logs.specs.declared.found.FoundLogs.{FoundLogs}
@@ -32,3 +34,8 @@ pub record HasSeen (machine : WideMachine) (bytes : Bytes) (lane : FoundLog) (sa
 pub record IsKnown (files : List ℕ → Option (List ℕ)) (logs : FoundLogs) (known : Known) : Type 0 where
   pub chosen : IsChosen files logs known.machine known.init.items known.front
   pub whole : known.said.items ≡ [] → LosesNothing chosen
+
+-- the files make no session
+abbrev pub IsUnfit : Stop → Type 0
+IsUnfit (Unfit words) = ⊤
+IsUnfit other = ⊥
