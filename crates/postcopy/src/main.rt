@@ -90,7 +90,7 @@ where
     let mut text = Saved::new(rt, alloc, targets.output);
     let mut table = None;
     let status = answer(rt, alloc, texts, reading, &mut text, errors, &mut table);
-    match put(rt, alloc, targets.at(status), text, &table, output) {
+    match put(rt, alloc, targets, status, text, &table, output) {
         Ok(()) => status,
         Err(fault) => tell(fault, errors),
     }

@@ -2,7 +2,7 @@
 
 use crate::saving::{Draft, Saved, is_one_file};
 use command_texts::{Fault, STANDARD_OUTPUT, USAGE, cause_of, tell};
-use command_words::Targets;
+use command_words::{AnswerKind, Targets};
 use std::alloc::Global;
 use std::io;
 use std::io::{ErrorKind, Write};
@@ -71,10 +71,9 @@ fn keep_or_write<'a, R: Files + RandomSource, O: Write>(
     }
 }
 
-/// Writes an answer to the file that is named for it, or else to the output, and writes the table of a window's lines to
-/// its file. Each file gets all of its text or stays as it was. The table's file stays as it was if the answer could not
-/// be written.
-pub fn put<'a, R: Files + RandomSource, O: Write>(
+// Writes an answer to the file that is named for it, or else to the output, and writes the table of a window's lines to its
+// file.
+fn put_answer<'a, R: Files + RandomSource, O: Write>(
     rt: &R,
     alloc: Global,
     targets: Targets<'a>,
@@ -99,6 +98,34 @@ pub fn put<'a, R: Files + RandomSource, O: Write>(
             Err(fault)
         }
     }
+}
+
+// Returns whether what a command has made with this status is a part of a text, of which the file and the output get
+// nothing.
+fn is_part(targets: Targets<'_>, status: u8) -> bool {
+    match targets.answer {
+        AnswerKind::Artifact => status > 1,
+        AnswerKind::Report => false,
+    }
+}
+
+/// Writes the answer to the file that is named for it at this status, or else to the output, and writes the table of a
+/// window's lines to its file. Each file gets all of its text or stays as it was. The table's file stays as it was if the
+/// answer could not be written. Above 1 nothing is written of a certificate, a session or a picture.
+pub fn put<'a, R: Files + RandomSource, O: Write>(
+    rt: &R,
+    alloc: Global,
+    targets: Targets<'a>,
+    status: u8,
+    text: Saved<'a, R>,
+    table: &Option<Vec<u8>>,
+    output: &mut O,
+) -> Result<(), Fault<'a>> {
+    if is_part(targets, status) {
+        text.discard();
+        return Ok(());
+    }
+    put_answer(rt, alloc, targets.at(status), text, table, output)
 }
 
 // Returns whether the two files that the words name are the same file, as far as it can be known.
