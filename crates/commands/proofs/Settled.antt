@@ -24,6 +24,13 @@ no_fault Threads zero = absurd cc
 no_fault (Output name why) zero = absurd cc
 no_fault Memory zero = absurd cc
 
+one_fault : (fault : Fault) → 1 ≡ fault_status fault → ⊥
+one_fault (File name why) one = absurd cc
+one_fault Link one = absurd cc
+one_fault Threads one = absurd cc
+one_fault (Output name why) one = absurd cc
+one_fault Memory one = absurd cc
+
 ok_same : (a b : ℕ) → ◌≡◌ {A = Result ℕ Fault} (Ok a) (Ok b) → a ≡ b
 ok_same a b e = cc
 
@@ -99,6 +106,14 @@ well_done (Err fault) status errors new e zero = absurd (no_fault fault (sym zer
 
 pub well_lines : (P : Type 0) (done : Result ℕ Fault) (status : ℕ) (errors new : Option (List ℕ)) → IsTold done status errors new → (done ≡ Ok 0 → P) → status ≡ 0 → P
 well_lines P done status errors new e h zero = h (well_done done status errors new e zero)
+
+-- nor is one of 1
+one_done : (done : Result ℕ Fault) (status : ℕ) (errors new : Option (List ℕ)) → IsTold done status errors new → status ≡ 1 → done ≡ Ok 1
+one_done (Ok s) status errors new e one = ap Ok (sym e.0 ∙ one)
+one_done (Err fault) status errors new e one = absurd (one_fault fault (sym one ∙ e.0))
+
+pub unmade : (P : Type 0) (done : Result ℕ Fault) (status : ℕ) (errors new : Option (List ℕ)) → IsTold done status errors new → (done ≡ Ok 1 → P) → status ≡ 1 → P
+unmade P done status errors new e h one = h (one_done done status errors new e one)
 
 pub kept_lines : (P : Type 0) (done : Result ℕ Fault) (status : ℕ) (errors new : Option (List ℕ)) → IsTold done status errors new → (done ≢ Ok 0 → P) → status ≢ 0 → P
 kept_lines P (Ok s) status errors new e h other = h (λ same. other (e.0 ∙ ok_same s 0 same))

@@ -110,6 +110,7 @@ fn grant<
     ensures job { IfSome (job_of intent.entry) (λ job. IsSettled (EndsAsked job (S.bytes_of console.old.texts.now) (I.remaining console.old.input) (O.contents console.old.output, E.contents console.old.errors)) (O.contents console.new.output, E.contents console.new.errors) result) }
     ensures several { IfSome (several_of intent.entry) (λ asked. IsSettledList (EndsSeveral asked (S.bytes_of console.old.texts.now) (O.contents console.old.output, E.contents console.old.errors)) (O.contents console.new.output, E.contents console.new.errors) result) }
     ensures folders { IfSome (folders_of intent.entry) (λ asked. result ≡ 0 → WritesSession (S.names_in console.old.texts.now) (S.bytes_of console.old.texts.now) asked.1 asked.0 (O.contents console.old.output) (O.contents console.new.output)) }
+    ensures unmade { IfSome (folders_of intent.entry) (λ asked. result ≡ 1 → Keeps (O.contents console.old.output) (O.contents console.new.output)) }
     ensures lines { result ≡ 0 → IfSome (job_of intent.entry) (λ job. HasLines job (S.bytes_of console.old.texts.now) (O.contents console.old.output) (O.contents console.new.output) lines.old lines.new) }
     ensures unlined { job_of intent.entry ≡ None → lines.new ≡ lines.old }
     ensures kept { result ≢ 0 → lines.new ≡ lines.old }
@@ -199,6 +200,7 @@ pub fn run<
     ensures told { takes postcopy_words reading.entry ≡ true → IfSome (asked reading.entry) (λ job. IsSettled (EndsAsked job (S.bytes_of console.old.texts.now) (I.remaining console.old.input) (O.contents console.old.output, E.contents console.old.errors)) (O.contents console.new.output, E.contents console.new.errors) result) }
     ensures several { takes postcopy_words reading.entry ≡ true → IfSome (several_asked reading.entry) (λ asked. IsSettledList (EndsSeveral asked (S.bytes_of console.old.texts.now) (O.contents console.old.output, E.contents console.old.errors)) (O.contents console.new.output, E.contents console.new.errors) result) }
     ensures folders { takes postcopy_words reading.entry ≡ true → IfSome (folders_asked reading.entry) (λ asked. result ≡ 0 → WritesSession (S.names_in console.old.texts.now) (S.bytes_of console.old.texts.now) asked.1 asked.0 (O.contents console.old.output) (O.contents console.new.output)) }
+    ensures unmade { takes postcopy_words reading.entry ≡ true → IfSome (folders_asked reading.entry) (λ asked. result ≡ 1 → Keeps (O.contents console.old.output) (O.contents console.new.output)) }
     ensures lines { takes postcopy_words reading.entry ≡ true → result ≡ 0 → IfSome (asked reading.entry) (λ job. HasLines job (S.bytes_of console.old.texts.now) (O.contents console.old.output) (O.contents console.new.output) lines.old lines.new) }
     ensures unlined { asked reading.entry ≡ None → lines.new ≡ lines.old }
     ensures kept { result ≢ 0 → lines.new ≡ lines.old }

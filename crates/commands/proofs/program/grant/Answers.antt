@@ -1,12 +1,13 @@
 use Rattle.std.proofs.Common.{◌≡◌, ℕ, List, None, Ok, subst}
 use Rattle.std.specs.Borrow.{Bor}
+use Rattle.std.specs.Io.KnownBytes.{Keeps}
 use Rattle.clap.specs.Words.{Text}
 use Rattle.command_words.specs.Table.{asked_names, several_names}
 use Rattle.command_texts.specs.Several.{IsListStatus, names_of}
 use Rattle.command_texts.specs.Written.{Streams}
 use Rattle.command_texts.proofs.Fronts.{both_gain}
 use Rattle.commands.specs.Told.{EndsAsked, EndsSeveral, HasLines}
-use Rattle.commands.proofs.Settled.{kept_lines, known, known_list, settled, settled_as, told_at_last, told_of_list, well_lines}
+use Rattle.commands.proofs.Settled.{kept_lines, known, known_list, settled, settled_as, told_at_last, told_of_list, unmade, well_lines}
 use Rattle.session_commands.specs.Texts.{WritesSession}
 use Rattle.commands.proofs.program.grant.Goals as goal
 
@@ -65,3 +66,8 @@ returns-in-Folders-clause-folders g c =
     let Written = λ (names : List (Bor Text)). WritesSession (g.S.TextSource.names_in texts) (g.S.TextSource.bytes_of texts) (names_of names) folders.lacking (g.O.Write.contents c.args.console.now.output) (g.O.Write.contents done.new.console.output) in
     let written = subst (λ (names : List (Bor Text)). done.result ≡ Ok 0 → Written names) c.as_slice.ensures.value done.ensures.written in
     rw c.in-Folders.is (well_lines (Written folders.names.items) done.result c.settle-in-Folders.result _ _ c.settle-in-Folders.ensures.settled written)
+
+pub returns-in-Folders-clause-unmade : goal.returns-in-Folders-clause-unmade
+returns-in-Folders-clause-unmade g c =
+    let done = c.perform_session-done in
+    rw c.in-Folders.is (unmade (Keeps (g.O.Write.contents c.args.console.now.output) (g.O.Write.contents done.new.console.output)) done.result c.settle-in-Folders.result _ _ c.settle-in-Folders.ensures.settled done.ensures.refused)

@@ -1,4 +1,5 @@
 use Rattle.std.proofs.Common.{◌≡◌, ◌∙◌, ◌<◌, ℕ, Bool, List, Some, None, inl, sym, ap, subst, arith, option_and_then}
+use Rattle.std.specs.Io.KnownBytes.{Keeps}
 use Rattle.clap.specs.Words.{Text, kind_of}
 use Rattle.command_words.specs.declared.requests.Request.{Request}
 use Rattle.command_words.specs.declared.requests.Request.TheVariants.{Two}
@@ -136,3 +137,13 @@ returns-in-Err-clause-headline g c = λ first second asks zero.
     let alike = asked_alike c.args.reading (Two (Check is.checks) first second) is.asks in
     let clash = (c.in-Err.ensures.err is.taken).0 in
     absurd cc
+
+pub returns-in-Ok-Some-clause-unmade : goal.returns-in-Ok-Some-clause-unmade
+returns-in-Ok-Some-clause-unmade g c = λ taken. some_told (folders_of c.in-Ok-Some.intent) (folders_asked c.args.reading) (λ (asked : Lacking × List Text). c.grant.result ≡ 1 → Keeps (g.O.Write.contents c.args.console.now.output) (g.O.Write.contents c.grant.new.console.output))
+    (ap (option_and_then folders_of) (sym c.in-Ok-Some.field-0-is) ∙ c.in-Ok-Some.ensures.folders) c.grant.ensures.unmade
+
+pub returns-in-Err-clause-unmade : goal.returns-in-Err-clause-unmade
+returns-in-Err-clause-unmade g c = λ taken. if_some (folders_asked c.args.reading) _ (λ folders e.
+    let alike = folders_asked_alike c.args.reading folders e in
+    let clash = (c.in-Err.ensures.err taken).0 in
+    absurd cc)
