@@ -196,6 +196,6 @@ def test_help(program, room):
     for name, (words, arguments, options) in HELP.items():
         status, told, errors = tests.run(name, "--help")
         same(f"the help of {name}", (status, errors, told.split("\n")[0]), (0, "", words))
-        same(f"the usage of {name}", told.split("\n")[2], f"Usage: postcopy {name} [OPTIONS] {' '.join(arguments)}")
+        same(f"the usage of {name}", told.split("\n")[2], f"Usage: {os.path.basename(program)} {name} [OPTIONS] {' '.join(arguments)}")
         same(f"the words of {name}", listed(told, "Arguments"), arguments)
         same(f"the options of {name}", listed(told, "Options"), {**options, **COMMON})

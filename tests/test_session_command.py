@@ -206,6 +206,9 @@ PIECE = 65536
 MEMORY = (4, b"", b"out of memory\n")
 NOT_READ = b"the file was not read to its end, or has changed since"
 
+# What is told of the folder of a recording of which some file has changed before the last pass.
+CHANGED = b"a file of this recording was not read to its end, or has changed since"
+
 
 @pytest.mark.cases(900)
 def test_refused_calls(program, room, refusing):
@@ -251,9 +254,12 @@ def test_failed_late(program, room, refusing):
         if output:
             found = run.counted(f"read {number} {number} none", "session", folder)[0]
             changed += found != plain
-            is_told = (found[0], plain[1].startswith(found[1]), found[2].endswith(b": %s\n" % NOT_READ)) == (3, True, True)
+            is_told = (found[0], plain[1].startswith(found[1])) == (3, True) and found[2].endswith((b": %s\n" % NOT_READ, b"%s: %s\n" % (folder.encode(), CHANGED)))
             count(found == plain or is_told, f"nothing more comes at read {number}: {str(found)[-300:]}")
     same("a file that is shorter in the last pass", changed > 2, True)
+    run.put("kept", b"as it was\n")
+    found = run.counted(f"read {reads} {reads} {errno.EIO}", "session", folder, "-o", "kept")[0]
+    same("the file of an answer whose last read fails, and the output", (found[:2], run.has("kept")), ((3, b""), b"as it was\n"))
     same("how much is written", (lengths[0], lengths == sorted(lengths), PIECE < lengths[-1] < len(plain[1])), (0, True, True))
 
 
