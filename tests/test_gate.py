@@ -8,7 +8,7 @@ import subprocess
 import pytest
 
 TOP = os.path.dirname(os.path.dirname(os.path.abspath(__file__)))
-PARTS = ("rt ci", "tools/library --build", "tools/page --build", "tools/compare-shipped", "tests/pytest -n auto --durations 15")
+PARTS = ("rt ci", "tools/library --build", "tools/page --build", "tools/compare-shipped", "tests/pytest -n auto --dist loadgroup --durations 15")
 LEFT_OUT = "left out: the Rattle toolchain is not installed: there is no command rt"
 
 pytestmark = pytest.mark.quick
