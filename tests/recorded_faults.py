@@ -226,6 +226,9 @@ class Faults:
         line("guest", "0 w 64 0 0 5", f"{record}'w 64 0 0 5': '64' is no vcpu: a number from 0 to 63")
         line("guest", "0 w 0 2 0 5", f"{record}'w 0 2 0 5': there is no page 2: the machine has 2 pages, from 0 on")
         line("guest", "0 w 0 0 1 5", f"{record}'w 0 0 1 5': there is no cell 1: a page has 1 cells, from 0 on")
+        far = ["w 0 4999999999 1 5", *MOVED["guest"]]
+        self.wants("no cell of a far page", self.recording(machine=["pages 5000000000 1"], guest=text_of_file("guest", numbered(far), last=f"end {len(far)}")), 2,
+                   f"{record}'w 0 4999999999 1 5': there is no cell 1: a page has 1 cells, from 0 on")
         line("guest", "0 w 0 0 0", f"{record}'w 0 0 0': 'w' has 4 fields and not 3")
         line("guest", "0 ww 0 0 0 5", f"{record}'ww 0 0 0 5': the guest's log has no record 'ww'")
         line("source", "2 send 0 05", "FOLDER/source.1.0:6: record 2 of the source's log, 'send 0 05': '05' is no contents: 16 digits of 0 to 9 and a to f for each cell", at=6)

@@ -8,12 +8,12 @@ use crate::words::{Piece, push, push_sentence, sentence, word_at};
 use command_texts::TextSource;
 use migration_types::{LogName, MOST_CELLS};
 use recorded_files::Party;
-use recordings::WideMachine;
+use recordings::{BEYOND, WideMachine};
 use std::alloc::{AllocError, Global};
 
 /// A field of a record, by what it has.
 #[derive(Clone, Copy)]
-enum FieldKind {
+enum RawField {
     Vcpu,
     Page,
     Cell,
@@ -23,199 +23,199 @@ enum FieldKind {
     Record(&'static str),
 }
 
-const NO_FIELD: &[FieldKind] = &[];
+const NO_FIELD: &[RawField] = &[];
 
-const ACCESS: &[FieldKind] = &[
-    FieldKind::Vcpu,
-    FieldKind::Page,
-    FieldKind::Cell,
-    FieldKind::Value,
+const ACCESS: &[RawField] = &[
+    RawField::Vcpu,
+    RawField::Page,
+    RawField::Cell,
+    RawField::Value,
 ];
 
-const VCPU_PAGE: &[FieldKind] = &[FieldKind::Vcpu, FieldKind::Page];
+const VCPU_PAGE: &[RawField] = &[RawField::Vcpu, RawField::Page];
 
-const PAGE: &[FieldKind] = &[FieldKind::Page];
+const PAGE: &[RawField] = &[RawField::Page];
 
-const PAGE_CONTENTS: &[FieldKind] = &[FieldKind::Page, FieldKind::Contents];
+const PAGE_CONTENTS: &[RawField] = &[RawField::Page, RawField::Contents];
 
-const PLACED: &[FieldKind] = &[
-    FieldKind::Page,
-    FieldKind::Record("got"),
-    FieldKind::Contents,
+const PLACED: &[RawField] = &[
+    RawField::Page,
+    RawField::Record("got"),
+    RawField::Contents,
 ];
 
-const SENT: &[FieldKind] = &[FieldKind::Record("sent")];
+const SENT: &[RawField] = &[RawField::Record("sent")];
 
-const READY: &[FieldKind] = &[FieldKind::Record("ready")];
+const READY: &[RawField] = &[RawField::Record("ready")];
 
-const PLACEMENT: &[FieldKind] = &[FieldKind::Record("placement")];
+const PLACEMENT: &[RawField] = &[RawField::Record("placement")];
 
-const HALT: &[FieldKind] = &[FieldKind::Record("halt")];
+const HALT: &[RawField] = &[RawField::Record("halt")];
 
-const UP: &[FieldKind] = &[FieldKind::Record("up")];
+const UP: &[RawField] = &[RawField::Record("up")];
 
-const DOWN: &[FieldKind] = &[FieldKind::Record("down")];
+const DOWN: &[RawField] = &[RawField::Record("down")];
 
-const MISS: &[FieldKind] = &[FieldKind::Record("miss")];
+const MISS: &[RawField] = &[RawField::Record("miss")];
 
-const WANT: &[FieldKind] = &[FieldKind::Record("want")];
+const WANT: &[RawField] = &[RawField::Record("want")];
 
-const GOT: &[FieldKind] = &[FieldKind::Record("got")];
+const GOT: &[RawField] = &[RawField::Record("got")];
 
 /// The fields of a log's record that has this word.
-struct RecordForm {
+struct RawForm {
     log: LogName,
     word: &'static str,
-    fields: &'static [FieldKind],
+    fields: &'static [RawField],
 }
 
-static FORMS: [RecordForm; 30] = [
-    RecordForm {
+static FORMS: [RawForm; 30] = [
+    RawForm {
         log: LogName::Guest,
         word: "r",
         fields: ACCESS,
     },
-    RecordForm {
+    RawForm {
         log: LogName::Guest,
         word: "w",
         fields: ACCESS,
     },
-    RecordForm {
+    RawForm {
         log: LogName::Guest,
         word: "z",
         fields: VCPU_PAGE,
     },
-    RecordForm {
+    RawForm {
         log: LogName::Guest,
         word: "miss",
         fields: VCPU_PAGE,
     },
-    RecordForm {
+    RawForm {
         log: LogName::Guest,
         word: "halt",
         fields: NO_FIELD,
     },
-    RecordForm {
+    RawForm {
         log: LogName::Guest,
         word: "resume",
         fields: READY,
     },
-    RecordForm {
+    RawForm {
         log: LogName::Guest,
         word: "see",
         fields: PLACEMENT,
     },
-    RecordForm {
+    RawForm {
         log: LogName::Source,
         word: "halted",
         fields: HALT,
     },
-    RecordForm {
+    RawForm {
         log: LogName::Source,
         word: "state",
         fields: NO_FIELD,
     },
-    RecordForm {
+    RawForm {
         log: LogName::Source,
         word: "done",
         fields: NO_FIELD,
     },
-    RecordForm {
+    RawForm {
         log: LogName::Source,
         word: "back",
         fields: NO_FIELD,
     },
-    RecordForm {
+    RawForm {
         log: LogName::Source,
         word: "send",
         fields: PAGE_CONTENTS,
     },
-    RecordForm {
+    RawForm {
         log: LogName::Source,
         word: "again",
         fields: SENT,
     },
-    RecordForm {
+    RawForm {
         log: LogName::Source,
         word: "ask-sent",
         fields: SENT,
     },
-    RecordForm {
+    RawForm {
         log: LogName::Source,
         word: "ask",
         fields: UP,
     },
-    RecordForm {
+    RawForm {
         log: LogName::Link,
         word: "down",
         fields: SENT,
     },
-    RecordForm {
+    RawForm {
         log: LogName::Link,
         word: "up",
         fields: SENT,
     },
-    RecordForm {
+    RawForm {
         log: LogName::Lane,
         word: "down",
         fields: SENT,
     },
-    RecordForm {
+    RawForm {
         log: LogName::Pager,
         word: "got",
         fields: DOWN,
     },
-    RecordForm {
+    RawForm {
         log: LogName::Pager,
         word: "pull",
         fields: DOWN,
     },
-    RecordForm {
+    RawForm {
         log: LogName::Pager,
         word: "got-sent",
         fields: SENT,
     },
-    RecordForm {
+    RawForm {
         log: LogName::Pager,
         word: "pull-sent",
         fields: SENT,
     },
-    RecordForm {
+    RawForm {
         log: LogName::Pager,
         word: "ready",
         fields: NO_FIELD,
     },
-    RecordForm {
+    RawForm {
         log: LogName::Pager,
         word: "all",
         fields: NO_FIELD,
     },
-    RecordForm {
+    RawForm {
         log: LogName::Pager,
         word: "fault",
         fields: MISS,
     },
-    RecordForm {
+    RawForm {
         log: LogName::Pager,
         word: "join",
         fields: WANT,
     },
-    RecordForm {
+    RawForm {
         log: LogName::Pager,
         word: "want",
         fields: PAGE,
     },
-    RecordForm {
+    RawForm {
         log: LogName::Pager,
         word: "zero",
         fields: PAGE,
     },
-    RecordForm {
+    RawForm {
         log: LogName::Pager,
         word: "place",
         fields: PLACED,
     },
-    RecordForm {
+    RawForm {
         log: LogName::Pager,
         word: "skip",
         fields: GOT,
@@ -223,7 +223,7 @@ static FORMS: [RecordForm; 30] = [
 ];
 
 /// Returns the fields of the record of a log that has this word.
-fn fields_of(log: LogName, word: &[u8]) -> Option<&'static [FieldKind]> {
+fn fields_of(log: LogName, word: &[u8]) -> Option<&'static [RawField]> {
     for i in 0..FORMS.len() {
         if FORMS[i].log == log && FORMS[i].word.as_bytes() == word {
             return Some(FORMS[i].fields);
@@ -232,26 +232,26 @@ fn fields_of(log: LogName, word: &[u8]) -> Option<&'static [FieldKind]> {
     None
 }
 
-impl FieldKind {
+impl RawField {
     /// Returns its name.
     fn name(self) -> &'static str {
         match self {
-            FieldKind::Vcpu => "vcpu",
-            FieldKind::Page => "page",
-            FieldKind::Cell => "cell",
-            FieldKind::Value => "value",
-            FieldKind::Contents => "contents",
-            FieldKind::Record(name) => name,
+            RawField::Vcpu => "vcpu",
+            RawField::Page => "page",
+            RawField::Cell => "cell",
+            RawField::Value => "value",
+            RawField::Contents => "contents",
+            RawField::Record(name) => name,
         }
     }
 
     /// Returns its greatest number.
     fn most(self) -> u64 {
         match self {
-            FieldKind::Vcpu => 63,
-            FieldKind::Cell => 511,
-            FieldKind::Value => u64::MAX,
-            _ => u64::from(u32::MAX),
+            RawField::Vcpu => 63,
+            RawField::Cell => 511,
+            RawField::Value => u64::MAX,
+            _ => BEYOND - 1,
         }
     }
 }
@@ -280,9 +280,9 @@ fn are_contents(text: &[u8]) -> bool {
 }
 
 /// Returns whether a text is one of a field.
-fn is_of(field: FieldKind, text: &[u8]) -> bool {
+fn is_of(field: RawField, text: &[u8]) -> bool {
     match field {
-        FieldKind::Contents => are_contents(text),
+        RawField::Contents => are_contents(text),
         _ => match number_of(text) {
             Some(number) => number <= field.most(),
             None => false,
@@ -294,11 +294,11 @@ fn is_of(field: FieldKind, text: &[u8]) -> bool {
 fn push_no_field(
     out: &mut Vec<u8>,
     alloc: Global,
-    field: FieldKind,
+    field: RawField,
     text: &[u8],
 ) -> Result<(), AllocError> {
     let form = match field {
-        FieldKind::Contents => "{} is no {}: 16 digits of 0 to 9 and a to f for each cell",
+        RawField::Contents => "{} is no {}: 16 digits of 0 to 9 and a to f for each cell",
         _ => "{} is no {}: a number from 0 to {}",
     };
     push_sentence(
@@ -314,12 +314,12 @@ fn push_no_field(
 }
 
 /// Returns whether the text of a field fits the machine.
-fn fits(machine: &WideMachine, field: FieldKind, text: &[u8]) -> bool {
+fn fits(machine: &WideMachine, field: RawField, text: &[u8]) -> bool {
     let number = number_of(text).unwrap_or(0);
     match field {
-        FieldKind::Page => number < machine.pages,
-        FieldKind::Cell => number < u64::from(machine.cells),
-        FieldKind::Contents => {
+        RawField::Page => number < machine.pages,
+        RawField::Cell => number < u64::from(machine.cells),
+        RawField::Contents => {
             text.len() as u64 == u64::from(machine.cells.min(MOST_CELLS)) * 16
         }
         _ => true,
@@ -331,13 +331,13 @@ fn push_unfit(
     out: &mut Vec<u8>,
     alloc: Global,
     machine: &WideMachine,
-    field: FieldKind,
+    field: RawField,
     text: &[u8],
 ) -> Result<(), AllocError> {
     let number = number_of(text).unwrap_or(0);
     match field {
-        FieldKind::Page => push_no_page(out, alloc, number, machine.pages),
-        FieldKind::Cell => push_sentence(
+        RawField::Page => push_no_page(out, alloc, number, machine.pages),
+        RawField::Cell => push_sentence(
             out,
             alloc,
             "there is no cell {}: a page has {} cells, from 0 on",
@@ -352,7 +352,7 @@ fn push_wrong_fields(
     out: &mut Vec<u8>,
     alloc: Global,
     machine: &WideMachine,
-    fields: &[FieldKind],
+    fields: &[RawField],
     text: &[u8],
 ) -> Result<(), AllocError> {
     for i in 0..fields.len() {

@@ -15,7 +15,7 @@ use Rattle.recordings.specs.Wide.{extent_of}
 use Rattle.recordings.specs.inner.Held.{SessionDraft, came_at}
 use Rattle.recorded_files.specs.declared.fronts.Front.{Front}
 use Rattle.recorded_files.specs.Fronts.{cursors_of}
-use Rattle.written_recordings.specs.declared.faults.LineFault.{LineFault}
+use Rattle.written_recordings.specs.declared.faults.PushFault.{PushFault}
 use Rattle.written_recordings.specs.declared.text.ListKind.TheVariants as section
 use Rattle.written_recordings.specs.declared.text.Text.{Text}
 use Rattle.written_recordings.specs.Written.{text_of, HasRecords}
@@ -44,7 +44,7 @@ take_nil zero = refl
 take_nil (suc n) = refl
 
 -- the machine is met
-pub met_machine : (start known : Option (List ℕ)) (front : Front) (pages : ℕ) (old new : Text) (fault : Option LineFault) (machine : WideMachine) → IsNothing start front pages known old fault → IsMachineSaid old new machine → Holds start known new (draft_of new.init (cursors_of front) (nothing_of machine.version (extent_of machine)))
+pub met_machine : (start known : Option (List ℕ)) (front : Front) (pages : ℕ) (old new : Text) (fault : Option PushFault) (machine : WideMachine) → IsNothing start front pages known old fault → IsMachineSaid old new machine → Holds start known new (draft_of new.init (cursors_of front) (nothing_of machine.version (extent_of machine)))
 met_machine start known front pages old new fault machine nothing said =
     let d = draft_of new.init (cursors_of front) (nothing_of machine.version (extent_of machine)) in
     let same : new.front ≡ front = said.head.front ∙ nothing.front in
@@ -72,12 +72,12 @@ met_machine start known front pages old new fault machine nothing said =
 -- ---- what is met after a line was appended, and perhaps a piece written
 
 -- what settling a text ensures
-pub record Settles (known next : Option (List ℕ)) (pushed : Result (Unit {0}) LineFault) (mid new : Text) (fault : Option LineFault) : Type 0 where
+pub record Settles (known next : Option (List ℕ)) (pushed : Result (Unit {0}) PushFault) (mid new : Text) (fault : Option PushFault) : Type 0 where
   pub holds : (start : Option (List ℕ)) (d : SessionDraft) → OnOk pushed (Holds start known mid d) → fault ≡ None → Holds start next new d
   pub same : IsSame mid new
   pub ok : fault ≡ None → IsOk pushed
 
-pub meets_machine : (start known next : Option (List ℕ)) (front : Front) (pages : ℕ) (old mid new : Text) (pushed : Result (Unit {0}) LineFault) (before fault : Option LineFault) (machine : WideMachine) → IsNothing start front pages known old before → OnOk pushed (IsMachineSaid old mid machine) → Settles known next pushed mid new fault → Meets start front pages next new fault (nothing_of machine.version (extent_of machine))
+pub meets_machine : (start known next : Option (List ℕ)) (front : Front) (pages : ℕ) (old mid new : Text) (pushed : Result (Unit {0}) PushFault) (before fault : Option PushFault) (machine : WideMachine) → IsNothing start front pages known old before → OnOk pushed (IsMachineSaid old mid machine) → Settles known next pushed mid new fault → Meets start front pages next new fault (nothing_of machine.version (extent_of machine))
 meets_machine start known next front pages old mid new pushed before fault machine nothing said settles = λ none.
     let s = nothing_of machine.version (extent_of machine) in
     let was = ok_of pushed (settles.ok none) said in
@@ -89,7 +89,7 @@ meets_machine start known next front pages old mid new pushed before fault machi
       holds = subst (λ (n : ℕ). Holds start next new (draft_of n (cursors_of front) s)) (sym settles.same.init) all;
     }
 
-pub meets_more : (start known next : Option (List ℕ)) (front : Front) (pages : ℕ) (old mid new : Text) (pushed : Result (Unit {0}) LineFault) (fault : Option LineFault) (s more : Recorded) (e : SessionDraft) → ((before : List ℕ) → Stands before old (draft_of old.init (cursors_of front) s) → OnOk pushed (Stands before mid e)) → OnOk pushed (IsSame old mid) → Settles known next pushed mid new fault → draft_of old.init (cursors_of front) more ≡ e → MeetsWell start front pages known old s → Meets start front pages next new fault more
+pub meets_more : (start known next : Option (List ℕ)) (front : Front) (pages : ℕ) (old mid new : Text) (pushed : Result (Unit {0}) PushFault) (fault : Option PushFault) (s more : Recorded) (e : SessionDraft) → ((before : List ℕ) → Stands before old (draft_of old.init (cursors_of front) s) → OnOk pushed (Stands before mid e)) → OnOk pushed (IsSame old mid) → Settles known next pushed mid new fault → draft_of old.init (cursors_of front) more ≡ e → MeetsWell start front pages known old s → Meets start front pages next new fault more
 meets_more start known next front pages old mid new pushed fault s more e stands same settles is m = λ none.
     let was = ok_of pushed (settles.ok none) same in
     let h = m.holds in

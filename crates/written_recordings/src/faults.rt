@@ -17,7 +17,7 @@ pub enum WriteFault<F> {
 
 /// Why a text does not go on.
 #[derive(Clone, Copy)]
-pub(crate) enum LineFault {
+pub(crate) enum PushFault {
     /// Not all bytes were written.
     Output(Cause),
     /// A line is too many, or a line is missing.

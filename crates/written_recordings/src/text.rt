@@ -6,7 +6,7 @@ ghost use Rattle.command_texts.specs.Written.{Gains};
 ghost use Rattle.recordings.specs.Wide.{init_of, guest_of, source_of, link_of, lane_of, pager_of};
 ghost use Rattle.recordings.specs.inner.Held.{SessionDraft};
 
-use crate::faults::LineFault;
+use crate::faults::PushFault;
 use command_texts::{Cause, write_or_why};
 use migration_types::Version;
 use recorded_files::Front;
@@ -65,11 +65,11 @@ impl Text {
     }
 
     /// Appends the lines of the machine, and the number of initial pages.
-    pub(crate) fn push_machine(&mut self, machine: &WideMachine) -> Result<(), LineFault>
+    pub(crate) fn push_machine(&mut self, machine: &WideMachine) -> Result<(), PushFault>
         ensures { OnOk result (IsMachineSaid self.old self.new machine.now) }
     {
         let Ok(()) = self.push_head(machine) else {
-            return Err(LineFault::Memory);
+            return Err(PushFault::Memory);
         };
         self.version = machine.version;
         self.section = ListKind::Init;
@@ -90,14 +90,14 @@ impl Text {
     }
 
     /// Ends a list, none of whose lines is missing, and begins the next with the line of its number.
-    fn begin(&mut self, section: ListKind, key: &[u8], count: u64) -> Result<(), LineFault>
+    fn begin(&mut self, section: ListKind, key: &[u8], count: u64) -> Result<(), PushFault>
         ensures { OnOk result (Begins self.old self.new section key.now count) }
     {
         if self.left != 0 {
-            return Err(LineFault::Changed);
+            return Err(PushFault::Changed);
         }
         let Ok(()) = push_keyed(&mut self.bytes, key, count) else {
-            return Err(LineFault::Memory);
+            return Err(PushFault::Memory);
         };
         self.section = section;
         self.left = count;
@@ -105,18 +105,18 @@ impl Text {
     }
 
     /// Counts a line of a list, whose turn it is.
-    fn take(&mut self, section: ListKind) -> Result<(), LineFault>
+    fn take(&mut self, section: ListKind) -> Result<(), PushFault>
         ensures { OnOk result (Takes self.old self.new section) }
     {
         if self.section != section || self.left == 0 {
-            return Err(LineFault::Changed);
+            return Err(PushFault::Changed);
         }
         self.left -= 1;
         Ok(())
     }
 
     /// Begins the guest's log, if it has not begun.
-    fn reach_guest(&mut self) -> Result<(), LineFault>
+    fn reach_guest(&mut self) -> Result<(), PushFault>
         ensures stands { (before : List ℕ) (d : SessionDraft) → Stands before self.old d → OnOk result (Stands before self.new d) }
         ensures reached { OnOk result (1 ≤ rank self.new.section) }
         ensures same { OnOk result (IsSame self.old self.new) }
@@ -128,7 +128,7 @@ impl Text {
     }
 
     /// Begins the source's log, if it has not begun.
-    fn reach_source(&mut self) -> Result<(), LineFault>
+    fn reach_source(&mut self) -> Result<(), PushFault>
         ensures stands { (before : List ℕ) (d : SessionDraft) → Stands before self.old d → OnOk result (Stands before self.new d) }
         ensures reached { OnOk result (2 ≤ rank self.new.section) }
         ensures same { OnOk result (IsSame self.old self.new) }
@@ -141,7 +141,7 @@ impl Text {
     }
 
     /// Begins the link's log, if it has not begun.
-    fn reach_link(&mut self) -> Result<(), LineFault>
+    fn reach_link(&mut self) -> Result<(), PushFault>
         ensures stands { (before : List ℕ) (d : SessionDraft) → Stands before self.old d → OnOk result (Stands before self.new d) }
         ensures reached { OnOk result (3 ≤ rank self.new.section) }
         ensures same { OnOk result (IsSame self.old self.new) }
@@ -154,7 +154,7 @@ impl Text {
     }
 
     /// Begins the lane's log, if it has not begun and the version has one.
-    fn reach_lane(&mut self) -> Result<(), LineFault>
+    fn reach_lane(&mut self) -> Result<(), PushFault>
         ensures stands { (before : List ℕ) (d : SessionDraft) → Stands before self.old d → OnOk result (Stands before self.new d) }
         ensures reached { OnOk result (3 ≤ rank self.new.section) }
         ensures version { OnOk result (self.new.version ≡ Two → 4 ≤ rank self.new.section) }
@@ -168,7 +168,7 @@ impl Text {
     }
 
     /// Begins the pager's log, if it has not begun.
-    fn reach_pager(&mut self) -> Result<(), LineFault>
+    fn reach_pager(&mut self) -> Result<(), PushFault>
         ensures stands { (before : List ℕ) (d : SessionDraft) → Stands before self.old d → OnOk result (Stands before self.new d) }
         ensures reached { OnOk result (5 ≤ rank self.new.section) }
         ensures same { OnOk result (IsSame self.old self.new) }
@@ -181,78 +181,78 @@ impl Text {
     }
 
     /// Appends the line of an initial page.
-    pub(crate) fn push_init(&mut self, page: &WideInit) -> Result<(), LineFault>
+    pub(crate) fn push_init(&mut self, page: &WideInit) -> Result<(), PushFault>
         ensures stands { (before : List ℕ) (d : SessionDraft) → Stands before self.old d → OnOk result (Stands before self.new (and_init d (init_of page.now))) }
         ensures same { OnOk result (IsSame self.old self.new) }
     {
         self.take(ListKind::Init)?;
         let Ok(()) = page.push(&mut self.bytes) else {
-            return Err(LineFault::Memory);
+            return Err(PushFault::Memory);
         };
         Ok(())
     }
 
     /// Appends the line of a record of the guest.
-    pub(crate) fn push_guest(&mut self, rec: &WideGuest) -> Result<(), LineFault>
+    pub(crate) fn push_guest(&mut self, rec: &WideGuest) -> Result<(), PushFault>
         ensures stands { (before : List ℕ) (d : SessionDraft) → Stands before self.old d → OnOk result (Stands before self.new (and_guest d (guest_of rec.now))) }
         ensures same { OnOk result (IsSame self.old self.new) }
     {
         self.reach_guest()?;
         self.take(ListKind::Guest)?;
         let Ok(()) = rec.push(&mut self.bytes) else {
-            return Err(LineFault::Memory);
+            return Err(PushFault::Memory);
         };
         Ok(())
     }
 
     /// Appends the line of a record of the source.
-    pub(crate) fn push_source(&mut self, rec: &WideSource) -> Result<(), LineFault>
+    pub(crate) fn push_source(&mut self, rec: &WideSource) -> Result<(), PushFault>
         ensures stands { (before : List ℕ) (d : SessionDraft) → Stands before self.old d → OnOk result (Stands before self.new (and_source d (source_of rec.now))) }
         ensures same { OnOk result (IsSame self.old self.new) }
     {
         self.reach_source()?;
         self.take(ListKind::Source)?;
         let Ok(()) = rec.push(&mut self.bytes) else {
-            return Err(LineFault::Memory);
+            return Err(PushFault::Memory);
         };
         Ok(())
     }
 
     /// Appends the line of a record of the link.
-    pub(crate) fn push_link(&mut self, rec: &WideLink) -> Result<(), LineFault>
+    pub(crate) fn push_link(&mut self, rec: &WideLink) -> Result<(), PushFault>
         ensures stands { (before : List ℕ) (d : SessionDraft) → Stands before self.old d → OnOk result (Stands before self.new (and_link d (link_of rec.now))) }
         ensures same { OnOk result (IsSame self.old self.new) }
     {
         self.reach_link()?;
         self.take(ListKind::Link)?;
         let Ok(()) = rec.push(&mut self.bytes) else {
-            return Err(LineFault::Memory);
+            return Err(PushFault::Memory);
         };
         Ok(())
     }
 
     /// Appends the line of a record of the lane.
-    pub(crate) fn push_lane(&mut self, rec: &WideLane) -> Result<(), LineFault>
+    pub(crate) fn push_lane(&mut self, rec: &WideLane) -> Result<(), PushFault>
         ensures stands { (before : List ℕ) (d : SessionDraft) → Stands before self.old d → OnOk result (Stands before self.new (and_lane d (lane_of rec.now))) }
         ensures same { OnOk result (IsSame self.old self.new) }
     {
         self.reach_lane()?;
         self.take(ListKind::Lane)?;
         let Ok(()) = rec.push(&mut self.bytes) else {
-            return Err(LineFault::Memory);
+            return Err(PushFault::Memory);
         };
         Ok(())
     }
 
     /// Appends the line of a record of the pager.
-    pub(crate) fn push_pager(&mut self, rec: &WidePager) -> Result<(), LineFault>
+    pub(crate) fn push_pager(&mut self, rec: &WidePager) -> Result<(), PushFault>
         ensures stands { (before : List ℕ) (d : SessionDraft) → Stands before self.old d → OnOk result (Stands before self.new (and_pager d (pager_of rec.now))) }
         ensures same { OnOk result (IsSame self.old self.new) }
     {
         self.reach_pager()?;
         self.take(ListKind::Pager)?;
         let Ok(()) = rec.push(&mut self.bytes) else {
-            return Err(LineFault::Memory);
+            return Err(PushFault::Memory);
         };
         Ok(())
     }
@@ -269,15 +269,15 @@ impl Text {
     }
 
     /// Appends the numbers of the logs that have not begun, and the closing line.
-    pub(crate) fn push_end(&mut self) -> Result<(), LineFault>
+    pub(crate) fn push_end(&mut self) -> Result<(), PushFault>
         ensures { (before : List ℕ) (d : SessionDraft) → Stands before self.old d → OnOk result (IsEnded before self.new d) }
     {
         self.reach_pager()?;
         if self.left != 0 {
-            return Err(LineFault::Changed);
+            return Err(PushFault::Changed);
         }
         let Ok(()) = push_line(&mut self.bytes, CLOSING) else {
-            return Err(LineFault::Memory);
+            return Err(PushFault::Memory);
         };
         Ok(())
     }

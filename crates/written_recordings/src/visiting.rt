@@ -9,7 +9,7 @@ ghost use Rattle.recordings.specs.inner.Held.{SessionDraft};
 ghost use Rattle.written_recordings.specs.Written.{text_of, HasRecords};
 ghost use Rattle.written_recordings.specs.inner.Made.{Holds, IsKept, IsSame, Meets};
 
-use crate::faults::LineFault;
+use crate::faults::PushFault;
 use crate::text::Text;
 use migration_types::Version;
 use recordings::{
@@ -73,7 +73,7 @@ impl<'a, W: Write> Opened<'a, W> {
 pub(crate) struct TextWriter<'a, W: Write, B: Begun> {
     pub(crate) output: &'a mut W,
     pub(crate) text: &'a mut Text,
-    pub(crate) fault: Option<LineFault>,
+    pub(crate) fault: Option<PushFault>,
     of: PhantomData<B>,
     ghost name: { output.ghost_name ≡ B.name },
     ghost kept: { IsKept B.start (W.contents output.now) } by { Prim.hlevel props },
@@ -120,12 +120,12 @@ impl<'a, W: Write, B: Begun> TextWriter<'a, W, B> {
     {
         match self.text.write(self.output) {
             Ok(()) => {}
-            Err(cause) => self.fault = Some(LineFault::Output(cause)),
+            Err(cause) => self.fault = Some(PushFault::Output(cause)),
         }
     }
 
     /// Keeps a fault, or writes a piece of the text if one is there.
-    fn settle(&mut self, pushed: Result<(), LineFault>) -> Result<(), AllocError>
+    fn settle(&mut self, pushed: Result<(), PushFault>) -> Result<(), AllocError>
         ensures holds { (start : Option (List ℕ)) (d : SessionDraft) → (OnOk pushed (Holds start (W.contents self.old.output.now) self.old.text.now d)) → self.new.fault ≡ None → Holds start (W.contents self.new.output.now) self.new.text.now d }
         ensures same { IsSame self.old.text.now self.new.text.now }
         ensures ok { self.new.fault ≡ None → IsOk pushed }
@@ -140,7 +140,7 @@ impl<'a, W: Write, B: Begun> TextWriter<'a, W, B> {
             Err(fault) => {
                 self.fault = Some(fault);
                 match fault {
-                    LineFault::Memory => Err(AllocError),
+                    PushFault::Memory => Err(AllocError),
                     _ => Ok(()),
                 }
             }
@@ -148,7 +148,7 @@ impl<'a, W: Write, B: Begun> TextWriter<'a, W, B> {
     }
 
     /// Writes the end of the text, and the bytes that are not yet written.
-    pub(crate) fn finish(&mut self) -> Result<(), LineFault>
+    pub(crate) fn finish(&mut self) -> Result<(), PushFault>
         ensures { (s : Recorded) → Meets B.start B.front B.init (W.contents self.old.output.now) self.old.text.now self.old.fault s → OnOk result (Appends B.start (W.contents self.new.output.now) (text_of B.front s) × HasRecords s B.front × (length s.init ≡ B.init)) }
     {
         if let Some(fault) = self.fault {

@@ -5,7 +5,7 @@ ghost use Rattle.command_texts.specs.Written.{Gains};
 ghost use Rattle.written_recordings.specs.Written.{Writes};
 ghost use Rattle.written_recordings.specs.inner.Made.{IsKept, IsNothing};
 
-use crate::faults::{LineFault, WriteFault};
+use crate::faults::{PushFault, WriteFault};
 use crate::text::Text;
 use crate::visited::Visited;
 use crate::visiting::{Begun, Opened, TextWriter};
@@ -15,11 +15,11 @@ use std::io::Write;
 use std::marker::Brand;
 
 /// Returns the fault of a text.
-fn fault_of<F: Drop>(fault: LineFault) -> WriteFault<F> {
+fn fault_of<F: Drop>(fault: PushFault) -> WriteFault<F> {
     match fault {
-        LineFault::Output(cause) => WriteFault::Output(cause),
-        LineFault::Changed => WriteFault::Changed,
-        LineFault::Memory => WriteFault::Memory,
+        PushFault::Output(cause) => WriteFault::Output(cause),
+        PushFault::Changed => WriteFault::Changed,
+        PushFault::Memory => WriteFault::Memory,
     }
 }
 

@@ -23,7 +23,7 @@ use Rattle.recordings.specs.declared.machine.WideMachine.{WideMachine}
 use Rattle.recordings.specs.Wide.{extent_of}
 use Rattle.recorded_files.specs.declared.fronts.Front.{Front}
 use Rattle.recorded_files.specs.Fronts.{cursors_of}
-use Rattle.written_recordings.specs.declared.faults.LineFault.{LineFault}
+use Rattle.written_recordings.specs.declared.faults.PushFault.{PushFault}
 use Rattle.written_recordings.specs.declared.text.ListKind.{ListKind}
 use Rattle.written_recordings.specs.declared.text.ListKind.TheVariants as section
 use Rattle.written_recordings.specs.declared.text.Text.{Text}
@@ -186,7 +186,7 @@ pub record Holds (start known : Option (List ℕ)) (t : Text) (d : SessionDraft)
   pub stands : Stands before t d
 
 -- nothing was met
-pub record IsNothing (start : Option (List ℕ)) (cut : Front) (pages : ℕ) (known : Option (List ℕ)) (t : Text) (fault : Option LineFault) : Type 0 where
+pub record IsNothing (start : Option (List ℕ)) (cut : Front) (pages : ℕ) (known : Option (List ℕ)) (t : Text) (fault : Option PushFault) : Type 0 where
   pub front : t.front ≡ cut
   pub init : t.init ≡ pages
   pub bytes : t.bytes.items ≡ []
@@ -199,5 +199,5 @@ pub record MeetsWell (start : Option (List ℕ)) (cut : Front) (pages : ℕ) (kn
   pub init : t.init ≡ pages
   pub holds : Holds start known t (draft_of t.init (cursors_of cut) s)
 
-abbrev pub Meets : Option (List ℕ) → Front → ℕ → Option (List ℕ) → Text → Option LineFault → Recorded → Type 0
+abbrev pub Meets : Option (List ℕ) → Front → ℕ → Option (List ℕ) → Text → Option PushFault → Recorded → Type 0
 Meets start cut pages known t fault s = fault ≡ None → MeetsWell start cut pages known t s
