@@ -5,7 +5,7 @@ ghost use Rattle.recordings.specs.Recordings.{IsMachine, IsGuestRecOf, IsLaneRec
 ghost use Rattle.recordings.specs.Wide.{extent_of, guest_of, lane_of, link_of};
 ghost use Rattle.recordings.specs.declared.machine.WideMachine.{WideMachine as Described};
 ghost use Rattle.recorded_files.specs.Raw.{raw_source_line, raw_pager_line, IsRawSourceOf, IsRawPagerOf};
-ghost use Rattle.session_log.specs.Records.{guest_line, lane_line, link_line};
+ghost use Rattle.session_grammar.specs.Records.{guest_line, lane_line, link_line};
 
 use recorded_files::{RawPager, RawSource};
 use recordings::{WideGuest, WideLane, WideLink, WideMachine};

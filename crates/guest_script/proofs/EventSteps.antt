@@ -11,8 +11,8 @@ use Rattle.text_lines.specs.Counted.{Part, IsWhole, counted}
 use Rattle.text_lines.proofs.Cut.{unambiguous}
 use Rattle.text_lines.specs.Text.{ended}
 use Rattle.text_lines.proofs.Sections.{counted_agree, section_end, section_push}
-use Rattle.session_log.proofs.Lists.{spelled_same}
-use Rattle.session_log.proofs.Written.{ended_then}
+use Rattle.session_grammar.proofs.Lists.{spelled_same}
+use Rattle.session_grammar.proofs.Sections.{ended_then}
 use Rattle.guest_script.specs.inner.Plain.{plain_events}
 use Rattle.migration_types.specs.Limits.{most_records}
 use Rattle.migration_events.specs.declared.events.Event.{Event}

@@ -19,9 +19,9 @@ use Rattle.migration_events.specs.declared.events.Fate.{Fate}
 use Rattle.migration_events.specs.declared.ops.Op.{Op}
 use Rattle.migration_events.specs.declared.ops.Op.TheVariants.{Read}
 use Rattle.migration_events.specs.Ops.{OpFits, LateOpFits}
-use Rattle.session_log.specs.Grammar.{page_line, closing}
-use Rattle.session_log.specs.inner.InitPages.{next_from, rise_increases}
-use Rattle.session_log.proofs.Goes.{init_filled}
+use Rattle.session_grammar.specs.Grammar.{page_line, closing}
+use Rattle.session_grammar.specs.inner.InitPages.{next_from, rise_increases}
+use Rattle.session_grammar.proofs.Fillings.{init_filled}
 use Rattle.guest_script.specs.declared.vcpus.Vcpu.{Vcpu}
 use Rattle.guest_script.specs.declared.stages.ScriptStage.{ScriptStage}
 use Rattle.guest_script.specs.declared.stages.ScriptStage.TheVariants.{Header, Pages, Cells, InitCount, Init, Window, Down, Up, Lanes, Lane, Count, First, Ops, Done}

@@ -15,11 +15,11 @@ use Rattle.migration_types.specs.Pages.{InitPageFits}
 use Rattle.migration_events.specs.declared.events.Fate.{Fate}
 use Rattle.migration_events.specs.declared.ops.Op.{Op}
 use Rattle.migration_events.specs.Ops.{OpFits, LateOpFits}
-use Rattle.session_log.specs.Grammar.{pages_key, cells_key, init_key, page_line, closing}
-use Rattle.session_log.proofs.Laws.{extent_same}
-use Rattle.session_log.proofs.Lists.{spelled_same}
-use Rattle.session_log.proofs.Values.{init_page_tells}
-use Rattle.session_log.proofs.Written.{ended_then}
+use Rattle.session_grammar.specs.Grammar.{pages_key, cells_key, init_key, page_line, closing}
+use Rattle.session_grammar.proofs.Laws.{extent_same}
+use Rattle.session_grammar.proofs.Lists.{spelled_same}
+use Rattle.session_grammar.proofs.Values.{init_page_tells}
+use Rattle.session_grammar.proofs.Sections.{ended_then}
 use Rattle.guest_script.specs.declared.vcpus.Vcpu.{Vcpu}
 use Rattle.guest_script.specs.declared.script.Scenario.{Scenario}
 use Rattle.guest_script.specs.Scenarios.{VcpuFits, IsScenario}

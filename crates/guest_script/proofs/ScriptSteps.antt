@@ -15,10 +15,10 @@ use Rattle.migration_types.specs.Limits.{limits}
 use Rattle.migration_types.specs.Pages.{InitPageFits}
 use Rattle.migration_types.specs.Sessions.{HasLane}
 use Rattle.migration_events.specs.declared.events.Fate.{Fate}
-use Rattle.session_log.specs.Grammar.{pages_key, cells_key, init_key, page_line}
-use Rattle.session_log.specs.inner.InitPages.{IsInitContent, Rise, next_from, next_push, rise_of, rise_long, rise_increases}
-use Rattle.session_log.proofs.Laws.{extent_same, page_push, rise_at}
-use Rattle.session_log.proofs.Values.{init_page_tells}
+use Rattle.session_grammar.specs.Grammar.{pages_key, cells_key, init_key, page_line}
+use Rattle.session_grammar.specs.inner.InitPages.{IsInitContent, Rise, next_from, next_push, rise_of, rise_long, rise_increases}
+use Rattle.session_grammar.proofs.Laws.{extent_same, page_push, rise_at}
+use Rattle.session_grammar.proofs.Values.{init_page_tells}
 use Rattle.guest_script.specs.declared.stages.ScriptStage.{ScriptStage}
 use Rattle.guest_script.specs.declared.stages.ScriptStage.TheVariants.{Header, Pages, Cells, InitCount, Init, Window, Down, Up, Lanes, Lane, Count}
 use Rattle.guest_script.specs.declared.script.Scenario.{Scenario}

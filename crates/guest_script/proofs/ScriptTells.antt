@@ -10,7 +10,7 @@ use Rattle.migration_events.specs.declared.events.Fate.TheVariants.{Deliver, Los
 use Rattle.migration_events.specs.declared.ops.Op.{Op}
 use Rattle.migration_events.specs.declared.ops.Op.TheVariants.{Read, Write, Release}
 use Rattle.migration_events.specs.Ops.{OpFits}
-use Rattle.session_log.proofs.Tells.{number_tells}
+use Rattle.session_grammar.proofs.Tells.{number_tells}
 use Rattle.guest_script.specs.Scripts.{vcpu_key, fate_letter, fates_text, place_text, value_text, op_line, counts_line}
 
 letter_tells : (x y : Fate) → fate_letter x ≡ fate_letter y → x ≡ y

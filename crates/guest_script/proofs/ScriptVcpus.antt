@@ -9,7 +9,7 @@ use Rattle.migration_types.specs.declared.version.Version.{Version}
 use Rattle.migration_types.specs.Extents.{Extent, IsExtent}
 use Rattle.migration_events.specs.declared.ops.Op.{Op}
 use Rattle.migration_events.specs.Ops.{OpFits, LateOpFits}
-use Rattle.session_log.specs.Grammar.{closing}
+use Rattle.session_grammar.specs.Grammar.{closing}
 use Rattle.guest_script.specs.declared.vcpus.Vcpu.{Vcpu}
 use Rattle.guest_script.specs.declared.stages.ScriptStage.TheVariants.{Count, First, Ops, Done}
 use Rattle.guest_script.specs.declared.script.Scenario.{Scenario}

@@ -24,7 +24,7 @@ use Rattle.migration_events.specs.declared.events.Fate.{Fate}
 use Rattle.migration_events.specs.declared.events.Fate.TheVariants.{Deliver, Lose, Repeat, Back}
 use Rattle.migration_events.specs.declared.ops.Op.{Op}
 use Rattle.migration_events.specs.declared.ops.Op.TheVariants.{Read, Write, Release}
-use Rattle.session_log.specs.Grammar.{pages_key, cells_key, init_key, page_line, closing}
+use Rattle.session_grammar.specs.Grammar.{pages_key, cells_key, init_key, page_line, closing}
 use Rattle.guest_script.specs.declared.vcpus.Vcpu.{Vcpu}
 use Rattle.guest_script.specs.declared.script.Scenario.{Scenario}
 use Rattle.guest_script.specs.Scenarios.{IsScenario}

@@ -10,7 +10,7 @@ ghost use Rattle.guest_script.specs.Scripts.{SpellsScript};
 
 use migration_events::Event;
 use migration_types::Seq;
-use session_log::{CELLS_KEY, INIT_KEY, InitLines, PAGES_KEY};
+use session_grammar::{CELLS_KEY, INIT_KEY, InitLines, PAGES_KEY};
 use std::alloc::{AllocError, Global};
 use text_lines::{CLOSING, Staged, TextFault, push_counted, push_keyed, push_line, read};
 

@@ -14,7 +14,7 @@ use crate::keys::{READ_KEY, RELEASE_KEY, VCPU_KEY, WRITE_KEY};
 use crate::{MOST_OPS, Vcpu, When, may_release};
 use migration_events::Op;
 use migration_types::PageNo;
-use session_log::Sizes;
+use session_grammar::Sizes;
 use std::alloc::AllocError;
 use text_lines::{
     FaultKind, Wanted, after_key, end_line, number_then, push_keyed, push_number, push_then,

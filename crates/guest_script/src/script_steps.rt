@@ -14,7 +14,7 @@ use crate::versions::script_header;
 use crate::{MOST_PIVOTS, MOST_VCPUS, MOST_WINDOW, Scenario, Script, Vcpu, When};
 use migration_events::{Fate, Op};
 use migration_types::{Geometry, InitPage, Seq, Size, Version};
-use session_log::{INIT_KEY, InitLines, Sizes, read_cells, read_pages};
+use session_grammar::{INIT_KEY, InitLines, Sizes, read_cells, read_pages};
 use std::alloc::Global;
 use std::mem;
 use text_lines::{CLOSING, Counted, FaultKind, is_line, read_some};

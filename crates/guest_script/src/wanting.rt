@@ -6,7 +6,7 @@ use crate::script_steps::ScriptParts;
 use crate::stages::ScriptStage;
 use crate::{MOST_PIVOTS, MOST_VCPUS, MOST_WINDOW, Vcpu, When};
 use migration_types::{Size, Version};
-use session_log::{wanted_cells, wanted_init_count, wanted_init_page, wanted_pages};
+use session_grammar::{wanted_cells, wanted_init_count, wanted_init_page, wanted_pages};
 use text_lines::Wanted;
 
 /// The line with the number of initial pages.

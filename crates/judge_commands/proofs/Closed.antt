@@ -19,8 +19,8 @@ use Rattle.migration_types.specs.declared.version.Version.TheVariants.{One, Two}
 use Rattle.migration_types.specs.declared.size.Size.{Size}
 use Rattle.migration_types.specs.declared.size.Size.TheVariants.{Small, Large}
 use Rattle.migration_types.specs.Sessions.{Recorded}
-use Rattle.session_log.specs.Records.{guest_line, source_line, link_line, lane_line, pager_line}
-use Rattle.session_log.specs.Grammar.{header, pages_key, cells_key, init_key, guest_key, source_key, link_key, lane_key, pager_key, page_line, with_lane, session_lines}
+use Rattle.session_grammar.specs.Records.{guest_line, source_line, link_line, lane_line, pager_line}
+use Rattle.session_grammar.specs.Grammar.{header, pages_key, cells_key, init_key, guest_key, source_key, link_key, lane_key, pager_key, page_line, with_lane, session_lines}
 
 -- the last line is `end`, and none before it
 pub record IsClosed (lines : List (List ℕ)) : Type 0 where

@@ -5,7 +5,7 @@ use Rattle.std.specs.Prelude.{ℕ, ◌≤◌, List, ◌++◌, codes}
 use Rattle.std.specs.Fmt.{decimal}
 use Rattle.migration_types.specs.declared.version.Version.{Version}
 use Rattle.migration_types.specs.Extents.{Extent}
-use Rattle.session_log.specs.Records.{source_line, pager_line}
+use Rattle.session_grammar.specs.Records.{source_line, pager_line}
 use Rattle.recordings.specs.Recordings.{IsSourceRecOf, IsPagerRecOf}
 use Rattle.recordings.specs.Wide.{source_of, pager_of}
 use Rattle.recorded_files.specs.declared.raw.RawSource.{RawSource}

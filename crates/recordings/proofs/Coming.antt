@@ -7,17 +7,17 @@ use Rattle.text_lines.specs.Text.{ended, IsCut, Begins, IsRefusalLine}
 use Rattle.text_lines.proofs.Cut.{ended-push, ended-append, refused_at_line, early_append}
 use Rattle.migration_types.specs.Sessions.{Recorded}
 use Rattle.recordings.specs.Recordings.{SpellsRecording}
-use Rattle.session_log.proofs.Laws.{held_line}
+use Rattle.session_grammar.proofs.Laws.{held_line}
 use Rattle.recordings.specs.declared.RecordingFault.{RecordingFault}
 use Rattle.recordings.specs.declared.RecordingFault.TheVariants.{Line, File, Memory}
 use Rattle.recordings.specs.declared.place.Place.{Place}
-use Rattle.session_log.specs.declared.parts.Stage.{Stage}
-use Rattle.session_log.specs.declared.parts.Stage.TheVariants.{Header}
+use Rattle.session_grammar.specs.declared.stage.Stage.{Stage}
+use Rattle.session_grammar.specs.declared.stage.Stage.TheVariants.{Header}
 use Rattle.recordings.specs.declared.walker.Walker.{Walker}
 use Rattle.recordings.specs.inner.Held.{recorded_of}
 use Rattle.recordings.specs.inner.Stands.{Taken, Refuses, Lists, Stands, HasMet, draft_of, lines_onto}
 use Rattle.recordings.specs.inner.Goings.{Came, Grows, Stops, RefusesAll, line_fault}
-use Rattle.session_log.proofs.Sections.{fresh}
+use Rattle.session_grammar.proofs.Sections.{fresh}
 use Rattle.recordings.proofs.Goes.{live_begins}
 use Rattle.recordings.proofs.Texts.{plain_recording}
 

@@ -19,16 +19,16 @@ use Rattle.migration_types.specs.Pages.{InitPageFits}
 use Rattle.migration_types.specs.Sessions.{Recorded}
 use Rattle.migration_types.specs.inner.InitPages.{rise_long, rise_increases}
 use Rattle.recordings.specs.Recordings.{IsCount, IsMachine, IsRecording, SpellsRecording, IsGuestRecOf, IsSourceRecOf, IsLinkRecOf, IsLaneRecOf, IsPagerRecOf}
-use Rattle.session_log.specs.declared.parts.Stage.{Stage}
-use Rattle.session_log.specs.declared.parts.Stage.TheVariants.{Header, Pages, Cells, InitCount, Init, Guest, Source, Link, Lane, Pager, Done}
-use Rattle.session_log.specs.Records.{guest_line, source_line, link_line, lane_line, pager_line}
-use Rattle.session_log.specs.Grammar.{header, pages_key, cells_key, init_key, guest_key, source_key, link_key, lane_key, pager_key, page_line, closing, session_lines}
-use Rattle.session_log.specs.inner.Held.{geometry_onto, init_onto, guest_onto, source_onto, link_onto, lane_onto}
-use Rattle.session_log.proofs.Lists.{all_append}
-use Rattle.session_log.proofs.Sections.{with_items, onto_more, onto_whole, fresh, fresh_fits, missing, filled_whole, filled_fits}
-use Rattle.session_log.proofs.ByVersion.{one_version, lane_is, lane_whole, lane_some}
-use Rattle.session_log.proofs.Goes.{pages_from, pages_fit, pages_count, pages_rise, rise_append, no_rest}
-use Rattle.session_log.proofs.Laws.{held_append, extent, guest_part, source_part, link_part, lane_part, pager_part, pager_lines, lane_lines, link_lines, source_lines, guest_lines}
+use Rattle.session_grammar.specs.declared.stage.Stage.{Stage}
+use Rattle.session_grammar.specs.declared.stage.Stage.TheVariants.{Header, Pages, Cells, InitCount, Init, Guest, Source, Link, Lane, Pager, Done}
+use Rattle.session_grammar.specs.Records.{guest_line, source_line, link_line, lane_line, pager_line}
+use Rattle.session_grammar.specs.Grammar.{header, pages_key, cells_key, init_key, guest_key, source_key, link_key, lane_key, pager_key, page_line, closing, session_lines}
+use Rattle.session_grammar.specs.inner.Held.{geometry_onto, init_onto, guest_onto, source_onto, link_onto, lane_onto}
+use Rattle.session_grammar.proofs.Lists.{all_append}
+use Rattle.session_grammar.proofs.Sections.{with_items, onto_more, onto_whole, fresh, fresh_fits, missing, filled_whole, filled_fits}
+use Rattle.session_grammar.proofs.ByVersion.{one_version, lane_is, lane_whole, lane_some}
+use Rattle.session_grammar.proofs.Fillings.{pages_from, pages_fit, pages_count, pages_rise, rise_append, no_rest}
+use Rattle.session_grammar.proofs.Laws.{held_append, extent, guest_part, source_part, link_part, lane_part, pager_part, pager_lines, lane_lines, link_lines, source_lines, guest_lines}
 use Rattle.recordings.specs.inner.Held.{SessionDraft, Part, IsWhole, held_onto, recorded_of, most_count, StartFits, InitFits, LogFits, GuestFits, SourceFits, LinkFits, LaneFits, PagerFits, Live}
 use Rattle.recordings.proofs.TextLaws.{init_agrees, guest_agrees, source_agrees, link_agrees, lane_agrees, pager_agrees}
 

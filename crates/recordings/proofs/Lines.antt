@@ -23,9 +23,9 @@ use Rattle.migration_types.specs.declared.records.PagerRec.TheVariants.{Got, Pul
 use Rattle.migration_types.specs.declared.version.Version.{Version}
 use Rattle.migration_types.specs.Extents.{Extent}
 use Rattle.migration_types.specs.Pages.{InitPageFits}
-use Rattle.session_log.specs.Grammar.{page_line}
-use Rattle.session_log.specs.Records.{access_text, vcpu_page_text, page_text, placed_text, guest_line, source_line, link_line, lane_line, pager_line}
-use Rattle.session_log.specs.inner.RecordPlain.{plain_contents, plain_number}
+use Rattle.session_grammar.specs.Grammar.{page_line}
+use Rattle.session_grammar.specs.Records.{access_text, vcpu_page_text, page_text, placed_text, guest_line, source_line, link_line, lane_line, pager_line}
+use Rattle.session_grammar.specs.inner.RecordPlain.{plain_contents, plain_number}
 use Rattle.recordings.specs.Lines.{longest_line}
 use Rattle.recordings.specs.Recordings.{IsCount, IsMachine, IsGuestRecOf, IsSourceRecOf, IsLinkRecOf, IsLaneRecOf, IsPagerRecOf}
 use Rattle.recordings.proofs.Small.{vcpu_small, count_small, page_small, cell_small}

@@ -16,8 +16,8 @@ use Rattle.recordings.specs.Lines.{longest_line}
 use Rattle.recordings.specs.Recordings.{SpellsRecording}
 use Rattle.recordings.specs.declared.RecordingFault.{RecordingFault}
 use Rattle.recordings.specs.declared.RecordingFault.TheVariants.{Line, File, Memory}
-use Rattle.session_log.specs.declared.parts.Stage.{Stage}
-use Rattle.session_log.specs.declared.parts.Stage.TheVariants.{Header, Pages, Cells, InitCount, Init, Guest, Source, Link, Lane, Pager, Done}
+use Rattle.session_grammar.specs.declared.stage.Stage.{Stage}
+use Rattle.session_grammar.specs.declared.stage.Stage.TheVariants.{Header, Pages, Cells, InitCount, Init, Guest, Source, Link, Lane, Pager, Done}
 use Rattle.recordings.specs.declared.walker.Walker.{Walker}
 use Rattle.recordings.specs.Reading.{ReadsBehind}
 use Rattle.recordings.specs.Walking.{Walks, IsRefusedAt, IsRefusedBy}

@@ -12,11 +12,11 @@ use Rattle.migration_types.specs.declared.version.Version.TheVariants.{One, Two}
 use Rattle.migration_types.specs.Pages.{InitPageFits}
 use Rattle.recordings.specs.Recordings.{IsCount, IsGuestRecOf, IsSourceRecOf, IsLinkRecOf, IsLaneRecOf, IsPagerRecOf}
 use Rattle.recordings.specs.Wide.{extent_of}
-use Rattle.session_log.specs.Records.{guest_line, source_line, link_line, lane_line, pager_line}
-use Rattle.session_log.specs.Grammar.{init_key, guest_key, source_key, link_key, lane_key, pager_key, page_line, closing}
-use Rattle.session_log.proofs.Laws.{page_same}
+use Rattle.session_grammar.specs.Records.{guest_line, source_line, link_line, lane_line, pager_line}
+use Rattle.session_grammar.specs.Grammar.{init_key, guest_key, source_key, link_key, lane_key, pager_key, page_line, closing}
+use Rattle.session_grammar.proofs.Laws.{page_same}
 use Rattle.recordings.specs.declared.place.Place.{Place}
-use Rattle.session_log.specs.declared.parts.Stage.TheVariants.{InitCount, Init, Guest, Source, Link, Lane, Pager, Done}
+use Rattle.session_grammar.specs.declared.stage.Stage.TheVariants.{InitCount, Init, Guest, Source, Link, Lane, Pager, Done}
 use Rattle.recordings.specs.inner.Stands.{Refuses, draft_of}
 use Rattle.recordings.proofs.TextLaws.{init_count_refused, page_refused, guest_count_refused, source_count_refused, link_count_refused, pager_count_refused, lane_count_refused, behind_lane_refused, closing_refused, more_refused, guest_refused, source_refused, link_refused, lane_refused, pager_refused}
 use Rattle.recordings.proofs.Goes.{all_came}

@@ -16,14 +16,14 @@ use Rattle.migration_types.specs.Sessions.{Recorded}
 use Rattle.recordings.specs.Recordings.{IsCount, IsGuestRecOf, IsSourceRecOf, IsLinkRecOf, IsLaneRecOf, IsPagerRecOf}
 use Rattle.recordings.specs.Seen.{with_init, with_guest, with_source, with_link, with_lane, with_pager, BeforeGuest, BeforeSource, BeforeLink, BeforeLane, BeforePager}
 use Rattle.recordings.specs.Wide.{extent_of}
-use Rattle.session_log.specs.Records.{guest_line, source_line, link_line, lane_line, pager_line}
-use Rattle.session_log.specs.Grammar.{init_key, guest_key, source_key, link_key, lane_key, pager_key, page_line, closing}
-use Rattle.session_log.specs.inner.Held.{part_onto, geometry_onto, init_onto, guest_onto, source_onto, link_onto, lane_part_onto, lane_onto}
-use Rattle.session_log.proofs.Sections.{with_items, onto_push, fresh, push_fits, fresh_fits}
-use Rattle.session_log.proofs.ByVersion.{lane_is}
+use Rattle.session_grammar.specs.Records.{guest_line, source_line, link_line, lane_line, pager_line}
+use Rattle.session_grammar.specs.Grammar.{init_key, guest_key, source_key, link_key, lane_key, pager_key, page_line, closing}
+use Rattle.session_grammar.specs.inner.Held.{part_onto, geometry_onto, init_onto, guest_onto, source_onto, link_onto, lane_part_onto, lane_onto}
+use Rattle.session_grammar.proofs.Sections.{with_items, onto_push, fresh, push_fits, fresh_fits}
+use Rattle.session_grammar.proofs.ByVersion.{lane_is}
 use Rattle.recordings.specs.declared.place.Place.{Place}
-use Rattle.session_log.specs.declared.parts.Stage.{Stage}
-use Rattle.session_log.specs.declared.parts.Stage.TheVariants.{InitCount, Init, Guest, Source, Link, Lane, Pager, Done}
+use Rattle.session_grammar.specs.declared.stage.Stage.{Stage}
+use Rattle.session_grammar.specs.declared.stage.Stage.TheVariants.{InitCount, Init, Guest, Source, Link, Lane, Pager, Done}
 use Rattle.recordings.specs.inner.Held.{Part, most_count, StartFits, GuestFits, SourceFits, LinkFits, LaneFits, recorded_of}
 use Rattle.recordings.specs.inner.Stands.{Taken, Refuses, Steps, draft_of, announcing, behind_one}
 use Rattle.recordings.proofs.TextLaws.{page_push, up_to}

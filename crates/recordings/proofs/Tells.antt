@@ -3,9 +3,9 @@ use Rattle.std.proofs.Common.{◌≤◌, ◌^◌, arith}
 use Rattle.migration_types.specs.declared.version.Version.{Version}
 use Rattle.migration_types.specs.Extents.{Extent}
 use Rattle.migration_types.specs.Pages.{InitPageFits}
-use Rattle.session_log.specs.Grammar.{page_line}
-use Rattle.session_log.specs.Records.{guest_line, source_line, link_line, lane_line, pager_line}
-use Rattle.session_log.proofs.Tells.{AreNarrow, init_tells, guest_tells, source_tells, link_tells, lane_tells, pager_tells}
+use Rattle.session_grammar.specs.Grammar.{page_line}
+use Rattle.session_grammar.specs.Records.{guest_line, source_line, link_line, lane_line, pager_line}
+use Rattle.session_grammar.proofs.Tells.{AreNarrow, init_tells, guest_tells, source_tells, link_tells, lane_tells, pager_tells}
 use Rattle.recordings.specs.Lines.{Tell}
 use Rattle.recordings.specs.Recordings.{IsMachine, IsGuestRecOf, IsSourceRecOf, IsLinkRecOf, IsLaneRecOf, IsPagerRecOf}
 

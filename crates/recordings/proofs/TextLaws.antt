@@ -20,15 +20,15 @@ use Rattle.migration_types.specs.Pages.{InitPageFits}
 use Rattle.migration_types.specs.Sessions.{Recorded}
 use Rattle.migration_types.specs.inner.InitPages.{Rise, rise_long, rise_of}
 use Rattle.recordings.specs.Recordings.{IsCount, IsMachine, IsRecording, SpellsRecording, IsGuestRecOf, IsSourceRecOf, IsLinkRecOf, IsLaneRecOf, IsPagerRecOf}
-use Rattle.session_log.specs.declared.parts.Stage.{Stage}
-use Rattle.session_log.specs.declared.parts.Stage.TheVariants.{Header, Pages, Cells, InitCount, Init, Guest, Source, Link, Lane, Pager, Done}
-use Rattle.session_log.specs.Records.{guest_line, source_line, link_line, lane_line, pager_line}
-use Rattle.session_log.specs.Grammar.{header, pages_key, cells_key, init_key, guest_key, source_key, link_key, lane_key, pager_key, page_line, closing, counted, session_lines}
-use Rattle.session_log.specs.inner.Held.{part_onto, init_onto, guest_onto, source_onto, link_onto, lane_onto, pager_onto}
-use Rattle.session_log.proofs.Lists.{all_at, all_append}
-use Rattle.session_log.proofs.Sections.{with_items, agrees, item_at, count_at}
-use Rattle.session_log.proofs.ByVersion.{header_tells, one_version, lane_agree, first_behind, second_behind}
-use Rattle.session_log.proofs.Laws.{held_append, keyed, extent_same, guest_part, source_part, link_part, lane_part, pager_part, guest_lines, source_lines, link_lines, lane_lines, pager_lines, InitAgrees, rise_at, rise_push}
+use Rattle.session_grammar.specs.declared.stage.Stage.{Stage}
+use Rattle.session_grammar.specs.declared.stage.Stage.TheVariants.{Header, Pages, Cells, InitCount, Init, Guest, Source, Link, Lane, Pager, Done}
+use Rattle.session_grammar.specs.Records.{guest_line, source_line, link_line, lane_line, pager_line}
+use Rattle.session_grammar.specs.Grammar.{header, pages_key, cells_key, init_key, guest_key, source_key, link_key, lane_key, pager_key, page_line, closing, counted, session_lines}
+use Rattle.session_grammar.specs.inner.Held.{part_onto, init_onto, guest_onto, source_onto, link_onto, lane_onto, pager_onto}
+use Rattle.session_grammar.proofs.Lists.{all_at, all_append}
+use Rattle.session_grammar.proofs.Sections.{with_items, agrees, item_at, count_at}
+use Rattle.session_grammar.proofs.ByVersion.{header_tells, one_version, lane_agree, first_behind, second_behind}
+use Rattle.session_grammar.proofs.Laws.{held_append, keyed, extent_same, guest_part, source_part, link_part, lane_part, pager_part, guest_lines, source_lines, link_lines, lane_lines, pager_lines, InitAgrees, rise_at, rise_push}
 use Rattle.recordings.specs.inner.Held.{SessionDraft, Part, IsWhole, held_onto, most_count, StartFits, InitFits, GuestFits, SourceFits, LinkFits, LaneFits, PagerFits}
 
 -- ---- numbers of items

@@ -16,9 +16,9 @@ use Rattle.migration_types.specs.Sessions.{Recorded}
 use Rattle.recordings.specs.Lines.{longest_line}
 use Rattle.recordings.specs.Recordings.{IsCount, SpellsRecording, IsGuestRecOf, IsSourceRecOf, IsLinkRecOf, IsLaneRecOf, IsPagerRecOf}
 use Rattle.recordings.proofs.Lines.{IsText, init_text, guest_text, source_text, link_text, lane_text, pager_text}
-use Rattle.session_log.specs.Records.{guest_line, source_line, link_line, lane_line, pager_line}
-use Rattle.session_log.specs.Grammar.{header, pages_key, cells_key, init_key, guest_key, source_key, link_key, lane_key, pager_key, page_line, with_lane, closing, counted}
-use Rattle.session_log.proofs.Laws.{pager_lines, lane_lines, link_lines, source_lines, guest_lines}
+use Rattle.session_grammar.specs.Records.{guest_line, source_line, link_line, lane_line, pager_line}
+use Rattle.session_grammar.specs.Grammar.{header, pages_key, cells_key, init_key, guest_key, source_key, link_key, lane_key, pager_key, page_line, with_lane, closing, counted}
+use Rattle.session_grammar.proofs.Laws.{pager_lines, lane_lines, link_lines, source_lines, guest_lines}
 use Rattle.recordings.proofs.TextLaws.{few_init}
 
 abbrev IsShort : List ℕ → Type 0

@@ -17,11 +17,11 @@ use Rattle.migration_types.specs.Sessions.{Recorded}
 use Rattle.migration_types.specs.inner.InitPages.{Rise, rise_of}
 use Rattle.recordings.specs.Recordings.{IsRecording, SpellsRecording, IsGuestRecOf, IsSourceRecOf, IsLinkRecOf, IsLaneRecOf, IsPagerRecOf}
 use Rattle.recordings.proofs.Tells.{init_tell, guest_tell, source_tell, link_tell, lane_tell, pager_tell}
-use Rattle.session_log.specs.declared.parts.Stage.TheVariants.{Done}
-use Rattle.session_log.specs.Records.{guest_line, source_line, link_line, lane_line, pager_line}
-use Rattle.session_log.specs.Grammar.{page_line, closing, session_lines}
-use Rattle.session_log.proofs.Values.{drafted, whole_log, same_list, recorded_same}
-use Rattle.session_log.proofs.Laws.{held_append, guest_part, source_part, link_part, lane_part, pager_part, guest_lines, source_lines, link_lines, lane_lines, pager_lines}
+use Rattle.session_grammar.specs.declared.stage.Stage.TheVariants.{Done}
+use Rattle.session_grammar.specs.Records.{guest_line, source_line, link_line, lane_line, pager_line}
+use Rattle.session_grammar.specs.Grammar.{page_line, closing, session_lines}
+use Rattle.session_grammar.proofs.Values.{drafted, whole_log, same_list, recorded_same}
+use Rattle.session_grammar.proofs.Laws.{held_append, guest_part, source_part, link_part, lane_part, pager_part, guest_lines, source_lines, link_lines, lane_lines, pager_lines}
 use Rattle.recordings.specs.inner.Held.{most_count, StartFits, GuestFits, SourceFits, LinkFits, LaneFits, PagerFits}
 use Rattle.recordings.proofs.TextLaws.{up_to, init_agrees, guest_agrees, source_agrees, link_agrees, lane_agrees, pager_agrees}
 use Rattle.recordings.proofs.Goes.{done_spells}

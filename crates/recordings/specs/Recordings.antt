@@ -12,7 +12,7 @@ use Rattle.migration_types.specs.Extents.{Extent}
 use Rattle.migration_types.specs.Limits.{HasSize, most_cells}
 use Rattle.migration_types.specs.Pages.{AreInitPages}
 use Rattle.migration_types.specs.Sessions.{Recorded, GuestRecIn, SourceRecIn, LinkRecIn, LaneRecIn, PagerRecIn}
-use Rattle.session_log.specs.Grammar.{session_lines}
+use Rattle.session_grammar.specs.Grammar.{session_lines}
 
 -- a number of a page or a record, or how many there are
 abbrev pub IsCount : ℕ → Type 0

@@ -2,10 +2,10 @@
 
 ghost use Rattle.std.specs.Prelude.{◌≡◌, ◌≢◌, ◌<◌, ◌^◌, ◌∷◌, [], ◌++◌, ℕ, IfOk, IfErr, IfSome, IfNone, OnOk};
 ghost use Rattle.migration_types.specs.declared.records.GuestRec.{GuestRec};
-ghost use Rattle.session_log.specs.Records.{access_text, vcpu_page_text, guest_line};
+ghost use Rattle.session_grammar.specs.Records.{access_text, vcpu_page_text, guest_line};
 ghost use Rattle.recordings.specs.Recordings.{IsMachine, IsGuestRecOf};
 ghost use Rattle.recordings.specs.Wide.{extent_of, guest_of};
-ghost use Rattle.session_log.specs.inner.Forms.{IsEvent};
+ghost use Rattle.session_grammar.specs.inner.Forms.{IsEvent};
 
 use crate::fields::{keyed_whole, number_whole};
 use crate::machine::{BEYOND, WideMachine};

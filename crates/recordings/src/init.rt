@@ -4,8 +4,8 @@ ghost use Rattle.std.specs.Prelude.{◌≡◌, ◌≢◌, ◌∷◌, [], ◌++�
 ghost use Rattle.migration_types.specs.declared.pages.InitPage.{InitPage};
 ghost use Rattle.migration_types.specs.Pages.{AreZeros, InitPageFits};
 ghost use Rattle.text_lines.specs.Contents.{contents_text};
-ghost use Rattle.session_log.specs.Grammar.{page_line};
-ghost use Rattle.session_log.specs.inner.InitPages.{IsInitContent};
+ghost use Rattle.session_grammar.specs.Grammar.{page_line};
+ghost use Rattle.session_grammar.specs.inner.InitPages.{IsInitContent};
 ghost use Rattle.recordings.specs.Recordings.{IsMachine};
 ghost use Rattle.recordings.specs.Wide.{extent_of, init_of};
 
@@ -13,7 +13,7 @@ use crate::machine::WideMachine;
 use crate::wide::WideInit;
 use crate::writing::push_page;
 use migration_types::Contents;
-use session_log::read_page_contents;
+use session_grammar::read_page_contents;
 use std::alloc::{AllocError, Global};
 use text_lines::{FaultKind, after_key, number_then};
 

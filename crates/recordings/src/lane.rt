@@ -2,7 +2,7 @@
 
 ghost use Rattle.std.specs.Prelude.{◌≡◌, ◌≢◌, ◌∷◌, [], ◌++◌, IfOk, IfErr, OnOk};
 ghost use Rattle.migration_types.specs.declared.records.LaneRec.{LaneRec};
-ghost use Rattle.session_log.specs.Records.{lane_line};
+ghost use Rattle.session_grammar.specs.Records.{lane_line};
 ghost use Rattle.recordings.specs.Recordings.{IsLaneRecOf};
 ghost use Rattle.recordings.specs.Wide.{lane_of};
 

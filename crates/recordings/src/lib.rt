@@ -17,10 +17,10 @@ mod machine;
 mod pager;
 mod place;
 mod reading;
+mod refused;
 mod source;
 mod visiting;
 mod walker;
-mod wanting;
 mod wide;
 mod writing;
 
@@ -28,9 +28,10 @@ pub use laws::{
     lines_are_plain, lines_are_short, lines_tell_records, recordings_fit, sessions_are_recordings,
 };
 pub use machine::{BEYOND, WideMachine};
+pub use place::Place;
 pub use reading::read_behind;
 use reading::walk_through;
-use refusal_words::Misread;
+pub use refused::RefusedLine;
 use std::alloc::Global;
 use std::io::Read;
 use thiserror::Error;
@@ -84,8 +85,8 @@ pub fn walk<R: Read, V: Visitor>(
     walk_or_why(alloc, reader, visitor, &mut why)
 }
 
-/// Goes through the recording as `walk` does. If a line is refused, `why` becomes what was found there and what is
-/// allowed, for people. It becomes `None` if memory runs out for that.
+/// Goes through the recording as `walk` does. If a line is refused, `why` becomes that line, with what may stand there.
+/// It becomes `None` if memory runs out for that.
 ///
 /// # Errors
 ///
@@ -94,7 +95,7 @@ pub fn walk_or_why<R: Read, V: Visitor>(
     alloc: Global,
     reader: &mut R,
     visitor: &mut V,
-    why: &mut Option<Misread>,
+    why: &mut Option<RefusedLine>,
 ) -> Result<(), RecordingFault>
     requires { V.IsNew visitor.old }
     ensures walked { OnOk result (Walks V.Met (R.remaining reader.old) visitor.new) }

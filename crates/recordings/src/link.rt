@@ -2,7 +2,7 @@
 
 ghost use Rattle.std.specs.Prelude.{◌≡◌, ◌≢◌, ◌∷◌, [], ◌++◌, IfOk, IfErr, OnOk};
 ghost use Rattle.migration_types.specs.declared.records.LinkRec.{LinkRec};
-ghost use Rattle.session_log.specs.Records.{link_line};
+ghost use Rattle.session_grammar.specs.Records.{link_line};
 ghost use Rattle.recordings.specs.Recordings.{IsLinkRecOf};
 ghost use Rattle.recordings.specs.Wide.{link_of};
 

@@ -3,16 +3,16 @@
 ghost use Rattle.std.specs.Prelude.{◌≡◌, ◌≢◌, ◌<◌, ◌∷◌, [], ◌++◌, List, ℕ, IfOk, IfErr, IfSome, IfNone, OnOk};
 ghost use Rattle.migration_types.specs.Contents.{IsContent};
 ghost use Rattle.migration_types.specs.declared.records.PagerRec.{PagerRec};
-ghost use Rattle.session_log.specs.Records.{placed_text, pager_line};
+ghost use Rattle.session_grammar.specs.Records.{placed_text, pager_line};
 ghost use Rattle.recordings.specs.Recordings.{IsMachine, IsCount, IsPagerRecOf};
 ghost use Rattle.recordings.specs.Wide.{extent_of, pager_of};
-ghost use Rattle.session_log.specs.inner.Forms.{IsNotice};
+ghost use Rattle.session_grammar.specs.inner.Forms.{IsNotice};
 
 use crate::fields::{keyed_whole, lane_number};
 use crate::machine::{BEYOND, WideMachine};
 use crate::wide::WidePager;
 use migration_types::Contents;
-use session_log::{push_contents, read_page_contents};
+use session_grammar::{push_contents, read_page_contents};
 use std::alloc::{AllocError, Global};
 use text_lines::{
     FaultKind, after_key, end_line, is_line, number_then, push_keyed, push_line, push_then,

@@ -4,7 +4,7 @@ ghost use Rattle.std.specs.Prelude.{◌≡◌, ◌≢◌, ◌+◌, ◌<◌, ◌�
 ghost use Rattle.std.specs.Fmt.{decimal};
 ghost use Rattle.migration_types.specs.declared.size.Size.{Size as Limited};
 ghost use Rattle.migration_types.specs.Limits.{HasSize};
-ghost use Rattle.session_log.specs.Grammar.{header, pages_key, init_key, closing};
+ghost use Rattle.session_grammar.specs.Grammar.{header, pages_key, init_key, closing};
 ghost use Rattle.recordings.specs.Recordings.{IsCount};
 ghost use Rattle.recordings.specs.inner.Stands.{Holds, Steps, of_header, with_pages, announcing, behind_one};
 
@@ -12,7 +12,7 @@ use crate::{
     BEYOND, Visitor, WideGuest, WideInit, WideLane, WideLink, WideMachine, WidePager, WideSource,
 };
 use migration_types::{MOST_CELLS, Version};
-use session_log::{
+use session_grammar::{
     CELLS_KEY, GUEST_KEY, INIT_KEY, LANE_KEY, LINK_KEY, PAGER_KEY, PAGES_KEY, SOURCE_KEY, Stage,
     read_header,
 };
@@ -21,17 +21,17 @@ use text_lines::{CLOSING, FaultKind, after_key, expect_line, read_decimal, read_
 
 /// What the lines so far say about those to come.
 #[derive(Clone, Copy)]
-pub(crate) struct Place {
+pub struct Place {
     /// Where the contents of pages are allocated.
-    pub(crate) alloc: Global,
+    pub alloc: Global,
     /// The machine, as far as it was read.
-    pub(crate) machine: WideMachine,
+    pub machine: WideMachine,
     /// The least number of the next initial page.
-    pub(crate) low: u64,
+    pub low: u64,
     /// How many items of the stage's list were read.
-    pub(crate) came: u64,
+    pub came: u64,
     /// How many are still to come.
-    pub(crate) left: u64,
+    pub left: u64,
 }
 
 impl Place {

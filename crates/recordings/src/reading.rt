@@ -7,22 +7,20 @@ ghost use Rattle.recordings.specs.Walking.{Walks, IsRefusedBy};
 ghost use Rattle.recordings.specs.inner.Goings.{Came};
 
 use crate::walker::Walker;
-use crate::{RecordingFault, Visitor};
-use refusal_words::Misread;
+use crate::{RecordingFault, RefusedLine, Visitor};
 use std::io;
 use std::io::{ErrorKind, Read};
 
 /// How often an interrupted read is retried, at most.
 const MOST_RETRIES: u32 = 1_048_576;
 
-/// Goes through what a reader has left, through a buffer. If a line is refused, `why` becomes what was found there and
-/// what is allowed.
+/// Goes through what a reader has left, through a buffer. If a line is refused, `why` becomes that line.
 pub(crate) fn walk_through<R: Read, V: Visitor>(
     reader: &mut R,
     visitor: &mut V,
     walker: &mut Walker,
     buffer: &mut [u8],
-    why: &mut Option<Misread>,
+    why: &mut Option<RefusedLine>,
 ) -> Result<(), RecordingFault>
     requires came { Came V.IsNew V.Met walker.old visitor.old [] }
     requires long { longest_line < length buffer.old }
@@ -33,7 +31,7 @@ pub(crate) fn walk_through<R: Read, V: Visitor>(
     for _ in 0..u64::MAX {
         let filled = read_behind(reader, buffer, kept)?;
         if filled == kept {
-            *why = walker.misread_at_end(&buffer[..kept]);
+            *why = walker.refused_at_end(&buffer[..kept]);
             return walker.end(kept);
         }
         kept = walker.take(visitor, buffer, filled, why)?;

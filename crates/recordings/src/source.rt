@@ -4,17 +4,17 @@ ghost use Rattle.std.specs.Prelude.{◌≡◌, ◌≢◌, ◌<◌, ◌∷◌, []
 ghost use Rattle.migration_types.specs.Contents.{IsContent};
 ghost use Rattle.migration_types.specs.Sessions.{HasBack};
 ghost use Rattle.migration_types.specs.declared.records.SourceRec.{SourceRec};
-ghost use Rattle.session_log.specs.Records.{page_text, source_line};
+ghost use Rattle.session_grammar.specs.Records.{page_text, source_line};
 ghost use Rattle.recordings.specs.Recordings.{IsMachine, IsSourceRecOf};
 ghost use Rattle.recordings.specs.Wide.{extent_of, source_of};
-ghost use Rattle.session_log.specs.inner.Forms.{IsStep};
+ghost use Rattle.session_grammar.specs.inner.Forms.{IsStep};
 
 use crate::fields::keyed_whole;
 use crate::machine::{BEYOND, WideMachine};
 use crate::wide::WideSource;
 use crate::writing::push_page;
 use migration_types::{Contents, Size};
-use session_log::read_page_contents;
+use session_grammar::read_page_contents;
 use std::alloc::{AllocError, Global};
 use text_lines::{FaultKind, after_key, is_line, number_then, push_keyed, push_line};
 

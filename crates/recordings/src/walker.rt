@@ -6,10 +6,9 @@ ghost use Rattle.recordings.specs.Lines.{longest_line};
 ghost use Rattle.recordings.specs.inner.Goings.{Came, Goes, Grows, Stops, RefusesAll, line_fault};
 
 use crate::place::Place;
-use crate::{RecordingFault, Visitor, WideMachine};
+use crate::{RecordingFault, RefusedLine, Visitor, WideMachine};
 use migration_types::{Size, Version};
-use refusal_words::Misread;
-use session_log::Stage;
+use session_grammar::Stage;
 use std::alloc::Global;
 use text_lines::{FaultKind, next_line};
 
@@ -50,12 +49,12 @@ impl Walker {
         }
     }
 
-    /// Takes the next line. If it is refused, `why` becomes what was found there and what is allowed.
+    /// Takes the next line. If it is refused, `why` becomes that line.
     fn line<V: Visitor>(
         &mut self,
         visitor: &mut V,
         line: &[u8],
-        why: &mut Option<Misread>,
+        why: &mut Option<RefusedLine>,
     ) -> Result<(), RecordingFault>
         requires { Goes V.IsNew V.Met self.old visitor.old }
         ensures taken { OnOk result ((lines : List (List ℕ)) → Came V.IsNew V.Met self.old visitor.old lines → Came V.IsNew V.Met self.new visitor.new (lines ++ line.now ∷ [])) }
@@ -71,7 +70,7 @@ impl Walker {
                 Ok(())
             }
             Err(kind) => {
-                *why = self.misread(kind, line);
+                *why = self.refused(kind, line);
                 Err(line_fault(self.number, kind))
             }
         }
@@ -82,7 +81,7 @@ impl Walker {
         &mut self,
         visitor: &mut V,
         bytes: &'a [u8],
-        why: &mut Option<Misread>,
+        why: &mut Option<RefusedLine>,
     ) -> Result<&'a [u8], RecordingFault>
         requires { Goes V.IsNew V.Met self.old visitor.old }
         ensures taken { IfOk result (λ rest. (lines : List (List ℕ)) → Came V.IsNew V.Met self.old visitor.old lines → Grows V.IsNew V.Met self.new visitor.new lines bytes.now rest.now) }
@@ -104,7 +103,7 @@ impl Walker {
         visitor: &mut V,
         buffer: &mut [u8],
         filled: usize,
-        why: &mut Option<Misread>,
+        why: &mut Option<RefusedLine>,
     ) -> Result<usize, RecordingFault>
         requires goes { Goes V.IsNew V.Met self.old visitor.old }
         requires within { filled ≤ length buffer.old }
@@ -117,7 +116,7 @@ impl Walker {
         let rest = self.lines(visitor, &buffer[..filled], why)?;
         let kept = rest.len();
         if kept > LONGEST_LINE {
-            *why = self.misread(FaultKind::Form, rest);
+            *why = self.refused(FaultKind::Form, rest);
             return Err(RecordingFault::Line(self.number));
         }
         move_front(buffer, filled - kept, filled);

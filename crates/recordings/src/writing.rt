@@ -1,9 +1,9 @@
 //! Writing pages with their contents.
 
 ghost use Rattle.std.specs.Prelude.{◌≡◌, [], ◌∷◌, ◌++◌, OnOk};
-ghost use Rattle.session_log.specs.Records.{page_text};
+ghost use Rattle.session_grammar.specs.Records.{page_text};
 
-use session_log::push_contents;
+use session_grammar::push_contents;
 use std::alloc::AllocError;
 use text_lines::{end_line, push_then};
 

@@ -15,16 +15,17 @@ use Rattle.migration_types.specs.declared.version.Version.TheVariants.{One, Two}
 use Rattle.migration_types.specs.Extents.{Extent}
 use Rattle.migration_types.specs.Pages.{InitPageFits}
 use Rattle.migration_types.specs.Sessions.{GuestRecFits, SourceRecFits, LinkRecFits, LaneRecFits, PagerRecFits}
-use Rattle.session_log.specs.declared.parts.Stage.{Stage}
-use Rattle.session_log.specs.declared.parts.Stage.TheVariants.{Header, Pages, Cells, InitCount, Init, Guest, Source, Link, Lane, Pager, Done}
-use Rattle.session_log.specs.Records.{guest_line, source_line, link_line, lane_line, pager_line}
-use Rattle.session_log.specs.inner.InitPages.{Rise, next_from}
-use Rattle.session_log.specs.Grammar.{header, pages_key, cells_key, init_key, guest_key, source_key, link_key, lane_key, pager_key, page_line, closing}
-use Rattle.session_log.specs.inner.Held.{SessionDraft, Part, part_onto, geometry_onto, init_onto, guest_onto, source_onto, link_onto, lane_part_onto, lane_onto, held_onto, InitFits, LogFits, most_of, GuestFits, SourceFits, LinkFits, LaneFits, Live}
+use Rattle.session_grammar.specs.declared.stage.Stage.{Stage}
+use Rattle.session_grammar.specs.declared.stage.Stage.TheVariants.{Header, Pages, Cells, InitCount, Init, Guest, Source, Link, Lane, Pager, Done}
+use Rattle.session_grammar.specs.Records.{guest_line, source_line, link_line, lane_line, pager_line}
+use Rattle.session_grammar.specs.inner.InitPages.{Rise, next_from}
+use Rattle.session_grammar.specs.Grammar.{header, pages_key, cells_key, init_key, guest_key, source_key, link_key, lane_key, pager_key, page_line, closing}
+use Rattle.session_grammar.specs.inner.Held.{SessionDraft, Part, part_onto, geometry_onto, init_onto, guest_onto, source_onto, link_onto, lane_part_onto, lane_onto, held_onto, InitFits, LogFits, most_of, GuestFits, SourceFits, LinkFits, LaneFits, Live}
 use Rattle.session_log.specs.inner.Steps.{count_at, StepsBack}
-use Rattle.session_log.proofs.ByVersion.{no_records_at, lane_is, lane_long}
-use Rattle.session_log.proofs.Laws.{live_at, guest_part, source_part, link_part, lane_part, pager_part}
-use Rattle.session_log.proofs.Sections.{onto_push, with_items}
+use Rattle.session_grammar.proofs.ByVersion.{no_records_at, lane_is, lane_long}
+use Rattle.session_log.proofs.Laws.{live_at}
+use Rattle.session_grammar.proofs.Laws.{guest_part, source_part, link_part, lane_part, pager_part}
+use Rattle.session_grammar.proofs.Sections.{onto_push, with_items}
 use Rattle.session_log.proofs.Goes.{live_few}
 
 all_front : {X : Type 0} (P : X → Type 0) (xs : List X) (x : X) → AllByRecursion P (xs ++ x ∷ []) → AllByRecursion P xs

@@ -1,8 +1,7 @@
 -- Each state of a reader goes on to a text.
-use Rattle.std.proofs.Common.{◌≡◌, ◌≢◌, ℕ, zero, suc, ◌+◌, ◌-◌, ◌*◌, ◌<◌, ◌≤◌, ◌^◌, List, [], ◌∷◌, ◌++◌, length, map, replicate, refl, sym, ap, subst, ◌∙◌, length-append, arith}
-use Rattle.std.specs.List.{AllByRecursion}
+use Rattle.std.proofs.Common.{◌≡◌, ◌≢◌, ℕ, ◌+◌, ◌-◌, ◌*◌, ◌<◌, ◌≤◌, ◌^◌, List, [], ◌∷◌, ◌++◌, length, map, refl, sym, ap, subst, ◌∙◌, length-append, arith}
 use Rattle.std.specs.Fmt.{decimal}
-use Rattle.std.proofs.lemmas.List.{append-nil, length-map, length-replicate}
+use Rattle.std.proofs.lemmas.List.{append-nil, length-map}
 use Rattle.text_lines.specs.Text.{Begins}
 use Rattle.text_lines.proofs.Cut.{Begins-front}
 use Rattle.migration_types.specs.declared.records.GuestRec.TheVariants.{Halt}
@@ -10,27 +9,26 @@ use Rattle.migration_types.specs.declared.records.SourceRec.TheVariants.{State}
 use Rattle.migration_types.specs.declared.records.LinkRec.TheVariants.{Down}
 use Rattle.migration_types.specs.declared.records.LaneRec.TheVariants.{Down as LaneDown}
 use Rattle.migration_types.specs.declared.records.PagerRec.TheVariants.{All}
-use Rattle.migration_types.specs.declared.pages.InitPage.{InitPage}
 use Rattle.migration_types.specs.declared.size.Size.TheVariants.{Small}
 use Rattle.migration_types.specs.declared.version.Version.{Version}
 use Rattle.migration_types.specs.declared.version.Version.TheVariants.{One, Two}
 use Rattle.migration_types.specs.Extents.{Extent, IsExtent}
-use Rattle.migration_types.specs.Pages.{InitPageFits}
 use Rattle.migration_types.specs.declared.records.LogName.{LogName}
 use Rattle.migration_types.specs.declared.records.LogName.TheVariants as logs
 use Rattle.migration_types.specs.Limits.{HasSize, limits, limits_at_most, most_pages, longest_log}
 use Rattle.migration_types.specs.Sessions.{Recorded, IsSession, log_length, GuestRecFits, SourceRecFits, LinkRecFits, LaneRecFits, PagerRecFits}
-use Rattle.session_log.specs.declared.parts.Stage.{Stage}
-use Rattle.session_log.specs.declared.parts.Stage.TheVariants.{Header, Pages, Cells, InitCount, Init, Guest, Source, Link, Lane, Pager, Done}
-use Rattle.session_log.specs.Records.{guest_line, source_line, link_line, lane_line, pager_line}
+use Rattle.session_grammar.specs.declared.stage.Stage.{Stage}
+use Rattle.session_grammar.specs.declared.stage.Stage.TheVariants.{Header, Pages, Cells, InitCount, Init, Guest, Source, Link, Lane, Pager, Done}
+use Rattle.session_grammar.specs.Records.{guest_line, source_line, link_line, lane_line, pager_line}
 use Rattle.migration_types.specs.inner.Room.{limits_some}
-use Rattle.session_log.specs.inner.InitPages.{Rise, rise_long, rise_increases}
-use Rattle.session_log.specs.Grammar.{header, pages_key, cells_key, init_key, guest_key, source_key, link_key, lane_key, pager_key, page_line, closing, session_lines, SpellsSession}
-use Rattle.session_log.specs.inner.Held.{SessionDraft, Part, part_onto, geometry_onto, init_onto, guest_onto, source_onto, link_onto, lane_onto, pager_onto, held_onto, IsWhole, InitFits, LogFits, most_of, GuestFits, SourceFits, LinkFits, LaneFits, PagerFits, Live}
-use Rattle.session_log.proofs.Lists.{all_append, all_replicate}
-use Rattle.session_log.proofs.Sections.{with_items, onto_more, onto_whole, fresh, fresh_fits, missing, filled_whole, filled_fits}
-use Rattle.session_log.proofs.ByVersion.{one_version, lane_is, lane_whole, lane_long, lane_short, lane_some}
-use Rattle.session_log.proofs.Laws.{held_append, extent, StartFits, guest_part, source_part, link_part, lane_part, pager_part, pager_lines, lane_lines, link_lines, source_lines, guest_lines, init_agrees, guest_agrees, source_agrees, link_agrees, lane_agrees, pager_agrees}
+use Rattle.session_grammar.specs.inner.InitPages.{rise_long, rise_increases}
+use Rattle.session_grammar.specs.Grammar.{header, pages_key, cells_key, init_key, guest_key, source_key, link_key, lane_key, pager_key, page_line, closing, session_lines, SpellsSession}
+use Rattle.session_grammar.specs.inner.Held.{SessionDraft, Part, part_onto, geometry_onto, init_onto, guest_onto, source_onto, link_onto, lane_onto, pager_onto, held_onto, IsWhole, LogFits, most_of, GuestFits, SourceFits, LinkFits, LaneFits, PagerFits, Live}
+use Rattle.session_grammar.proofs.Sections.{with_items, onto_more, onto_whole, fresh, fresh_fits, missing, filled_whole, filled_fits}
+use Rattle.session_grammar.proofs.ByVersion.{one_version, lane_is, lane_whole, lane_long, lane_short, lane_some}
+use Rattle.session_grammar.proofs.Laws.{held_append, extent, StartFits, guest_part, source_part, link_part, lane_part, pager_part, pager_lines, lane_lines, link_lines, source_lines, guest_lines}
+use Rattle.session_log.proofs.Laws.{init_agrees, guest_agrees, source_agrees, link_agrees, lane_agrees, pager_agrees}
+use Rattle.session_grammar.proofs.Fillings.{init_filled, no_rest}
 
 -- ---- a whole draft is a session
 
@@ -146,63 +144,6 @@ guest_begins d f =
     step Guest Source d e (map guest_line more ++ line ∷ []) (ap (init_onto d) (onto_more guest_key guest_line d.guest more (line ∷ [])))
     (source_begins e (fresh_fits (most_of d) (GuestFits e) log (SourceRecFits d.geometry) 0 (filled_fits (most_of d) (StartFits d) d.init (GuestRecFits d.geometry) d.guest Halt f tt) (filled_whole d.guest Halt f.within) (omega arith)))
 
--- pages that go on rising, each with a cell that is not 0
-abbrev pub page_at : ℕ → ℕ → InitPage
-page_at cells n = record { page = n; cells = 1 ∷ replicate (cells - 1) 0 }
-
-pub pages_from : ℕ → ℕ → ℕ → List InitPage
-pages_from cells n zero = []
-pages_from cells n (suc m) = page_at cells n ∷ pages_from cells (n + 1) m
-
-page_fits : (e : Extent) (n : ℕ) → 1 ≤ e.cells → n < e.pages → InitPageFits e (page_at e.cells n)
-page_fits e n some lt =
-    record {
-      page = lt;
-      content = record { count = omega (arith, length-replicate {A = ℕ} (e.cells - 1) 0); each = (omega arith, all_replicate (λ x. x < 2 ^ 64) (e.cells - 1) 0 (omega arith)) };
-      not_zeros = λ zeros. absurd (omega (arith, zeros.0));
-    }
-
-pub pages_fit : (e : Extent) (n m : ℕ) → 1 ≤ e.cells → n + m ≤ e.pages → AllByRecursion (InitPageFits e) (pages_from e.cells n m)
-unfolding pages_from
-pages_fit e n zero h le = tt
-pages_fit e n (suc m) h le = (page_fits e n h (omega arith), pages_fit e (n + 1) m h (omega arith))
-
-pub pages_count : (c n m : ℕ) → length (pages_from c n m) ≡ m
-unfolding pages_from
-pages_count c n zero = refl
-pages_count c n (suc m) = ap suc (pages_count c (n + 1) m)
-
-pub pages_rise : (c n m : ℕ) → Rise n (pages_from c n m) (n + m)
-unfolding pages_from
-pages_rise c n zero = omega arith
-pages_rise c n (suc m) = (omega arith, let e : n + suc m ≡ n + 1 + m = omega arith in subst (λ (high : ℕ). Rise (n + 1) (pages_from c (n + 1) m) high) (sym e) (pages_rise c (n + 1) m))
-
-pub rise_append : (low mid high : ℕ) (xs ys : List InitPage) → Rise low xs mid → Rise mid ys high → Rise low (xs ++ ys) high
-rise_append low mid high [] ys r s = subst (λ (n : ℕ). Rise n ys high) (sym r) s
-rise_append low mid high (x ∷ xs) ys r s = (r.0, rise_append (x.page + 1) mid high xs ys r.1 s)
-
--- initial pages that came go on to all that were announced
-pub init_filled : (version : Version) (e : Extent) (next : ℕ) (part : Part InitPage) → InitFits version e next part → (more : List InitPage) × (top : ℕ) × InitFits version e top (with_items part more) × IsWhole (with_items part more)
-init_filled version e next part f =
-    let m = part.count - length part.items in
-    let more = pages_from e.cells next m in
-    let within = f.within in
-    let len = pages_count e.cells next m in
-    let room = f.room in
-    let both = length-append part.items more in (
-      more,
-      next + m,
-      record {
-        size = f.size;
-        geometry = f.geometry;
-        within = omega arith;
-        each = all_append (InitPageFits e) part.items more f.each (pages_fit e next m f.geometry.some_cells room);
-        rising = rise_append 0 next (next + m) part.items more f.rising (pages_rise e.cells next m);
-        room = omega arith;
-      },
-      omega arith,
-    )
-
 init_begins : (d : SessionDraft) → StartFits d → Begins SpellsSession (held_onto Init d [])
 init_begins d f =
     let filled = init_filled d.version d.geometry d.next_page d.init f in
@@ -252,12 +193,6 @@ live_begins Pager d live = pager_begins d live
 live_begins Done d live = done_begins d live.0 live.1
 
 -- ---- what is not whole is no text
-
--- a list without what follows it is too short
-pub no_rest : {X : Type 0} (spell : X → List ℕ) (xs ys : List X) (rest : List (List ℕ)) → map spell xs ++ rest ≡ map spell ys ++ [] → length ys ≤ length xs → 0 < length rest → ⊥
-no_rest spell xs ys rest e le some =
-    let l : length (map spell xs ++ rest) ≡ length (map spell ys ++ []) = ap (λ (t : List (List ℕ)). length t) e in
-    absurd (omega (arith, l, length-append (map spell xs) rest, length-append (map spell ys) [], length-map xs spell, length-map ys spell))
 
 not_whole_at : (stage : Stage) (d : SessionDraft) → Live stage d → stage ≢ Done → (v : Recorded) → IsSession v → held_onto stage d [] ≡ session_lines v → ⊥
 not_whole_at Header d live other v fits e = absurd cc

@@ -15,16 +15,17 @@ use Rattle.migration_types.specs.declared.pages.InitPage.{InitPage}
 use Rattle.migration_types.specs.declared.version.Version.{Version}
 use Rattle.migration_types.specs.declared.version.Version.TheVariants.{One, Two}
 use Rattle.migration_types.specs.Sessions.{GuestRecFits, SourceRecFits, LinkRecFits, LaneRecFits, PagerRecFits}
-use Rattle.session_log.specs.declared.parts.Stage.{Stage}
-use Rattle.session_log.specs.declared.parts.Stage.TheVariants.{Header, Pages, Cells, InitCount, Init, Guest, Source, Link, Lane, Pager, Done}
-use Rattle.session_log.specs.Records.{guest_line, source_line, link_line, lane_line, pager_line}
-use Rattle.session_log.specs.inner.InitPages.{IsInitContent, next_from, next_push}
-use Rattle.session_log.specs.Grammar.{init_key, guest_key, source_key, link_key, lane_key, pager_key, page_line, closing}
-use Rattle.session_log.specs.inner.Held.{SessionDraft, Part, part_onto, geometry_onto, init_onto, guest_onto, source_onto, link_onto, lane_onto, IsWhole, LogFits, most_of, InitFits, GuestFits, SourceFits, LinkFits, LaneFits, Live, held_onto}
+use Rattle.session_grammar.specs.declared.stage.Stage.{Stage}
+use Rattle.session_grammar.specs.declared.stage.Stage.TheVariants.{Header, Pages, Cells, InitCount, Init, Guest, Source, Link, Lane, Pager, Done}
+use Rattle.session_grammar.specs.Records.{guest_line, source_line, link_line, lane_line, pager_line}
+use Rattle.session_grammar.specs.inner.InitPages.{IsInitContent, next_from, next_push}
+use Rattle.session_grammar.specs.Grammar.{init_key, guest_key, source_key, link_key, lane_key, pager_key, page_line, closing}
+use Rattle.session_grammar.specs.inner.Held.{SessionDraft, Part, part_onto, geometry_onto, init_onto, guest_onto, source_onto, link_onto, lane_onto, IsWhole, LogFits, most_of, InitFits, GuestFits, SourceFits, LinkFits, LaneFits, Live, held_onto}
 use Rattle.session_log.specs.inner.Steps.{left_at, stage_before, Drops, Stays, Steps, StepsBack}
-use Rattle.session_log.proofs.Sections.{with_items, onto_push, push_fits}
-use Rattle.session_log.proofs.ByVersion.{lane_is}
-use Rattle.session_log.proofs.Laws.{live_at, page_push, page_refused, guest_refused, source_refused, link_refused, lane_refused, pager_refused, guest_count_refused, source_count_refused, link_count_refused, behind_lane_refused, closing_refused}
+use Rattle.session_grammar.proofs.Sections.{with_items, onto_push, push_fits}
+use Rattle.session_grammar.proofs.ByVersion.{lane_is}
+use Rattle.session_log.proofs.Laws.{live_at, page_refused, guest_refused, source_refused, link_refused, lane_refused, pager_refused, guest_count_refused, source_count_refused, link_count_refused, behind_lane_refused, closing_refused}
+use Rattle.session_grammar.proofs.Laws.{page_push}
 use Rattle.session_log.proofs.Back.{onto_empty, with_init, pages_back, cells_back, init_count_back, done_back, init_back, init_none_back, guest_back, guest_none_back, source_back, source_none_back, link_back, link_none_back, lane_back, lane_none_back, pager_back, first_none_back, pager_none_back}
 
 -- ---- an item

@@ -10,10 +10,10 @@ use Rattle.migration_types.specs.Sessions.{Recorded, IsSession, LaneRecIn, lane_
 use Rattle.migration_types.specs.Limits.{limits}
 use Rattle.migration_types.specs.declared.records.LogName.{LogName}
 use Rattle.migration_types.specs.declared.records.LogName.TheVariants.{Guest, Source, Link, Lane, Pager}
-use Rattle.session_log.specs.Records.{guest_line, source_line, link_line, lane_line, pager_line}
-use Rattle.session_log.specs.Grammar.{init_key, guest_key, source_key, link_key, lane_key, pager_key, page_line, with_lane, closing, counted, session_lines, record_line}
-use Rattle.session_log.proofs.ByVersion.{no_records}
-use Rattle.session_log.proofs.Laws.{guest_lines, source_lines, link_lines, lane_lines, pager_lines}
+use Rattle.session_grammar.specs.Records.{guest_line, source_line, link_line, lane_line, pager_line}
+use Rattle.session_grammar.specs.Grammar.{init_key, guest_key, source_key, link_key, lane_key, pager_key, page_line, with_lane, closing, counted, session_lines, record_line}
+use Rattle.session_grammar.proofs.ByVersion.{no_records}
+use Rattle.session_grammar.proofs.Laws.{guest_lines, source_lines, link_lines, lane_lines, pager_lines}
 
 beyond : (xs ys : List (List ℕ)) (k : ℕ) → slice_get (xs ++ ys) (length xs + k) ≡ slice_get ys k
 beyond [] ys k = ap (slice_get ys) (omega arith)

@@ -4,11 +4,11 @@ use Rattle.std.specs.Prelude.{Result, Ok, Err, IfOk, IfErr, OnErr}
 use Rattle.text_lines.specs.Text.{Begins}
 use Rattle.text_lines.specs.declared.FaultKind.{FaultKind}
 use Rattle.text_lines.specs.declared.FaultKind.TheVariants.{Memory}
-use Rattle.session_log.specs.declared.parts.Stage.{Stage}
-use Rattle.session_log.specs.Grammar.{SpellsSession}
-use Rattle.session_log.specs.inner.Held.{SessionDraft, held_onto, Live}
+use Rattle.session_grammar.specs.declared.stage.Stage.{Stage}
+use Rattle.session_grammar.specs.Grammar.{SpellsSession}
+use Rattle.session_grammar.specs.inner.Held.{SessionDraft, held_onto, Live}
 use Rattle.session_log.specs.inner.Steps.{Steps}
-use Rattle.session_log.proofs.Laws.{held_line}
+use Rattle.session_grammar.proofs.Laws.{held_line}
 
 pub taken : (stage : Stage) (old new : SessionDraft) (line : List ℕ) (r : Result Stage FaultKind) → Steps stage old line new r → IfOk r (λ next. Live next new × (held_onto next new [] ≡ held_onto stage old [] ++ line ∷ []))
 taken stage old new line (Ok next) s = (s.0, s.1 ∙ held_line stage old (held_onto stage old []) line refl)

@@ -4,15 +4,15 @@ use Rattle.std.proofs.lemmas.List.{append-nil}
 use Rattle.std.proofs.Math.Seq.{take-length}
 use Rattle.text_lines.specs.Text.{ended}
 use Rattle.text_lines.proofs.Sections.{ended_next}
-use Rattle.text_lines.proofs.Cut.{ended-append}
 use Rattle.std.specs.Fmt.{decimal}
 use Rattle.migration_types.specs.declared.records.LaneRec.{LaneRec}
 use Rattle.migration_types.specs.declared.version.Version.{Version}
 use Rattle.migration_types.specs.declared.version.Version.TheVariants.{One, Two}
 use Rattle.migration_types.specs.Sessions.{Recorded}
-use Rattle.session_log.specs.Records.{guest_line, source_line, link_line, lane_line, pager_line}
-use Rattle.session_log.specs.Grammar.{header, pages_key, cells_key, init_key, guest_key, source_key, link_key, lane_key, pager_key, page_line, with_lane, closing, counted, session_lines}
-use Rattle.session_log.proofs.Laws.{pager_lines, lane_lines, link_lines, source_lines, guest_lines}
+use Rattle.session_grammar.specs.Records.{guest_line, source_line, link_line, lane_line, pager_line}
+use Rattle.session_grammar.specs.Grammar.{header, pages_key, cells_key, init_key, guest_key, source_key, link_key, lane_key, pager_key, page_line, with_lane, closing, counted, session_lines}
+use Rattle.session_grammar.proofs.Laws.{pager_lines, lane_lines, link_lines, source_lines, guest_lines}
+use Rattle.session_grammar.proofs.Sections.{ended_then}
 
 -- behind what was there before stand a line and those of the first items
 abbrev pub Written : {X : Type 0} → (X → List ℕ) → List ℕ → List ℕ → List X → ℕ → List ℕ → Type 0
@@ -30,11 +30,6 @@ written_item spell old line xs i now new x lt w is e = written_next spell old li
 pub written_all : {X : Type 0} (spell : X → List ℕ) (old line : List ℕ) (xs : List X) (i : ℕ) (now : List ℕ) → i ≡ length xs → Written spell old line xs i now → now ≡ old ++ ended (line ∷ (map spell xs ++ []))
 written_all spell old line xs i now all w =
     w ∙ (ap (λ (k : ℕ). old ++ ended (line ∷ map spell (take k xs))) all ∙ (ap (λ (t : List _). old ++ ended (line ∷ map spell t)) (take-length xs) ∙ ap (λ (t : List (List ℕ)). old ++ ended (line ∷ t)) (sym (append-nil (map spell xs)))))
-
--- some lines, and then others
-pub ended_then : (old now new : List ℕ) (front : List (List ℕ)) (back : List (List ℕ)) → now ≡ old ++ ended front → new ≡ now ++ ended back → new ≡ old ++ ended (front ++ back)
-ended_then old now new front back p q =
-    q ∙ (ap (λ (t : List ℕ). t ++ ended back) p ∙ (append_assoc old (ended front) (ended back) ∙ ap (λ (t : List ℕ). old ++ t) (ap (λ (t : List ℕ). ended front ++ t) (sym (append-nil (ended back))) ∙ (sym (ended-append front back []) ∙ append-nil (ended (front ++ back))))))
 
 regroup : (h a b c d l e z : List (List ℕ)) → h ++ a ++ b ++ c ++ d ++ l ++ e ++ z ≡ h ++ (a ++ (b ++ (c ++ (d ++ (l ++ (e ++ z))))))
 regroup h a b c d l e z = simp append_assoc

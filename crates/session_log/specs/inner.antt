@@ -1,8 +1,3 @@
 -- Definitions that only proofs use.
-pub mod Forms
-pub mod Held
-pub mod InitPages
-pub mod Limits
 pub mod Plain
-pub mod RecordPlain
 pub mod Steps

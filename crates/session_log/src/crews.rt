@@ -4,10 +4,10 @@ use crate::guest::GuestLines;
 use crate::lane::LaneLines;
 use crate::link::LinkLines;
 use crate::pager::PagerLines;
-use crate::pages::InitLines;
 use crate::records::Records;
 use crate::source::SourceLines;
-use migration_types::{GuestRec, InitPage, LaneRec, LinkRec, PagerRec, SourceRec};
+use migration_types::{GuestRec, LaneRec, LinkRec, PagerRec, SourceRec};
+use session_grammar::InitLines;
 use std::thread::Threads;
 use text_lines::{Alone, ItemCrew, Team, take_parts};
 
@@ -22,18 +22,6 @@ pub(crate) trait SessionCrew: ItemCrew<InitLines>
 impl SessionCrew for Alone {}
 
 impl<'a, H: Threads + Sync> SessionCrew for Team<'a, H> {}
-
-impl<'a, H: Threads + Sync> ItemCrew<InitLines> for Team<'a, H> {
-    fn take<'b>(
-        &self,
-        form: &InitLines,
-        items: &mut Vec<InitPage>,
-        most: u32,
-        bytes: &'b [u8],
-    ) -> (&'b [u8], u32) {
-        take_parts(self.rt, form, self.parts, items, most, bytes)
-    }
-}
 
 impl<'a, H: Threads + Sync> ItemCrew<Records<GuestLines>> for Team<'a, H> {
     fn take<'b>(

@@ -7,11 +7,11 @@ ghost use Rattle.migration_types.specs.Contents.{IsContent};
 ghost use Rattle.migration_types.specs.Limits.{most_pages};
 ghost use Rattle.migration_types.specs.Sessions.{IsNumber};
 
-use crate::contents::read_contents;
 use crate::forms::past_records;
 use migration_types::{Contents, PageNo, Size};
+use session_grammar::read_page_contents;
 use std::alloc::Global;
-use text_lines::{FaultKind, after_key, number_last, read_cell};
+use text_lines::{FaultKind, after_key, number_last};
 
 /// Returns the number of a record after a key at the front, and what follows. Nothing follows if the text is these
 /// alone.
@@ -35,21 +35,6 @@ pub(crate) fn page_then<'a>(text: &'a [u8], key: &[u8], pages: u32) -> Option<(P
 {
     let (page, rest) = number_last(after_key(text, key)?, u64::from(pages) - 1)?;
     Some((PageNo::new(page as u32), rest))
-}
-
-/// Returns the values of a page's cells that a text spells, cell 0 first. Allocates no memory for a page of one cell.
-pub fn read_page_contents(alloc: Global, text: &[u8], cells: u32) -> Result<Contents, FaultKind>
-    ensures found { IfOk result (λ xs. IsContent cells xs × (text.now ≡ contents_text xs)) }
-    ensures refused { IfErr result (λ kind. kind ≢ FaultKind.Memory → (xs : List ℕ) → IsContent cells xs → text.now ≢ contents_text xs) }
-{
-    if cells == 1 {
-        let Some(value) = read_cell(text) else {
-            return Err(FaultKind::Form);
-        };
-        return Ok(Contents::one(value));
-    }
-    let values = read_contents(alloc, text, cells)?;
-    Ok(Contents::from_vec(values))
 }
 
 /// Returns the values of a page's cells, this many of them, at the front, and what follows. Nothing follows if the text

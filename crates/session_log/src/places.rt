@@ -2,7 +2,7 @@
 
 ghost use Rattle.std.specs.Prelude.{◌≡◌, ◌<◌, ◌-◌, slice_get};
 ghost use Rattle.migration_types.specs.Sessions.{line_of, log_length};
-ghost use Rattle.session_log.specs.Grammar.{session_lines, record_line};
+ghost use Rattle.session_grammar.specs.Grammar.{session_lines, record_line};
 
 use migration_types::{LogName, Session};
 

@@ -7,7 +7,7 @@ ghost use Rattle.migration_types.specs.declared.records.LinkRec.{LinkRec};
 ghost use Rattle.migration_types.specs.declared.records.LaneRec.{LaneRec};
 ghost use Rattle.migration_types.specs.declared.records.PagerRec.{PagerRec};
 ghost use Rattle.migration_types.specs.Rows.{guest_row, source_row, link_row, lane_row, pager_row, source_contents, pager_contents};
-ghost use Rattle.session_log.specs.Records.{guest_line, source_line, link_line, lane_line, pager_line};
+ghost use Rattle.session_grammar.specs.Records.{guest_line, source_line, link_line, lane_line, pager_line};
 ghost use Rattle.session_log.specs.Rows.{fields_text, row_line};
 
 use migration_types::{Field, Row};

@@ -6,7 +6,7 @@ use crate::words::{Piece, push, push_sentence, word_at};
 use command_texts::TextSource;
 use migration_types::MOST_CELLS;
 use recorded_files::Party;
-use session_log::PAGES_KEY;
+use session_grammar::PAGES_KEY;
 use std::alloc::{AllocError, Global};
 use text_lines::{after_key, number_then, read_decimal};
 

@@ -6,7 +6,7 @@ use Rattle.std.specs.Fmt.{decimal}
 use Rattle.migration_types.specs.Contents.{IsContent}
 use Rattle.migration_types.specs.Limits.{most_cells}
 use Rattle.migration_types.specs.declared.pages.InitPage.{InitPage}
-use Rattle.session_log.specs.Grammar.{pages_key, page_line}
+use Rattle.session_grammar.specs.Grammar.{pages_key, page_line}
 use Rattle.recordings.specs.Recordings.{IsCount}
 use Rattle.recordings.specs.Wide.{init_of}
 use Rattle.recordings.specs.declared.wide.WideInit.{WideInit}

@@ -3,7 +3,7 @@
 ghost use Rattle.std.specs.Prelude.{◌≡◌, ◌≢◌, ◌≤◌, ◌++◌, ◌∷◌, ℕ, IfSome, IfNone, IfOk, IfErr};
 ghost use Rattle.std.specs.Fmt.{decimal};
 ghost use Rattle.migration_types.specs.Limits.{most_cells};
-ghost use Rattle.session_log.specs.Records.{page_text};
+ghost use Rattle.session_grammar.specs.Records.{page_text};
 ghost use Rattle.recordings.specs.Recordings.{IsCount};
 ghost use Rattle.recordings.specs.declared.wide.WideInit.{WideInit as Wide};
 ghost use Rattle.surveyed_logs.specs.Machine.{machine_line, IsMachineRec, IsToldPage};
@@ -11,7 +11,7 @@ ghost use Rattle.surveyed_logs.specs.declared.machine_lines.MachineRec.{MachineR
 
 use migration_types::MOST_CELLS;
 use recordings::{BEYOND, WideInit};
-use session_log::{PAGES_KEY, read_page_contents};
+use session_grammar::{PAGES_KEY, read_page_contents};
 use std::alloc::Global;
 use text_lines::{FaultKind, after_key, number_then, read_some};
 

@@ -9,7 +9,7 @@ use Rattle.migration_types.specs.declared.records.SourceRec.{SourceRec}
 use Rattle.migration_types.specs.declared.records.SourceRec.TheVariants.{Halted, State, Send, Again, Ask, Done, Back}
 use Rattle.migration_types.specs.declared.records.PagerRec.{PagerRec}
 use Rattle.migration_types.specs.declared.records.PagerRec.TheVariants.{Got, Pull, Ready, Fault, Join, Want, Place, Zero, Skip, All}
-use Rattle.session_log.specs.Records.{source_line, pager_line}
+use Rattle.session_grammar.specs.Records.{source_line, pager_line}
 use Rattle.recordings.specs.Recordings.{IsMachine}
 use Rattle.recordings.specs.Wide.{source_of, pager_of}
 use Rattle.recordings.proofs.Tells.{source_tell, pager_tell}

@@ -4,7 +4,7 @@ use Rattle.std.specs.Prelude.{◌≢◌, IfErr}
 use Rattle.migration_types.specs.declared.records.LogName.{LogName}
 use Rattle.migration_types.specs.declared.records.LogName.TheVariants.{Guest, Link, Lane, Pager, Source}
 use Rattle.migration_types.specs.Sessions.{Recorded}
-use Rattle.session_log.specs.Records.{guest_line, lane_line, link_line}
+use Rattle.session_grammar.specs.Records.{guest_line, lane_line, link_line}
 use Rattle.recordings.specs.Recordings.{IsGuestRecOf, IsLaneRecOf, IsLinkRecOf}
 use Rattle.recordings.specs.Wide.{extent_of, guest_of, lane_of, link_of}
 use Rattle.recordings.specs.declared.machine.WideMachine.{WideMachine}

@@ -8,7 +8,7 @@ use Rattle.migration_types.specs.declared.records.LinkRec.TheVariants.{Down as L
 use Rattle.migration_types.specs.declared.records.LaneRec.{LaneRec}
 use Rattle.migration_types.specs.declared.records.LaneRec.TheVariants.{Down as LaneDown}
 use Rattle.migration_types.specs.Sessions.{Recorded}
-use Rattle.session_log.specs.Records.{guest_line, lane_line, link_line}
+use Rattle.session_grammar.specs.Records.{guest_line, lane_line, link_line}
 use Rattle.recordings.specs.Recordings.{IsGuestRecOf, IsLaneRecOf, IsLinkRecOf}
 use Rattle.recordings.specs.Wide.{extent_of, guest_of, init_of, lane_of, link_of}
 use Rattle.recordings.specs.declared.machine.WideMachine.{WideMachine}

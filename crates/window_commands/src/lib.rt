@@ -3,6 +3,7 @@
 #![tactic(auto)]
 
 mod tables;
+mod wanting;
 mod windowing;
 
 pub use tables::{TableParts, push_table};

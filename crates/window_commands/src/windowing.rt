@@ -12,12 +12,13 @@ ghost use Rattle.window_commands.specs.Windows.{EndsWindow, HasWindowLines, IsWi
 ghost use Rattle.window_commands.specs.inner.Answered.{HasTable, IsAnswered, IsAnsweredAt, refused_line};
 
 use crate::push_table;
+use crate::wanting::misread_of;
 use command_texts::{
     ACCEPTED, Answer, Console, Fault, NOT_THE_SAME, NOT_WHOLE, REFUSED, Telling, TextSource, Why,
     given, opened, remark, tell_why, written,
 };
-use recordings::RecordingFault;
-use refusal_words::{Misread, Refused};
+use recordings::{RecordingFault, RefusedLine};
+use refusal_words::Refused;
 use std::alloc::{AllocError, Global};
 use std::io::Write;
 use text_lines::push_keyed;
@@ -103,7 +104,7 @@ fn cut_named<'a, S: TextSource>(
     window: Window,
     name: &'a str,
     texts: &S,
-    why: &mut Option<Misread>,
+    why: &mut Option<RefusedLine>,
 ) -> Result<Result<WindowText, CutFault>, Fault<'a>>
     ensures cut { IfOk result (λ found. OfRead (S.bytes_of texts.now name.entry.now) (λ recording. IsFound window recording found)) }
     ensures fault { IfErr result (IsReadFault (λ n. n ≡ name.entry.now)) }
@@ -119,17 +120,20 @@ fn cut_named<'a, S: TextSource>(
 
 /// Returns why the text under a name is refused, if it is, with what was found there and what is allowed. It is `None` if
 /// that is not known.
-fn why_at<'a>(name: &'a str, fault: CutFault, misread: Option<Misread>) -> Option<Why<'a>>
+fn why_at<'a>(name: &'a str, fault: CutFault, found: Option<RefusedLine>) -> Option<Why<'a>>
     ensures { IfSome (option_map told_place result) (λ place. place_of name.entry.now (refused_line fault) ≡ Some place) }
 {
     let CutFault::Recording(RecordingFault::Line(line)) = fault else {
         return None;
     };
-    match misread {
-        Some(misread) => Some(Why {
-            name,
-            refused: Refused { line, misread },
-        }),
+    match found {
+        Some(found) => {
+            let misread = misread_of(found);
+            Some(Why {
+                name,
+                refused: Refused { line, misread },
+            })
+        }
         None => None,
     }
 }
@@ -139,13 +143,13 @@ fn untabled<'a>(
     alloc: Global,
     name: &'a str,
     fault: CutFault,
-    misread: Option<Misread>,
+    found: Option<RefusedLine>,
 ) -> Result<Told<'a>, Fault<'a>>
     ensures told { (window : Pages) (recording : List ℕ) (lined : Bool) → IsTold window recording fault → IfOk result (λ told. IsAnsweredAt window lined name.entry.now recording told.0 told.1 (option_map told_place told.2)) }
     ensures fault { IfErr result (IsReadFault (λ n. n ≡ name.entry.now)) }
 {
     match uncut(alloc, name, fault) {
-        Ok(answer) => Ok((answer, None, why_at(name, fault, misread))),
+        Ok(answer) => Ok((answer, None, why_at(name, fault, found))),
         Err(fault) => Err(fault),
     }
 }
@@ -164,10 +168,10 @@ fn answer_to<'a, S: TextSource>(
     if name == "-" || !texts.stays(name) {
         return Err(Fault::File(name, NOT_THE_SAME));
     }
-    let mut misread = None;
-    match cut_named(alloc, window, name, texts, &mut misread)? {
+    let mut refused = None;
+    match cut_named(alloc, window, name, texts, &mut refused)? {
         Ok(cut) => seen(alloc, cut, lined),
-        Err(fault) => untabled(alloc, name, fault, misread),
+        Err(fault) => untabled(alloc, name, fault, refused),
     }
 }
 

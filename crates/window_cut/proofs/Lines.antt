@@ -2,7 +2,7 @@
 use Rattle.std.proofs.Common.{◌≡◌, ℕ, Bool, true, false, List, [], ◌∷◌, ◌++◌, length, map, sym, ap, ◌∙◌, subst}
 use Rattle.migration_types.specs.declared.version.Version.{Version}
 use Rattle.migration_types.specs.Extents.{Extent}
-use Rattle.session_log.specs.Records.{guest_line, source_line, link_line, lane_line, pager_line}
+use Rattle.session_grammar.specs.Records.{guest_line, source_line, link_line, lane_line, pager_line}
 use Rattle.recordings.specs.Seen.{nothing_of}
 use Rattle.audit_model.specs.Windows.{Numbers, kept_in}
 use Rattle.window_cut.specs.declared.marking.Marks.{Marks}

@@ -12,8 +12,8 @@ use Rattle.migration_types.specs.declared.records.LaneRec.{LaneRec}
 use Rattle.migration_types.specs.Sessions.{Recorded}
 use Rattle.text_lines.specs.Text.{closing}
 use Rattle.text_lines.specs.Counted.{counted}
-use Rattle.session_log.specs.Grammar.{header, with_lane, pages_key, cells_key, init_key, page_line, session_lines}
-use Rattle.session_log.specs.Records.{guest_key, source_key, link_key, lane_key, pager_key, guest_line, source_line, link_line, lane_line, pager_line}
+use Rattle.session_grammar.specs.Grammar.{header, with_lane, pages_key, cells_key, init_key, page_line, session_lines}
+use Rattle.session_grammar.specs.Records.{guest_key, source_key, link_key, lane_key, pager_key, guest_line, source_line, link_line, lane_line, pager_line}
 use Rattle.audit_model.specs.Shape.{passes}
 use Rattle.audit_model.specs.Windows.{Numbers, kept_in, keeps_init, keeps_guest, keeps_source, keeps_link, keeps_lane, keeps_pager, marks, new_init, new_guest, new_source, new_link, new_lane, new_pager}
 use Rattle.window_cut.specs.Origins.{list_origins, lane_origins, behind, behind_lane, guest_at, source_at, link_at, lane_at, pager_at, end_at, line_at, kept_lines, kept_lane_lines, TellsOrigins}

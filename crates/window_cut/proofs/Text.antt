@@ -8,8 +8,8 @@ use Rattle.migration_types.specs.declared.records.LaneRec.{LaneRec}
 use Rattle.migration_types.specs.Sessions.{Recorded}
 use Rattle.text_lines.specs.Text.{ended, closing}
 use Rattle.text_lines.specs.Counted.{counted}
-use Rattle.session_log.specs.Grammar.{header, with_lane, pages_key, cells_key, init_key, page_line, session_lines}
-use Rattle.session_log.specs.Records.{guest_key, source_key, link_key, lane_key, pager_key, guest_line, source_line, link_line, lane_line, pager_line}
+use Rattle.session_grammar.specs.Grammar.{header, with_lane, pages_key, cells_key, init_key, page_line, session_lines}
+use Rattle.session_grammar.specs.Records.{guest_key, source_key, link_key, lane_key, pager_key, guest_line, source_line, link_line, lane_line, pager_line}
 use Rattle.window_cut.specs.declared.sections.Section.{Section}
 use Rattle.window_cut.specs.inner.Met.{IsSection}
 use Rattle.window_cut.specs.inner.Parts.{lane_lines}

@@ -14,8 +14,8 @@ use Rattle.migration_types.specs.declared.records.PagerRec.{PagerRec}
 use Rattle.migration_types.specs.declared.records.PagerRec.TheVariants.{Got, Pull, Ready, Fault, Join, Want, Place, Zero, Skip, All}
 use Rattle.migration_types.specs.Sessions.{Recorded}
 use Rattle.text_lines.specs.Text.{ended, IsSpelling}
-use Rattle.session_log.specs.Grammar.{session_lines}
-use Rattle.session_log.specs.Records.{guest_line, source_line, link_line, lane_line, pager_line}
+use Rattle.session_grammar.specs.Grammar.{session_lines}
+use Rattle.session_grammar.specs.Records.{guest_line, source_line, link_line, lane_line, pager_line}
 use Rattle.recordings.specs.Recordings.{SpellsRecording}
 use Rattle.recordings.specs.Walking.{Walks}
 use Rattle.audit_model.specs.Windows.{keeps_init, Numbers, new_page, kept_in, rank, marks, window, new_guest, new_source, new_link, new_lane, new_pager}

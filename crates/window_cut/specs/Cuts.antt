@@ -2,7 +2,7 @@
 use Rattle.std.specs.Prelude.{◌≡◌, ℕ, ◌+◌, ◌<◌, ◌≤◌, ◌⊎◌, List, Some, Option, IfSome}
 use Rattle.migration_types.specs.Sessions.{Recorded}
 use Rattle.text_lines.specs.Text.{ended, IsSpelling}
-use Rattle.session_log.specs.Grammar.{session_lines}
+use Rattle.session_grammar.specs.Grammar.{session_lines}
 use Rattle.recordings.specs.Recordings.{SpellsRecording}
 use Rattle.recordings.specs.Walking.{IsRefusedBy}
 use Rattle.audit_model.specs.Windows.{window}

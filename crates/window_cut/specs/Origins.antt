@@ -8,8 +8,8 @@ use Rattle.migration_types.specs.declared.version.Version.TheVariants.{One, Two}
 use Rattle.migration_types.specs.Sessions.{Recorded}
 use Rattle.migration_types.specs.declared.records.LaneRec.{LaneRec}
 use Rattle.text_lines.specs.Text.{closing}
-use Rattle.session_log.specs.Grammar.{header, pages_key, cells_key, init_key, page_line, session_lines}
-use Rattle.session_log.specs.Records.{guest_key, source_key, link_key, lane_key, pager_key, guest_line, source_line, link_line, lane_line, pager_line}
+use Rattle.session_grammar.specs.Grammar.{header, pages_key, cells_key, init_key, page_line, session_lines}
+use Rattle.session_grammar.specs.Records.{guest_key, source_key, link_key, lane_key, pager_key, guest_line, source_line, link_line, lane_line, pager_line}
 use Rattle.audit_model.specs.Windows.{Numbers, kept_in, keeps_init, marks, window}
 
 -- the line with the number of items of a list, and the lines of the kept items

@@ -9,8 +9,7 @@ use crate::marking::Marks;
 use crate::pages::Window;
 use crate::session::WindowText;
 use crate::visiting::{Marking, Way, Writing};
-use recordings::{RecordingFault, walk, walk_or_why};
-use refusal_words::Misread;
+use recordings::{RecordingFault, RefusedLine, walk, walk_or_why};
 use std::alloc::Global;
 use std::io::Read;
 use std::marker::Brand;
@@ -24,11 +23,11 @@ use std::marker::Brand;
 /// If `walk` finds no recording in what the first reader gives, its fault. `Outside` if the window has no page, or a
 /// page that the machine of the first does not have. `Changed` if the readers did not give the same text: another gives
 /// no recording, or one of a machine without these pages, or the last pass keeps other records than the passes before.
-/// If `walk` refuses a line, `why` becomes what was found there and what is allowed.
+/// If `walk` refuses a line, `why` becomes that line, with what may stand there.
 pub fn cut<R: Read>(
     alloc: Global,
     window: Window,
-    why: &mut Option<Misread>,
+    why: &mut Option<RefusedLine>,
     one: &mut R,
     two: &mut R,
     three: &mut R,
@@ -57,14 +56,13 @@ fn again<T: Drop>(found: Result<T, CutFault>) -> Result<T, CutFault>
     }
 }
 
-/// Marks the kept records, going by what the pass before found. If a line is refused, `why` becomes what was found there
-/// and what is allowed.
+/// Marks the kept records, going by what the pass before found. If a line is refused, `why` becomes that line.
 #[tactic(auto, using(crate::proofs::Read::marked_told))]
 fn mark<R: Read, W: Way>(
     alloc: Global,
     window: Window,
     known: Marks,
-    why: &mut Option<Misread>,
+    why: &mut Option<RefusedLine>,
     reader: &mut R,
 ) -> Result<Marks, CutFault>
     requires { W.guide ≡ record { window = window; known = known } }

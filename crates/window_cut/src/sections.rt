@@ -1,8 +1,8 @@
 //! The lines of the kept records.
 
 ghost use Rattle.std.specs.Prelude.{◌≡◌, ℕ, ◌+◌, [], ◌∷◌, ◌++◌, List, IfOk, OnOk};
-ghost use Rattle.session_log.specs.Grammar.{page_line};
-ghost use Rattle.session_log.specs.Records.{guest_line, source_line, link_line, lane_line, pager_line};
+ghost use Rattle.session_grammar.specs.Grammar.{page_line};
+ghost use Rattle.session_grammar.specs.Records.{guest_line, source_line, link_line, lane_line, pager_line};
 ghost use Rattle.recordings.specs.Wide.{init_of, guest_of, source_of, link_of, lane_of, pager_of};
 
 use recordings::{WideGuest, WideInit, WideLane, WideLink, WidePager, WideSource};

@@ -4,14 +4,14 @@ ghost use Rattle.std.specs.Prelude.{◌≡◌, ℕ, [], ◌∷◌, ◌++◌, Lis
 ghost use Rattle.std.specs.Fmt.{decimal};
 ghost use Rattle.migration_types.specs.Sessions.{Recorded};
 ghost use Rattle.text_lines.specs.Text.{ended};
-ghost use Rattle.session_log.specs.Grammar.{session_lines};
+ghost use Rattle.session_grammar.specs.Grammar.{session_lines};
 ghost use Rattle.window_cut.specs.inner.Met.{IsSection};
 ghost use Rattle.window_cut.specs.inner.Parts.{AreSections, lane_lines};
 
 use crate::sections::{Section, Sections};
 use migration_types::Version;
 use recordings::WideMachine;
-use session_log::{
+use session_grammar::{
     CELLS_KEY, GUEST_KEY, INIT_KEY, LANE_KEY, LINK_KEY, PAGER_KEY, PAGES_KEY, SOURCE_KEY,
     session_header,
 };

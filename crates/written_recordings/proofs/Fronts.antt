@@ -12,11 +12,11 @@ use Rattle.migration_types.specs.declared.version.Version.TheVariants.{One, Two}
 use Rattle.migration_types.specs.Sessions.{Recorded}
 use Rattle.audit_model.specs.Mergings.{Cursors}
 use Rattle.text_lines.specs.Text.{ended, closing}
-use Rattle.session_log.specs.Grammar.{page_line, init_key, with_lane}
-use Rattle.session_log.specs.Records.{guest_key, source_key, link_key, lane_key, pager_key, guest_line, source_line, link_line, lane_line, pager_line}
-use Rattle.session_log.specs.inner.Held.{part_onto, geometry_onto, lane_part_onto}
-use Rattle.session_log.proofs.Laws.{pager_lines, lane_lines, link_lines, source_lines, guest_lines}
-use Rattle.session_log.proofs.Sections.{onto_whole}
+use Rattle.session_grammar.specs.Grammar.{page_line, init_key, with_lane}
+use Rattle.session_grammar.specs.Records.{guest_key, source_key, link_key, lane_key, pager_key, guest_line, source_line, link_line, lane_line, pager_line}
+use Rattle.session_grammar.specs.inner.Held.{part_onto, geometry_onto, lane_part_onto}
+use Rattle.session_grammar.proofs.Laws.{pager_lines, lane_lines, link_lines, source_lines, guest_lines}
+use Rattle.session_grammar.proofs.Sections.{onto_whole}
 use Rattle.recordings.specs.Seen.{with_guest, with_source, with_link, with_lane as and_lane_rec, with_pager}
 use Rattle.recordings.specs.inner.Held.{SessionDraft, Part, IsWhole}
 use Rattle.recorded_files.specs.declared.fronts.Front.{Front}

@@ -5,9 +5,9 @@ use Rattle.std.specs.Prelude.{Result, Ok, Err, OnOk, IsOk}
 use Rattle.std.specs.Fmt.{decimal}
 use Rattle.text_lines.specs.Text.{ended}
 use Rattle.text_lines.proofs.Cut.{ended-push}
-use Rattle.session_log.specs.declared.parts.Stage.{Stage}
-use Rattle.session_log.specs.inner.Held.{part_onto}
-use Rattle.session_log.proofs.Laws.{held_line}
+use Rattle.session_grammar.specs.declared.stage.Stage.{Stage}
+use Rattle.session_grammar.specs.inner.Held.{part_onto}
+use Rattle.session_grammar.proofs.Laws.{held_line}
 use Rattle.recordings.specs.inner.Held.{SessionDraft, Part, held_onto, came_at, announced_at}
 use Rattle.written_recordings.specs.declared.text.ListKind.{ListKind}
 use Rattle.written_recordings.specs.declared.text.Text.{Text}

@@ -10,12 +10,12 @@ use Rattle.migration_types.specs.declared.records.PagerRec.{PagerRec}
 use Rattle.migration_types.specs.declared.version.Version.{Version}
 use Rattle.migration_types.specs.declared.version.Version.TheVariants.{One, Two}
 use Rattle.text_lines.specs.Text.{closing}
-use Rattle.session_log.specs.Grammar.{page_line, init_key}
-use Rattle.session_log.specs.Records.{guest_key, source_key, link_key, lane_key, pager_key, guest_line, source_line, link_line, lane_line, pager_line}
-use Rattle.session_log.specs.declared.parts.Stage.TheVariants as stage
-use Rattle.session_log.specs.inner.Held.{geometry_onto, init_onto, guest_onto, source_onto, link_onto, lane_part_onto, lane_onto}
-use Rattle.session_log.proofs.Sections.{onto_push}
-use Rattle.session_log.proofs.ByVersion.{lane_is}
+use Rattle.session_grammar.specs.Grammar.{page_line, init_key}
+use Rattle.session_grammar.specs.Records.{guest_key, source_key, link_key, lane_key, pager_key, guest_line, source_line, link_line, lane_line, pager_line}
+use Rattle.session_grammar.specs.declared.stage.Stage.TheVariants as stage
+use Rattle.session_grammar.specs.inner.Held.{geometry_onto, init_onto, guest_onto, source_onto, link_onto, lane_part_onto, lane_onto}
+use Rattle.session_grammar.proofs.Sections.{onto_push}
+use Rattle.session_grammar.proofs.ByVersion.{lane_is}
 use Rattle.recordings.specs.inner.Held.{SessionDraft, Part, IsWhole, held_onto, came_at, announced_at}
 use Rattle.written_recordings.specs.declared.text.ListKind.{ListKind}
 use Rattle.written_recordings.specs.declared.text.ListKind.TheVariants as section

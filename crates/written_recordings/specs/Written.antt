@@ -4,7 +4,7 @@ use Rattle.std.specs.Io.KnownBytes.{Appends}
 use Rattle.migration_types.specs.declared.version.Version.TheVariants.{Two}
 use Rattle.migration_types.specs.Sessions.{Recorded}
 use Rattle.text_lines.specs.Text.{ended}
-use Rattle.session_log.specs.Grammar.{session_lines}
+use Rattle.session_grammar.specs.Grammar.{session_lines}
 use Rattle.recorded_files.specs.declared.fronts.Front.{Front}
 use Rattle.recorded_files.specs.Fronts.{cursors_of, cut_to}
 

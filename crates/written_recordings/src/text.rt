@@ -11,7 +11,7 @@ use command_texts::{Cause, write_or_why};
 use migration_types::Version;
 use recorded_files::Front;
 use recordings::{WideGuest, WideInit, WideLane, WideLink, WideMachine, WidePager, WideSource};
-use session_log::{
+use session_grammar::{
     CELLS_KEY, GUEST_KEY, INIT_KEY, LANE_KEY, LINK_KEY, PAGER_KEY, PAGES_KEY, SOURCE_KEY,
     session_header,
 };

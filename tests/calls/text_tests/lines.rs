@@ -2,7 +2,7 @@
 
 use crate::formats::none_is_wrong;
 use crate::{fault_of, refusal_line};
-use session_log::read_page_contents;
+use session_grammar::read_page_contents;
 use std::alloc::{AllocError, Global};
 use std::marker::Model;
 use text_lines::{

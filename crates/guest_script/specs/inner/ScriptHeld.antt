@@ -13,9 +13,9 @@ use Rattle.migration_types.specs.Pages.{AreInitPages}
 use Rattle.migration_events.specs.declared.events.Fate.{Fate}
 use Rattle.migration_events.specs.declared.ops.Op.{Op}
 use Rattle.migration_events.specs.Ops.{OpFits, LateOpFits}
-use Rattle.session_log.specs.Grammar.{pages_key, cells_key, init_key, page_line, closing}
-use Rattle.session_log.specs.inner.Held.{InitFits}
-use Rattle.session_log.specs.inner.InitPages.{next_from}
+use Rattle.session_grammar.specs.Grammar.{pages_key, cells_key, init_key, page_line, closing}
+use Rattle.session_grammar.specs.inner.Held.{InitFits}
+use Rattle.session_grammar.specs.inner.InitPages.{next_from}
 use Rattle.guest_script.specs.declared.vcpus.Vcpu.{Vcpu}
 use Rattle.guest_script.specs.declared.stages.ScriptStage.{ScriptStage}
 use Rattle.guest_script.specs.declared.stages.ScriptStage.TheVariants.{Header, Pages, Cells, InitCount, Init, Window, Down, Up, Lanes, Lane, Count, First, Ops, Done}

@@ -14,10 +14,10 @@ use Rattle.migration_events.specs.declared.events.Fate.TheVariants.{Deliver, Los
 use Rattle.migration_events.specs.declared.ops.Op.{Op}
 use Rattle.migration_events.specs.declared.ops.Op.TheVariants.{Read, Write, Release}
 use Rattle.migration_events.specs.Ops.{OpFits, LateOpFits}
-use Rattle.session_log.specs.Grammar.{pages_key, cells_key, init_key, page_line, closing}
-use Rattle.session_log.specs.inner.InitPages.{rise_of, rise_long}
-use Rattle.session_log.specs.inner.Plain.{plain_page}
-use Rattle.session_log.specs.inner.RecordPlain.{plain_keyed, plain_number}
+use Rattle.session_grammar.specs.Grammar.{pages_key, cells_key, init_key, page_line, closing}
+use Rattle.session_grammar.specs.inner.InitPages.{rise_of, rise_long}
+use Rattle.session_grammar.specs.inner.RecordPlain.{plain_page}
+use Rattle.session_grammar.specs.inner.RecordPlain.{plain_keyed, plain_number}
 use Rattle.guest_script.specs.declared.vcpus.Vcpu.{Vcpu}
 use Rattle.guest_script.specs.declared.script.Scenario.{Scenario}
 use Rattle.guest_script.specs.Scenarios.{VcpuFits}

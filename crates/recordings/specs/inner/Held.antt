@@ -10,9 +10,9 @@ use Rattle.migration_types.specs.Pages.{InitPageFits}
 use Rattle.migration_types.specs.Sessions.{Recorded}
 use Rattle.migration_types.specs.inner.InitPages.{Rise}
 use Rattle.recordings.specs.Recordings.{IsCount, IsMachine, IsGuestRecOf, IsSourceRecOf, IsLinkRecOf, IsLaneRecOf, IsPagerRecOf}
-use Rattle.session_log.specs.declared.parts.Stage.{Stage}
-use Rattle.session_log.specs.declared.parts.Stage.TheVariants.{Header, Pages, Cells, InitCount, Init, Guest, Source, Link, Lane, Pager, Done}
-pub use Rattle.session_log.specs.inner.Held.{SessionDraft, Part, IsWhole, held_onto, LogFits, NoInit, NoGuest, NoSource, NoLink, NoLane, NoPager}
+use Rattle.session_grammar.specs.declared.stage.Stage.{Stage}
+use Rattle.session_grammar.specs.declared.stage.Stage.TheVariants.{Header, Pages, Cells, InitCount, Init, Guest, Source, Link, Lane, Pager, Done}
+pub use Rattle.session_grammar.specs.inner.Held.{SessionDraft, Part, IsWhole, held_onto, LogFits, NoInit, NoGuest, NoSource, NoLink, NoLane, NoPager}
 
 -- what was read of it
 abbrev pub recorded_of : SessionDraft → Recorded

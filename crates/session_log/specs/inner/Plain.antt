@@ -1,31 +1,22 @@
 -- No line of a session's text has a line feed.
-use Rattle.std.specs.Prelude.{ℕ, ◌<◌, ◌≤◌, ◌^◌, List, [], ◌∷◌, ◌++◌, length, refl}
+use Rattle.std.specs.Prelude.{ℕ, ◌<◌, ◌≤◌, ◌^◌, List, [], ◌∷◌, length, refl}
 use Rattle.std.proofs.Common.{arith, subst, sym}
 use Rattle.std.specs.List.{AllByRecursion}
-use Rattle.std.specs.Fmt.{decimal}
 use Rattle.text_lines.specs.Text.{IsLine}
-use Rattle.text_lines.specs.Contents.{contents_text}
-use Rattle.text_lines.proofs.Plain.{plain_append, plain_section, plain_codes}
-use Rattle.migration_types.specs.declared.pages.InitPage.{InitPage}
+use Rattle.text_lines.proofs.Plain.{plain_section, plain_codes}
 use Rattle.migration_types.specs.declared.records.LaneRec.{LaneRec}
 use Rattle.migration_types.specs.declared.version.Version.{Version}
 use Rattle.migration_types.specs.declared.version.Version.TheVariants.{One, Two}
 use Rattle.migration_types.specs.declared.size.Size.{Size}
 use Rattle.migration_types.specs.declared.size.Size.TheVariants.{Small, Large}
-use Rattle.migration_types.specs.Extents.{Extent}
 use Rattle.migration_types.specs.Pages.{InitPageFits}
-use Rattle.migration_types.specs.Limits.{limits, most_pages}
+use Rattle.migration_types.specs.Limits.{limits}
 use Rattle.migration_types.specs.Sessions.{Recorded, LaneRecIn, GuestRecFits, SourceRecFits, LinkRecFits, PagerRecFits}
-use Rattle.session_log.specs.Records.{guest_line, source_line, link_line, lane_line, pager_line}
-use Rattle.session_log.specs.inner.RecordPlain.{plain_contents, plain_number, plain_keyed, plain_guest_rec, plain_source_rec, plain_link_rec, plain_lane_rec, plain_pager_rec}
-use Rattle.session_log.specs.inner.InitPages.{few_init}
-use Rattle.session_log.specs.inner.Limits.{records_few}
-use Rattle.session_log.specs.Grammar.{header, pages_key, cells_key, init_key, guest_key, source_key, link_key, lane_key, pager_key, page_key, page_line, with_lane, closing, counted, SpellsSession}
-
-pub plain_page : (e : Extent) → e.pages ≤ most_pages → (p : InitPage) → InitPageFits e p → IsLine (page_line p)
-plain_page e few p h =
-    let below = h.page in
-    plain_append page_key (decimal p.page ++ 32 ∷ contents_text p.cells) (plain_codes page_key refl) (plain_number p.page (contents_text p.cells) (omega arith) (plain_contents p.cells))
+use Rattle.session_grammar.specs.Records.{guest_line, source_line, link_line, lane_line, pager_line}
+use Rattle.session_grammar.specs.inner.RecordPlain.{plain_page, plain_keyed, plain_guest_rec, plain_source_rec, plain_link_rec, plain_lane_rec, plain_pager_rec}
+use Rattle.session_grammar.specs.inner.InitPages.{few_init}
+use Rattle.session_grammar.specs.inner.Limits.{records_few}
+use Rattle.session_grammar.specs.Grammar.{header, pages_key, cells_key, init_key, guest_key, source_key, link_key, lane_key, pager_key, page_line, with_lane, closing, counted, SpellsSession}
 
 plain_counted : {X : Type 0} (key : List ℕ) (spell : X → List ℕ) (P : X → Type 0) (xs : List X) (more : List (List ℕ)) → IsLine key → length xs < 2 ^ 64 → ((x : X) → P x → IsLine (spell x)) → AllByRecursion P xs → AllByRecursion IsLine more → AllByRecursion IsLine (counted key spell xs more)
 plain_counted key spell P xs more k le f h rest = (plain_keyed key (length xs) k le, plain_section spell P xs more f h rest)

@@ -8,8 +8,8 @@ use Rattle.migration_types.specs.declared.version.Version.TheVariants.{One}
 use Rattle.migration_types.specs.declared.size.Size.TheVariants.{Small}
 use Rattle.migration_types.specs.Sessions.{Recorded}
 use Rattle.text_lines.specs.Text.{ended}
-use Rattle.session_log.specs.Grammar.{page_line}
-use Rattle.session_log.specs.Records.{guest_line, source_line, link_line, lane_line, pager_line}
+use Rattle.session_grammar.specs.Grammar.{page_line}
+use Rattle.session_grammar.specs.Records.{guest_line, source_line, link_line, lane_line, pager_line}
 use Rattle.recordings.specs.Wide.{extent_of}
 use Rattle.audit_model.specs.Windows.{Numbers, kept_in, keeps_sending, keeps_asking, keeps_miss, keeps_placement, keeps_init, new_init, marks as marks_in}
 use Rattle.window_cut.specs.declared.marking.Guide.{Guide}

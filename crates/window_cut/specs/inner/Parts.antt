@@ -4,8 +4,8 @@ use Rattle.std.specs.Fmt.{decimal}
 use Rattle.migration_types.specs.declared.version.Version.{Version}
 use Rattle.migration_types.specs.declared.version.Version.TheVariants.{One, Two}
 use Rattle.migration_types.specs.Sessions.{Recorded}
-use Rattle.session_log.specs.Grammar.{page_line}
-use Rattle.session_log.specs.Records.{lane_key, guest_line, source_line, link_line, lane_line, pager_line}
+use Rattle.session_grammar.specs.Grammar.{page_line}
+use Rattle.session_grammar.specs.Records.{lane_key, guest_line, source_line, link_line, lane_line, pager_line}
 use Rattle.window_cut.specs.declared.sections.Sections.{Sections}
 use Rattle.window_cut.specs.inner.Met.{IsSection}
 

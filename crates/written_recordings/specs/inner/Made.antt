@@ -15,9 +15,9 @@ use Rattle.migration_types.specs.Extents.{Extent}
 use Rattle.migration_types.specs.Sessions.{Recorded}
 use Rattle.audit_model.specs.Mergings.{Cursors}
 use Rattle.text_lines.specs.Text.{ended}
-use Rattle.session_log.specs.Grammar.{header, pages_key, cells_key, init_key}
-use Rattle.session_log.specs.declared.parts.Stage.{Stage}
-use Rattle.session_log.specs.declared.parts.Stage.TheVariants as stage
+use Rattle.session_grammar.specs.Grammar.{header, pages_key, cells_key, init_key}
+use Rattle.session_grammar.specs.declared.stage.Stage.{Stage}
+use Rattle.session_grammar.specs.declared.stage.Stage.TheVariants as stage
 use Rattle.recordings.specs.inner.Held.{SessionDraft, Part, IsWhole, held_onto, NoGuest, NoSource, NoLink, NoLane, NoPager, came_at, announced_at}
 use Rattle.recordings.specs.declared.machine.WideMachine.{WideMachine}
 use Rattle.recordings.specs.Wide.{extent_of}

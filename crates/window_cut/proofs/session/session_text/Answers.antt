@@ -1,8 +1,8 @@
 use Rattle.std.proofs.Common.{[], ◌∷◌, ◌++◌, map, ap, ◌∙◌}
 use Rattle.std.specs.Fmt.{decimal}
 use Rattle.text_lines.specs.Text.{ended}
-use Rattle.session_log.specs.Grammar.{header, pages_key, cells_key, page_line}
-use Rattle.session_log.specs.Records.{guest_line, source_line, link_line, lane_line, pager_line}
+use Rattle.session_grammar.specs.Grammar.{header, pages_key, cells_key, page_line}
+use Rattle.session_grammar.specs.Records.{guest_line, source_line, link_line, lane_line, pager_line}
 use Rattle.window_cut.specs.inner.Parts.{lane_lines}
 use Rattle.window_cut.proofs.Text.{whole}
 use Rattle.window_cut.proofs.session.session_text.Goals as goal

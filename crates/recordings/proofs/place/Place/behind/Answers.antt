@@ -1,7 +1,7 @@
 use Rattle.std.proofs.Common.{sym, subst}
-use Rattle.session_log.specs.Grammar.{guest_key, source_key, link_key, lane_key, pager_key}
-use Rattle.session_log.specs.declared.parts.Stage.{Stage}
-use Rattle.session_log.specs.declared.parts.Stage.TheVariants.{Guest, Init, Source, Link, Lane, Pager}
+use Rattle.session_grammar.specs.Grammar.{guest_key, source_key, link_key, lane_key, pager_key}
+use Rattle.session_grammar.specs.declared.stage.Stage.{Stage}
+use Rattle.session_grammar.specs.declared.stage.Stage.TheVariants.{Guest, Init, Source, Link, Lane, Pager}
 use Rattle.recordings.specs.inner.Stands.{Refuses}
 use Rattle.recordings.proofs.Taking.{log_begins, init_begins, text_closes, guest_announced, source_announced, link_announced, lane_announced, pager_announced, pager_announced_first}
 use Rattle.recordings.proofs.Refusing.{guest_count_refuses, source_count_refuses, link_count_refuses, lane_count_refuses, pager_count_refuses, first_pager_count_refuses, more_refuses}

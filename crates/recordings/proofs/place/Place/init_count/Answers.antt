@@ -1,6 +1,6 @@
 use Rattle.std.proofs.Common.{sym, ◌∙◌, arith}
-use Rattle.session_log.specs.Grammar.{init_key}
-use Rattle.session_log.proofs.Laws.{keyed}
+use Rattle.session_grammar.specs.Grammar.{init_key}
+use Rattle.session_grammar.proofs.Laws.{keyed}
 use Rattle.recordings.proofs.place.Place.init_count.Goals as goal
 
 pub returns-then-count-self-clause-refused : goal.returns-then-count-self-clause-refused

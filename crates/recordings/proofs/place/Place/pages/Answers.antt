@@ -1,6 +1,6 @@
 use Rattle.std.proofs.Common.{sym, ◌∙◌, arith}
-use Rattle.session_log.specs.Grammar.{pages_key}
-use Rattle.session_log.proofs.Laws.{keyed}
+use Rattle.session_grammar.specs.Grammar.{pages_key}
+use Rattle.session_grammar.proofs.Laws.{keyed}
 use Rattle.recordings.proofs.place.Place.pages.Goals as goal
 
 pub returns-then-pages-eq0-clause-refused : goal.returns-then-pages-eq0-clause-refused

@@ -1,7 +1,7 @@
 use Rattle.std.proofs.Common.{refl, []}
-use Rattle.session_log.specs.inner.Held.{held_onto}
+use Rattle.session_grammar.specs.inner.Held.{held_onto}
 use Rattle.session_log.specs.inner.Steps.{draft_of}
-use Rattle.session_log.specs.declared.parts.Stage.TheVariants.{Done}
+use Rattle.session_grammar.specs.declared.stage.Stage.TheVariants.{Done}
 use Rattle.session_log.proofs.Goes.{not_whole, whole_fits}
 use Rattle.session_log.proofs.Laws.{live_at}
 use Rattle.session_log.proofs.lines.PartsStages.text.Goals as goal

@@ -1,5 +1,5 @@
 use Rattle.std.proofs.Common.{◌∙◌, refl, []}
-use Rattle.session_log.specs.inner.Held.{held_onto}
+use Rattle.session_grammar.specs.inner.Held.{held_onto}
 use Rattle.session_log.specs.inner.Steps.{draft_of}
 use Rattle.session_log.proofs.Back.{count_few, count_is}
 use Rattle.session_log.proofs.lines.PartsStagesBack.count.Goals as goal

@@ -1,7 +1,7 @@
 use Rattle.std.proofs.Common.{◌≡◌, [], length, ap, arith}
-use Rattle.session_log.specs.inner.Held.{held_onto}
+use Rattle.session_grammar.specs.inner.Held.{held_onto}
 use Rattle.session_log.specs.inner.Steps.{draft_of}
-use Rattle.session_log.specs.declared.parts.Stage.{Stage}
+use Rattle.session_grammar.specs.declared.stage.Stage.{Stage}
 use Rattle.session_log.proofs.lines.PartsStagesBack.undo.Goals as goal
 
 pub step_back-requires-clause-some : goal.step_back-requires-clause-some

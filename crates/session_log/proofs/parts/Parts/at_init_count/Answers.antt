@@ -1,7 +1,7 @@
 use Rattle.std.proofs.Common.{ap}
 use Rattle.std.proofs.lemmas.Result.{err_from_is_err_and}
 use Rattle.session_log.specs.inner.Steps.{draft_of}
-use Rattle.session_log.specs.inner.InitPages.{next_from}
+use Rattle.session_grammar.specs.inner.InitPages.{next_from}
 use Rattle.session_log.proofs.Laws.{init_count_refused}
 use Rattle.session_log.proofs.parts.Parts.at_init_count.Goals as goal
 

@@ -1,9 +1,9 @@
 use Rattle.std.proofs.Common.{◌≡◌, [], ◌∷◌, refl, subst}
 use Rattle.text_lines.specs.Text.{Begins}
-use Rattle.session_log.specs.Grammar.{SpellsSession}
-use Rattle.session_log.specs.declared.parts.Stage.{Stage}
-use Rattle.session_log.specs.declared.parts.Stage.TheVariants.{Init, Guest, Source, Link, Lane, Pager, Done}
-use Rattle.session_log.specs.inner.Held.{held_onto}
+use Rattle.session_grammar.specs.Grammar.{SpellsSession}
+use Rattle.session_grammar.specs.declared.stage.Stage.{Stage}
+use Rattle.session_grammar.specs.declared.stage.Stage.TheVariants.{Init, Guest, Source, Link, Lane, Pager, Done}
+use Rattle.session_grammar.specs.inner.Held.{held_onto}
 use Rattle.session_log.specs.inner.Steps.{draft_of, left_at}
 use Rattle.session_log.proofs.Laws.{live_at, more_refused}
 use Rattle.session_log.proofs.LogSteps.{behind, whole_of, guest_begins, source_begins, link_begins, pager_begins, ends}

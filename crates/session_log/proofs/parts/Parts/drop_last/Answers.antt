@@ -1,4 +1,4 @@
-use Rattle.session_log.specs.declared.parts.Stage.TheVariants.{Init, Guest, Source, Link, Lane, Pager}
+use Rattle.session_grammar.specs.declared.stage.Stage.TheVariants.{Init, Guest, Source, Link, Lane, Pager}
 use Rattle.session_log.specs.inner.Steps.{draft_of}
 use Rattle.session_log.proofs.Back.{with_init}
 use Rattle.session_log.proofs.LogSteps.{drops, init_drops, guest_drops, source_drops, link_drops, lane_drops, pager_drops, no_drop}

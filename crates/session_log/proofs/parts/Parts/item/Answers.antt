@@ -1,5 +1,5 @@
 use Rattle.std.proofs.Common.{refl, arith}
-use Rattle.session_log.specs.declared.parts.Stage.TheVariants.{Init, Guest, Source, Link, Lane, Pager}
+use Rattle.session_grammar.specs.declared.stage.Stage.TheVariants.{Init, Guest, Source, Link, Lane, Pager}
 use Rattle.session_log.specs.inner.Steps.{draft_of}
 use Rattle.session_log.proofs.Back.{with_init}
 use Rattle.session_log.proofs.LogSteps.{stays, init_item, guest_item, source_item, link_item, lane_item, pager_item, no_item}

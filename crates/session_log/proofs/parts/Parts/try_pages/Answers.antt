@@ -1,10 +1,10 @@
 use Rattle.std.proofs.Common.{◌-◌, sym, ap, subst, ◌∙◌, length, length-append, arith}
 use Rattle.text_lines.specs.Counted.{Part}
 use Rattle.migration_types.specs.declared.pages.InitPage.{InitPage}
-use Rattle.session_log.specs.declared.parts.Stage.TheVariants.{Init}
-use Rattle.session_log.specs.inner.Forms.{extent_of}
-use Rattle.session_log.specs.inner.InitPages.{next_from}
-use Rattle.session_log.specs.inner.Held.{Live}
+use Rattle.session_grammar.specs.declared.stage.Stage.TheVariants.{Init}
+use Rattle.session_grammar.specs.inner.Forms.{extent_of}
+use Rattle.session_grammar.specs.inner.InitPages.{next_from}
+use Rattle.session_grammar.specs.inner.Held.{Live}
 use Rattle.session_log.specs.inner.Steps.{draft_of}
 use Rattle.session_log.proofs.Laws.{pages_push}
 use Rattle.session_log.proofs.Back.{with_init, pages_let_go}

@@ -1,4 +1,4 @@
-use Rattle.session_log.specs.Records.{guest_line}
+use Rattle.session_grammar.specs.Records.{guest_line}
 use Rattle.recordings.specs.Wide.{guest_of}
 use Rattle.window_cut.specs.Pages.{numbers_of}
 use Rattle.window_cut.specs.inner.Guided.{new_guest_by}

@@ -1,4 +1,4 @@
-use Rattle.session_log.specs.Grammar.{page_line}
+use Rattle.session_grammar.specs.Grammar.{page_line}
 use Rattle.recordings.specs.Wide.{init_of}
 use Rattle.audit_model.specs.Windows.{keeps_init, new_init}
 use Rattle.window_cut.specs.Pages.{numbers_of}

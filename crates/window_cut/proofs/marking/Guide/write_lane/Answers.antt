@@ -1,4 +1,4 @@
-use Rattle.session_log.specs.Records.{lane_line}
+use Rattle.session_grammar.specs.Records.{lane_line}
 use Rattle.recordings.specs.Wide.{lane_of}
 use Rattle.window_cut.specs.inner.Guided.{new_lane_by}
 use Rattle.window_cut.proofs.Lines.{line_more, line_same}

@@ -1,4 +1,4 @@
-use Rattle.session_log.specs.Records.{link_line}
+use Rattle.session_grammar.specs.Records.{link_line}
 use Rattle.recordings.specs.Wide.{link_of}
 use Rattle.window_cut.specs.inner.Guided.{new_link_by}
 use Rattle.window_cut.proofs.Lines.{line_more, line_same}

@@ -1,4 +1,4 @@
-use Rattle.session_log.specs.Records.{pager_line}
+use Rattle.session_grammar.specs.Records.{pager_line}
 use Rattle.recordings.specs.Wide.{pager_of}
 use Rattle.window_cut.specs.Pages.{numbers_of}
 use Rattle.window_cut.specs.inner.Guided.{new_pager_by}

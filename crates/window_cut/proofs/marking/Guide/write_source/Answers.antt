@@ -1,4 +1,4 @@
-use Rattle.session_log.specs.Records.{source_line}
+use Rattle.session_grammar.specs.Records.{source_line}
 use Rattle.recordings.specs.Wide.{source_of}
 use Rattle.window_cut.specs.Pages.{numbers_of}
 use Rattle.window_cut.specs.inner.Guided.{new_source_by}

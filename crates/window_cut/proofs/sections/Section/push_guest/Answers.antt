@@ -1,4 +1,4 @@
-use Rattle.session_log.specs.Records.{guest_line}
+use Rattle.session_grammar.specs.Records.{guest_line}
 use Rattle.recordings.specs.Wide.{guest_of}
 use Rattle.window_cut.proofs.Lists.{section_more}
 use Rattle.window_cut.proofs.sections.Section.push_guest.Goals as goal

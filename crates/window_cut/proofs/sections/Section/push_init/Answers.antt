@@ -1,4 +1,4 @@
-use Rattle.session_log.specs.Grammar.{page_line}
+use Rattle.session_grammar.specs.Grammar.{page_line}
 use Rattle.recordings.specs.Wide.{init_of}
 use Rattle.window_cut.proofs.Lists.{section_more}
 use Rattle.window_cut.proofs.sections.Section.push_init.Goals as goal

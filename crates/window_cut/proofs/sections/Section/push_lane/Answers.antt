@@ -1,4 +1,4 @@
-use Rattle.session_log.specs.Records.{lane_line}
+use Rattle.session_grammar.specs.Records.{lane_line}
 use Rattle.recordings.specs.Wide.{lane_of}
 use Rattle.window_cut.proofs.Lists.{section_more}
 use Rattle.window_cut.proofs.sections.Section.push_lane.Goals as goal

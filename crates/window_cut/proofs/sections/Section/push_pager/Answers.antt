@@ -1,4 +1,4 @@
-use Rattle.session_log.specs.Records.{pager_line}
+use Rattle.session_grammar.specs.Records.{pager_line}
 use Rattle.recordings.specs.Wide.{pager_of}
 use Rattle.window_cut.proofs.Lists.{section_more}
 use Rattle.window_cut.proofs.sections.Section.push_pager.Goals as goal

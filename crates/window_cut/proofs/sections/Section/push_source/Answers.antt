@@ -1,4 +1,4 @@
-use Rattle.session_log.specs.Records.{source_line}
+use Rattle.session_grammar.specs.Records.{source_line}
 use Rattle.recordings.specs.Wide.{source_of}
 use Rattle.window_cut.proofs.Lists.{section_more}
 use Rattle.window_cut.proofs.sections.Section.push_source.Goals as goal

@@ -1,0 +1,3 @@
+pub mod Records
+pub mod Grammar
+pub mod inner

@@ -1,0 +1,6 @@
+-- Definitions that only proofs use.
+pub mod Forms
+pub mod Held
+pub mod InitPages
+pub mod Limits
+pub mod RecordPlain
