@@ -54,19 +54,29 @@ fn shown_in(
     Ok(Some(shown))
 }
 
+/// Returns what was found at a line, and what is allowed there, in one line.
+fn words_of(alloc: Global, refused: &Refused, fault: &LineFault<'_>) -> Result<Vec<u8>, AllocError>
+    ensures { IfOk result (λ words. IsLine words.items) }
+{
+    let mut sentence = String::new(alloc);
+    push_sentence(&mut sentence, refused, fault)?;
+    let mut words = Vec::new(alloc);
+    words.extend_from_slice(first_line(sentence.as_bytes()))?;
+    Ok(words)
+}
+
 /// Returns why a text is refused. Fails only if memory runs out.
 pub fn reason_of(alloc: Global, refused: &Refused) -> Result<Reason, AllocError>
     ensures { IfOk result (λ reason. (1 ≤ reason.column) × IsLine reason.words.items) }
 {
     let fault = line_fault_of(refused);
-    let mut sentence = String::new(alloc);
-    push_sentence(&mut sentence, refused, &fault)?;
-    let mut words = Vec::new(alloc);
-    words.extend_from_slice(first_line(sentence.as_bytes()))?;
+    let found = shown_in(alloc, refused, &fault)?;
+    let expected = expected_forms(alloc, refused, &fault)?;
+    let words = words_of(alloc, refused, &fault)?;
     Ok(Reason {
         column: column_of(refused, &fault),
-        found: shown_in(alloc, refused, &fault)?,
-        expected: expected_forms(alloc, refused, &fault)?,
+        found,
+        expected,
         words,
     })
 }

@@ -74,17 +74,14 @@ fn push_line_marked(out: &mut String, line: &[u8], at: usize) -> Result<(), Allo
     out.push_str("^\n")
 }
 
-/// Returns the fields of forms, each once.
-fn fields_in(out: &String, forms: &[&'static str]) -> Result<Vec<&'static str>, AllocError> {
-    let mut fields = Vec::new(*out.allocator());
-    for form in forms {
-        for slot in form.split(' ') {
-            if field_of(slot).is_some() {
-                push_new(&mut fields, slot)?;
-            }
+/// Adds the fields of a form, each once.
+fn push_fields_of(fields: &mut Vec<&'static str>, form: &'static str) -> Result<(), AllocError> {
+    for slot in form.split(' ') {
+        if field_of(slot).is_some() {
+            push_new(fields, slot)?;
         }
     }
-    Ok(fields)
+    Ok(())
 }
 
 fn push_forms(out: &mut String, forms: &[&'static str]) -> Result<(), AllocError> {
@@ -99,15 +96,24 @@ fn push_forms(out: &mut String, forms: &[&'static str]) -> Result<(), AllocError
     Ok(())
 }
 
+/// Appends the meaning of a field, on a line.
+fn push_field(out: &mut String, slot: &str, wanted: &WideWanted) -> Result<(), AllocError> {
+    let Some(field) = field_of(slot) else {
+        return Ok(());
+    };
+    write!(out, "{slot} is ")?;
+    push_meaning(out, field, wanted)?;
+    out.push('\n')
+}
+
 /// Appends the meaning of each field of the forms.
 fn push_fields(out: &mut String, wanted: &WideWanted) -> Result<(), AllocError> {
-    let fields = fields_in(out, wanted.forms)?;
+    let mut fields = Vec::new(*out.allocator());
+    for form in wanted.forms {
+        push_fields_of(&mut fields, form)?;
+    }
     for slot in &fields {
-        if let Some(field) = field_of(slot) {
-            write!(out, "{slot} is ")?;
-            push_meaning(out, field, wanted)?;
-            out.push('\n')?;
-        }
+        push_field(out, slot, wanted)?;
     }
     Ok(())
 }

@@ -60,9 +60,9 @@ impl Kind {
 
     /// Returns the kind of the text that begins with this line.
     fn of(line: &[u8]) -> Option<Kind> {
-        for kind in Kind::ALL {
+        for kind in &Kind::ALL {
             if line.starts_with(kind.key()) {
-                return Some(kind);
+                return Some(*kind);
             }
         }
         None
@@ -86,9 +86,9 @@ const PACKED: [(&[u8], &str); 5] = [
 
 /// Returns the kind of a compressed file that begins with this line, with its article.
 fn packed(line: &[u8]) -> Option<&'static str> {
-    for (front, kind) in PACKED {
-        if line.starts_with(front) {
-            return Some(kind);
+    for packed in &PACKED {
+        if line.starts_with(packed.0) {
+            return Some(packed.1);
         }
     }
     None

@@ -119,19 +119,27 @@ struct BestForms {
     slots: Vec<&'static str>,
 }
 
+/// Adds a form that a line fits, and the word that it has where the line departs from it.
+fn push_fit(found: &mut BestForms, fit: &Fit<'_>) -> Result<(), AllocError> {
+    found.forms.push(fit.form)?;
+    match fit.slot() {
+        Some(slot) => push_new(&mut found.slots, slot),
+        None => Ok(()),
+    }
+}
+
 fn best_forms(alloc: Global, refused: &Refused, best: &Fit<'_>) -> Result<BestForms, AllocError> {
-    let mut forms = Vec::new(alloc);
-    let mut slots = Vec::new(alloc);
+    let mut found = BestForms {
+        forms: Vec::new(alloc),
+        slots: Vec::new(alloc),
+    };
     for form in refused.misread.wanted.forms {
         let fit = fit_of(refused, form);
         if fit.is_as_far(best) {
-            forms.push(*form)?;
-            if let Some(slot) = fit.slot() {
-                push_new(&mut slots, slot)?;
-            }
+            push_fit(&mut found, &fit)?;
         }
     }
-    Ok(BestForms { forms, slots })
+    Ok(found)
 }
 
 /// Appends the meaning of a word of a form.
@@ -181,25 +189,36 @@ fn push_kept(out: &mut String, fit: &Fit<'_>, wanted: &WideWanted) -> Result<(),
     out.push_str(wanted.rule)
 }
 
+/// Appends a choice of words, as in a form, or of forms if they have no field.
+fn push_choice(
+    out: &mut String,
+    choices: &BestForms,
+    form: &str,
+    wanted: &WideWanted,
+) -> Result<(), AllocError> {
+    if !has_field(form) {
+        return push_forms(out, choices.forms.as_slice());
+    }
+    push_slots(out, choices.slots.as_slice(), wanted)?;
+    out.push_str(", as in ")?;
+    push_quote(out, form.as_bytes())
+}
+
+/// Appends the words that are allowed where a line departs from a form.
+fn push_best(out: &mut String, refused: &Refused, fit: &Fit<'_>) -> Result<(), AllocError> {
+    let choices = best_forms(*out.allocator(), refused, fit)?;
+    push_choice(out, &choices, fit.form, &refused.misread.wanted)
+}
+
 /// Appends what is allowed where a line departs from a form.
 fn push_stop(out: &mut String, refused: &Refused, fit: &Fit<'_>) -> Result<(), AllocError> {
     if fit.slot().is_none() {
         return out.push_str("the end of the line");
     }
-    let choices = best_forms(*out.allocator(), refused, fit)?;
-    if has_field(fit.form) {
-        push_slots(out, choices.slots.as_slice(), &refused.misread.wanted)?;
-        out.push_str(", as in ")?;
-        push_quote(out, fit.form.as_bytes())?;
-    } else {
-        push_forms(out, choices.forms.as_slice())?;
-    }
-    push_kept(out, fit, &refused.misread.wanted)?;
-    push_slip(
-        out,
-        slip_at(fit, &refused.misread.wanted),
-        &refused.misread.wanted,
-    )
+    let wanted = &refused.misread.wanted;
+    push_best(out, refused, fit)?;
+    push_kept(out, fit, wanted)?;
+    push_slip(out, slip_at(fit, wanted), wanted)
 }
 
 /// Returns all forms that are allowed at a line.
