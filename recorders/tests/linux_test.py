@@ -155,9 +155,6 @@ def of_one_by_hand(tests):
     tests.wants("its verdict", verdict.line, "clean, yes")
     tests.wants("what is left of it", left, ["certificate", "report", "self-test"])
     tests.wants("the self-test", (list(found.faults()), found.counts["log"]["halt-marks"], found.counts["log"]["end-marks"]), ([], 1, 0))
-    for unlocated, is_told in ((0, False), (3, True)):
-        found.counts["target"]["unlocated"] = unlocated
-        tests.wants(f"what it says of {unlocated} accesses that nobody knows the place of", f"of {unlocated} accesses QEMU does not say where" in found.line(), is_told)
 
 
 def of_facts(tests):
@@ -244,6 +241,8 @@ def of_the_self_test(tests):
             ("no memory of the end", made(end=None), "not judged: the target's memory at the end was not kept"),
             ("frames that were not found", made(counts={"target": {"frames_untold": 2}}), "not judged: target: frames untold 2"),
             ("parts of accesses", made(counts={"source": {"parts_untold": 1}}), "not judged: source: parts untold 1"),
+            ("accesses of which QEMU does not say where they were", made(counts={"target": {"unlocated": 3}}), "not judged: target: unlocated 3"),
+            ("a recording of before these were counted", made(), "clean, yes"),
             ("gates that are not known", made(counts={"target": {"gates": 0}}), "not judged: target: 0 of the guest's 256 interrupt gates are known"),
             ("records that were lost", made(counts={"source": {"records": 9}}), "not judged: source: of 9 records 3 were kept"),
             ("a source that was never halted", made(source=SOURCE[:2]), "not judged: the guest's log: source.accesses: the guest was never halted"),
