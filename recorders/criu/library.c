@@ -92,6 +92,18 @@ static void put(int file, const void *bytes, ssize_t length)
     }
 }
 
+/* Takes the lock of the file, also where a signal interrupts the wait for it. */
+static void lock(void)
+{
+    while (flock(told, LOCK_EX))
+        if (errno != EINTR) {
+            perror("library: lock");
+            abort();
+        }
+}
+
+static void unlock(void) { flock(told, LOCK_UN); }
+
 __attribute__((format(printf, 1, 2))) static void tell(const char *format, ...)
 {
     char line[256];
@@ -123,12 +135,12 @@ static int place_too_early(int fd, struct uffdio_copy *copy)
     struct iovec from = {(void *)copy->src, copy->len}, to = {(void *)copy->dst, copy->len};
     real_ioctl(fd, UFFDIO_ZEROPAGE, &zeros);
     usleep(200000);
-    flock(told, LOCK_EX);
+    lock();
     if (process_vm_writev(process, &from, 1, &to, 1, 0) < 0)
         perror("library: early");
     tell("p early %llx\n", copy->dst);
     tell_placed(copy->dst, copy->len, copy->src);
-    flock(told, LOCK_UN);
+    unlock();
     copy->copy = copy->len;
     return 0;
 }
@@ -136,13 +148,13 @@ static int place_too_early(int fd, struct uffdio_copy *copy)
 /* Makes a placement, tells of each page of it, and wakes who waits. `done` is where the kernel says how much it placed. */
 static int place(int fd, unsigned long request, void *what, struct uffdio_range range, uint64_t contents, const __s64 *done)
 {
-    flock(told, LOCK_EX);
+    lock();
     int answer = real_ioctl(fd, request, what), error = errno;
     uint64_t placed = answer == 0 ? range.len : *done > 0 ? (uint64_t)*done : 0;
     tell_placed(range.start, placed, contents);
     if (answer)
         tell("p refused %llx %llx %d\n", range.start + placed, range.len - placed, error);
-    flock(told, LOCK_UN);
+    unlock();
     if (placed) {
         range.len = placed;
         real_ioctl(fd, UFFDIO_WAKE, &range);
@@ -206,10 +218,10 @@ int close(int fd)
 {
     if (told < 0 || !is_userfault(fd))
         return real_close(fd);
-    flock(told, LOCK_EX);
+    lock();
     int answer = real_close(fd), error = errno;
     tell("p end\n");
-    flock(told, LOCK_UN);
+    unlock();
     errno = error;
     return answer;
 }

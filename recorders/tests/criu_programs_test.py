@@ -17,7 +17,7 @@ BASE = 0x100000000000
 
 # Does with userfaultfd and a connection what lazy-pages does, one thing after another; the addresses are told first.
 PAGER = r"""
-import ctypes, fcntl, os, socket, struct, sys, threading
+import ctypes, fcntl, os, signal, socket, struct, sys, threading
 libc = ctypes.CDLL(None, use_errno=True)
 libc.mmap.restype = ctypes.c_void_p
 libc.mmap.argtypes = [ctypes.c_void_p, ctypes.c_size_t, ctypes.c_int, ctypes.c_int, ctypes.c_int, ctypes.c_long]
@@ -67,6 +67,11 @@ placer = threading.Thread(target=lambda: seen.append(copy(1)))
 placer.start()
 placer.join(0.2)
 assert seen == [], "a page is put in place only under the lock"
+signal.signal(signal.SIGUSR1, lambda *_: None)
+signal.siginterrupt(signal.SIGUSR1, True)
+signal.pthread_kill(placer.ident, signal.SIGUSR1)
+placer.join(0.2)
+assert seen == [], "also where a signal interrupts the wait for it"
 fcntl.flock(told, fcntl.LOCK_UN)
 placer.join()
 reader.join(10)
