@@ -394,6 +394,10 @@ class Faults:
         for words in ((), ("--recording",)):
             ran = self.session(folder, "-o", "/dev/stdout", *words)
             self.tests.same("a pipe", (ran.returncode, ran.stdout), (0, wanted))
+            with open("/dev/full", "w", encoding="ascii") as full:
+                env = {**os.environ, "POSTCOPY": self.command}
+                ran = subprocess.run([sys.executable, f"{TOP}/recorders/session", folder, *words], stdout=full, stderr=subprocess.PIPE, encoding="utf-8", env=env)
+            self.tests.same("an output that is full", (ran.returncode, ran.stderr), (2, "session: standard output: No space left on device\n"))
             ran = self.session(folder, *words, preexec_fn=lambda: os.close(1))
             self.tests.same("an output that is closed", (ran.returncode, ran.stdout, ran.stderr), (2, "", "session: standard output: it is closed, or not open for this\n"))
             ran = self.session(folder, "-o", f"{place}/kept", *words, preexec_fn=lambda: os.closerange(0, 3))
@@ -438,17 +442,22 @@ class Faults:
         """The program that the script calls: the one that is named, the one beside the script, and one that is none."""
         self.put(f"{place}/ended", "#!/bin/sh\nkill -9 $$\n")
         self.put(f"{place}/silent", "#!/bin/sh\n")
+        self.put(f"{place}/other", "#!/bin/sh\necho 'postcopy-sessions 1'\n")
+        self.put(f"{place}/failed", "#!/bin/sh\nexit 1\n")
         self.put(f"{place}/told", f"#!/bin/sh\necho 'postcopy: built here' >&2\nexec '{self.command}' \"$@\"\n")
-        for name in ("ended", "silent", "told"):
+        for name in ("ended", "silent", "other", "failed", "told"):
             os.chmod(f"{place}/{name}", 0o755)
         for name, said, status in (
             ("none", f"session: {place}/none: No such file or directory: the program, which the variable POSTCOPY may name\n", 2),
             ("ended", "session: the program was ended by the signal 9\n", 2),
             ("silent", "session: the program, which the variable POSTCOPY may name, wrote no session\n", 2),
+            ("other", "session: the program, which the variable POSTCOPY may name, wrote no session\n", 2),
+            ("failed", "session: the program, which the variable POSTCOPY may name, ended with the status 1, and said nothing\n", 2),
             ("told", "postcopy: built here\n", 0),
         ):
-            ran = run_script(f"{place}/{name}", folder)
-            self.tests.same(f"a program {name}", (ran.stdout, ran.stderr, ran.returncode), ("" if status else wanted, said, status))
+            for words in ((), ("--recording",)):
+                ran = run_script(f"{place}/{name}", folder, *words)
+                self.tests.same(f"a program {name} {words}", (ran.stdout, ran.stderr, ran.returncode), ("" if status else wanted, said, status))
         self.put(f"{place}/kept", "as it was\n")
         ran = run_script(f"{place}/silent", folder, "--recording", "-o", f"{place}/kept")
         self.tests.same("a file of a silent program", (ran.returncode, self.has(f"{place}/kept")), (2, "as it was\n"))
