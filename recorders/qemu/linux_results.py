@@ -39,6 +39,7 @@ class Result:
     made: str = ""       # when it ended, by UTC
     word: str = ""       # what became of it, where this alone is known
     is_precopy: bool = False  # whether pre-copy alone was asked for
+    stands_still: bool = None  # whether the guest stood still at the target; None where nobody looked
 
     def to_text(self):
         return json.dumps(asdict(self))
@@ -59,13 +60,13 @@ class Result:
         is_known = self.lost is not None and self.verdict in ("", NO_POSTCOPY)
         if not (is_known or self.is_wrong_at_target):
             return "not judged"
-        word = "lost pages" if self.lost else "something wrong" if self.says else "nothing lost"
+        word = "lost pages" if self.lost else "something wrong" if self.says or self.stands_still else "nothing lost"
         return word + " in pre-copy" * (self.verdict == NO_POSTCOPY)
 
     @property
     def is_wrong_at_target(self):
-        """Returns whether the guest reports at the target that something is wrong, which needs no post-copy."""
-        return any(line.startswith("target: ") for line in self.says)
+        """Returns whether the guest stands still at the target, or reports there that something is wrong. This needs no post-copy."""
+        return bool(self.stands_still) or any(line.startswith("target: ") for line in self.says)
 
     @property
     def row(self):
@@ -90,7 +91,7 @@ def what_guest_says(folder):
     return lines
 
 
-def result_of(folder, workload, is_bare, verdict, seconds):
+def result_of(folder, workload, is_bare, verdict, seconds, stands_still=False):
     """Returns the result of the migration in a folder, and writes it there."""
     recording = recording_in(folder)
     plan, lost = recording.plan, None
@@ -101,7 +102,7 @@ def result_of(folder, workload, is_bare, verdict, seconds):
     fault = plan.fault and (plan.fault if was_put_in(folder) else plan.fault + NOT_REACHED)
     result = Result(plan.source_version, is_bare, plan.cpus, workload, plan.pre_pages <= plan.pages, fault, verdict, lost,
                     what_guest_says(folder), round(seconds, 1), round(os.getloadavg()[0], 1), time.strftime("%Y-%m-%dT%H:%M:%S", time.gmtime()),
-                    is_precopy=plan.is_precopy)
+                    is_precopy=plan.is_precopy, stands_still=stands_still)
     with open(f"{folder}/{FILE}", "w", encoding="utf-8") as out:
         print(result.to_text(), file=out)
     return result

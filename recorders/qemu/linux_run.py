@@ -155,7 +155,12 @@ class LinuxMigration(Migration):
         return f"{super().stands()}" + ("" if self.is_bare else f"; {self.rate(self.target)}")
 
     def run_on(self):
+        """Waits, and looks whether the guest still runs then: QEMU stops one that resets itself."""
         self.wait_with_words(self.plan.run_on, lambda: "runs on at the target" + ("" if self.is_bare else f": {self.rate(self.target)}"))
+        status = self.target("query-status")["status"]
+        if status != "running":
+            self.outcome.stands_still = True
+            self.remark(f"the guest stands still at the target: {status}")
 
     def switch(self):
         """Switches, unless pre-copy comes to its end first. The guest goes on at the target then too, and may be wrong there."""

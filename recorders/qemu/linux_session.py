@@ -110,6 +110,8 @@ class SelfTest:
                 yield f"{side}: {counts['gates']} of the guest's {GATES} interrupt gates are known"
             if counts["records"] != counts["kept"]:
                 yield f"{side}: of {counts['records']} records {counts['kept']} were kept"
+        if not self.counts["target"]["accesses"]:
+            yield "target: the guest made no access"
         for what in ("unseen", "behind"):
             if log[what]:
                 yield f"the guest's log: {what} {log[what]}"

@@ -154,6 +154,7 @@ class Asked:
 
     def __call__(self, command, **arguments):
         self.asked.append((command, arguments))
+        return {"status": self.status}
 
     def wait_for(self, wanted, seconds):
         return self.status
@@ -180,6 +181,28 @@ def of_precopy_alone(tests):
         one.relay, one.is_bare, one.source = SimpleNamespace(is_post=is_post), True, Asked()
         one.at_end()
         tests.wants(f"what is saved at the end, {is_post}", [command for command, _ in one.source.asked], wanted)
+
+
+def of_a_guest_that_stands_still(tests):
+    """At the target, behind the end: QEMU has stopped the guest, as one that resets itself. It is no success, whatever else is found."""
+    one = linux_run.LinuxMigration.__new__(linux_run.LinuxMigration)
+    one.plan, one.is_bare, one.say = Plan(kind="linux", run_on=0.0), True, lambda line: None
+    for status, remarks in (("running", []), ("shutdown", ["the guest stands still at the target: shutdown"])):
+        one.outcome, one.target = Outcome("completed", "completed"), Asked(status)
+        one.run_on()
+        tests.wants(f"a guest that is {status}", (one.outcome.stands_still, one.outcome.remarks), (bool(remarks), remarks))
+    linux = command("linux")
+    for stands_still, is_bare, status, word in ((False, False, 0, "clean"), (True, False, 1, "clean"), (False, True, 0, "nothing lost"), (True, True, 1, "something wrong")):
+        with tempfile.TemporaryDirectory() as folder:
+            write(made(), folder)
+            asked, outcome = linux.words().parse_args([folder]), Outcome("completed", "completed", stands_still=stands_still)
+            clean = mock.patch.multiple(linux.linux_session, judged=lambda *_: (Verdict("clean, yes"), None), explain_and_draw=lambda *_: None)
+            with clean, contextlib.redirect_stdout(io.StringIO()) as said:
+                found = linux.found_bare(folder, outcome, asked, 1.0) if is_bare else linux.found_recorded(folder, outcome, asked, 1.0, lambda line: None)
+            result = result_from_text(read(f"{folder}/result.json"))
+        tests.wants(f"what is told of it, {stands_still} {is_bare}", (found, result.in_a_word, result.stands_still, "it stands still at the target" in said.getvalue()),
+                    (status, word, stands_still, stands_still))
+    tests.wants("an earlier result, of which nobody knows", Result("7.2.22", True, 2, "busy", True, "", "", 0, []).stands_still, None)
 
 
 def of_boots(tests):
@@ -370,6 +393,7 @@ def run(tests):
     of_workloads(tests)
     of_the_machine(tests)
     of_precopy_alone(tests)
+    of_a_guest_that_stands_still(tests)
     of_boots(tests)
     for of_them in (of_packages, of_words, of_a_guest_that_does_not_boot, of_a_guest_that_says_what_is_wrong, of_runs):
         with tempfile.TemporaryDirectory() as room:

@@ -27,7 +27,7 @@ BASE = 0x100000
 CELLS = 512
 PAGES = 4
 STACK, ENTRY, CODE, USED = 100, 7, 30, 9  # cells, of pages 0, 0, 2 and 1
-COUNTS = {"records": 0, "accesses": 9, "implied": 0, "unseen": 0, "frames": 1, "frames_untold": 0, "parts_untold": 0, "gates": 256, "misses": 1, "words": 0}
+COUNTS = {"records": 0, "accesses": 9, "implied": 0, "unseen": 0, "frames": 1, "frames_untold": 0, "parts_untold": 0, "unlocated": 0, "gates": 256, "misses": 1, "words": 0}
 
 
 def place(page, cell):
@@ -242,7 +242,7 @@ def of_the_self_test(tests):
             ("frames that were not found", made(counts={"target": {"frames_untold": 2}}), "not judged: target: frames untold 2"),
             ("parts of accesses", made(counts={"source": {"parts_untold": 1}}), "not judged: source: parts untold 1"),
             ("accesses of which QEMU does not say where they were", made(counts={"target": {"unlocated": 3}}), "not judged: target: unlocated 3"),
-            ("a recording of before these were counted", made(), "clean, yes"),
+            ("a guest that never went on", made(counts={"target": {"accesses": 0}}), "not judged: target: the guest made no access"),
             ("gates that are not known", made(counts={"target": {"gates": 0}}), "not judged: target: 0 of the guest's 256 interrupt gates are known"),
             ("records that were lost", made(counts={"source": {"records": 9}}), "not judged: source: of 9 records 3 were kept"),
             ("a source that was never halted", made(source=SOURCE[:2]), "not judged: the guest's log: source.accesses: the guest was never halted"),
@@ -282,6 +282,15 @@ def of_recordings(tests):
             with open(f"{folder}/session", "rb") as file:
                 tests.wants(f"the session of {name}, byte for byte", hashlib.sha256(file.read()).hexdigest(), digest)
             tests.wants(f"the verdict of {name}", verdict.line, wanted)
+
+
+def of_accesses_that_are_nowhere(tests):
+    """A real recording in which QEMU did not say of each access where it was."""
+    with tempfile.TemporaryDirectory() as folder:
+        unpack(f"{RECORDINGS}/frames.tar.xz", folder)
+        with open(f"{folder}/target.counts", "a", encoding="ascii") as out:
+            out.write("unlocated 1\n")
+        tests.wants("a recording that lacks an access", linux_session.judged(folder, True, "")[0].line, "not judged: target: unlocated 1")
 
 
 def of_the_example(tests):
@@ -331,6 +340,7 @@ def run(tests):
         return
     of_one_by_hand(tests)
     of_recordings(tests)
+    of_accesses_that_are_nowhere(tests)
     of_the_example(tests)
     of_a_cut(tests)
     of_frames_that_are_missing(tests)
