@@ -1,4 +1,5 @@
 """The results of migrations of Linux guests, one line for each, and the table of them by version."""
+import collections
 import json
 import os
 import re
@@ -19,6 +20,7 @@ LATER = "the switch in a later round"
 PLAIN = "pre-copy alone"
 NO_POSTCOPY = "not judged: there was no post-copy"
 NOT_REACHED = ", not reached"
+MANY = 30
 BARE = ("nothing lost", "lost pages", "something wrong")
 RUIN = ("clean", "faulty", "incomplete", "not judged", *BARE, *(f"{word} in pre-copy" for word in BARE))
 
@@ -42,7 +44,10 @@ class Result:
     stands_still: bool = None  # whether the guest stood still at the target; None where nobody looked
 
     def to_text(self):
-        return json.dumps(asdict(self))
+        fields = asdict(self)
+        if self.stands_still is None:  # (so the line of an earlier result stays as it was)
+            del fields["stands_still"]
+        return json.dumps(fields)
 
     @property
     def in_a_word(self):
@@ -126,6 +131,13 @@ def heading(results):
     loads = sorted(result.load for result in results if result.load)
     some = "" if len(loads) == len(results) else f"{len(loads)} of them "
     return f"{len(results)} migrations" + (f", {some}at a load of {loads[0]:.0f} to {loads[-1]:.0f}" if loads else "") + ":"
+
+
+def of_full_rows(results):
+    """Returns the results of rows that have many of each version."""
+    counts = collections.Counter((result.row, result.version) for result in results)
+    versions = {result.version for result in results}
+    return [result for result in results if all(counts[result.row, version] >= MANY for version in versions)]
 
 
 def table(results):
