@@ -4,12 +4,6 @@ use Rattle.std.specs.List.{AllByRecursion}
 use Rattle.text_lines.specs.Text.{IsUnambiguous}
 use Rattle.text_lines.proofs.Cut.{unambiguous}
 use Rattle.text_lines.proofs.Sections.{section_end}
-use Rattle.migration_types.specs.declared.records.GuestRec.{GuestRec}
-use Rattle.migration_types.specs.declared.records.SourceRec.{SourceRec}
-use Rattle.migration_types.specs.declared.records.LinkRec.{LinkRec}
-use Rattle.migration_types.specs.declared.records.LaneRec.{LaneRec}
-use Rattle.migration_types.specs.declared.records.PagerRec.{PagerRec}
-use Rattle.migration_types.specs.declared.pages.InitPage.{InitPage}
 use Rattle.migration_types.specs.declared.version.Version.{Version}
 use Rattle.migration_types.specs.Extents.{Extent}
 use Rattle.migration_types.specs.Pages.{InitPageFits}

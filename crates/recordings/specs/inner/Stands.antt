@@ -16,7 +16,7 @@ use Rattle.recordings.specs.Recordings.{SpellsRecording}
 use Rattle.recordings.specs.Wide.{extent_of}
 use Rattle.recordings.specs.declared.place.Place.{Place}
 use Rattle.session_grammar.specs.declared.stage.Stage.{Stage}
-use Rattle.session_grammar.specs.declared.stage.Stage.TheVariants.{Header, Pages, Cells, InitCount, Init, Guest, Source, Link, Lane, Pager, Done}
+use Rattle.session_grammar.specs.declared.stage.Stage.TheVariants.{Header, Pages, Cells}
 use Rattle.recordings.specs.inner.Held.{SessionDraft, Part, held_onto, recorded_of, Live, came_at, announced_at}
 
 -- the lists of a recording, as far as they were read
