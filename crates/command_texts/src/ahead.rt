@@ -39,6 +39,21 @@ pub(crate) fn read_ahead<H: Threads + Sync, R: Read + Send, T: Taker>(
     let parts = processors(rt);
     let mut piece = zeroes(alloc, PIECE_BYTES)?;
     let mut next = zeroes(alloc, PIECE_BYTES)?;
+    take_pieces(rt, parts, reader, taker, most, &mut piece, &mut next)
+}
+
+/// Gives the rest of a reader's text to a taker, within these limits. Each of the two buffers gets every other piece.
+fn take_pieces<H: Threads + Sync, R: Read + Send, T: Taker>(
+    rt: &H,
+    parts: usize,
+    reader: &mut R,
+    taker: &mut T,
+    most: Left,
+    piece: &mut Vec<u8>,
+    next: &mut Vec<u8>,
+) -> Result<(), ReadFault>
+    ensures { OnOk result (TakesAll T.came most.bytes (R.remaining reader.old) taker.old taker.new) }
+{
     let mut left = most;
     let mut filled = fill(reader, piece.as_mut_slice(), most.reads)?;
     for _ in 0..MOST_PIECES {
@@ -60,7 +75,7 @@ pub(crate) fn read_ahead<H: Threads + Sync, R: Read + Send, T: Taker>(
             filled.reads,
             next.as_mut_slice(),
         )?;
-        mem::swap(&mut piece, &mut next);
+        mem::swap(piece, next);
     }
     Err(ReadFault::File(Cause::TooLong))
 }

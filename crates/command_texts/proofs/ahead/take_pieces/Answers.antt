@@ -1,13 +1,13 @@
 use Rattle.std.proofs.Common.{length, take, drop, arith}
 use Rattle.command_texts.proofs.Filling.{fills_written}
 use Rattle.command_texts.proofs.PiecesTaken.{takes_more, takes_nothing, takes_whole}
-use Rattle.command_texts.proofs.ahead.read_ahead.Goals as goal
+use Rattle.command_texts.proofs.ahead.take_pieces.Goals as goal
 
 pub loop-init : goal.loop-init
 loop-init g c = record {
   mid = g.R.Read.remaining c.args.reader.now;
   taken = takes_nothing g.T.Taker.came _ _ _;
-  filled = fills_written _ _ c.fill.new.buffer (drop (length c.fill.new.buffer) c.in_ok-piece.piece.items) c.in_ok-piece.piece.len _ _ (omega (arith, c.fill.auto.buffer, c.as_mut_slice.ensures.len)) c.in_ok-filled.ensures;
+  filled = fills_written _ _ c.fill.new.buffer (drop (length c.fill.new.buffer) c.args.piece.now.items) c.args.piece.now.len _ _ (omega (arith, c.fill.auto.buffer, c.as_mut_slice.ensures.len)) c.in_ok-filled.ensures;
 }
 
 pub loop-preserved : goal.loop-preserved

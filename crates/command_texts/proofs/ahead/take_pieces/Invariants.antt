@@ -1,7 +1,7 @@
 use Rattle.std.proofs.Common.{List, ℕ}
 use Rattle.std.specs.Prelude.{Option}
 use Rattle.command_texts.specs.inner.Takings.{Fills, Takes}
-use Rattle.command_texts.proofs.ahead.read_ahead.Given as goal
+use Rattle.command_texts.proofs.ahead.take_pieces.Given as goal
 
 abbrev pub invariant-loop : goal.invariant-loop
 invariant-loop g l =
