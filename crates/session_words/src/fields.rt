@@ -38,11 +38,7 @@ const PAGE: &[RawField] = &[RawField::Page];
 
 const PAGE_CONTENTS: &[RawField] = &[RawField::Page, RawField::Contents];
 
-const PLACED: &[RawField] = &[
-    RawField::Page,
-    RawField::Record("got"),
-    RawField::Contents,
-];
+const PLACED: &[RawField] = &[RawField::Page, RawField::Record("got"), RawField::Contents];
 
 const SENT: &[RawField] = &[RawField::Record("sent")];
 
@@ -319,9 +315,7 @@ fn fits(machine: &WideMachine, field: RawField, text: &[u8]) -> bool {
     match field {
         RawField::Page => number < machine.pages,
         RawField::Cell => number < u64::from(machine.cells),
-        RawField::Contents => {
-            text.len() as u64 == u64::from(machine.cells.min(MOST_CELLS)) * 16
-        }
+        RawField::Contents => { text.len() as u64 == u64::from(machine.cells.min(MOST_CELLS)) * 16 }
         _ => true,
     }
 }
