@@ -246,8 +246,9 @@ impl RawField {
         match self {
             RawField::Vcpu => 63,
             RawField::Cell => 511,
+            RawField::Page => BEYOND - 1,
             RawField::Value => u64::MAX,
-            _ => BEYOND - 1,
+            _ => u64::from(u32::MAX),
         }
     }
 }
