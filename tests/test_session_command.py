@@ -308,13 +308,13 @@ def test_second_record_behind_a_hole(program, room):
 
 # A right text of each field, by its name, on a machine of two pages of one cell, and a number that is none, one too many, or past the
 # machine. Any other field is the number of a record.
-FIELDS = {"vcpu": ("0", ("64",)), "page": ("0", ("2", str(2**32))), "cell": ("0", ("1", "511", "512")), "value": ("5", (str(2**64),)),
+FIELDS = {"vcpu": ("0", ("64",)), "page": ("0", ("2", str(2**32), str(2**63))), "cell": ("0", ("1", "511", "512")), "value": ("5", (str(2**64),)),
           "contents": ("0" * 15 + "5", ("0" * 15, "0" * 15 + "G", "0" * 32))}
 NUMBER = ("0", (str(2**32), "-1", ""))
 
 
 @pytest.mark.quick
-@pytest.mark.cases(155)
+@pytest.mark.cases(163)
 def test_fields(program, room):
     """Of a record with a wrong field it is told which one it is, and what it may be: each field of each record, beside the model."""
     beside = Beside(room, program, has_script=False)

@@ -120,7 +120,7 @@ for _kind in _kinds(_TABLE + _RECEIVED.lstrip()):
 
 _NUMBER = re.compile("0|[1-9][0-9]*", re.ASCII)
 _CONTENTS = re.compile("(?:[0-9a-f]{16})+", re.ASCII)
-_LIMITS = {"vcpu": 64, "cell": MOST_CELLS, "value": 2**64}
+_LIMITS = {"vcpu": 64, "page": 2**63, "cell": MOST_CELLS, "value": 2**64}
 
 
 def _field(field: Field, text: str) -> Union[str, int]:
