@@ -18,7 +18,7 @@ import pytest
 from cases import count, same
 
 TOP = os.path.dirname(os.path.dirname(os.path.realpath(__file__)))
-SOURCE = f"{TOP}/crates/story_types/src/sentences.rt"
+SOURCE = f"{TOP}/crates/story_words/src/sentences.rt"
 
 PLACE = r"line \d+ \((?:guest|source|link|lane|pager) \d+\)"
 
@@ -268,6 +268,17 @@ def test_named(program, room):
         same(f"{changes} in {os.path.relpath(session, TOP)}", [told[0], told[2]], [f"shape line {line} named", wanted])
     for wanted in EACH_WANTED:
         count(any(told.startswith(f"It has to name {wanted}, and names ") for _, _, told in NAMED), f"no record that has to name {wanted}")
+
+
+@pytest.mark.quick
+@pytest.mark.cases(1)
+def test_back_for_the_state(program, room):
+    """A `back` in the place of the `state` breaks the rule of how the source's log begins. It does not come too early."""
+    with open(f"{room}/session", "w", encoding="ascii") as file:
+        file.write("postcopy-session 3\npages 1\ncells 1\ninit 0\nguest 1\nhalt\nsource 3\nhalted 0\nback\nstate\nlink 0\nlane 0\npager 0\nend\n")
+    same("what is told of it", explained(program, f"{room}/session"),
+         ["shape line 9 start", "Line 9 (source 1) does not have the right shape: the source starts the guest again.",
+          "The source's log begins with `halted` and `state`, and has them nowhere else."])
 
 
 # The sentences that tell of a record with a role in the object of JSON.

@@ -8,7 +8,7 @@ use Rattle.audit_report.specs.ToldLines.{own}
 use Rattle.audit_report.specs.MissingText.{missing_text}
 use Rattle.audit_report.specs.RefusalText.{refusal_text}
 use Rattle.completeness.specs.declared.lack.Lack.{Lack}
-use Rattle.story_types.specs.declared.sentences.Sentence.{Sentence}
+use Rattle.story_words.specs.declared.sentences.Sentence.{Sentence}
 use Rattle.story_types.specs.declared.topics.TopicStory.{TopicStory}
 use Rattle.migration_types.specs.declared.topic.Topic.{Topic}
 use Rattle.migration_types.specs.declared.topic.Topic.TheVariants as topic

@@ -1,7 +1,7 @@
 -- The value of a cell on one machine that never moved, and the record that gave it.
-use Rattle.std.specs.Prelude.{◌≡◌, ◌≢◌, ℕ, ◌<◌, Bool, false, ◌==◌, ◌&&◌, List, slice_index}
+use Rattle.std.specs.Prelude.{◌≡◌, ◌≢◌, ℕ, ◌<◌, Bool, true, false, ◌==◌, ◌&&◌, List, slice_index}
 use Rattle.migration_types.specs.declared.records.GuestRec.{GuestRec}
-use Rattle.migration_types.specs.declared.records.GuestRec.TheVariants.{Write, Release}
+use Rattle.migration_types.specs.declared.records.GuestRec.TheVariants.{Read, Write, Release}
 use Rattle.migration_types.specs.Sessions.{Recorded}
 use Rattle.audit_model.specs.Flat.{flat, at_halt}
 use Rattle.story_facts.specs.Scans.{last_before}
@@ -17,6 +17,10 @@ sets page cell _ = false
 pub record IsHeld (s : Recorded) (n page : ℕ) (h : CellValue) : Type 0 where
   pub value : h.value ≡ flat s n page h.cell
   pub by : h.by ≡ last_before (λ m. sets page h.cell) s.guest n
+
+abbrev pub is_read : GuestRec → Bool
+is_read (Read vcpu page cell value) = true
+is_read _ = false
 
 -- what the read that is guest record n would give on one machine
 pub record IsInstead (s : Recorded) (n page cell : ℕ) (h : CellValue) : Type 0 where

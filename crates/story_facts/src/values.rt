@@ -1,10 +1,11 @@
 //! The value of a cell on one machine that never moved.
 
-ghost use Rattle.std.specs.Prelude.{◌≡◌, ◌≤◌, ◌<◌, ℕ, IfOk, MatchOption, Some, length, set, slice_get, slice_index};
+ghost use Rattle.std.specs.Prelude.{◌≡◌, ◌≤◌, ◌<◌, ℕ, IfOk, MatchOption, None, Some, false, length, set, slice_get, slice_index};
 ghost use Rattle.migration_types.specs.declared.records.GuestRec.TheVariants.{Read};
 ghost use Rattle.migration_types.specs.Memory.{initial};
 ghost use Rattle.audit_model.specs.Flat.{cell_after, flat, at_halt};
-ghost use Rattle.story_facts.specs.Values.{IsHeld, IsInstead, IsOther};
+ghost use Rattle.audit_model.specs.Shape.{passes};
+ghost use Rattle.story_facts.specs.Values.{IsHeld, IsInstead, IsOther, is_read};
 ghost use Rattle.story_facts.specs.inner.Cells.{AreSame, IsFirstOther, IsPage, set_by};
 
 use crate::questions::GuestQuestion;
@@ -136,7 +137,8 @@ pub fn instead_of(
     n: usize,
 ) -> Result<Option<CellValue>, AllocError>
     requires { n < length session.now.guest }
-    ensures { IfOk result (λ held. (vcpu page cell value : ℕ) → slice_get session.now.guest n ≡ Some (Read vcpu page cell value) → MatchOption held ⊥ (IsInstead session.now n page cell)) }
+    ensures read { IfOk result (λ held. (vcpu page cell value : ℕ) → slice_get session.now.guest n ≡ Some (Read vcpu page cell value) → MatchOption held ⊥ (IsInstead session.now n page cell)) }
+    ensures other { IfOk result (λ held. passes is_read (slice_get session.now.guest n) ≡ false → held ≡ None) }
 {
     session.keeps_limits();
     let GuestRec::Read { page, cell, .. } = session.guest()[n] else {

@@ -1,8 +1,8 @@
 -- What each of the records that wait for one another waits for, told one after the other.
 use Rattle.std.proofs.Common.{◌≡◌, ◌∙◌, ℕ, ◌+◌, ◌<◌, List, [], ◌∷◌, ◌++◌, length, drop, get_or, sym, ap}
 use Rattle.std.proofs.lemmas.List.{append_assoc, drop_more}
-use Rattle.story_types.specs.declared.sentences.Sentence.{Sentence}
-use Rattle.story_types.specs.declared.sentences.Sentence.TheVariants as say
+use Rattle.story_words.specs.declared.sentences.Sentence.{Sentence}
+use Rattle.story_words.specs.declared.sentences.Sentence.TheVariants as say
 use Rattle.story_types.specs.declared.waits.Knot.{Knot}
 use Rattle.story_types.specs.declared.waits.Waiting.{Waiting}
 use Rattle.story_sentences.specs.Sentences.{waits_told}

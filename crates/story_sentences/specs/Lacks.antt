@@ -13,8 +13,8 @@ use Rattle.story_facts.specs.Named.{named_in}
 use Rattle.story_facts.specs.Pages.{carries, lane_carries}
 use Rattle.story_facts.specs.Scans.{last_before}
 use Rattle.story_sentences.specs.Sentences.{listed}
-use Rattle.story_types.specs.declared.sentences.Sentence.{Sentence}
-use Rattle.story_types.specs.declared.sentences.Sentence.TheVariants as say
+use Rattle.story_words.specs.declared.sentences.Sentence.{Sentence}
+use Rattle.story_words.specs.declared.sentences.Sentence.TheVariants as say
 
 -- the first of these records that exists
 abbrev pub or_else : Option Name → Option Name → Option Name

@@ -37,8 +37,8 @@ use Rattle.story_types.specs.declared.faults.ShapeStory.{ShapeStory}
 use Rattle.story_facts.specs.declared.looks.Look.{Look}
 use Rattle.story_facts.specs.declared.pages.Handover.{Handover}
 use Rattle.story_facts.specs.declared.pages.PageStory.{PageStory}
-use Rattle.story_types.specs.declared.sentences.Sentence.{Sentence}
-use Rattle.story_types.specs.declared.sentences.Sentence.TheVariants as say
+use Rattle.story_words.specs.declared.sentences.Sentence.{Sentence}
+use Rattle.story_words.specs.declared.sentences.Sentence.TheVariants as say
 use Rattle.story_types.specs.declared.topics.LineStory.{LineStory}
 use Rattle.story_types.specs.declared.topics.FullPageStory.{FullPageStory}
 use Rattle.story_types.specs.declared.topics.TopicStory.{TopicStory}

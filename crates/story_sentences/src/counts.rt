@@ -7,7 +7,7 @@ use crate::listing::push_if;
 use migration_types::Version;
 use std::alloc::AllocError;
 use story_facts::Counts;
-use story_types::Sentence;
+use story_words::Sentence;
 
 /// Appends how many pages were not placed.
 #[tactic(auto, unfolding(crate::specs::Sentences::unplaced_told))]

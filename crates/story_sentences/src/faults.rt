@@ -8,7 +8,8 @@ use audit_model::{PageReason, delivery};
 use migration_types::{LogName, PagerRec, Session, SourceRec};
 use std::alloc::AllocError;
 use story_facts::{CellValue, Look, Name};
-use story_types::{Detail, FaultStory, PageCause, Sentence, value_at};
+use story_types::{Detail, FaultStory, PageCause, value_at};
+use story_words::Sentence;
 
 /// Returns what the contents of a record have in a cell whose value in the page is another at the halt, if the record
 /// has contents.

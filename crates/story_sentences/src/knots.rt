@@ -4,7 +4,8 @@ ghost use Rattle.std.specs.Prelude.{◌≡◌, ◌++◌, OnOk};
 ghost use Rattle.story_sentences.specs.Sentences.{knot_told, waits_told};
 
 use std::alloc::AllocError;
-use story_types::{Knot, Sentence};
+use story_types::Knot;
+use story_words::Sentence;
 
 /// Appends what each of the records waits for.
 fn push_waits(out: &mut Vec<Sentence>, knot: &Knot) -> Result<(), AllocError>

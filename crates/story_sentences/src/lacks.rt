@@ -12,7 +12,7 @@ use completeness::Lack;
 use migration_types::{LogName, PageNo, Session};
 use std::alloc::{AllocError, Global};
 use story_facts::{Name, first_of, handover_of, last_of, named_in, story_of};
-use story_types::Sentence;
+use story_words::Sentence;
 
 /// Returns the first of these records that exists.
 fn or_else(name: Option<Name>, other: Option<Name>) -> Option<Name>

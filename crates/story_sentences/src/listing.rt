@@ -4,7 +4,7 @@ ghost use Rattle.std.specs.Prelude.{◌≡◌, ◌++◌, OnOk};
 ghost use Rattle.story_sentences.specs.Sentences.{listed};
 
 use std::alloc::AllocError;
-use story_types::Sentence;
+use story_words::Sentence;
 
 /// Appends a sentence, if there is one.
 pub(crate) fn push_if(out: &mut Vec<Sentence>, sentence: Option<Sentence>) -> Result<(), AllocError>

@@ -7,7 +7,7 @@ use crate::listing::push_if;
 use migration_types::{LogName, PagerRec, Session};
 use std::alloc::AllocError;
 use story_facts::{Handover, PageStory};
-use story_types::Sentence;
+use story_words::Sentence;
 
 /// Returns whether the story tells the lane's delivery of a page: the pager takes this one, or there is no other.
 fn is_by_lane(session: &Session, got: Option<u32>, delivered: Option<u32>) -> bool

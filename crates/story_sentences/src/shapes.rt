@@ -8,7 +8,8 @@ use audit_model::ShapeReason;
 use migration_types::Session;
 use std::alloc::AllocError;
 use story_facts::{Name, first_access, named_by};
-use story_types::{Sentence, ShapeStory, resumed_by};
+use story_types::{ShapeStory, resumed_by};
+use story_words::Sentence;
 
 /// Returns what a record names, if it names one.
 fn names_of(session: &Session, name: Name) -> Option<Sentence>

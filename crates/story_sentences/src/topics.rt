@@ -13,9 +13,8 @@ use audit_report::Report;
 use migration_types::Session;
 use std::alloc::{AllocError, Global};
 use story_facts::Name;
-use story_types::{
-    Explanation, FaultStory, FullPageStory, LineStory, Sentence, ShapeStory, TopicStory,
-};
+use story_types::{Explanation, FaultStory, FullPageStory, LineStory, ShapeStory, TopicStory};
+use story_words::Sentence;
 
 /// Returns how many other pages have a fault, if there are some.
 fn more_of(more: usize) -> Option<Sentence>

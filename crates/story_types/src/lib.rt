@@ -7,7 +7,6 @@ mod concerns;
 mod explaining;
 mod faults;
 mod reasons;
-mod sentences;
 mod topics;
 mod waits;
 
@@ -15,6 +14,5 @@ pub use amends::{Amended, amended_by, is_always_wrong, tells_of, value_at};
 pub use concerns::{concerned_of, resumed_by};
 pub use explaining::Explanation;
 pub use faults::{Detail, FaultStory, PageCause, ShapeStory, Wrong};
-pub use sentences::Sentence;
 pub use topics::{FullPageStory, LineStory, TopicStory};
 pub use waits::{Knot, Waiting};

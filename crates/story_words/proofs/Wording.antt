@@ -1,7 +1,7 @@
 -- Words of sentences that are added one after the other.
 use Rattle.std.proofs.Common.{◌≡◌, ◌∙◌, ℕ, ◌+◌, ◌<◌, ◌≤◌, List, [], ◌∷◌, ◌++◌, length, take, get_or, sym, ap, refl, subst}
 use Rattle.std.proofs.lemmas.List.{append-nil, append_assoc, take_all, take_more}
-use Rattle.story_types.specs.declared.sentences.Sentence.{Sentence}
+use Rattle.story_words.specs.declared.sentences.Sentence.{Sentence}
 use Rattle.story_words.specs.Writing.{Adds, AreWritten}
 
 -- the words of one more sentence

@@ -1,6 +1,6 @@
 -- Putting sentences into words, in order.
 use Rattle.std.specs.Prelude.{◌≡◌, ℕ, List, [], ◌∷◌, ◌++◌}
-use Rattle.story_types.specs.declared.sentences.Sentence.{Sentence}
+use Rattle.story_words.specs.declared.sentences.Sentence.{Sentence}
 
 -- what was there stays the beginning
 abbrev pub IsBehind : List ℕ → List ℕ → Type 0

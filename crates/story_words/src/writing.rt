@@ -4,13 +4,13 @@ ghost use Rattle.std.specs.Prelude.{◌≡◌, ℕ, List, OnOk, string_bytes};
 ghost use Rattle.migration_types.specs.Sessions.{Recorded};
 ghost use Rattle.story_words.specs.Writing.{Adds, AreWritten};
 
+use crate::sentences::Sentence;
 use migration_types::Session;
 use std::alloc::AllocError;
-use story_types::Sentence;
 
 /// A writer, which puts sentences into words.
 pub trait Writer {
-    ghost use Rattle.story_types.specs.declared.sentences.Sentence.{Sentence};
+    ghost use Rattle.story_words.specs.declared.sentences.Sentence.{Sentence};
 
     /// Whether these are the words of a sentence about a session.
     ghost is_written: { Self → Recorded → Sentence → List ℕ → Type 0 };

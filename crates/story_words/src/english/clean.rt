@@ -2,26 +2,26 @@
 
 use std::alloc::AllocError;
 
-pub(super) const CLEAN: &str =
+pub(crate) const CLEAN: &str =
     "In every order of the records each read gives what one machine that never moved would give.";
 
 /// Appends how many pages were sent and placed.
-pub(super) fn push_sent(out: &mut String, n: u32) -> Result<(), AllocError> {
+pub(crate) fn push_sent(out: &mut String, n: u32) -> Result<(), AllocError> {
     write!(out, "Pages that were sent and placed: {n}")
 }
 
 /// Appends how many pages came back as zeros.
-pub(super) fn push_zeroed(out: &mut String, n: u32) -> Result<(), AllocError> {
+pub(crate) fn push_zeroed(out: &mut String, n: u32) -> Result<(), AllocError> {
     write!(out, "Released pages that came back as zeros: {n}")
 }
 
 /// Appends how many pages were not placed.
-pub(super) fn push_unplaced(out: &mut String, n: u32) -> Result<(), AllocError> {
+pub(crate) fn push_unplaced(out: &mut String, n: u32) -> Result<(), AllocError> {
     write!(out, "Pages that were not placed: {n}")
 }
 
 /// Appends how many pages were released at the target and never placed.
-pub(super) fn push_fresh(out: &mut String, n: u32) -> Result<(), AllocError> {
+pub(crate) fn push_fresh(out: &mut String, n: u32) -> Result<(), AllocError> {
     write!(
         out,
         "Pages that were released at the target and never placed: {n}"
@@ -29,12 +29,12 @@ pub(super) fn push_fresh(out: &mut String, n: u32) -> Result<(), AllocError> {
 }
 
 /// Appends how many other pages were not placed.
-pub(super) fn push_other(out: &mut String, n: u32) -> Result<(), AllocError> {
+pub(crate) fn push_other(out: &mut String, n: u32) -> Result<(), AllocError> {
     write!(out, "Other pages that were not placed: {n}")
 }
 
 /// Appends how many sendings there are, and how many of them were unasked.
-pub(super) fn push_sendings(out: &mut String, sends: u32, pushes: u32) -> Result<(), AllocError> {
+pub(crate) fn push_sendings(out: &mut String, sends: u32, pushes: u32) -> Result<(), AllocError> {
     write!(
         out,
         "Sendings of a page: {sends}, of which unasked: {pushes}"
@@ -42,22 +42,22 @@ pub(super) fn push_sendings(out: &mut String, sends: u32, pushes: u32) -> Result
 }
 
 /// Appends how many repeats there are.
-pub(super) fn push_repeats(out: &mut String, n: u32) -> Result<(), AllocError> {
+pub(crate) fn push_repeats(out: &mut String, n: u32) -> Result<(), AllocError> {
     write!(out, "Repeats of a packet: {n}")
 }
 
 /// Appends how many packets the lane delivered.
-pub(super) fn push_by_lane(out: &mut String, n: u32) -> Result<(), AllocError> {
+pub(crate) fn push_by_lane(out: &mut String, n: u32) -> Result<(), AllocError> {
     write!(out, "Packets that the lane delivered: {n}")
 }
 
 /// Appends how many packets the pager dropped.
-pub(super) fn push_dropped(out: &mut String, n: u32) -> Result<(), AllocError> {
+pub(crate) fn push_dropped(out: &mut String, n: u32) -> Result<(), AllocError> {
     write!(out, "Packets that the pager dropped: {n}")
 }
 
 /// Appends how many misses there are, and how many of them waited.
-pub(super) fn push_misses(out: &mut String, misses: u32, waits: u32) -> Result<(), AllocError> {
+pub(crate) fn push_misses(out: &mut String, misses: u32, waits: u32) -> Result<(), AllocError> {
     write!(
         out,
         "Misses of the guest: {misses}, of which waited for a page that was asked for before: {waits}"

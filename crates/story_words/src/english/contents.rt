@@ -18,7 +18,7 @@ impl<L: Lines> Teller<'_, L> {
     }
 
     /// Appends what one machine that never moved has instead of what a read gives.
-    pub(super) fn push_one_machine(
+    pub(crate) fn push_one_machine(
         &self,
         out: &mut String,
         held: CellValue,
@@ -35,7 +35,7 @@ impl<L: Lines> Teller<'_, L> {
     }
 
     /// Appends what a record has in a cell, and what its page has there at the halt.
-    pub(super) fn push_contents(
+    pub(crate) fn push_contents(
         &self,
         out: &mut String,
         name: Name,
@@ -55,7 +55,7 @@ impl<L: Lines> Teller<'_, L> {
     }
 
     /// Appends the value with which a page was sent.
-    pub(super) fn push_sent_with(
+    pub(crate) fn push_sent_with(
         &self,
         out: &mut String,
         got: u32,

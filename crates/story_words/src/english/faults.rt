@@ -7,28 +7,28 @@ use migration_types::{LogName, PagerRec};
 use std::alloc::AllocError;
 use story_facts::Name;
 
-pub(super) const NEVER_PLACED: &str =
+pub(crate) const NEVER_PLACED: &str =
     "The page went wrong first, as the pager never places it and the guest uses it at the target.";
 
-pub(super) const NOT_THERE: &str =
+pub(crate) const NOT_THERE: &str =
     "The guest is at the target by then, and the page is never placed there.";
 
-pub(super) const LATE_FOR_USE: &str = "The first look that reaches it comes after the use: ";
+pub(crate) const LATE_FOR_USE: &str = "The first look that reaches it comes after the use: ";
 
-pub(super) const LATE_FOR_RELEASE: &str =
+pub(crate) const LATE_FOR_RELEASE: &str =
     "The first look that reaches it comes after the release: ";
 
-pub(super) const RIGHT_ORDER: &str =
+pub(crate) const RIGHT_ORDER: &str =
     "It would be right if the guest looked at this placement before the release, or if there were no placement: the pager skips a page that was released there first.";
 
-pub(super) const RELEASED_AT_HALT: &str =
+pub(crate) const RELEASED_AT_HALT: &str =
     "The page is released at the halt, so it is not sent: the pager places it as zeros.";
 
-pub(super) const NOT_RELEASED_AT_HALT: &str =
+pub(crate) const NOT_RELEASED_AT_HALT: &str =
     "The page is not released at the halt, so it must not be placed as zeros.";
 
 /// Returns the words that say that every order of the records shows a fault.
-pub(super) fn in_every_order(reason: PageReason) -> &'static str {
+pub(crate) fn in_every_order(reason: PageReason) -> &'static str {
     match reason {
         PageReason::Early => "In every order of the records the use finds no page.",
         _ => "It is wrong in every order of the records.",
@@ -36,7 +36,7 @@ pub(super) fn in_every_order(reason: PageReason) -> &'static str {
 }
 
 /// Returns the words that say how the order in an audit's report shows a fault.
-pub(super) fn in_shown_order(reason: PageReason) -> &'static str {
+pub(crate) fn in_shown_order(reason: PageReason) -> &'static str {
     match reason {
         PageReason::Over => {
             "The order that the audit shows puts the placement, and all that has to come after it, behind the release, and so over the zeros."
@@ -48,7 +48,7 @@ pub(super) fn in_shown_order(reason: PageReason) -> &'static str {
 }
 
 /// Appends how many other pages have a fault.
-pub(super) fn push_more(out: &mut String, more: usize) -> Result<(), AllocError> {
+pub(crate) fn push_more(out: &mut String, more: usize) -> Result<(), AllocError> {
     if more == 1 {
         out.push_str("1 more page has a fault; audit --all lists every one.")
     } else {
@@ -61,17 +61,17 @@ pub(super) fn push_more(out: &mut String, more: usize) -> Result<(), AllocError>
 
 impl<L: Lines> Teller<'_, L> {
     /// Appends which record is wrong.
-    pub(super) fn push_wrong(&self, out: &mut String, name: Name) -> Result<(), AllocError> {
+    pub(crate) fn push_wrong(&self, out: &mut String, name: Name) -> Result<(), AllocError> {
         self.push_of_record(out, " is wrong", name)
     }
 
     /// Appends the record with which a page first went wrong.
-    pub(super) fn push_wrong_first(&self, out: &mut String, name: Name) -> Result<(), AllocError> {
+    pub(crate) fn push_wrong_first(&self, out: &mut String, name: Name) -> Result<(), AllocError> {
         self.push_with_record(out, "The page first went wrong at ", name)
     }
 
     /// Appends the placement that no look before a use reaches.
-    pub(super) fn push_unreached(&self, out: &mut String, place: u32) -> Result<(), AllocError> {
+    pub(crate) fn push_unreached(&self, out: &mut String, place: u32) -> Result<(), AllocError> {
         self.push_with_place(
             out,
             "The guest is at the target by then, and no look before this use reaches the placement of the page, ",
@@ -80,7 +80,7 @@ impl<L: Lines> Teller<'_, L> {
     }
 
     /// Appends the look that reaches furthest.
-    pub(super) fn push_furthest(
+    pub(crate) fn push_furthest(
         &self,
         out: &mut String,
         look: Option<u32>,
@@ -95,7 +95,7 @@ impl<L: Lines> Teller<'_, L> {
     }
 
     /// Appends the first look that reaches a placement, after words that say what it is too late for.
-    pub(super) fn push_late(
+    pub(crate) fn push_late(
         &self,
         out: &mut String,
         words: &str,
@@ -111,7 +111,7 @@ impl<L: Lines> Teller<'_, L> {
     }
 
     /// Appends the release over which a page is placed.
-    pub(super) fn push_released_first(
+    pub(crate) fn push_released_first(
         &self,
         out: &mut String,
         place: u32,
@@ -124,7 +124,7 @@ impl<L: Lines> Teller<'_, L> {
     }
 
     /// Appends what a placement overwrites if it comes after the release.
-    pub(super) fn push_may_come_after(
+    pub(crate) fn push_may_come_after(
         &self,
         out: &mut String,
         place: u32,
@@ -141,7 +141,7 @@ impl<L: Lines> Teller<'_, L> {
     }
 
     /// Appends the last change of a page before the halt.
-    pub(super) fn push_changed_last(
+    pub(crate) fn push_changed_last(
         &self,
         out: &mut String,
         place: Option<u32>,
@@ -156,7 +156,7 @@ impl<L: Lines> Teller<'_, L> {
     }
 
     /// Appends the placement before a second one.
-    pub(super) fn push_placed_before(
+    pub(crate) fn push_placed_before(
         &self,
         out: &mut String,
         place: u32,

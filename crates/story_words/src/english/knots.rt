@@ -5,13 +5,13 @@ use audit_report::Lines;
 use std::alloc::AllocError;
 use story_types::Waiting;
 
-pub(super) const NO_ORDER: &str =
+pub(crate) const NO_ORDER: &str =
     "No order of the records keeps the order of each log and puts each record after the record of another log that it names: each of these waits for the next, and the last for one of them.";
 
 impl<L: Lines> Teller<'_, L> {
     /// Appends the record that a waiting one must come after. If that is not the next waiting record, but comes after
     /// it, also appends the next.
-    pub(super) fn push_wait(
+    pub(crate) fn push_wait(
         &self,
         out: &mut String,
         waiting: &Waiting,
@@ -27,7 +27,7 @@ impl<L: Lines> Teller<'_, L> {
     }
 
     /// Appends a record that waits, and what it waits for.
-    pub(super) fn push_waits(
+    pub(crate) fn push_waits(
         &self,
         out: &mut String,
         waiting: &Waiting,

@@ -6,26 +6,26 @@ use migration_types::{LogName, PageNo};
 use std::alloc::AllocError;
 use story_facts::Name;
 
-pub(super) const NOT_WHOLE: &str =
+pub(crate) const NOT_WHOLE: &str =
     "Nothing in the logs is wrong, but they do not tell of a whole migration.";
 
-pub(super) const NEVER_HALTED: &str =
+pub(crate) const NEVER_HALTED: &str =
     "The guest was never halted: its log has no `halt`, so nothing says that a migration began.";
 
-pub(super) const NEVER_RESUMED: &str =
+pub(crate) const NEVER_RESUMED: &str =
     "The guest was never resumed at the target: its log has no `resume`.";
 
-pub(super) const RETURNED: &str =
+pub(crate) const RETURNED: &str =
     "The guest returned to the source: it was never resumed at the target, and the source started it again.";
 
-pub(super) const NEVER_SAID: &str =
+pub(crate) const NEVER_SAID: &str =
     "The pager never said that every owed page had come: its log has no `all` behind their placements. Each of them came.";
 
-pub(super) const NEVER_LEARNED: &str =
+pub(crate) const NEVER_LEARNED: &str =
     "The source never learned that every owed page had come: its log has no `done` behind the `ask` of that.";
 
 /// Appends that a page was owed and did not come.
-pub(super) fn push_owed(out: &mut String, page: PageNo) -> Result<(), AllocError> {
+pub(crate) fn push_owed(out: &mut String, page: PageNo) -> Result<(), AllocError> {
     let page = page.number();
     write!(
         out,
@@ -35,7 +35,7 @@ pub(super) fn push_owed(out: &mut String, page: PageNo) -> Result<(), AllocError
 
 impl<L: Lines> Teller<'_, L> {
     /// Appends how far an owed page came.
-    pub(super) fn push_came_to(
+    pub(crate) fn push_came_to(
         &self,
         out: &mut String,
         name: Option<Name>,
@@ -53,12 +53,12 @@ impl<L: Lines> Teller<'_, L> {
     }
 
     /// Appends where the guest was halted.
-    pub(super) fn push_halted_at(&self, out: &mut String, place: u32) -> Result<(), AllocError> {
+    pub(crate) fn push_halted_at(&self, out: &mut String, place: u32) -> Result<(), AllocError> {
         self.push_with_place(out, "It was halted at ", (LogName::Guest, place))
     }
 
     /// Appends where the source started the guest again.
-    pub(super) fn push_started_again_at(
+    pub(crate) fn push_started_again_at(
         &self,
         out: &mut String,
         place: u32,
@@ -67,12 +67,12 @@ impl<L: Lines> Teller<'_, L> {
     }
 
     /// Appends where the pager said that every owed page had come.
-    pub(super) fn push_said_at(&self, out: &mut String, place: u32) -> Result<(), AllocError> {
+    pub(crate) fn push_said_at(&self, out: &mut String, place: u32) -> Result<(), AllocError> {
         self.push_with_place(out, "The pager said so at ", (LogName::Pager, place))
     }
 
     /// Appends the packet that the pager took, and neither placed nor dropped.
-    pub(super) fn push_untaken(&self, out: &mut String, place: u32) -> Result<(), AllocError> {
+    pub(crate) fn push_untaken(&self, out: &mut String, place: u32) -> Result<(), AllocError> {
         self.push_with_record(
             out,
             "The pager has no `place` and no `skip` of what it took at ",

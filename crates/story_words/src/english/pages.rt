@@ -7,7 +7,7 @@ use std::alloc::AllocError;
 use story_facts::Name;
 
 /// Appends that the machine has no page of this number, and how many it has.
-pub(super) fn push_no_page(out: &mut String, number: u32, pages: u32) -> Result<(), AllocError> {
+pub(crate) fn push_no_page(out: &mut String, number: u32, pages: u32) -> Result<(), AllocError> {
     write!(out, "The machine has no page {number}: it has ")?;
     if pages == 1 {
         out.push_str("1 page, which is page 0.")
@@ -17,7 +17,7 @@ pub(super) fn push_no_page(out: &mut String, number: u32, pages: u32) -> Result<
 }
 
 /// Appends whether a page has a fault.
-pub(super) fn push_verdict(
+pub(crate) fn push_verdict(
     out: &mut String,
     page: PageNo,
     is_faulty: bool,
@@ -28,20 +28,20 @@ pub(super) fn push_verdict(
 }
 
 /// Appends the heading, which names the page of the story.
-pub(super) fn push_heading(out: &mut String, page: PageNo) -> Result<(), AllocError> {
+pub(crate) fn push_heading(out: &mut String, page: PageNo) -> Result<(), AllocError> {
     let page = page.number();
     write!(out, "What the logs say of page {page}:")
 }
 
 impl<L: Lines> Teller<'_, L> {
     /// Appends that there is no record at a line.
-    pub(super) fn push_no_record(&self, out: &mut String, line: u32) -> Result<(), AllocError> {
+    pub(crate) fn push_no_record(&self, out: &mut String, line: u32) -> Result<(), AllocError> {
         let line = self.lines.line(line);
         write!(out, "Line {line} tells no record of the logs.")
     }
 
     /// Appends the record at a line.
-    pub(super) fn push_stands(&self, out: &mut String, name: Name) -> Result<(), AllocError> {
+    pub(crate) fn push_stands(&self, out: &mut String, name: Name) -> Result<(), AllocError> {
         self.push_with_record(out, "This is ", name)
     }
 
@@ -65,7 +65,7 @@ impl<L: Lines> Teller<'_, L> {
     }
 
     /// Appends the last change of a page, before the halt if there is one.
-    pub(super) fn push_change(
+    pub(crate) fn push_change(
         &self,
         out: &mut String,
         halted: bool,
@@ -91,12 +91,12 @@ impl<L: Lines> Teller<'_, L> {
     }
 
     /// Appends the guest's halt.
-    pub(super) fn push_halt(&self, out: &mut String, place: Option<u32>) -> Result<(), AllocError> {
+    pub(crate) fn push_halt(&self, out: &mut String, place: Option<u32>) -> Result<(), AllocError> {
         self.push_step(out, LogName::Guest, "", "the guest is not halted", place)
     }
 
     /// Appends the sending of a page.
-    pub(super) fn push_sending(
+    pub(crate) fn push_sending(
         &self,
         out: &mut String,
         place: Option<u32>,
@@ -111,7 +111,7 @@ impl<L: Lines> Teller<'_, L> {
     }
 
     /// Appends the delivery of a page.
-    pub(super) fn push_delivery(
+    pub(crate) fn push_delivery(
         &self,
         out: &mut String,
         log: LogName,
@@ -126,7 +126,7 @@ impl<L: Lines> Teller<'_, L> {
     }
 
     /// Appends the record by which the pager took a page.
-    pub(super) fn push_taking(
+    pub(crate) fn push_taking(
         &self,
         out: &mut String,
         place: Option<u32>,
@@ -135,7 +135,7 @@ impl<L: Lines> Teller<'_, L> {
     }
 
     /// Appends the placement of a page.
-    pub(super) fn push_placement(
+    pub(crate) fn push_placement(
         &self,
         out: &mut String,
         place: Option<u32>,
@@ -150,7 +150,7 @@ impl<L: Lines> Teller<'_, L> {
     }
 
     /// Appends the second placement of a page.
-    pub(super) fn push_second_placement(
+    pub(crate) fn push_second_placement(
         &self,
         out: &mut String,
         place: u32,
@@ -165,7 +165,7 @@ impl<L: Lines> Teller<'_, L> {
     }
 
     /// Appends the first look that reaches a placement of a page.
-    pub(super) fn push_first_look(
+    pub(crate) fn push_first_look(
         &self,
         out: &mut String,
         place: Option<u32>,
@@ -180,7 +180,7 @@ impl<L: Lines> Teller<'_, L> {
     }
 
     /// Appends the first use of a page at the target.
-    pub(super) fn push_first_use(
+    pub(crate) fn push_first_use(
         &self,
         out: &mut String,
         releases: bool,

@@ -169,17 +169,17 @@ impl<L: Lines> Teller<'_, L> {
     }
 
     /// Appends the place of a record, as in "line 13 (guest 6)".
-    pub(super) fn push_place(&self, out: &mut String, name: Name) -> Result<(), AllocError> {
+    pub(crate) fn push_place(&self, out: &mut String, name: Name) -> Result<(), AllocError> {
         self.push_place_behind(out, "line", name)
     }
 
     /// Appends the place of a record, at the beginning of a sentence.
-    pub(super) fn push_place_first(&self, out: &mut String, name: Name) -> Result<(), AllocError> {
+    pub(crate) fn push_place_first(&self, out: &mut String, name: Name) -> Result<(), AllocError> {
         self.push_place_behind(out, "Line", name)
     }
 
     /// Appends what a record did.
-    pub(super) fn push_done(&self, out: &mut String, name: Name) -> Result<(), AllocError> {
+    pub(crate) fn push_done(&self, out: &mut String, name: Name) -> Result<(), AllocError> {
         let session = self.session;
         let place = name.1;
         match name.0 {
@@ -192,14 +192,14 @@ impl<L: Lines> Teller<'_, L> {
     }
 
     /// Appends the place of a record and what it did, as in "line 8 (guest 1): the guest is halted at the source".
-    pub(super) fn push_record(&self, out: &mut String, name: Name) -> Result<(), AllocError> {
+    pub(crate) fn push_record(&self, out: &mut String, name: Name) -> Result<(), AllocError> {
         self.push_place(out, name)?;
         out.push_str(": ")?;
         self.push_done(out, name)
     }
 
     /// Appends a sentence about a record, beginning with its place, as in "Line 13 (guest 6) is wrong: ..".
-    pub(super) fn push_of_record(
+    pub(crate) fn push_of_record(
         &self,
         out: &mut String,
         is: &str,

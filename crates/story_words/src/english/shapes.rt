@@ -82,7 +82,7 @@ fn pager_wants(rec: &PagerRec, has_lane: bool) -> Option<&'static str> {
 
 impl<L: Lines> Teller<'_, L> {
     /// Returns whether the lane of the session has records. For other sessions, the sentences do not mention a lane.
-    pub(super) fn has_lane(&self) -> bool {
+    pub(crate) fn has_lane(&self) -> bool {
         !self.session.lane().is_empty()
     }
 
@@ -100,7 +100,7 @@ impl<L: Lines> Teller<'_, L> {
     }
 
     /// Appends the record that does not have the right shape.
-    pub(super) fn push_misshapen(&self, out: &mut String, name: Name) -> Result<(), AllocError> {
+    pub(crate) fn push_misshapen(&self, out: &mut String, name: Name) -> Result<(), AllocError> {
         self.push_of_record(out, " does not have the right shape", name)
     }
 
@@ -122,7 +122,7 @@ impl<L: Lines> Teller<'_, L> {
     }
 
     /// Appends the rule that a record of the guest breaks, and where the guest is halted and resumed.
-    pub(super) fn push_phase(
+    pub(crate) fn push_phase(
         &self,
         out: &mut String,
         place: u32,
@@ -145,7 +145,7 @@ impl<L: Lines> Teller<'_, L> {
     }
 
     /// Appends what a record must name, and what it names.
-    pub(super) fn push_names(
+    pub(crate) fn push_names(
         &self,
         out: &mut String,
         name: Name,
@@ -171,7 +171,7 @@ impl<L: Lines> Teller<'_, L> {
     }
 
     /// Returns how the log of a record must begin, or for a `back`, how it must end.
-    pub(super) fn beginning(&self, name: Name) -> &'static str {
+    pub(crate) fn beginning(&self, name: Name) -> &'static str {
         match name.0 {
             LogName::Pager if self.has_lane() => {
                 "The pager's log begins with the `got` or the `pull` of the state and with `ready`, and has no other `ready`."
@@ -187,7 +187,7 @@ impl<L: Lines> Teller<'_, L> {
     }
 
     /// Appends the resume of a guest that the source starts again.
-    pub(super) fn push_resumed_too(&self, out: &mut String, place: u32) -> Result<(), AllocError> {
+    pub(crate) fn push_resumed_too(&self, out: &mut String, place: u32) -> Result<(), AllocError> {
         self.push_with_record(
             out,
             "The guest was resumed at the target, so from this `back` on it may run at both sides: ",
@@ -196,7 +196,7 @@ impl<L: Lines> Teller<'_, L> {
     }
 
     /// Appends the guest's first access at the target, if there is one.
-    pub(super) fn push_first_access(
+    pub(crate) fn push_first_access(
         &self,
         out: &mut String,
         place: Option<u32>,
@@ -211,7 +211,7 @@ impl<L: Lines> Teller<'_, L> {
     }
 
     /// Appends the `send` before a second one.
-    pub(super) fn push_sent_before(&self, out: &mut String, place: u32) -> Result<(), AllocError> {
+    pub(crate) fn push_sent_before(&self, out: &mut String, place: u32) -> Result<(), AllocError> {
         self.push_with_record(
             out,
             "A page is sent once, and then repeated by `again`; this one was sent before: ",
