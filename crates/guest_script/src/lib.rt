@@ -1,5 +1,5 @@
 //! The script of a guest as a value, within all limits: what its virtual processors do, and the delivery outcomes of
-//! packets. Also the texts of scripts and of lists of events: writing one, reading one, or finding its refusal line.
+//! packets; and what the virtual processors were answered. Also the texts of scripts and of lists of events: writing one, reading one, or finding its refusal line.
 #![tactic(auto)]
 
 ghost use Rattle.std.specs.Prelude.{IfOk};
@@ -25,6 +25,7 @@ mod script_fault;
 mod script_reader;
 mod script_steps;
 mod stages;
+mod transcript;
 mod vcpus;
 mod versions;
 mod wanting;
@@ -37,6 +38,7 @@ use op_form::push_vcpus;
 pub use script::{Scenario, Script};
 pub use script_fault::{ScriptFault, VcpuFault};
 pub use script_steps::ScriptParts;
+pub use transcript::{Answered, Transcript};
 pub use vcpus::{
     MOST_FATES, MOST_OPS, MOST_PIVOTS, MOST_VCPUS, MOST_WINDOW, Vcpu, When, may_release,
 };

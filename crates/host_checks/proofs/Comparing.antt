@@ -6,7 +6,7 @@ use Rattle.std.proofs.lemmas.List.{map-append, append_cancel_left, length-map, t
 use Rattle.std.proofs.lemmas.Option.{slice_get-map}
 use Rattle.migration_events.specs.declared.ops.Op.{Op}
 use Rattle.guest_script.specs.declared.vcpus.Vcpu.{Vcpu}
-use Rattle.host_checks.specs.declared.transcript.Answered.{Answered}
+use Rattle.guest_script.specs.declared.transcript.Answered.{Answered}
 use Rattle.host_checks.specs.Outcomes.{ops_of, asked_of, AreOfScript}
 
 -- a list that is cut in two

@@ -21,7 +21,7 @@ use Rattle.guest_script.specs.declared.script.Scenario.{Scenario}
 use Rattle.guest_script.specs.declared.vcpus.Vcpu.{Vcpu}
 use Rattle.audit_report.specs.declared.report.Report.TheVariants.{Clean}
 use Rattle.audit_report.specs.Reports.{IsReport, IsClean}
-use Rattle.host_checks.specs.declared.transcript.Answered.{Answered}
+use Rattle.guest_script.specs.declared.transcript.Answered.{Answered}
 use Rattle.host_checks.specs.declared.outcome.Migrated.{Migrated}
 use Rattle.host_checks.specs.declared.outcome.RunFault.{RunFault}
 use Rattle.host_checks.specs.declared.outcome.RunFault.TheVariants.{LogFull, Memory, Threads, AuditRefused, TranscriptDiffers, Link}

@@ -9,7 +9,7 @@ mod settling;
 mod told;
 mod transcript;
 
+pub use guest_script::{Answered, Transcript};
 pub use limits::session_of;
 pub use outcome::{Migrated, RunFault};
 pub use settling::settle;
-pub use transcript::{Answered, Transcript};

@@ -1,7 +1,7 @@
 //! The result of a run.
 
-use crate::transcript::Transcript;
 use audit_report::Report;
+use guest_script::Transcript;
 use migration_types::{Cert, Seq, Session};
 use page_store::Store;
 use std::fmt::{self, Debug, Formatter};

@@ -5,7 +5,8 @@ ghost use Rattle.migration_types.specs.declared.records.GuestRec.{GuestRec as Re
 ghost use Rattle.host_checks.specs.Outcomes.{answered, told_by, AreOfLog};
 ghost use Rattle.host_checks.specs.inner.Told.{AreTold};
 
-use crate::transcript::{Answered, Transcript, is_same};
+use crate::transcript::is_same;
+use guest_script::{Answered, Transcript};
 use migration_events::Op;
 use migration_types::GuestRec;
 use std::alloc::{AllocError, Global};

@@ -3,19 +3,8 @@
 ghost use Rattle.std.specs.Prelude.{◌≡◌, ◌≢◌, ◌++◌, map, MatchBool};
 ghost use Rattle.host_checks.specs.Outcomes.{ops_of, asked_of, AreOfScript};
 
-use guest_script::Vcpu;
+use guest_script::{Answered, Transcript, Vcpu};
 use migration_events::Op;
-use migration_types::Seq;
-
-/// An operation of a virtual processor, and its answer: the value read, the value written, or 0 for a release.
-#[derive(Clone, Copy, Debug)]
-pub struct Answered {
-    pub op: Op,
-    pub answer: u64,
-}
-
-/// What a virtual processor did, in order, with the answers.
-pub type Transcript = Seq<Answered>;
 
 /// Returns whether two operations are equal.
 pub(crate) fn is_same(one: Op, other: Op) -> bool

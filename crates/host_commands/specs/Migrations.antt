@@ -17,7 +17,7 @@ use Rattle.guest_script.specs.declared.script.Scenario.{Scenario}
 use Rattle.guest_script.specs.Scripts.{SpellsScript}
 use Rattle.migration_model.specs.Promise.{HasEachOwed}
 use Rattle.host_checks.specs.Outcomes.{AreOfLog, AreOfScript, IsDone}
-use Rattle.host_checks.specs.declared.transcript.Answered.{Answered}
+use Rattle.guest_script.specs.declared.transcript.Answered.{Answered}
 use Rattle.command_texts.specs.Answers.{IsAnswer, numbered}
 
 -- A session that was recorded from a script's migration, and its certificate. The version, the machine and the initial

@@ -1,27 +1,15 @@
 -- The result of a run whose threads have ended.
 use Rattle.std.specs.Prelude.{◌≡◌, List, Option, Some, None}
-use Rattle.migration_types.specs.declared.records.PagerRec.{PagerRec}
 use Rattle.migration_types.specs.declared.session.Logs.{Logs}
 use Rattle.migration_types.specs.Sessions.{recorded}
 use Rattle.page_store.specs.Frames.{Frames}
-use Rattle.active_push.specs.Books.{SourceKept}
-use Rattle.link_book.specs.LinkPart.{LinkPart}
 use Rattle.guest_script.specs.declared.script.Scenario.{Scenario}
-use Rattle.host_checks.specs.declared.transcript.Answered.{Answered}
+use Rattle.guest_script.specs.declared.transcript.Answered.{Answered}
 use Rattle.host_checks.specs.declared.outcome.Migrated.{Migrated}
 use Rattle.host_checks.specs.declared.outcome.RunFault.{RunFault}
 use Rattle.host_checks.specs.declared.outcome.RunFault.TheVariants as told
-use Rattle.host_threads.specs.declared.stop_reason.StopReason.{StopReason}
-use Rattle.host_threads.specs.declared.stop_reason.StopReason.TheVariants.{LogFull, Memory, Threads, Link, Astray}
-use Rattle.host_threads.specs.declared.side.TargetSide.{TargetSide}
-use Rattle.host_threads.specs.declared.side.TargetSide.TheVariants.{Guest, Moving, Target}
-
--- the logs of the books and the frames at the target, or nothing if the guest has not halted
-abbrev pub IsLeft : Option SourceKept → LinkPart → List PagerRec → TargetSide → Option (Logs × Frames) → Type 0
-IsLeft None link pager side left = left ≡ None
-IsLeft (Some s) link pager (Guest b) left = left ≡ None
-IsLeft (Some s) link pager Moving left = left ≡ None
-IsLeft (Some s) link pager (Target t) left = left ≡ Some (record { guest = t.held.log; source = s.log; link = link.log; lane = link.lane_log; pager = pager }, t.held.frames)
+use Rattle.host_primitives.specs.declared.stop_reason.StopReason.{StopReason}
+use Rattle.host_primitives.specs.declared.stop_reason.StopReason.TheVariants.{LogFull, Memory, Threads, Link, Astray}
 
 -- the refusal of a run that stopped for this reason, before anything is checked
 abbrev pub told_as : StopReason → Option RunFault

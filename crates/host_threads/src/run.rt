@@ -1,60 +1,23 @@
 //! A run: its threads, and what becomes of the books when the threads have ended.
 
 ghost use Rattle.std.specs.Prelude.{◌≡◌, Some, IfOk, IfErr, IfSome, IsErrOf};
-ghost use Rattle.target_side.specs.Guests.{part_of as guest_part};
-ghost use Rattle.target_side.specs.GuestPart.{new_guest};
 ghost use Rattle.host_checks.specs.declared.outcome.RunFault.{RunFault as Refusal};
 ghost use Rattle.host_checks.specs.Outcomes.{HasMigrated, IsRunFault};
-ghost use Rattle.host_threads.specs.Runs.{IsLeft, told_as, told_of, IsRunOf};
+ghost use Rattle.host_threads.specs.Runs.{told_as, told_of, IsRunOf};
 
-use crate::bell::Bell;
-use crate::carry::Echo;
-use crate::gate::{Gate, most_at_once};
-use crate::link::run_link;
-use crate::loopback::loopback;
-use crate::pager::run_pager;
-use crate::passage::{NoRelay, Passage};
-use crate::relay::Relay;
-use crate::shared::SharedBooks;
-use crate::side::TargetSide;
-use crate::source::run_source;
-use crate::stop_reason::StopReason;
-use crate::vcpu::run_vcpu;
-use active_push::SourceBook;
-use book_events::logs::logs_of;
-use guest_script::Script;
-use host_checks::{Migrated, RunFault, Transcript, session_of, settle};
-use link_book::LinkBook;
+use guest_script::{Script, Transcript};
+use host_checks::{Migrated, RunFault, session_of, settle};
+use host_primitives::{
+    Echo, Gate, NoRelay, Passage, Relay, StopReason, most_at_once, open_loopback,
+};
 use migration_types::{Logs, Seq};
 use page_store::Store;
-use std::alloc::{AllocError, Global};
-use std::mem::drop;
+use std::alloc::Global;
 use std::net::{Net, TcpListener, TcpStream};
-use std::sync::{Mutex, Wait};
+use std::sync::Wait;
 use std::thread;
 use std::thread::{JoinHandle, Scope, Threads};
-use target_side::{GuestBook, PagerBook};
-
-/// Returns the guest's book before the first event. Fails only if memory runs out.
-fn guest_of(alloc: Global, script: &Script) -> Result<GuestBook, AllocError>
-    ensures { IfOk result (λ b. guest_part b ≡ new_guest script.now.geometry script.now.init) }
-{
-    script.keeps_limits();
-    GuestBook::new(alloc, script.geometry(), script.init())
-}
-
-/// Returns the books before the first event. Fails only if memory runs out.
-fn books_of(alloc: Global, script: &Script) -> Result<SharedBooks, AllocError> {
-    let guest = guest_of(alloc, script)?;
-    let pager = PagerBook::new(alloc, script.geometry())?;
-    Ok(SharedBooks {
-        source: Mutex::new(None),
-        link: Mutex::new(LinkBook::new(alloc)),
-        pager: Mutex::new(pager),
-        target: Mutex::new(TargetSide::Guest(guest)),
-        bell: Bell::new(alloc, script.vcpus().len())?,
-    })
-}
+use thread_bodies::{SharedBooks, books_of, left_by, run_link, run_pager, run_source, run_vcpu};
 
 /// Starts a thread for each virtual processor. If one cannot be started, the run stops.
 fn start_vcpus<'s, E, R: Threads + Wait + Sync, G: Gate>(
@@ -96,8 +59,15 @@ fn join_vcpus<R: Threads + Wait>(
     }
 }
 
+/// Joins the thread of the source, the link or the pager, if it was started.
+fn join_party<R: Threads + Wait>(rt: &R, thread: Option<JoinHandle<()>>) {
+    if let Some(thread) = thread {
+        thread.join(rt);
+    }
+}
+
 /// Starts a thread for each virtual processor and one each for the source, the link and the pager, and joins them all.
-/// If a thread cannot be started, the run stops.
+/// Appends what the virtual processors did to the transcripts. If a thread cannot be started, the run stops.
 fn run_threads<R: Threads + Wait + Sync, G: Gate, L: Relay + Drop>(
     rt: &R,
     alloc: Global,
@@ -105,9 +75,8 @@ fn run_threads<R: Threads + Wait + Sync, G: Gate, L: Relay + Drop>(
     script: &Script,
     gate: &G,
     passage: Passage<L>,
-) -> Result<Vec<Transcript>, AllocError> {
-    let count = script.vcpus().len();
-    let mut transcripts = Vec::with_capacity(alloc, count)?;
+    transcripts: &mut Vec<Transcript>,
+) {
     thread::scope(thread::scope_env(), rt, |scope| {
         let threads = start_vcpus(rt, alloc, scope, shared, script, gate);
         let source = scope
@@ -121,14 +90,11 @@ fn run_threads<R: Threads + Wait + Sync, G: Gate, L: Relay + Drop>(
         if source.is_none() || link.is_none() || pager.is_none() {
             shared.bell.stop(rt, StopReason::Threads);
         }
-        join_vcpus(rt, shared, threads, &mut transcripts);
-        for thread in [source, link, pager] {
-            if let Some(thread) = thread {
-                thread.join(rt);
-            }
-        }
+        join_vcpus(rt, shared, threads, transcripts);
+        join_party(rt, source);
+        join_party(rt, link);
+        join_party(rt, pager);
     });
-    Ok(transcripts)
 }
 
 /// Returns why a run that stopped for this reason is refused, before anything is checked.
@@ -142,45 +108,6 @@ fn refusal(fault: StopReason) -> Option<RunFault>
         StopReason::Link => Some(RunFault::Link),
         StopReason::Astray => None,
     }
-}
-
-/// Returns the logs of the books, and the frames at the target, or `None` if the guest has not halted.
-fn left_of(
-    source: Option<SourceBook>,
-    link: LinkBook,
-    pager: PagerBook,
-    target: TargetSide,
-) -> Option<(Logs, Store)>
-    ensures { IsLeft source link.part pager.log target result }
-{
-    match (source, target) {
-        (Some(source), TargetSide::Target(target)) => {
-            let (guest, store) = target.into_parts();
-            Some((logs_of(guest, source, link, pager), store))
-        }
-        (source, target) => {
-            drop((source, link, pager, target));
-            None
-        }
-    }
-}
-
-/// Returns why the run stopped, if it did, and what the threads left, as `left_of` does.
-fn left_by(shared: SharedBooks) -> (Option<StopReason>, Option<(Logs, Store)>) {
-    let SharedBooks {
-        source,
-        link,
-        pager,
-        target,
-        bell,
-    } = shared;
-    let left = left_of(
-        source.into_inner(),
-        link.into_inner(),
-        pager.into_inner(),
-        target.into_inner(),
-    );
-    (bell.into_reason(), left)
 }
 
 /// Returns the result of the checks of what a run left.
@@ -247,12 +174,13 @@ fn run<R: Threads + Wait + Sync, G: Gate, L: Relay + Drop>(
     ensures migrated { IfOk result (HasMigrated script.now) }
     ensures refused { IfErr result (IsRunFault script.now) }
 {
+    let Ok(mut transcripts) = Vec::with_capacity(alloc, script.vcpus().len()) else {
+        return Err(RunFault::Memory);
+    };
     let Ok(shared) = books_of(alloc, script) else {
         return Err(RunFault::Memory);
     };
-    let Ok(transcripts) = run_threads(rt, alloc, &shared, script, gate, passage) else {
-        return Err(RunFault::Memory);
-    };
+    run_threads(rt, alloc, &shared, script, gate, passage, &mut transcripts);
     checked(rt, alloc, script, shared, transcripts)
 }
 
@@ -319,7 +247,7 @@ pub fn migrate_tcp<
     ensures migrated { IfOk result (HasMigrated script.now) }
     ensures refused { IfErr result (IsRunFault script.now) }
 {
-    match loopback(rt) {
+    match open_loopback(rt) {
         Ok(ends) => migrate_over(rt, alloc, script, gate, ends),
         Err(_) => Err(RunFault::Link),
     }

@@ -1,9 +1,3 @@
 pub mod GuestPart
 pub mod Guests
 pub mod inner
-pub mod TargetPart
-pub mod History
-pub mod Told
-pub mod Kept
-pub mod PagerPart
-pub mod PagerLists

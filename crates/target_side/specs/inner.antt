@@ -1,5 +1,1 @@
 pub mod Records
-pub mod States
-pub mod Woven
-pub mod Sound
-pub mod Steps

@@ -1,7 +1,7 @@
 -- How far the records that were looked at account for the transcripts.
 use Rattle.std.specs.Prelude.{◌≡◌, ℕ, ◌≤◌, List, [], length, slice_index_or, take}
 use Rattle.migration_types.specs.declared.records.GuestRec.{GuestRec}
-use Rattle.host_checks.specs.declared.transcript.Answered.{Answered}
+use Rattle.guest_script.specs.declared.transcript.Answered.{Answered}
 use Rattle.host_checks.specs.Outcomes.{part_of}
 
 -- This many answers of each transcript, which has them, are those of these records, and the records have operations of

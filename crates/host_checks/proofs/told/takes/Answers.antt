@@ -2,7 +2,7 @@ use Rattle.std.proofs.Common.{◌≡◌, ◌≢◌, ℕ, ◌+◌, ◌<◌, ◌++
 use Rattle.std.specs.Prelude.{slice_get}
 use Rattle.std.proofs.lemmas.List.{get_or_read}
 use Rattle.std.proofs.lemmas.Option.{slice_get_read, slice_get_past, get_or_from_slice_get}
-use Rattle.host_checks.specs.declared.transcript.Answered.{Answered}
+use Rattle.guest_script.specs.declared.transcript.Answered.{Answered}
 use Rattle.host_checks.specs.Outcomes.{told_by}
 use Rattle.host_checks.specs.inner.Told.{AreTold}
 use Rattle.host_checks.proofs.Telling.{told_none, told_next, differs_past, differs_here}

@@ -1,0 +1,3 @@
+pub mod Echoes
+pub mod Carrying
+pub mod Making

@@ -1,0 +1,3 @@
+pub mod inner
+pub mod PagerPart
+pub mod PagerLists

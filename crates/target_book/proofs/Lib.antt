@@ -1,0 +1,7 @@
+mod Parts
+mod Weaves
+pub mod Logs
+mod Histories
+mod TargetKeeping
+mod Targets
+mod Told

@@ -1,0 +1,5 @@
+pub mod inner
+pub mod TargetPart
+pub mod History
+pub mod Told
+pub mod Kept

@@ -1,0 +1,4 @@
+pub mod Packets
+pub mod Turning
+pub mod Tried
+pub mod Working
