@@ -1,12 +1,13 @@
 //! The files of a log, read as one.
 
 ghost use Rattle.std.specs.Prelude.{◌≡◌, ◌<◌, ◌+◌, ◌++◌, ◌∷◌, [], ℕ, Bool, true, false, List, Option, None, length, slice_get, IfOk, IfErr, IfSome, OnOk, MatchOption};
-ghost use Rattle.recorded_files.specs.Gathered.{Numbered};
+ghost use Rattle.recorded_files.specs.Gathered.{Has, Numbered};
 ghost use Rattle.recorded_files.specs.Said.{IsFault, Standing};
 ghost use Rattle.recorded_files.specs.declared.lines.Party.{Party};
 ghost use Rattle.gathered_logs.specs.Logs.{AreAt, AreBegun, Came, Gathering, IsGatherFault, SayLog, nothing_of, text_in};
 
-use recorded_files::{FileFault, FileReader, Turn, next_turn};
+use crate::turns::{others_beside, turn_after};
+use recorded_files::{FileFault, FileReader, Turn};
 use std::alloc::Global;
 use std::io::Read;
 use std::marker::Model;
@@ -30,6 +31,7 @@ pub enum GatherFault {
 }
 
 /// Reads one of some files on to its next record.
+#[inline(always)]
 fn read_on<R: Read + Drop>(
     files: &mut [FileReader<R>],
     heads: &mut [Option<u64>],
@@ -37,6 +39,7 @@ fn read_on<R: Read + Drop>(
 ) -> Result<(), GatherFault>
     requires files { i < length files.old }
     requires heads { i < length heads.old }
+    ensures kept { (j n : ℕ) → Has heads.new j n → (j ≡ i → ⊥) → Has heads.old j n }
     ensures read { OnOk result ((party : Party) (knowns : List (Option (List ℕ))) (takens : List (Numbered (List ℕ))) (low : ℕ) (before after : ℕ → Bool) → AreAt party knowns files.old heads.old takens low before → before i ≡ true → after i ≡ false → ((k : ℕ) → (k ≡ i → ⊥) → after k ≡ before k) → AreAt party knowns files.new heads.new takens low after) }
     ensures refused { IfErr result (λ fault. (party : Party) (knowns : List (Option (List ℕ))) (takens : List (Numbered (List ℕ))) (low : ℕ) (before : ℕ → Bool) → AreAt party knowns files.old heads.old takens low before → before i ≡ true → (g : Gathering) (log : List (List ℕ)) → IsGatherFault party knowns g log fault) }
 {
@@ -71,17 +74,22 @@ pub struct Gatherer<R: Read + Drop> {
     heads: Vec<Option<u64>>,
     given: Option<usize>,
     number: u64,
+    /// The file whose record came last, or that is to be asked first.
+    last: usize,
+    /// No other file's next record has a lower number.
+    others: u64,
 }
 
 impl<R: Read + Drop> Model for Gatherer<R> {
     ghost use Rattle.std.specs.Prelude.{◌≡◌, ◌<◌, length, IfSome};
     ghost use Rattle.gathered_logs.specs.Logs.{Gathering};
+    ghost use Rattle.gathered_logs.specs.inner.Turns.{OthersAreFrom};
 
     ghost Value = { Gathering };
 
     ghost view = { λ a. record { files = a.files.items; heads = a.heads.items; given = a.given; number = a.number } };
 
-    ghost invariant = { λ a. (length a.heads.items ≡ length a.files.items) × IfSome a.given (λ i. i < length a.files.items) };
+    ghost invariant = { λ a. (length a.heads.items ≡ length a.files.items) × IfSome a.given (λ i. (i < length a.files.items) × (i ≡ a.last)) × OthersAreFrom a.heads.items a.last a.others };
 }
 
 impl<R: Read + Drop> Gatherer<R> {
@@ -104,10 +112,13 @@ impl<R: Read + Drop> Gatherer<R> {
             heads,
             given: None,
             number: 0,
+            last: 0,
+            others: 0,
         })
     }
 
     /// Reads the file whose record came last on, so that it is known which record each has next.
+    #[inline(always)]
     fn read_given(&mut self) -> Result<(), GatherFault>
         ensures read { OnOk result ((party : Party) (knowns : List (Option (List ℕ))) (log : List (List ℕ)) → Came party knowns self.old log → Came party knowns self.new log) }
         ensures none_given { OnOk result (self.new.given ≡ None) }
@@ -135,11 +146,13 @@ impl<R: Read + Drop> Gatherer<R> {
     {
         self.read_given()?;
         let number = self.number;
-        match next_turn(&self.heads, number) {
+        match turn_after(&self.heads, number, self.last, self.others) {
             Turn::Of(i) => {
                 let Some(next) = number.checked_add(1) else {
                     return Err(GatherFault::Memory);
                 };
+                self.others = others_beside(&self.heads, i, self.last, self.others);
+                self.last = i;
                 self.number = next;
                 self.given = Some(i);
                 Ok(Some(number))

@@ -6,6 +6,7 @@ mod laws;
 mod records;
 mod taking;
 mod telling;
+mod turns;
 
 pub use gatherers::{GatherFault, Gatherer};
 pub use laws::files_tell_one_log;

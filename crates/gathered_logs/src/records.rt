@@ -36,6 +36,7 @@ impl LogRecord for WideGuest {
 
     ghost IsOf = { λ machine r. IsGuestRecOf (extent_of machine) (guest_of r) };
 
+    #[inline(always)]
     fn read_line(
         alloc: Global,
         machine: &WideMachine,
@@ -51,6 +52,7 @@ impl LogRecord for RawSource {
 
     ghost IsOf = { λ machine r. IsRawSourceOf (extent_of machine) r };
 
+    #[inline(always)]
     fn read_line(
         alloc: Global,
         machine: &WideMachine,
@@ -65,6 +67,7 @@ impl LogRecord for WideLink {
 
     ghost IsOf = { λ machine r. IsLinkRecOf (link_of r) };
 
+    #[inline(always)]
     fn read_line(alloc: Global, machine: &WideMachine, text: &[u8]) -> Result<WideLink, FaultKind> {
         let _ = alloc;
         let _ = machine;
@@ -77,6 +80,7 @@ impl LogRecord for WideLane {
 
     ghost IsOf = { λ machine r. IsLaneRecOf machine.version (lane_of r) };
 
+    #[inline(always)]
     fn read_line(alloc: Global, machine: &WideMachine, text: &[u8]) -> Result<WideLane, FaultKind> {
         let _ = alloc;
         WideLane::read(machine, text)
@@ -88,6 +92,7 @@ impl LogRecord for RawPager {
 
     ghost IsOf = { λ machine r. IsRawPagerOf machine.version (extent_of machine) r };
 
+    #[inline(always)]
     fn read_line(alloc: Global, machine: &WideMachine, text: &[u8]) -> Result<RawPager, FaultKind> {
         RawPager::read(alloc, machine, text)
     }

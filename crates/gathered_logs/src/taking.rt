@@ -67,6 +67,7 @@ pub trait RecordTaker<K: LogRecord, S> {
 }
 
 /// Takes the record of this number, whose text this is.
+#[inline(always)]
 fn take_text<K: LogRecord, S, T: RecordTaker<K, S>>(
     alloc: Global,
     machine: &WideMachine,

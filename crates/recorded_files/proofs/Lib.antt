@@ -9,3 +9,4 @@ pub mod Refusing
 pub mod Telling
 pub mod Saying
 pub mod Noted
+pub mod Near

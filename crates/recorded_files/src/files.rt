@@ -103,6 +103,7 @@ impl<R: Read + Drop> FileReader<R> {
     ///
     /// The line at which the file stops being that of a recorder, or a read failed. Do not call it again after an error
     /// or after `None`.
+    #[inline(always)]
     pub fn next(&mut self) -> Result<Option<u64>, FileFault>
         ensures taken { IfOk result (λ found. (party : Writer) (known : Option (List ℕ)) (came : Numbered (List ℕ)) → CameTo party known self.old came → Goes party known self.new came found) }
         ensures refused { IfErr result (λ fault. (party : Writer) (known : Option (List ℕ)) (came : Numbered (List ℕ)) → CameTo party known self.old came → IsFault party known fault) }

@@ -7,7 +7,7 @@ ghost use Rattle.recorded_files.specs.Said.{IsBehind};
 ghost use Rattle.recorded_files.specs.declared.lines.Last.{Last as Left};
 
 use migration_types::LogName;
-use text_lines::{after_key, number_then, read_keyed};
+use text_lines::{after_key, front_number, number_then, read_keyed};
 
 /// The first line of each file.
 pub const HEADER: &[u8] = b"postcopy-records 1";
@@ -88,12 +88,26 @@ impl Opening {
     }
 }
 
-/// Returns the number and the text of a record, if a line after a file's head spells one.
+/// Returns the number and the text of a record, if a line after a file's head spells one. They are what `number_then` finds.
+/// But these numbers are long, so their digits are read eight at once.
+#[inline(always)]
 pub fn read_numbered(line: &[u8]) -> Option<(u64, &[u8])>
     ensures found { IfSome result (λ found. (found.0 ≤ last_number) × (line.now ≡ record_line found.0 found.1.now)) }
     ensures none { IfNone result ((n : ℕ) (text : List ℕ) → n ≤ last_number → line.now ≢ record_line n text) }
 {
-    number_then(line, u64::from(LAST_NUMBER))
+    let Some((number, after)) = front_number(line) else {
+        return None;
+    };
+    if number > u64::from(LAST_NUMBER) {
+        return None;
+    }
+    let Some((space, text)) = after.split_first() else {
+        return None;
+    };
+    if *space != b' ' {
+        return None;
+    }
+    Some((number, text))
 }
 
 impl Last {

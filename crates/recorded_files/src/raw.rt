@@ -1,6 +1,6 @@
 //! Records as a recorder writes them.
 
-ghost use Rattle.std.specs.Prelude.{◌≡◌, ◌≢◌, ◌≤◌, ℕ, [], ◌∷◌, ◌++◌, IfOk, IfErr, IfSome, IfNone, OnOk};
+ghost use Rattle.std.specs.Prelude.{◌≡◌, ◌≢◌, ◌≤◌, ℕ, [], ◌∷◌, ◌++◌, length, IfOk, IfErr, IfSome, IfNone, OnOk};
 ghost use Rattle.std.specs.Fmt.{decimal};
 ghost use Rattle.recordings.specs.Recordings.{IsMachine};
 ghost use Rattle.recordings.specs.Wide.{extent_of};
@@ -38,11 +38,18 @@ pub enum RawPager {
     PullSent { sending: u64 },
 }
 
-/// Returns the number after a key, if the line is these two.
+/// Returns the number after a key, if the line is these two. Most other lines differ from the key in its last byte but
+/// one, which is compared first.
+#[inline(always)]
 fn sent(line: &[u8], key: &[u8]) -> Option<u64>
+    requires { 2 ≤ length key.now }
     ensures found { IfSome result (λ n. (n ≤ lost_number) × (line.now ≡ key.now ++ decimal n)) }
     ensures none { IfNone result ((n : ℕ) → n ≤ lost_number → line.now ≢ key.now ++ decimal n) }
 {
+    let near = key.len() - 2;
+    if line.len() <= near || line[near] != key[near] {
+        return None;
+    }
     match read_keyed(line, key, u32::MAX) {
         Ok(number) => Some(u64::from(number)),
         Err(_) => None,
@@ -55,6 +62,7 @@ impl RawSource {
     /// # Errors
     ///
     /// The line spells none, or memory ran out for the contents.
+    #[inline(always)]
     pub fn read(alloc: Global, machine: &WideMachine, line: &[u8]) -> Result<RawSource, FaultKind>
         requires { IsMachine (extent_of machine.now) }
         ensures found { IfOk result (λ r. IsRawSourceOf (extent_of machine.now) r × (line.now ≡ raw_source_line r)) }
@@ -86,6 +94,7 @@ impl RawPager {
     /// # Errors
     ///
     /// The line spells none, or memory ran out for the contents.
+    #[inline(always)]
     pub fn read(alloc: Global, machine: &WideMachine, line: &[u8]) -> Result<RawPager, FaultKind>
         requires { IsMachine (extent_of machine.now) }
         ensures found { IfOk result (λ r. IsRawPagerOf machine.now.version (extent_of machine.now) r × (line.now ≡ raw_pager_line r)) }

@@ -22,6 +22,7 @@ pub(crate) struct Reach {
 }
 
 /// Returns how many records of a log a record needs, given what it names.
+#[inline(always)]
 fn need(log: LogName, named: Option<(LogName, u64)>) -> Result<u64, AllocError>
     ensures { IfOk result (λ count. count ≡ need log named) }
 {
@@ -47,6 +48,7 @@ impl Reach {
     }
 
     /// Takes the next record, given what it names.
+    #[inline(always)]
     pub(crate) fn note(&mut self, named: Option<(LogName, u64)>) -> Result<(), AllocError>
         ensures { (names : List (Option Name)) → IsReach self.old names → OnOk result (IsReach self.new (names ++ named ∷ [])) }
     {

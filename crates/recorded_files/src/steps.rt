@@ -33,6 +33,7 @@ impl Steps {
     }
 
     /// Takes the next record, which needs this many.
+    #[inline(always)]
     pub(crate) fn note(&mut self, place: u64, needed: u64) -> Result<(), AllocError>
         ensures { (other : LogName) (names : List (Option Name)) (named : Option Name) → AreSteps self.old other names → place ≡ length names → needed ≡ need other named → OnOk result (AreSteps self.new other (names ++ named ∷ [])) }
     {

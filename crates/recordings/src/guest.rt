@@ -167,10 +167,12 @@ impl WideGuest {
     /// # Errors
     ///
     /// The line does not spell one.
+    #[inline(always)]
     pub fn read(machine: &WideMachine, line: &[u8]) -> Result<WideGuest, FaultKind>
         requires { IsMachine (extent_of machine.now) }
         ensures found { IfOk result (λ r. IsGuestRecOf (extent_of machine.now) (guest_of r) × (line.now ≡ guest_line (guest_of r))) }
         ensures refused { IfErr result (λ kind. kind ≢ FaultKind.Memory → (r : GuestRec) → IsGuestRecOf (extent_of machine.now) r → line.now ≢ guest_line r) }
+        ensures kind { IfErr result (λ kind. kind ≢ FaultKind.Memory) }
     {
         match read_record(machine, line) {
             Some(rec) => Ok(rec),

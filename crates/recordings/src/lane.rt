@@ -19,9 +19,11 @@ impl WideLane {
     /// # Errors
     ///
     /// The line does not spell one.
+    #[inline(always)]
     pub fn read(machine: &WideMachine, line: &[u8]) -> Result<WideLane, FaultKind>
         ensures found { IfOk result (λ r. IsLaneRecOf machine.now.version (lane_of r) × (line.now ≡ lane_line (lane_of r))) }
         ensures refused { IfErr result (λ kind. kind ≢ FaultKind.Memory → (r : LaneRec) → IsLaneRecOf machine.now.version r → line.now ≢ lane_line r) }
+        ensures kind { IfErr result (λ kind. kind ≢ FaultKind.Memory) }
     {
         match lane_number(machine.version, line, DOWN_KEY) {
             Some(sending) => Ok(WideLane::Down { sending }),

@@ -23,9 +23,11 @@ impl WideLink {
     /// # Errors
     ///
     /// The line does not spell one.
+    #[inline(always)]
     pub fn read(line: &[u8]) -> Result<WideLink, FaultKind>
         ensures found { IfOk result (λ r. IsLinkRecOf (link_of r) × (line.now ≡ link_line (link_of r))) }
         ensures refused { IfErr result (λ kind. kind ≢ FaultKind.Memory → (r : LinkRec) → IsLinkRecOf r → line.now ≢ link_line r) }
+        ensures kind { IfErr result (λ kind. kind ≢ FaultKind.Memory) }
     {
         if let Some(sending) = keyed_whole(line, DOWN_KEY, BEYOND) {
             return Ok(WideLink::Down { sending });

@@ -39,6 +39,7 @@ const SKIP_KEY: &[u8] = b"skip ";
 const ALL: &[u8] = b"all";
 
 /// Returns the page, the number and the contents that the text spells.
+#[inline(always)]
 fn placed_whole(
     alloc: Global,
     machine: &WideMachine,
@@ -100,6 +101,7 @@ impl WidePager {
     /// # Errors
     ///
     /// The line does not spell one, or memory runs out.
+    #[inline(always)]
     pub fn read(alloc: Global, machine: &WideMachine, line: &[u8]) -> Result<WidePager, FaultKind>
         requires { IsMachine (extent_of machine.now) }
         ensures found { IfOk result (λ r. IsPagerRecOf machine.now.version (extent_of machine.now) (pager_of r) × (line.now ≡ pager_line (pager_of r))) }

@@ -33,6 +33,7 @@ const DONE: &[u8] = b"done";
 const BACK: &[u8] = b"back";
 
 /// Returns the page and the contents that the text spells.
+#[inline(always)]
 fn sent_whole(
     alloc: Global,
     machine: &WideMachine,
@@ -88,6 +89,7 @@ impl WideSource {
     /// # Errors
     ///
     /// The line does not spell one, or memory runs out.
+    #[inline(always)]
     pub fn read(alloc: Global, machine: &WideMachine, line: &[u8]) -> Result<WideSource, FaultKind>
         requires { IsMachine (extent_of machine.now) }
         ensures found { IfOk result (λ r. IsSourceRecOf (extent_of machine.now) (source_of r) × (line.now ≡ source_line (source_of r))) }

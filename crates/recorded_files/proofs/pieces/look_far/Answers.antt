@@ -1,7 +1,7 @@
 use Rattle.std.proofs.Common.{[], sym, arith}
 use Rattle.std.proofs.lemmas.List.{append-nil}
 use Rattle.recorded_files.proofs.Cutting.{all_inside}
-use Rattle.recorded_files.proofs.pieces.look.Goals as goal
+use Rattle.recorded_files.proofs.pieces.look_far.Goals as goal
 
 pub returns-then-bytes-gt-LONGEST_LINE : goal.returns-then-bytes-gt-LONGEST_LINE
 returns-then-bytes-gt-LONGEST_LINE c = λ rest.

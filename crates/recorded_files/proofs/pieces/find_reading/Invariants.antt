@@ -2,7 +2,7 @@ use Rattle.std.proofs.Common.{◌≡◌, ◌≤◌, length, take}
 use Rattle.std.specs.Prelude.{slice_range}
 use Rattle.recorded_files.specs.Said.{IsWritten}
 use Rattle.recorded_files.specs.inner.Finding.{SameBytes}
-use Rattle.recorded_files.proofs.pieces.find.Given as goal
+use Rattle.recorded_files.proofs.pieces.find_reading.Given as goal
 
 abbrev pub invariant-loop : goal.invariant-loop
 invariant-loop g l =
