@@ -7,8 +7,8 @@ use Rattle.command_texts.specs.declared.answer.Answer.{Answer}
 use Rattle.command_texts.specs.declared.answer.Fault.{Fault}
 use Rattle.command_texts.specs.declared.answer.Fault.TheVariants.{File, Link, Threads, Output, Memory}
 use Rattle.command_texts.specs.Answers.{IsHostFault, IsListStop, IsOutputFault, IsReadFault, IsRunStop, IsTextFault}
-use Rattle.command_texts.specs.Told.{Fails, IsLeft, Tells}
-use Rattle.command_texts.specs.Written.{AppendsFront, Streams}
+use Rattle.command_texts.specs.Told.{CutsShort, Ends, Fails, IsLeft, Tells}
+use Rattle.text_access.specs.Written.{AppendsFront, Streams}
 
 -- a fault at a text under one of some names is one at a text under one of more
 pub read_fault_in : (P Q : List ℕ → Type 0) → ((name : List ℕ) → P name → Q name) → (fault : Fault) → IsReadFault P fault → IsReadFault Q fault
@@ -108,3 +108,26 @@ module _ {T : Type 0} (IsFault : Fault → Type 0) (AreTexts : T → Type 0) (Is
 pub written_whole : {T : Type 0} (AreTexts : T → Type 0) (IsAnswerTo : T → List ℕ → ℕ → Type 0) (IsBeside : T → ℕ → Option (List ℕ) → Option (List ℕ) → Type 0) (texts : T) (answer : Answer) (status : ℕ) (old new : Streams) → status ≡ answer.status → AreTexts texts → IsAnswerTo texts answer.text.items answer.status → Appends old.0 new.0 answer.text.items → IsBeside texts status old.1 new.1 → Tells AreTexts IsAnswerTo IsBeside old new status
 written_whole AreTexts IsAnswerTo IsBeside texts answer status old new e are is_answer written beside =
     record { texts = texts; are_texts = are; told = record { text = answer.text.items; is_answer = subst (λ (n : ℕ). IsAnswerTo texts answer.text.items n) (sym e) is_answer; written = written }; beside = beside }
+
+-- ---- what was read
+
+-- a fault that ends a list of answers is one of a command on texts
+stop_of_text : (P : List ℕ → Type 0) (fault : Fault) → IsListStop fault → IsTextFault P fault
+stop_of_text P (File name why) h = absurd h
+stop_of_text P Link h = absurd h
+stop_of_text P Threads h = absurd h
+stop_of_text P (Output name why) h = tt
+stop_of_text P Memory h = tt
+
+module _ {T : Type 0} (AreTexts : T → Type 0) (IsAnswerTo : T → List ℕ → ℕ → Type 0) (texts : T) (are : AreTexts texts) where
+  left_of_read : (old new : Option (List ℕ)) (fault : Fault) → IsLeft fault (CutsShort (λ t. t ≡ texts) IsAnswerTo old new) (Keeps old new) → IsLeft fault (CutsShort AreTexts IsAnswerTo old new) (Keeps old new)
+  left_of_read old new (File name why) h = h
+  left_of_read old new Link h = h
+  left_of_read old new Threads h = h
+  left_of_read old new (Output name why) h = record { texts = h.texts; are_texts = subst AreTexts (sym h.are_texts) are; text = h.text; status = h.status; is_answer = h.is_answer; written = h.written }
+  left_of_read old new Memory h = h
+
+  -- the command ends as its answer to what was read does
+  pub ends_of_read : (P : List ℕ → Type 0) (IsBeside : T → ℕ → Option (List ℕ) → Option (List ℕ) → Type 0) (old new : Streams) (done : Result ℕ Fault) → Ends IsListStop (λ t. t ≡ texts) IsAnswerTo IsBeside old new done → Ends (IsTextFault P) AreTexts IsAnswerTo IsBeside old new done
+  ends_of_read P IsBeside old new (Ok status) h = record { texts = h.texts; are_texts = subst AreTexts (sym h.are_texts) are; told = h.told; beside = h.beside }
+  ends_of_read P IsBeside old new (Err fault) h = record { is_fault = stop_of_text P fault h.is_fault; output = left_of_read old.0 new.0 fault h.output; errors = h.errors }

@@ -5,8 +5,8 @@ use Rattle.std.specs.Io.KnownBytes.{Appends}
 use Rattle.std.proofs.KnownBytes.{Appends-trans}
 use Rattle.std.specs.Str.{chars}
 use Rattle.command_texts.specs.Shown.{are_printed, escaped, escapes, is_control, quoted}
-use Rattle.command_texts.specs.Written.{AppendsFront}
-use Rattle.command_texts.proofs.Fronts.{front_before, front_behind}
+use Rattle.text_access.specs.Written.{AppendsFront}
+use Rattle.text_access.proofs.Fronts.{front_before, front_behind}
 
 -- what is left to see of the characters begins with this one
 pub printed_next : (cs : List ℕ) (n c : ℕ) → (n < length cs) × (c ≡ get_or cs n c) → are_printed (drop n cs) ≡ cond (is_control c) false (are_printed (drop (n + 1) cs))

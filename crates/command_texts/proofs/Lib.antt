@@ -7,5 +7,5 @@ pub mod Names
 pub mod Objects
 pub mod Listed
 pub mod Escapes
-pub mod Fronts
+pub mod Beside
 pub mod Endings

@@ -13,9 +13,10 @@ use Rattle.command_texts.specs.declared.why.Telling.TheVariants.{Short}
 use Rattle.command_texts.specs.Answers.{IsListStop, IsReadFault}
 use Rattle.command_texts.specs.Reasons.{Place, TellsWhy, place_of}
 use Rattle.command_texts.specs.Told.{AreRead, IsNamed, is_dash}
-use Rattle.command_texts.specs.Several.{AreListed, Entry, IsListStatus, IsListed, IsRight, Said, StopsSeveral, Style, TellsEach, TellsEntry, TellsOneUnread, TellsSeveral, TellsUnread, entry_status, greater, list_end, listed, names_of, well, worst}
-use Rattle.command_texts.specs.Written.{BothGain, Gains, Streams}
-use Rattle.command_texts.proofs.Fronts.{both_gain, front_kept, same_gains}
+use Rattle.command_texts.specs.Several.{AreListed, Entry, IsListStatus, IsListed, IsRight, Said, StopsSeveral, Style, TellsEach, TellsEntry, TellsOneUnread, TellsSeveral, TellsUnread, entry_status, greater, list_end, listed, well, worst}
+use Rattle.text_access.specs.Names.{names_of}
+use Rattle.text_access.specs.Written.{BothGain, Gains, Streams}
+use Rattle.text_access.proofs.Fronts.{both_gain, front_kept, same_gains}
 
 -- what is read under a name is read where nothing is known of the input
 input_unknown : (dash : Bool) (file input : Option (List ℕ)) (text : List ℕ) → AreRead (cond dash input file) text → AreRead (cond dash None file) text

@@ -2,7 +2,6 @@ pub mod Cutting
 pub mod Limits
 pub mod Answers
 pub mod Told
-pub mod Written
 pub mod Reasons
 pub mod Fields
 pub mod Shown

@@ -9,7 +9,7 @@ use Rattle.command_texts.specs.declared.why.Telling.{Telling}
 use Rattle.command_texts.specs.declared.why.Telling.TheVariants.{Short, Full, Fields}
 use Rattle.command_texts.specs.declared.why.Why.{Why}
 use Rattle.command_texts.specs.Shown.{line_on, shown}
-use Rattle.command_texts.specs.Written.{MayTell}
+use Rattle.text_access.specs.Written.{MayTell}
 
 -- the line at which a text is refused, or `None` if it is a spelling
 abbrev pub IsRefusedAt : {V : Type 0} → (V → List (List ℕ) → Type 0) → List ℕ → Option ℕ → Type 0

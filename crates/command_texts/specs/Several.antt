@@ -2,7 +2,6 @@
 use Rattle.std.specs.Prelude.{◌≡◌, ◌⊎◌, ◌<◌, ℕ, ◌+◌, List, [], ◌∷◌, ◌++◌, Option, Some, None, IfSome, MatchOption, codes, length, map, take, ◌==◌, if◌then◌else◌, nat_lt}
 use Rattle.std.specs.Fmt.{decimal}
 use Rattle.std.specs.List.{AllByRecursion, concat}
-use Rattle.std.specs.Borrow.{Bor}
 use Rattle.std.specs.Io.KnownBytes.{Appends, Keeps}
 use Rattle.command_texts.specs.declared.several.Listing.{Listing}
 use Rattle.command_texts.specs.declared.several.Listing.TheVariants.{Named, Objects}
@@ -12,7 +11,7 @@ use Rattle.command_texts.specs.Answers.{IsListStop, file_lines}
 use Rattle.command_texts.specs.Reasons.{IsNote, TellsWhy, place_of}
 use Rattle.command_texts.specs.Shown.{quoted, shown}
 use Rattle.command_texts.specs.Told.{IsNamed}
-use Rattle.command_texts.specs.Written.{AppendsFront, BothGain, Gains, MayTell, Streams}
+use Rattle.text_access.specs.Written.{AppendsFront, BothGain, Gains, MayTell, Streams}
 
 -- what the command says about a text: the answer with its status, and the line at which the text is refused, if it is
 pub record Said : Type 0 where
@@ -92,10 +91,6 @@ list_end None well all = []
 -- the list of answers
 abbrev pub list_text : Style → List Entry → List ℕ
 list_text style es = concat (map (listed style) es) ++ list_end style (well es) (length es)
-
--- the names that references point to
-abbrev pub names_of : List (Bor (List ℕ)) → List (List ℕ)
-names_of names = map (λ name. name.now) names
 
 -- why the text is refused, if it is, and then a note
 pub record TellsSaid (HasNote : List ℕ → Type 0) (name : List ℕ) (s : Said) (old new : Option (List ℕ)) : Type 0 where

@@ -6,7 +6,7 @@ use Rattle.command_texts.specs.declared.answer.Fault.{Fault}
 use Rattle.command_texts.specs.declared.answer.Fault.TheVariants.{Output}
 use Rattle.command_texts.specs.Cutting.{IsCutAtEnd}
 use Rattle.command_texts.specs.Limits.{IsWithin}
-use Rattle.command_texts.specs.Written.{AppendsFront, Streams}
+use Rattle.text_access.specs.Written.{AppendsFront, Streams}
 
 -- whether the name is that of the input
 abbrev pub is_dash : List ℕ → Bool

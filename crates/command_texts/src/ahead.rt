@@ -4,7 +4,6 @@ ghost use Rattle.std.specs.Prelude.{ℕ, List, ◌++◌, IfOk, OnOk};
 ghost use Rattle.std.specs.Thread.{IsSync};
 ghost use Rattle.command_texts.specs.inner.Takings.{Fills, TakesAll};
 
-use crate::causes::Cause;
 use crate::limits::Left;
 use crate::reading::{Filled, ReadFault, fill, zeroes};
 use crate::taking::Taker;
@@ -12,6 +11,7 @@ use std::alloc::{AllocError, Global};
 use std::io::Read;
 use std::mem;
 use std::thread::{Threads, available_parallelism, join_mut};
+use text_access::Cause;
 
 /// How many bytes are read and taken at a time.
 const PIECE_BYTES: usize = 2_097_152;

@@ -4,12 +4,12 @@ ghost use Rattle.std.specs.Prelude.{◌≡◌, [], ◌∷◌, Ok, IfOk, IfErr, i
 ghost use Rattle.std.specs.Io.KnownBytes.{Appends};
 ghost use Rattle.text_lines.specs.Text.{ended};
 ghost use Rattle.command_texts.specs.Answers.{IsOutputFault, Says, fault_line, fault_status, file_line, file_lines, numbered, output_lines};
-ghost use Rattle.command_texts.specs.Written.{AppendsFront};
+ghost use Rattle.text_access.specs.Written.{AppendsFront};
 
 use crate::shown::{write_line_on, write_shown};
-use crate::writing::{write_or_why, write_whole};
 use std::alloc::{AllocError, Global};
 use std::io::Write;
+use text_access::{write_or_why, write_whole};
 use text_lines::{push_keyed, push_line};
 
 /// The exit status if all is well.

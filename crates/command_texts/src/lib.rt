@@ -4,7 +4,6 @@
 
 mod ahead;
 mod answer;
-mod causes;
 mod closing;
 mod console;
 mod cutting;
@@ -18,20 +17,16 @@ mod several;
 mod shown;
 mod taking;
 mod why;
-mod writing;
 
 pub use answer::{
     ACCEPTED, Answer, Fault, Given, REFUSED, STANDARD_OUTPUT, USAGE, given, given_alone, refused,
     remark, status_where, tell, written,
 };
-pub use causes::{Cause, NOT_THE_SAME, NOT_WHOLE, cause_of};
 pub use closing::Closable;
 pub use console::Console;
 pub use naming::{opened, read_named};
 pub use performing::{OnOne, OnTwo, perform_one, perform_two};
-pub use reading::TextSource;
 pub use several::{Listing, perform_several};
 pub use shown::{push_shown, write_shown};
 pub use taking::{Gathered, Taker};
 pub use why::{Telling, Why, tell_why};
-pub use writing::{write_or_why, write_whole};

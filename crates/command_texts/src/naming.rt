@@ -7,12 +7,13 @@ ghost use Rattle.command_texts.specs.Told.{AreNamed, AreOfInput, AreRead, IsName
 
 use crate::answer::Fault;
 use crate::cutting::Both;
-use crate::reading::{ReadFault, TextSource, fault_of, read_text, take_text};
+use crate::reading::{ReadFault, fault_of, read_text, take_text};
 use crate::taking::Taker;
 use crate::why::{Refusals, Why, both_under, under};
 use std::alloc::Global;
 use std::io::Read;
 use std::thread::Threads;
+use text_access::TextSource;
 use text_lines::Refusal;
 
 // Returns the fault for the text under a name.

@@ -2,7 +2,7 @@
 
 ghost use Rattle.std.specs.Prelude.{◌≡◌, is_some, true};
 ghost use Rattle.command_texts.specs.Reasons.{IsNote};
-ghost use Rattle.command_texts.specs.Written.{MayTell};
+ghost use Rattle.text_access.specs.Written.{MayTell};
 
 use crate::answer::ACCEPTED;
 use crate::shown::write_line_on;

@@ -3,28 +3,27 @@
 //! freed piece by piece.
 
 ghost use Rattle.std.specs.Prelude.{◌≡◌, ⊤, ◌<◌, ◌⊎◌, ℕ, Bool, List, [], IfOk, IfErr, MatchOption, OnOk};
-ghost use Rattle.command_texts.specs.Answers.{IsTextFault};
+ghost use Rattle.command_texts.specs.Answers.{IsListStop, IsTextFault};
 ghost use Rattle.command_texts.specs.Fields.{IsAnswerTold};
-ghost use Rattle.command_texts.specs.Reasons.{IsFirstRefused, TellsBeside, TellsWhyOf};
+ghost use Rattle.command_texts.specs.Reasons.{IsFirstRefused, IsWhy, TellsBeside, TellsWhyOf};
 ghost use Rattle.command_texts.specs.Shown.{shown};
 ghost use Rattle.command_texts.specs.declared.why.Telling.{Telling as HowMuch};
 ghost use Rattle.command_texts.specs.Told.{AreNamed, Ends, IsNamed};
-ghost use Rattle.command_texts.specs.Written.{BothGain, MayTell};
+ghost use Rattle.text_access.specs.Written.{BothGain, MayTell};
 
 use crate::answer::{Answer, Fault, Given, written};
 use crate::console::Console;
 use crate::fields::as_told;
 use crate::naming::{read_named, read_pair};
 use crate::noting::tell_note;
-use crate::reading::TextSource;
 use crate::shown::{is_plain, push_quoted};
 use crate::taking::Taker;
-use crate::why::{Telling, tell_why};
-use crate::writing::write_whole;
+use crate::why::{Refusals, Telling, Why, tell_why};
 use std::alloc::{AllocError, Global};
 use std::io::{Read, Write};
 use std::mem;
 use std::thread::Threads;
+use text_access::{TextSource, write_whole};
 
 /// A command on one text.
 pub trait OnOne {
@@ -135,6 +134,31 @@ pub trait OnTwo {
         ensures { (texts : List ℕ × List ℕ) → Self.First.is_found texts.0 first.now → Self.Second.is_found texts.1 second.now → MatchOption result (has_note self.now texts → ⊥) (λ _. has_note self.now texts) };
 }
 
+// Answers what was read under a name, with words beside the answer.
+fn answer_one<C: OnOne, O: Write, E: Write>(
+    alloc: Global,
+    command: &C,
+    name: &str,
+    read: &(<C::Text as Taker>::Found, Option<Why<'_>>),
+    output: &mut O,
+    errors: &mut E,
+) -> Result<u8, Fault<'static>>
+    requires ready { C.ready }
+    ensures few { (text : List ℕ) → C.Text.is_found text read.now.0 → IfOk result (λ status. status < 2) }
+    ensures told { (text : List ℕ) → C.Text.is_found text read.now.0 → IsWhy C.Text.is_refused name.now text read.now.1 → Ends IsListStop (λ t. t ≡ text) (IsAnswerTold (C.how_much command.now) C.Text.is_refused (C.is_answer command.now)) (TellsWhyOf C.Text.is_refused (C.has_note command.now) (C.how_much command.now) name.now) (O.contents output.old, E.contents errors.old) (O.contents output.new, E.contents errors.new) result }
+    ensures gains { BothGain (O.contents output.old, E.contents errors.old) (O.contents output.new, E.contents errors.new) }
+{
+    let found_answer = command.answer(alloc, &read.0)?;
+    let telling = command.telling();
+    let answer = as_told(alloc, found_answer, telling, &read.1)?;
+    let status = written(&answer, output)?;
+    tell_why(alloc, &read.1, telling, errors);
+    let note = command.note(&read.0);
+    tell_note(name, note, status, errors);
+    mem::forget(answer);
+    Ok(status)
+}
+
 /// Runs a command on the text under a name. If the text is refused, the errors say why. If all is well, the errors have
 /// the note on it.
 pub fn perform_one<
@@ -151,23 +175,23 @@ pub fn perform_one<
     ensures told { Ends (IsTextFault (λ n. n ≡ name.entry.now)) (IsNamed name.entry.now (S.bytes_of console.old.texts.now) (I.remaining console.old.input)) (IsAnswerTold (C.how_much command.now) C.Text.is_refused (C.is_answer command.now)) (TellsWhyOf C.Text.is_refused (C.has_note command.now) (C.how_much command.now) name.entry.now) (O.contents console.old.output, E.contents console.old.errors) (O.contents console.new.output, E.contents console.new.errors) result }
     ensures gains { BothGain (O.contents console.old.output, E.contents console.old.errors) (O.contents console.new.output, E.contents console.new.errors) }
 {
-    let (found, why) = read_named::<C::Text, R, S, I>(
+    let read = read_named::<C::Text, R, S, I>(
         console.rt,
         console.alloc,
         name,
         console.texts,
         &mut console.input,
     )?;
-    let found_answer = command.answer(console.alloc, &found)?;
-    let telling = command.telling();
-    let answer = as_told(console.alloc, found_answer, telling, &why)?;
-    let status = written(&answer, &mut console.output)?;
-    tell_why(console.alloc, &why, telling, &mut console.errors);
-    let note = command.note(&found);
-    tell_note(name, note, status, &mut console.errors);
-    mem::forget(found);
-    mem::forget(answer);
-    Ok(status)
+    let done = answer_one(
+        console.alloc,
+        command,
+        name,
+        &read,
+        &mut console.output,
+        &mut console.errors,
+    );
+    mem::forget(read);
+    done
 }
 
 // Returns more words about an answer.
@@ -210,6 +234,37 @@ fn tell_more<C: OnTwo, E: Write>(
     }
 }
 
+// Answers what was read under two names, with words beside the answer.
+fn answer_two<C: OnTwo, O: Write, E: Write>(
+    alloc: Global,
+    command: &C,
+    first: &str,
+    second: &str,
+    read: &(
+        (<C::First as Taker>::Found, <C::Second as Taker>::Found),
+        Refusals<'_>,
+    ),
+    output: &mut O,
+    errors: &mut E,
+) -> Result<u8, Fault<'static>>
+    requires ready { C.ready }
+    ensures few { (texts : List ℕ × List ℕ) → C.First.is_found texts.0 read.now.0.0 → C.Second.is_found texts.1 read.now.0.1 → IfOk result (λ status. status < 2) }
+    ensures told { (texts : List ℕ × List ℕ) → C.First.is_found texts.0 read.now.0.0 → C.Second.is_found texts.1 read.now.0.1 → IsWhy C.First.is_refused first.now texts.0 read.now.1.first → IsWhy C.Second.is_refused second.now texts.1 read.now.1.second → Ends IsListStop (λ t. t ≡ texts) (IsAnswerTold (C.how_much command.now) (IsFirstRefused C.First.is_refused C.Second.is_refused) (C.is_answer command.now)) (TellsBeside C.First.is_refused C.Second.is_refused (C.adds_more command.now) (C.has_note command.now) first.now second.now) (O.contents output.old, E.contents errors.old) (O.contents output.new, E.contents errors.new) result }
+    ensures gains { (texts : List ℕ × List ℕ) → C.First.is_found texts.0 read.now.0.0 → C.Second.is_found texts.1 read.now.0.1 → BothGain (O.contents output.old, E.contents errors.old) (O.contents output.new, E.contents errors.new) }
+{
+    let (found_answer, said) = command.answer(alloc, &read.0.0, &read.0.1)?;
+    let telling = command.telling();
+    let about = read.1.told(command.is_about_second());
+    let answer = as_told(alloc, found_answer, telling, about)?;
+    let status = written(&answer, output)?;
+    tell_why(alloc, read.1.earliest(), Telling::Short, errors);
+    tell_more(alloc, command, second, &read.0.0, &read.0.1, said, errors);
+    let note = command.note(&read.0.0, &read.0.1);
+    tell_note(first, note, status, errors);
+    mem::forget(answer);
+    Ok(status)
+}
+
 /// Runs a command on the texts under two names, which are read in this order. If a text is refused, the errors say why.
 /// If both are refused, they say it of the first. Then they have more words about the answer, and the note on the first
 /// text if all is well.
@@ -232,7 +287,7 @@ pub fn perform_two<
     ensures told { Ends (IsTextFault (λ n. (n ≡ first.entry.now) ⊎ (n ≡ second.entry.now))) (AreNamed first.entry.now second.entry.now (S.bytes_of console.old.texts.now) (I.remaining console.old.input)) (IsAnswerTold (C.how_much command.now) (IsFirstRefused C.First.is_refused C.Second.is_refused) (C.is_answer command.now)) (TellsBeside C.First.is_refused C.Second.is_refused (C.adds_more command.now) (C.has_note command.now) first.entry.now second.entry.now) (O.contents console.old.output, E.contents console.old.errors) (O.contents console.new.output, E.contents console.new.errors) result }
     ensures gains { BothGain (O.contents console.old.output, E.contents console.old.errors) (O.contents console.new.output, E.contents console.new.errors) }
 {
-    let ((found, other), refusals) = read_pair::<C::First, C::Second, R, S, I>(
+    let read = read_pair::<C::First, C::Second, R, S, I>(
         console.rt,
         console.alloc,
         first,
@@ -240,25 +295,15 @@ pub fn perform_two<
         console.texts,
         &mut console.input,
     )?;
-    let (found_answer, said) = command.answer(console.alloc, &found, &other)?;
-    let telling = command.telling();
-    let about = refusals.told(command.is_about_second());
-    let answer = as_told(console.alloc, found_answer, telling, about)?;
-    let status = written(&answer, &mut console.output)?;
-    let why = refusals.earliest();
-    tell_why(console.alloc, why, Telling::Short, &mut console.errors);
-    tell_more(
+    let done = answer_two(
         console.alloc,
         command,
+        first,
         second,
-        &found,
-        &other,
-        said,
+        &read,
+        &mut console.output,
         &mut console.errors,
     );
-    let note = command.note(&found, &other);
-    tell_note(first, note, status, &mut console.errors);
-    mem::forget((found, other));
-    mem::forget(answer);
-    Ok(status)
+    mem::forget(read);
+    done
 }

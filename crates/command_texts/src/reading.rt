@@ -1,56 +1,19 @@
 //! Reading texts to their ends, piece by piece.
 
-ghost use Rattle.std.specs.Prelude.{◌≡◌, ℕ, List, [], Option, Some, None, IfOk, OnOk, IfSome, MatchOption, map, string_bytes, vec_len};
-ghost use Rattle.std.specs.List.Sorted.{IsPermutation};
+ghost use Rattle.std.specs.Prelude.{◌≡◌, ℕ, List, [], IfOk, OnOk, MatchOption, vec_len};
 ghost use Rattle.command_texts.specs.Reasons.{line_of};
 ghost use Rattle.command_texts.specs.Told.{AreRead};
 ghost use Rattle.command_texts.specs.inner.Takings.{Fills, Takes, TakesAll};
 
 use crate::ahead::{processors, read_ahead};
-use crate::causes::{Cause, cause_of};
 use crate::limits::{Left, MOST_READS};
 use crate::taking::Taker;
 use std::alloc::{AllocError, Global};
 use std::io;
 use std::io::{ErrorKind, Read};
 use std::thread::Threads;
+use text_access::{Cause, cause_of};
 use text_lines::Refusal;
-
-/// Texts under names, such as files.
-pub trait TextSource {
-    /// A text that is being read.
-    type Text: Read + Drop + Send;
-
-    /// The bytes that a name stands for, if they are known.
-    ghost bytes_of: { Self → List ℕ → Option (List ℕ) } = { λ _ _. None };
-
-    /// The names of what is in a folder, if they are known.
-    ghost names_in: { Self → List ℕ → Option (List (List ℕ)) } = { λ _ _. None };
-
-    /// Opens the text under a name.
-    fn text(&self, name: &str) -> io::Result<Self::Text>
-        ensures { IfOk result (λ t. IfSome (bytes_of self.now name.now) (λ xs. Self.Text.remaining t ≡ Some xs)) };
-
-    /// Returns whether the text under a name can be read again. The text of a pipe cannot. No proof depends on it.
-    fn stays(&self, _name: &str) -> bool {
-        true
-    }
-
-    /// Returns the names of what is in a folder, in no order. Names that are not UTF-8 are left out. A source has no
-    /// folders unless it says so.
-    fn names(&self, alloc: Global, folder: &str) -> io::Result<Vec<String>>
-        ensures { IfOk result (λ names. IfSome (names_in self.now folder.now) (λ known. IsPermutation known (map string_bytes names.items))) }
-    {
-        let _ = alloc;
-        let _ = folder;
-        Err(io::Error::from(ErrorKind::NotADirectory))
-    }
-
-    /// Returns whether two names lead to one folder, as far as it can be known. No proof depends on it.
-    fn is_one(&self, folder: &str, other: &str) -> bool {
-        folder == other
-    }
-}
 
 /// Why a text could not be read to its end.
 #[derive(Clone, Copy)]

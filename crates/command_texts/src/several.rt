@@ -5,9 +5,10 @@ ghost use Rattle.std.specs.Io.KnownBytes.{Appends};
 ghost use Rattle.command_texts.specs.Answers.{IsListStop, IsReadFault, Says};
 ghost use Rattle.command_texts.specs.Fields.{IsAnswerTold};
 ghost use Rattle.command_texts.specs.Reasons.{place_of, told_place};
-ghost use Rattle.command_texts.specs.Several.{AreListed, IsListStatus, IsListed, StopsSeveral, TellsOneUnread, TellsSeveral, TellsUnread, greater, in_object, list_end, listed_as, names_of, style_of};
+ghost use Rattle.command_texts.specs.Several.{AreListed, IsListStatus, IsListed, StopsSeveral, TellsOneUnread, TellsSeveral, TellsUnread, greater, in_object, list_end, listed_as, style_of};
+ghost use Rattle.text_access.specs.Names.{names_of};
 ghost use Rattle.command_texts.specs.Told.{IsNamed};
-ghost use Rattle.command_texts.specs.Written.{BothGain, Gains};
+ghost use Rattle.text_access.specs.Written.{BothGain, Gains};
 
 use crate::answer::{ACCEPTED, Answer, Fault, given, tell, written};
 use crate::console::Console;
@@ -15,13 +16,13 @@ use crate::fields::as_told;
 use crate::naming::read_named;
 use crate::noting::tell_note;
 use crate::performing::OnOne;
-use crate::reading::TextSource;
 use crate::shown::{push_quoted, push_shown};
 use crate::taking::Taker;
 use crate::why::{Telling, Why, tell_why};
 use std::alloc::{AllocError, Global};
 use std::io::{Read, Write};
 use std::thread::Threads;
+use text_access::TextSource;
 use text_lines::push_number;
 
 /// How answers are listed.

@@ -4,11 +4,11 @@ ghost use Rattle.std.specs.Prelude.{◌≡◌, ◌<◌, ◌++◌, OnOk, true};
 ghost use Rattle.std.specs.Io.KnownBytes.{Appends};
 ghost use Rattle.std.specs.Str.{chars};
 ghost use Rattle.command_texts.specs.Shown.{are_printed, begins_quoted, escaped, hex_digit, is_control, is_plain, line_on, quoted, shown};
-ghost use Rattle.command_texts.specs.Written.{AppendsFront};
+ghost use Rattle.text_access.specs.Written.{AppendsFront};
 
-use crate::writing::write_whole;
 use std::alloc::AllocError;
 use std::io::Write;
+use text_access::write_whole;
 
 /// Returns whether a character is not printed, and may change how others are.
 fn is_control(character: char) -> bool

@@ -5,10 +5,10 @@ ghost use Rattle.std.specs.Option.{option_or};
 ghost use Rattle.command_texts.specs.Reasons.{AreReasons, TellsWhy, line_of, place_of, told_place};
 
 use crate::shown::push_shown;
-use crate::writing::write_whole;
 use refusal_words::{Refused, push_why, push_why_in_full};
 use std::alloc::{AllocError, Global};
 use std::io::Write;
+use text_access::write_whole;
 use text_lines::Refusal;
 
 /// Why the text under a name is refused.

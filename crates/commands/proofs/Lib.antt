@@ -4,3 +4,4 @@ pub mod Recorded
 pub mod Drawn
 pub mod Lined
 pub mod Shown
+pub mod Migrated

@@ -1,18 +1,16 @@
 -- What was done and settled.
-use Rattle.std.proofs.Common.{rules, ◌≡◌, ◌≢◌, ◌∙◌, ◌⊎◌, ℕ, ◌<◌, ◌≤◌, true, List, ◌∷◌, length, suc-le-suc, Result, Ok, Err, MatchResult, IfOk, arith, Option, Some, None, inl, inr, subst, refl, sym, ap}
-use Rattle.std.specs.Prelude.{IfErr, IfSome}
+use Rattle.std.proofs.Common.{rules, ◌≡◌, ◌≢◌, ◌∙◌, ◌⊎◌, ℕ, ◌<◌, ◌≤◌, List, Result, Ok, Err, MatchResult, IfOk, arith, Option, Some, None, inl, inr, subst, refl, sym, ap}
+use Rattle.std.specs.Prelude.{IfSome}
 use Rattle.std.specs.Borrow.{Bor}
 use Rattle.std.specs.Io.KnownBytes.{Keeps}
-use Rattle.std.proofs.KnownBytes.{Keeps-refl}
-use Rattle.clap.specs.Words.{Text}
 use Rattle.clap.specs.declared.error.kind.ErrorKind.{ErrorKind}
 use Rattle.clap.specs.declared.error.kind.ErrorKind.TheVariants.{ArgumentConflict}
 use Rattle.command_texts.specs.declared.answer.Fault.{Fault}
 use Rattle.command_texts.specs.declared.answer.Fault.TheVariants.{File, Link, Threads, Output, Memory}
 use Rattle.command_texts.specs.Answers.{IsOutputFault, fault_line, fault_status}
 use Rattle.command_texts.specs.Several.{IsListStatus, TellsOneUnread}
-use Rattle.command_texts.specs.Written.{AppendsFront, BothGain, Gains, Streams}
-use Rattle.command_texts.proofs.Fronts.{both_gain, front_gains, kept_gains, same_gains}
+use Rattle.text_access.specs.Written.{AppendsFront, BothGain, Gains, Streams}
+use Rattle.text_access.proofs.Fronts.{front_gains, kept_gains, same_gains}
 use Rattle.commands.specs.Refused.{IsAsking, IsRefusalOf}
 use Rattle.commands.specs.Told.{IsFaultTold, IsSettled, IsSettledAs}
 

@@ -1,23 +1,21 @@
 -- A `check` that ends with status 0 shows the headline of its two texts.
-use Rattle.std.proofs.Common.{◌≡◌, ◌∙◌, ℕ, List, [], ◌∷◌, Option, Some, None, Result, Ok, inl, inr, refl, subst, sym}
+use Rattle.std.proofs.Common.{◌≡◌, ◌∙◌, ℕ, List, [], ◌∷◌, Option, Some, None, Ok, inl, inr, refl, subst, sym}
 use Rattle.std.specs.Prelude.{codes}
 use Rattle.clap.specs.Words.{Text}
-use Rattle.command_words.specs.declared.requests.Request.{Request}
 use Rattle.command_words.specs.declared.requests.Request.TheVariants.{Two}
 use Rattle.command_words.specs.declared.requests.Checks.{Checks}
 use Rattle.command_words.specs.declared.requests.VerdictForm.{VerdictForm}
 use Rattle.command_words.specs.declared.requests.VerdictForm.TheVariants.{Line, Object}
 use Rattle.command_words.specs.declared.requests.TwoTexts.TheVariants.{Check}
 use Rattle.command_words.specs.Table.{plain}
-use Rattle.command_words.specs.Words.{asked, asked_by}
-use Rattle.command_words.proofs.Plain.{IsTaken, taken_plain}
+use Rattle.command_words.proofs.Plain.{taken_plain}
 use Rattle.completeness.specs.declared.lack.Extent.{Extent}
 use Rattle.cert_check.specs.declared.verdict.Verdict.{Verdict}
 use Rattle.cert_check.specs.declared.verdict.Verdict.TheVariants.{SessionText, CertText, Shape, Pages, Runs, Page, Yes}
 use Rattle.judged_texts.specs.Checked.{HeadlineHolds, IsTextVerdict}
 use Rattle.command_texts.specs.declared.answer.Fault.{Fault}
 use Rattle.command_texts.specs.Told.{Ends}
-use Rattle.command_texts.specs.Written.{Streams}
+use Rattle.text_access.specs.Written.{Streams}
 use Rattle.migration_types.specs.Sessions.{Recorded}
 use Rattle.audit_report.specs.ToldLines.{own}
 use Rattle.completeness.specs.declared.lack.Lack.{Lack}

@@ -6,7 +6,7 @@ use Rattle.clap.specs.declared.error.kind.ErrorKind.TheVariants.{DisplayHelp, Di
 use Rattle.command_texts.specs.declared.answer.Fault.{Fault}
 use Rattle.command_texts.specs.declared.answer.Fault.TheVariants.{Memory}
 use Rattle.command_texts.specs.Answers.{IsOutputFault, fault_line}
-use Rattle.command_texts.specs.Written.{AppendsFront, Gains, Streams}
+use Rattle.text_access.specs.Written.{AppendsFront, Gains, Streams}
 
 -- the words ask for the help or the version
 abbrev pub IsAsking : ErrorKind → Type 0

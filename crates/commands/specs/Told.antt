@@ -45,7 +45,7 @@ use Rattle.command_texts.specs.Fields.{IsAnswerTold}
 use Rattle.command_texts.specs.Reasons.{IsFirstRefused, IsRefusedAt, TellsBeside, TellsWhyOf}
 use Rattle.command_texts.specs.Several.{IsListStatus, StopsSeveral, Style, TellsSeveral}
 use Rattle.command_texts.specs.Told.{AreNamed, AreOfInput, Ends, IsNamed}
-use Rattle.command_texts.specs.Written.{AppendsFront, Gains, Streams}
+use Rattle.text_access.specs.Written.{AppendsFront, Gains, Streams}
 use Rattle.judge_commands.specs.Answers.{AddsMisfitOf, how_much, story_telling, verdict_telling}
 use Rattle.judge_commands.specs.ByTables.{IsExplainedByTable}
 use Rattle.judge_commands.specs.Completed.{IsAnswered, IsChecked}

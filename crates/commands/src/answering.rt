@@ -1,13 +1,14 @@
 //! Running what is asked for: an arm for each command.
 
-ghost use Rattle.std.specs.Prelude.{◌≡◌, ◌≢◌, ◌⊎◌, ◌<◌, Ok, true, false, IfOk, MatchOption};
+ghost use Rattle.std.specs.Prelude.{◌≡◌, ◌≢◌, ◌⊎◌, ◌<◌, ℕ, List, Ok, true, false, IfOk, MatchOption, option_map};
+ghost use Rattle.text_lines.specs.Answer.{IsRead};
 ghost use Rattle.guest_script.specs.Scripts.{SpellsScript};
 ghost use Rattle.command_words.specs.Table.{asked_names};
 ghost use Rattle.command_texts.specs.declared.why.Telling.TheVariants.{Short};
 ghost use Rattle.command_texts.specs.Answers.{IsHostFault, IsTextFault};
-ghost use Rattle.command_texts.specs.Reasons.{IsRefusedAt, TellsWhyOf};
+ghost use Rattle.command_texts.specs.Reasons.{IsRefusedAt, TellsWhy, TellsWhyOf, told_place};
 ghost use Rattle.command_texts.specs.Told.{AreNamed, Ends, IsNamed};
-ghost use Rattle.command_texts.specs.Written.{BothGain};
+ghost use Rattle.text_access.specs.Written.{BothGain};
 ghost use Rattle.host_commands.specs.Migrations.{IsMigrateAnswer};
 ghost use Rattle.window_commands.specs.Windows.{EndsWindow, HasWindowLines};
 ghost use Rattle.commands.specs.Told.{EndsAsked, HasLines, IsBesideOne, IsBesideTwo, IsOneAnswer, IsTwoAnswer, NoNote, window_of};
@@ -15,18 +16,19 @@ ghost use Rattle.commands.specs.Told.{EndsAsked, HasLines, IsBesideOne, IsBeside
 use crate::drawing::{DrawAlongCommand, DrawCommand};
 use crate::judging::{ask_of, extent_of, story_form};
 use command_texts::{
-    Console, Fault, Gathered, Telling, TextSource, perform_one, perform_two, read_named, tell_why,
-    written,
+    Console, Fault, Gathered, Telling, Why, perform_one, perform_two, read_named, tell_why, written,
 };
-use command_words::{Carrier, Job, OneText, Pages, Request, TwoTexts};
-use guest_script::ScriptParts;
+use command_words::{Carrier, Checks, Explains, Job, OneText, Pages, Request, TwoTexts};
+use guest_script::{Script, ScriptParts};
 use host_commands::{StepsCommand, migrate_read};
 use judge_commands::{AuditCommand, CheckCommand, ExplainByTable, ReplayCommand};
 use migration_types::Topic;
+use std::alloc::Global;
 use std::io::{Read, Write};
 use std::net::{Net, TcpListener, TcpStream};
 use std::sync::Wait;
 use std::thread::Threads;
+use text_access::TextSource;
 use window_commands::perform_window;
 use window_cut::Window;
 
@@ -47,6 +49,44 @@ fn asked_one<'a, R: Threads + Sync, S: TextSource, I: Read + Send, O: Write, E: 
     perform_one(console, &command, name)
 }
 
+/// Checks the texts under two names, which are read in this order.
+pub(crate) fn asked_check<'a, R: Threads + Sync, S: TextSource, I: Read + Send, O: Write, E: Write>(
+    console: &mut Console<'_, R, S, I, O, E>,
+    checks: Checks,
+    first: &'a str,
+    second: &'a str,
+) -> Result<u8, Fault<'a>>
+    ensures few { IfOk result (λ status. status < 2) }
+    ensures told { Ends (IsTextFault (λ n. (n ≡ first.entry.now) ⊎ (n ≡ second.entry.now))) (AreNamed first.entry.now second.entry.now (S.bytes_of console.old.texts.now) (I.remaining console.old.input)) (IsTwoAnswer (TwoTexts.Check checks)) (IsBesideTwo (TwoTexts.Check checks) first.entry.now second.entry.now) (O.contents console.old.output, E.contents console.old.errors) (O.contents console.new.output, E.contents console.new.errors) result }
+    ensures gains { BothGain (O.contents console.old.output, E.contents console.old.errors) (O.contents console.new.output, E.contents console.new.errors) }
+{
+    let command = CheckCommand {
+        rt: console.rt,
+        form: checks.form,
+        complete: extent_of(checks.demand),
+    };
+    perform_two(console, &command, first, second)
+}
+
+// Explains the session under a name by the table under a second one. They are read in this order.
+fn asked_explain<'a, R: Threads + Sync, S: TextSource, I: Read + Send, O: Write, E: Write>(
+    console: &mut Console<'_, R, S, I, O, E>,
+    explains: Explains,
+    first: &'a str,
+    second: &'a str,
+) -> Result<u8, Fault<'a>>
+    ensures few { IfOk result (λ status. status < 2) }
+    ensures told { Ends (IsTextFault (λ n. (n ≡ first.entry.now) ⊎ (n ≡ second.entry.now))) (AreNamed first.entry.now second.entry.now (S.bytes_of console.old.texts.now) (I.remaining console.old.input)) (IsTwoAnswer (TwoTexts.Explain explains)) (IsBesideTwo (TwoTexts.Explain explains) first.entry.now second.entry.now) (O.contents console.old.output, E.contents console.old.errors) (O.contents console.new.output, E.contents console.new.errors) result }
+    ensures gains { BothGain (O.contents console.old.output, E.contents console.old.errors) (O.contents console.new.output, E.contents console.new.errors) }
+{
+    let command = ExplainByTable {
+        rt: console.rt,
+        story: story_form(explains.form),
+        complete: extent_of(explains.demand),
+    };
+    perform_two(console, &command, first, second)
+}
+
 // Runs a command on the texts under two names, which are read in this order.
 fn asked_two<'a, R: Threads + Sync, S: TextSource, I: Read + Send, O: Write, E: Write>(
     console: &mut Console<'_, R, S, I, O, E>,
@@ -59,25 +99,35 @@ fn asked_two<'a, R: Threads + Sync, S: TextSource, I: Read + Send, O: Write, E: 
     ensures gains { BothGain (O.contents console.old.output, E.contents console.old.errors) (O.contents console.new.output, E.contents console.new.errors) }
 {
     match task {
-        TwoTexts::Check(checks) => {
-            let command = CheckCommand {
-                rt: console.rt,
-                form: checks.form,
-                complete: extent_of(checks.demand),
-            };
-            perform_two(console, &command, first, second)
-        }
+        TwoTexts::Check(checks) => asked_check(console, checks, first, second),
         TwoTexts::Replay => perform_two(console, &ReplayCommand, first, second),
         TwoTexts::Steps => perform_two(console, &StepsCommand, first, second),
-        TwoTexts::Explain(explains) => {
-            let command = ExplainByTable {
-                rt: console.rt,
-                story: story_form(explains.form),
-                complete: extent_of(explains.demand),
-            };
-            perform_two(console, &command, first, second)
-        }
+        TwoTexts::Explain(explains) => asked_explain(console, explains, first, second),
     }
+}
+
+// Runs the migration of a script that was read, and says why its text is refused, if it is.
+fn migrate_found<
+    R: Threads + Wait + Sync + Net<Listener = TcpListener, Stream = TcpStream>,
+    O: Write,
+    E: Write,
+>(
+    rt: &R,
+    alloc: Global,
+    carrier: Carrier,
+    script: &Result<Script, u32>,
+    why: &Option<Why<'_>>,
+    output: &mut O,
+    errors: &mut E,
+) -> Result<u8, Fault<'static>>
+    ensures few { (text : List ℕ) → IsRead SpellsScript text script.now → IfOk result (λ status. status < 2) }
+    ensures told { (text : List ℕ) → IsRead SpellsScript text script.now → Ends (IsHostFault (λ _. ⊥)) (λ (t : List ℕ). t ≡ text) IsMigrateAnswer (λ _ _. TellsWhy Short (option_map told_place why.now)) (O.contents output.old, E.contents errors.old) (O.contents output.new, E.contents errors.new) result }
+    ensures gains { BothGain (O.contents output.old, E.contents errors.old) (O.contents output.new, E.contents errors.new) }
+{
+    let answer = migrate_read(rt, alloc, carrier, script)?;
+    let status = written(&answer, output)?;
+    tell_why(alloc, why, Telling::Short, errors);
+    Ok(status)
 }
 
 // Runs the migration of the script under a name.
@@ -104,10 +154,15 @@ fn asked_migrate<
         console.texts,
         &mut console.input,
     )?;
-    let answer = migrate_read(console.rt, console.alloc, carrier, &script)?;
-    let status = written(&answer, &mut console.output)?;
-    tell_why(console.alloc, &why, Telling::Short, &mut console.errors);
-    Ok(status)
+    migrate_found(
+        console.rt,
+        console.alloc,
+        carrier,
+        &script,
+        &why,
+        &mut console.output,
+        &mut console.errors,
+    )
 }
 
 // Draws the session under a name, along the runs under a second name if there is one.

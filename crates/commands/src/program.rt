@@ -7,20 +7,16 @@ ghost use Rattle.command_words.specs.Table.{folders_of, job_of, several_of};
 ghost use Rattle.command_words.specs.Words.{IsPlain, asked, asked_by, clashing, folders_asked, postcopy_words, several_asked};
 ghost use Rattle.command_texts.specs.Answers.{fault_line, fault_status};
 ghost use Rattle.command_texts.specs.Told.{AreNamed, AreOfInput};
-ghost use Rattle.command_texts.specs.Written.{AppendsFront, BothGain, Gains};
+ghost use Rattle.text_access.specs.Written.{AppendsFront, BothGain, Gains};
 ghost use Rattle.session_commands.specs.Texts.{WritesSession};
 ghost use Rattle.commands.specs.Refused.{IsRefusalOf};
 ghost use Rattle.commands.specs.Shown.{AsksCheck, ShowsHeadline};
 ghost use Rattle.commands.specs.Told.{EndsAsked, EndsBare, EndsSeveral, HasLines, IsFaultTold, IsSettled, IsSettledList};
 
-use crate::answering::perform;
+use crate::answering::{asked_check, perform};
 use crate::several::asked_several;
-use command_texts::{
-    ACCEPTED, Console, Fault, STANDARD_OUTPUT, TextSource, USAGE, perform_two, tell, write_or_why,
-    write_whole,
-};
-use command_words::{Intent, Reading, VerdictForm};
-use judge_commands::CheckCommand;
+use command_texts::{ACCEPTED, Console, Fault, STANDARD_OUTPUT, USAGE, tell};
+use command_words::{Checks, Demand, Intent, Reading, VerdictForm};
 use judged_texts::headline_holds_at_yes;
 use session_commands::perform_session;
 use std::alloc::{AllocError, Global};
@@ -28,6 +24,7 @@ use std::io::{Read, Write};
 use std::net::{Net, TcpListener, TcpStream};
 use std::sync::Wait;
 use std::thread::Threads;
+use text_access::{TextSource, write_or_why, write_whole};
 
 // Judges the two texts of the input.
 fn check_input<R: Threads + Sync, S: TextSource, I: Read + Send, O: Write, E: Write>(
@@ -37,12 +34,11 @@ fn check_input<R: Threads + Sync, S: TextSource, I: Read + Send, O: Write, E: Wr
     ensures told { EndsBare (I.remaining console.old.input) (O.contents console.old.output, E.contents console.old.errors) (O.contents console.new.output, E.contents console.new.errors) result }
     ensures gains { BothGain (O.contents console.old.output, E.contents console.old.errors) (O.contents console.new.output, E.contents console.new.errors) }
 {
-    let command = CheckCommand {
-        rt: console.rt,
+    let plain = Checks {
         form: VerdictForm::Line,
-        complete: None,
+        demand: Demand::Safety,
     };
-    perform_two(console, &command, "-", "-")
+    asked_check(console, plain, "-", "-")
 }
 
 // Returns the status of what was done, and reports its fault, if it has one.

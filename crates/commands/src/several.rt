@@ -2,16 +2,17 @@
 
 ghost use Rattle.std.specs.Prelude.{◌≡◌, IfOk};
 ghost use Rattle.command_texts.specs.Several.{IsListStatus, TellsOneUnread};
-ghost use Rattle.command_texts.specs.Written.{BothGain};
+ghost use Rattle.text_access.specs.Written.{BothGain};
 ghost use Rattle.command_words.specs.Table.{several_names};
 ghost use Rattle.commands.specs.Told.{EndsSeveral};
 
 use crate::judging::{list_ask, listing_of};
-use command_texts::{Console, Fault, TextSource, perform_several};
+use command_texts::{Console, Fault, perform_several};
 use command_words::Several;
 use judge_commands::AuditCommand;
 use std::io::{Read, Write};
 use std::thread::Threads;
+use text_access::TextSource;
 
 /// Audits several sessions in the way that the words ask for.
 pub(crate) fn asked_several<

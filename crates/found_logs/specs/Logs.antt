@@ -8,9 +8,9 @@ use Rattle.recorded_files.specs.declared.lines.Party.TheVariants.{Machine, Of}
 use Rattle.surveyed_logs.specs.Lacks.{lacks, record_count}
 use Rattle.surveyed_logs.specs.Parts.{AllFit, ArePartsOf}
 use Rattle.surveyed_logs.specs.declared.parts.LogPart.{LogPart}
-use Rattle.surveyed_logs.specs.Machine.{FileTells, IsDescribed}
-use Rattle.surveyed_logs.specs.declared.machine_log.MachineEntry.{MachineEntry}
-use Rattle.surveyed_logs.specs.declared.describing.Description.{Description}
+use Rattle.machine_logs.specs.Machine.{FileTells, IsDescribed}
+use Rattle.machine_logs.specs.declared.machine_log.MachineEntry.{MachineEntry}
+use Rattle.machine_logs.specs.declared.describing.Description.{Description}
 use Rattle.found_logs.specs.declared.found.FoundLog.{FoundLog}
 use Rattle.found_logs.specs.declared.found.FoundLogs.{FoundLogs}
 

@@ -1,7 +1,6 @@
 //! Why files are none of a recorder, or not those of one log, in words.
 
 use crate::found::FoundLog;
-use command_texts::TextSource;
 use recorded_files::{FileFault, Last, Opening, Party, read_numbered};
 use session_words::{
     FIRST_RECORD, FoundRecord, Piece, Stop, changed_file, find_in, find_record, find_record_from,
@@ -9,6 +8,7 @@ use session_words::{
 };
 use std::alloc::{AllocError, Global};
 use surveyed_logs::{PartFault, Surveyed};
+use text_access::TextSource;
 
 /// Why a number is told twice.
 const TWICE: &str =

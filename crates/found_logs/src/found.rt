@@ -1,13 +1,12 @@
 //! The files of recorders in folders.
 
-ghost use Rattle.std.specs.Prelude.{◌≡◌, ◌↔◌, ℕ, [], List, Option, IfOk, IsTrue, OnOk, map, string_bytes};
+ghost use Rattle.std.specs.Prelude.{◌≡◌, ◌≤◌, ◌↔◌, ◌^◌, ℕ, [], List, Option, IfOk, IsTrue, OnErr, OnOk, map, string_bytes};
 ghost use Rattle.std.specs.List.{Contains};
-ghost use Rattle.command_texts.specs.Several.{names_of};
+ghost use Rattle.text_access.specs.Names.{names_of};
 ghost use Rattle.found_logs.specs.Logs.{log_of, records_in};
 ghost use Rattle.found_logs.specs.Found.{path_in, slash_behind};
 ghost use Rattle.found_logs.specs.inner.Finding.{AddsFolder, AddsNames, AreFound, AreLogsOf, IsNothing};
 
-use command_texts::TextSource;
 use migration_types::LogName;
 use recorded_files::Party;
 use session_words::{Piece, Stop, add, push, sentence, unread};
@@ -15,6 +14,7 @@ use std::alloc::{AllocError, Global};
 use std::io;
 use std::io::ErrorKind;
 use surveyed_logs::{Surveyed, read_file_name};
+use text_access::TextSource;
 
 /// The cause if a name is not that of a folder.
 const NO_FOLDER: &str = "it is not a directory";
@@ -82,11 +82,15 @@ impl FoundLog {
     ///
     /// There are 2^64 or more: more than any memory can count.
     pub fn records(&self) -> Result<u64, AllocError>
-        ensures { IfOk result (λ count. count ≡ records_in self.now) }
+        ensures counted { IfOk result (λ count. count ≡ records_in self.now) }
+        ensures many { OnErr result (2 ^ 64 ≤ records_in self.now) }
     {
         let mut records: u64 = 0;
         for file in &self.surveyed {
-            records = records.checked_add(file.records).ok_or(AllocError)?;
+            let Some(sum) = records.checked_add(file.records) else {
+                return Err(AllocError);
+            };
+            records = sum;
         }
         Ok(records)
     }

@@ -8,7 +8,6 @@ ghost use Rattle.session_words.specs.Telling.{SaysUnless};
 
 use crate::faults::{GONE_ON, last_place, part_stop, path_of, twice_stop};
 use crate::found::FoundLog;
-use command_texts::TextSource;
 use recorded_files::{FileReader, Party, Turn, next_turn};
 use session_words::{
     Piece, Stop, add, changed_file, line_on, open_file, push, push_message, push_sentence,
@@ -17,6 +16,7 @@ use session_words::{
 use std::alloc::{AllocError, Global};
 use std::io::Read;
 use surveyed_logs::{LogLack, LogPart, count_records, find_lacks, find_parts};
+use text_access::TextSource;
 
 /// What is said behind the pages that are missing in the machine's log.
 const TAKEN_FOR_ZEROS: &str = ": pages whose contents are not told are taken for zeros";

@@ -3,20 +3,20 @@
 ghost use Rattle.std.specs.Prelude.{◌≡◌, ◌++◌, List, IfOk, OnOk};
 ghost use Rattle.migration_types.specs.declared.size.Size.{Size as MachineSize};
 ghost use Rattle.recordings.specs.Recordings.{IsMachine};
-ghost use Rattle.surveyed_logs.specs.Machine.{FileTells};
-ghost use Rattle.surveyed_logs.specs.declared.machine_log.MachineEntry.{MachineEntry as Entry};
+ghost use Rattle.machine_logs.specs.Machine.{FileTells};
+ghost use Rattle.machine_logs.specs.declared.machine_log.MachineEntry.{MachineEntry as Entry};
 ghost use Rattle.found_logs.specs.Logs.{known_in, Describe, TellMachine};
 
 use crate::faults::twice_stop;
 use crate::found::{FoundLog, push_listed};
-use command_texts::TextSource;
+use machine_logs::{DescribeFault, Description, MachineLog, MachineLogFault};
 use recorded_files::{FileFault, Party};
 use session_words::{
     Piece, Stop, changed_file, find_record, find_record_from, open_file, push_other_contents,
     push_outside, push_page_twice, push_sentence, push_two_pages, push_wrong_record, sentence,
 };
 use std::alloc::{AllocError, Global};
-use surveyed_logs::{DescribeFault, Description, MachineLog, MachineLogFault};
+use text_access::TextSource;
 
 /// The calls that describe a machine.
 const CALL: &str = "postcopy_record_machine, or Log.machine";

@@ -4,18 +4,18 @@ ghost use Rattle.std.specs.Prelude.{◌≡◌, ◌∷◌, ◌++◌, ℕ, [], Lis
 ghost use Rattle.recorded_files.specs.declared.lines.Party.{Party as Writer};
 ghost use Rattle.recorded_files.specs.Said.{CameTo};
 ghost use Rattle.surveyed_logs.specs.Surveys.{IsSurveyOf};
-ghost use Rattle.command_texts.specs.Several.{names_of};
+ghost use Rattle.text_access.specs.Names.{names_of};
 ghost use Rattle.found_logs.specs.Found.{IsFoundIn};
 ghost use Rattle.found_logs.specs.inner.Finding.{AreFound, GetsFile, IsReadAs, TakesFile, Under};
 
 use crate::faults::{Surveying, file_stop};
 use crate::found::{FoundFile, FoundLog, FoundLogs, find_files};
-use command_texts::TextSource;
 use migration_types::LogName;
 use recorded_files::{FileReader, Party};
 use session_words::{Piece, Stop, add, open_text, sentence};
 use std::alloc::{AllocError, Global};
 use surveyed_logs::{Surveyed, survey};
+use text_access::TextSource;
 
 /// The name of the recording, and the last file that had it.
 #[derive(Drop)]

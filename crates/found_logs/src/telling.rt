@@ -7,12 +7,12 @@ ghost use Rattle.found_logs.specs.Logs.{log_in, HasAll};
 
 use crate::found::{FoundLog, FoundLogs};
 use crate::lacks::{Hole, count_of, find_hole, tell_lacks, tell_missing};
-use command_texts::TextSource;
+use machine_logs::Description;
 use migration_types::LogName;
 use recorded_files::{Front, Party};
 use session_words::Stop;
 use std::alloc::Global;
-use surveyed_logs::Description;
+use text_access::TextSource;
 
 /// The parties in the order of the names of their files.
 static PARTIES: [Party; 6] = [

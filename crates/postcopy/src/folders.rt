@@ -1,6 +1,6 @@
 //! Folders in the place of sessions: the text of a folder is that of the session of the files that recorders left in it.
 
-use command_texts::{Console, Fault, TextSource};
+use command_texts::{Console, Fault};
 use commands::Lacking;
 use process_io::Disk;
 use session_commands::perform_session;
@@ -8,6 +8,7 @@ use std::alloc::Global;
 use std::fs::File;
 use std::io;
 use std::io::{Cursor, ErrorKind, Read};
+use text_access::TextSource;
 
 /// A file, or the text of the session of a folder.
 #[derive(Drop)]

@@ -22,7 +22,7 @@ ghost use Rattle.std.specs.Prelude.{◌≤◌};
 mod folders;
 
 use crate::folders::WithFolders;
-use command_texts::{Closable, Console, Fault, TextSource, USAGE, tell};
+use command_texts::{Closable, Console, Fault, USAGE, tell};
 use commands::{Reading, Targets, read_words, run};
 use process_io::{Disk, Saved, put, refuse_targets, slices, tell_wrong_word, words};
 use std::alloc::Global;
@@ -34,6 +34,7 @@ use std::random::RandomSource;
 use std::rt::{Env, Files};
 use std::sync::Wait;
 use std::thread::Threads;
+use text_access::TextSource;
 
 // Reports why the words could not be read.
 fn refuse_words<R: Env, E: Write>(rt: &R, alloc: Global, error: &io::Error, errors: &mut E) -> u8

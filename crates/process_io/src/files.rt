@@ -1,12 +1,12 @@
 //! The texts of files.
 
-use command_texts::TextSource;
 use std::alloc::{AllocError, Global};
 use std::fs::OpenFile;
 use std::io::{ErrorKind, Read};
 use std::os::unix::fs::{FileTypeExt, MetadataExt};
 use std::rt::Files;
 use std::{fs, io, str};
+use text_access::TextSource;
 
 /// The files of the system.
 #[derive(Drop)]

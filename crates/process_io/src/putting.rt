@@ -1,13 +1,14 @@
 //! Where an answer goes: to the output, or to the files that the words name for it.
 
 use crate::saving::{Draft, Saved, is_one_file};
-use command_texts::{Fault, STANDARD_OUTPUT, USAGE, cause_of, tell};
+use command_texts::{Fault, STANDARD_OUTPUT, USAGE, tell};
 use command_words::{AnswerKind, Targets};
 use std::alloc::Global;
 use std::io;
 use std::io::{ErrorKind, Write};
 use std::random::RandomSource;
 use std::rt::Files;
+use text_access::cause_of;
 
 // Returns the fault for an answer that could not be written to its file.
 fn put_fault<'a>(name: &'a str, error: &io::Error) -> Fault<'a> {

@@ -2,8 +2,8 @@
 use Rattle.std.proofs.Common.{◌≡◌, ℕ, List, Option, Result, Ok, Err}
 use Rattle.std.specs.Prelude.{IfOk}
 use Rattle.command_texts.specs.Several.{TellsOneUnread}
-use Rattle.command_texts.specs.Written.{AppendsFront, Gains}
-use Rattle.command_texts.proofs.Fronts.{both_gain, front_gains, same_gains}
+use Rattle.text_access.specs.Written.{AppendsFront, Gains}
+use Rattle.text_access.proofs.Fronts.{both_gain, front_gains, same_gains}
 
 pub same : (a : Option (List ℕ)) → Gains a a
 same a = same_gains a

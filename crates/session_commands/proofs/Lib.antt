@@ -1,3 +1,4 @@
 pub mod Gained
 pub mod Opened
 pub mod Spelled
+pub mod Settled

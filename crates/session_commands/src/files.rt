@@ -4,13 +4,13 @@ ghost use Rattle.std.specs.Prelude.{◌≡◌, [], IfErr, IfOk};
 ghost use Rattle.recorded_files.specs.declared.files.FileFault.{FileFault as Why};
 ghost use Rattle.recorded_files.specs.Said.{CameTo, IsFault};
 
-use command_texts::TextSource;
 use found_logs::FoundLogs;
 use gathered_logs::GatherFault;
 use migration_types::LogName;
 use recorded_files::{FileFault, FileReader, Party};
 use std::alloc::Global;
 use std::io::Read;
+use text_access::TextSource;
 use walked_logs::LogFiles;
 
 /// The files of the logs, which each pass opens anew.

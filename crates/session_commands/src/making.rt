@@ -5,15 +5,16 @@ ghost use Rattle.command_words.specs.declared.requests.Lacking.TheVariants.{Refu
 ghost use Rattle.migration_types.specs.Sessions.{Recorded, log_length};
 ghost use Rattle.recordings.specs.Recordings.{IsMachine};
 ghost use Rattle.recordings.specs.Wide.{extent_of};
-ghost use Rattle.recorded_files.specs.Named.{IsNaming};
+ghost use Rattle.recorded_files.specs.Named.{IsBlank, IsNaming};
 ghost use Rattle.walked_logs.specs.Walks.{HasNoHole, WalksFiles};
-ghost use Rattle.command_texts.specs.Several.{IsListStatus, TellsOneUnread, names_of};
-ghost use Rattle.command_texts.specs.Written.{BothGain, Gains};
+ghost use Rattle.command_texts.specs.Several.{IsListStatus, TellsOneUnread};
+ghost use Rattle.text_access.specs.Names.{names_of};
+ghost use Rattle.text_access.specs.Written.{BothGain, Gains};
 ghost use Rattle.session_commands.specs.Files.{bytes_in, WritesText};
 ghost use Rattle.session_commands.specs.Texts.{WritesSession};
 ghost use Rattle.std.specs.Io.KnownBytes.{Keeps};
-ghost use Rattle.session_commands.specs.inner.Seen.{HasFacts, HasSeen, IsKnown, IsUnfit};
-ghost use Rattle.session_facts.specs.Facts.{IsFacts, ReachIn, SomeIn};
+ghost use Rattle.session_commands.specs.inner.Seen.{HasSeen, IsKnown, IsUnfit};
+ghost use Rattle.session_facts.specs.Facts.{HasNone, IsFacts, ReachIn, SomeIn};
 ghost use Rattle.session_facts.specs.Written.{IsWrittenFront};
 ghost use Rattle.session_words.specs.Telling.{SaysUnless};
 
@@ -21,9 +22,7 @@ use crate::files::OpenedLogs;
 use crate::forms::form_of;
 use crate::recording::FileRecording;
 use crate::walk_stops::{check_facts, walk_stop, write_stop};
-use command_texts::{
-    ACCEPTED, Console, Fault, REFUSED, STANDARD_OUTPUT, TextSource, given, tell, write_whole,
-};
+use command_texts::{ACCEPTED, Console, Fault, REFUSED, STANDARD_OUTPUT, given, tell};
 use command_words::Lacking;
 use found_logs::{FoundLogs, check_logs, describe, find_logs, tell_logs, tell_machine};
 use migration_types::{LogName, Size, Version};
@@ -33,6 +32,7 @@ use session_facts::{Ends, Facts, tell_cut, tell_empty, tell_unresumed};
 use session_words::{Stop, push_message};
 use std::alloc::{AllocError, Global};
 use std::io::Write;
+use text_access::{TextSource, write_whole};
 use walked_logs::{Messages, note_messages, walk_logs};
 use written_recordings::write_recording;
 
@@ -56,21 +56,6 @@ fn walk<S: TextSource, V: Visitor>(
         Ok(is_whole) => Ok(is_whole),
         Err(fault) => Err(walk_stop(alloc, files.texts, machine, files.logs, fault)),
     }
-}
-
-/// Goes through the logs. Returns what is to be known of them, and whether no log has a hole.
-fn facts_of<S: TextSource>(
-    alloc: Global,
-    machine: &WideMachine,
-    files: &OpenedLogs<'_, S>,
-    messages: &Messages,
-) -> Result<(Facts, bool), Stop>
-    requires { IsMachine (extent_of machine.now) }
-    ensures { IfOk result (λ found. HasFacts machine.now (bytes_in (S.bytes_of files.now.texts.now) files.now.logs.now) found.0 found.1) }
-{
-    let mut facts = Facts::new(alloc);
-    let has_all = walk(alloc, machine, files, messages, &mut facts)?;
-    Ok((facts, has_all))
 }
 
 /// Goes through the logs once more, and returns the records in front of which they are cut.
@@ -249,6 +234,33 @@ fn judge_facts<S: TextSource>(
     Ok(front)
 }
 
+/// Goes through the records of the logs, whose messages were noted. Keeps what is to be known of them in facts that are new, and adds
+/// what is said of them.
+fn see_records<S: TextSource>(
+    facts: &mut Facts,
+    said: &mut Vec<u8>,
+    alloc: Global,
+    machine: &WideMachine,
+    files: &OpenedLogs<'_, S>,
+    messages: &Messages,
+    expected: Front,
+) -> Result<Form, Stop>
+    requires new { IsBlank facts.old.naming × HasNone facts.old }
+    requires machine { IsMachine (extent_of machine.now) }
+    ensures { IfOk result (HasSeen machine.now (bytes_in (S.bytes_of files.now.texts.now) files.now.logs.now) files.now.logs.now.lane said.old.items said.new.items) }
+{
+    let has_all = walk(alloc, machine, files, messages, facts)?;
+    let front = judge_facts(
+        said, alloc, machine, files, messages, facts, has_all, expected,
+    )?;
+    let form = form_of(facts, front, machine, &files.logs.lane);
+    Ok(Form {
+        front,
+        version: form.0,
+        size: form.1,
+    })
+}
+
 /// Goes through the records of the logs, whose messages were noted, and adds what is said of them.
 fn see_facts<S: TextSource>(
     said: &mut Vec<u8>,
@@ -261,17 +273,8 @@ fn see_facts<S: TextSource>(
     requires { IsMachine (extent_of machine.now) }
     ensures { IfOk result (HasSeen machine.now (bytes_in (S.bytes_of files.now.texts.now) files.now.logs.now) files.now.logs.now.lane said.old.items said.new.items) }
 {
-    let found = facts_of(alloc, machine, files, messages)?;
-    let facts = &found.0;
-    let front = judge_facts(
-        said, alloc, machine, files, messages, facts, found.1, expected,
-    )?;
-    let form = form_of(facts, front, machine, &files.logs.lane);
-    Ok(Form {
-        front,
-        version: form.0,
-        size: form.1,
-    })
+    let mut facts = Facts::new(alloc);
+    see_records(&mut facts, said, alloc, machine, files, messages, expected)
 }
 
 /// Goes through the records of the logs, and adds what is said of them.
@@ -369,7 +372,6 @@ fn refuse<E: Write>(said: Vec<u8>, errors: &mut E) -> Result<u8, Stop>
 }
 
 /// Writes the text of a recording, if nothing is lacking or it is to be cut. Says what is lacking.
-#[tactic(auto, using(crate::proofs::Gained::same, crate::proofs::Gained::front, crate::proofs::Gained::both))]
 fn settle<S: TextSource, O: Write, E: Write>(
     alloc: Global,
     texts: &S,

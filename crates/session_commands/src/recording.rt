@@ -1,14 +1,14 @@
 //! The recording that files make.
 
-ghost use Rattle.std.specs.Prelude.{◌≡◌, true};
+ghost use Rattle.std.specs.Prelude.{◌↔◌, IsTrue};
 ghost use Rattle.recordings.specs.Recordings.{IsMachine};
 ghost use Rattle.recordings.specs.Wide.{extent_of};
 
 use crate::files::OpenedLogs;
-use command_texts::TextSource;
 use migration_types::MOST_CELLS;
 use recordings::{BEYOND, Visitor, WideInit, WideMachine};
 use std::alloc::Global;
+use text_access::TextSource;
 use walked_logs::{Messages, WalkFault, walk_logs};
 use written_recordings::Visited;
 
@@ -23,7 +23,7 @@ pub(crate) struct FileRecording<'a, S> {
 
 /// Returns whether a recording may have this machine.
 pub(crate) fn is_machine(machine: &WideMachine) -> bool
-    ensures { result ≡ true → IsMachine (extent_of machine.now) }
+    ensures { IsTrue result ↔ IsMachine (extent_of machine.now) }
 {
     machine.pages >= 1
         && machine.pages < BEYOND

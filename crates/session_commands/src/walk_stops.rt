@@ -4,7 +4,6 @@ ghost use Rattle.std.specs.Prelude.{◌≡◌, [], IsTrue, OnOk};
 ghost use Rattle.session_commands.specs.inner.Seen.{IsUnfit};
 
 use crate::files::OpenedLogs;
-use command_texts::TextSource;
 use found_logs::{FoundLogs, find_hole};
 use gathered_logs::{GatherFault, LogFault};
 use migration_types::{LOGS, LogName};
@@ -12,12 +11,13 @@ use recorded_files::{FileFault, Front, Party};
 use recordings::WideMachine;
 use session_facts::Facts;
 use session_words::{
-    FoundRecord, Piece, Stop, find_record, push_placed, push_sentence, record_words, unopened_file,
-    unread_file,
+    FoundRecord, Piece, Stop, find_record, push_placed, push_sentence, unopened_file, unread_file,
 };
 use std::alloc::{AllocError, Global};
+use text_access::TextSource;
 use walked_logs::WalkFault;
 use written_recordings::WriteFault;
+use wrong_records::record_words;
 
 /// Returns why a log was not gone through as it was surveyed: two of its records have one number, or its files have
 /// changed.

@@ -1,11 +1,12 @@
 -- The guest's releases behind its resume, with one more record.
-use Rattle.std.proofs.Common.{◌≡◌, ◌∙◌, ◌⊎◌, ◌<◌, ◌≤◌, ◌+◌, ℕ, Bool, true, false, List, [], ◌∷◌, ◌++◌, Option, Some, None, inl, inr, refl, ap, sym, subst, length, take, arith}
+use Rattle.std.proofs.Common.{◌≡◌, ◌⊎◌, ◌<◌, ◌≤◌, ℕ, List, [], ◌∷◌, ◌++◌, Option, Some, None, inl, inr, sym, subst, length, arith}
 use Rattle.std.specs.Prelude.{IsTrue}
 use Rattle.std.specs.List.{list_any, slice_get}
 use Rattle.std.proofs.lemmas.List.{take-append-le, take_at}
 use Rattle.std.proofs.lemmas.Option.{slice_get_within}
 use Rattle.migration_types.specs.declared.records.GuestRec.{GuestRec}
-use Rattle.session_facts.specs.Written.{is_release, is_resume, IsLateRelease}
+use Rattle.session_facts.specs.Written.{IsLateRelease}
+use Rattle.audit_model.specs.Shape.{is_release, is_resume}
 use Rattle.session_facts.specs.Facts.{IsBefore, IsFirstLate}
 use Rattle.session_words.proofs.Pushed.{get_last, get_old, get_push}
 

@@ -8,7 +8,9 @@ use Rattle.migration_types.specs.Sessions.{Recorded, log_length}
 use Rattle.recorded_files.specs.Fronts.{cursors_of}
 use Rattle.recorded_files.specs.Named.{IsNaming}
 use Rattle.recorded_files.specs.declared.fronts.Front.{Front}
-use Rattle.session_facts.specs.Written.{begins_halted, is_back, is_pull, is_resume, IsLateRelease}
+use Rattle.session_facts.specs.Unresumed.{ends_halted, IsHaltOf}
+use Rattle.session_facts.specs.Written.{begins_halted, is_back, is_pull, IsLateRelease}
+use Rattle.audit_model.specs.Shape.{is_resume}
 use Rattle.session_facts.specs.declared.facts.Facts.{Facts}
 
 -- the first release of the guest behind its resume, if there is one
@@ -26,6 +28,8 @@ pub record HasNone (facts : Facts) : Type 0 where
   pub halted : facts.begins_halted ≡ false
   pub back : facts.has_back ≡ false
   pub pull : facts.has_pull ≡ false
+  pub halt : facts.halt ≡ None
+  pub at_last : facts.halts_at_last ≡ false
   pub resume : facts.has_resume ≡ false
   pub late : facts.late ≡ None
 
@@ -35,6 +39,8 @@ pub record IsFacts (facts : Facts) (s : Recorded) : Type 0 where
   pub halted : facts.begins_halted ≡ begins_halted s.source
   pub back : facts.has_back ≡ list_any is_back s.source
   pub pull : facts.has_pull ≡ list_any is_pull s.pager
+  pub halt : IsHaltOf facts.halt s.guest
+  pub at_last : facts.halts_at_last ≡ ends_halted s.guest
   pub resume : facts.has_resume ≡ list_any is_resume s.guest
   pub late : IsFirstLate facts.late s.guest
 

@@ -5,12 +5,12 @@ use Rattle.migration_types.specs.declared.records.LogName.{LogName}
 use Rattle.migration_types.specs.declared.records.SourceRec.{SourceRec}
 use Rattle.migration_types.specs.declared.records.SourceRec.TheVariants.{Back, Halted}
 use Rattle.migration_types.specs.declared.records.GuestRec.{GuestRec}
-use Rattle.migration_types.specs.declared.records.GuestRec.TheVariants.{Release, Resume}
 use Rattle.migration_types.specs.declared.records.PagerRec.{PagerRec}
 use Rattle.migration_types.specs.declared.records.PagerRec.TheVariants.{Pull}
 use Rattle.migration_types.specs.Limits.{limits}
 use Rattle.migration_types.specs.declared.size.Size.TheVariants.{Small}
 use Rattle.migration_types.specs.Sessions.{Recorded}
+use Rattle.audit_model.specs.Shape.{is_release, is_resume}
 use Rattle.recorded_files.specs.Fronts.{cursors_of, IsGreatestFront, IsGreatestFrontWithin}
 use Rattle.recorded_files.specs.declared.fronts.Front.{Front}
 
@@ -50,14 +50,6 @@ is_back rec = false
 abbrev pub is_pull : PagerRec → Bool
 is_pull (Pull down) = true
 is_pull rec = false
-
-abbrev pub is_resume : GuestRec → Bool
-is_resume (Resume ready) = true
-is_resume rec = false
-
-abbrev pub is_release : GuestRec → Bool
-is_release (Release vcpu page) = true
-is_release rec = false
 
 -- the guest releases a page here, behind its resume
 pub record IsLateRelease (guest : List GuestRec) (n : ℕ) : Type 0 where

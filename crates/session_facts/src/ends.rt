@@ -10,7 +10,6 @@ use crate::facts::{Facts, left_out};
 use crate::names::{
     LOST, named_by_guest, named_by_lane, named_by_link, named_by_pager, named_by_source,
 };
-use command_texts::TextSource;
 use migration_types::LogName;
 use recorded_files::{Front, Party};
 use recordings::{
@@ -21,6 +20,7 @@ use session_words::{
     push_sentence, word_at,
 };
 use std::alloc::{AllocError, Global};
+use text_access::TextSource;
 use text_lines::read_decimal;
 
 /// The record in front of which a log is cut.

@@ -1,6 +1,6 @@
 //! What is to be known of a recording before its text is written.
 
-ghost use Rattle.std.specs.Prelude.{◌≡◌, ◌<◌, ◌≤◌, ◌-◌, ◌⊎◌, ◌↔◌, ◌==◌, ◌&&◌, ◌||◌, ◌++◌, ℕ, [], ◌∷◌, List, IsTrue, None, length};
+ghost use Rattle.std.specs.Prelude.{◌≡◌, ◌<◌, ◌≤◌, ◌-◌, ◌⊎◌, ◌↔◌, ◌==◌, ◌&&◌, ◌||◌, ◌++◌, ℕ, [], ◌∷◌, List, IsTrue, None, Some, length};
 ghost use Rattle.std.specs.List.{list_any};
 ghost use Rattle.migration_types.specs.declared.records.GuestRec.{GuestRec};
 ghost use Rattle.migration_types.specs.declared.records.PagerRec.{PagerRec};
@@ -10,7 +10,10 @@ ghost use Rattle.recorded_files.specs.Fronts.{cursors_of};
 ghost use Rattle.migration_types.specs.Sessions.{Recorded};
 ghost use Rattle.recorded_files.specs.Named.{IsBlank};
 ghost use Rattle.recordings.specs.Wide.{guest_of, pager_of, source_of};
-ghost use Rattle.session_facts.specs.Written.{begins_halted, has_lone_halted, is_back, is_halted, is_pull, is_release, is_resume, IsLateRelease, IsSmall, IsWrittenFront, NeedsLarge};
+ghost use Rattle.session_facts.specs.Written.{begins_halted, has_lone_halted, is_back, is_halted, is_pull, IsLateRelease, IsSmall, IsWrittenFront, NeedsLarge};
+ghost use Rattle.audit_model.specs.Shape.{is_release, is_resume};
+ghost use Rattle.session_facts.specs.Unresumed.{ends_halted, GoesUnresumed, IsHaltOf};
+ghost use Rattle.audit_model.specs.Shape.{is_halt};
 ghost use Rattle.session_facts.specs.Facts.{HasNone, IsBefore, IsFacts, IsFirstLate};
 
 use crate::names::{
@@ -46,7 +49,10 @@ pub struct Facts {
 }
 
 /// Returns whether a record of the guest is a halt.
-fn is_halt(rec: &WideGuest) -> bool {
+fn is_halt(rec: &WideGuest) -> bool
+    ensures test { result ≡ is_halt (guest_of rec.now) }
+    ensures halt { IsTrue result ↔ (guest_of rec.now ≡ GuestRec.Halt) }
+{
     match rec {
         WideGuest::Halt => true,
         _ => false,
@@ -54,12 +60,21 @@ fn is_halt(rec: &WideGuest) -> bool {
 }
 
 /// Returns the guest's first halt, with one more record, whose number this is.
-fn with_halt(halt: Option<u64>, number: u64, rec: &WideGuest) -> Option<u64> {
-    if halt.is_none() && is_halt(rec) {
-        Some(number)
-    } else {
-        halt
+fn with_halt(halt: Option<u64>, number: u64, rec: &WideGuest) -> Option<u64>
+    ensures { (guest : List GuestRec) → length guest ≡ number → IsHaltOf halt guest → IsHaltOf result (guest ++ guest_of rec.now ∷ []) }
+{
+    match halt {
+        Some(first) => Some(first),
+        None => { if is_halt(rec) { Some(number) } else { None } }
     }
+}
+
+/// Returns whether the guest's last record is a halt, given that record.
+#[tactic(auto, using(crate::proofs::Seen::ends_last))]
+fn halts_last(rec: &WideGuest) -> bool
+    ensures { (guest : List GuestRec) → result ≡ ends_halted (guest ++ guest_of rec.now ∷ []) }
+{
+    is_halt(rec)
 }
 
 /// Keeps the record of this number, if it is the first that names a number which no recorder answers.
@@ -253,7 +268,9 @@ impl Facts {
     }
 
     /// Returns the guest's first halt, if it runs after that and there is no resume.
-    pub fn unresumed(&self) -> Option<u64> {
+    pub fn unresumed(&self) -> Option<u64>
+        ensures { (s : Recorded) → IsFacts self.now s → (halt : ℕ) → (result ≡ Some halt) ↔ GoesUnresumed s.guest halt }
+    {
         if self.has_resume || self.halts_at_last {
             return None;
         }
@@ -287,6 +304,8 @@ impl Facts {
 
 impl Visitor for Facts {
     ghost use Rattle.recorded_files.specs.Named.{IsBlank};
+    ghost use Rattle.session_facts.specs.Unresumed.{ends_halted, GoesUnresumed, IsHaltOf};
+    ghost use Rattle.audit_model.specs.Shape.{is_halt};
     ghost use Rattle.session_facts.specs.Facts.{HasNone, IsFacts};
 
     ghost IsNew = { λ a. IsBlank a.naming × HasNone a };
@@ -304,7 +323,7 @@ impl Visitor for Facts {
     }
 
     fn guest(&mut self, number: u64, rec: WideGuest) -> Result<(), AllocError> {
-        self.halts_at_last = is_halt(&rec);
+        self.halts_at_last = halts_last(&rec);
         self.halt = with_halt(self.halt, number, &rec);
         self.late = with_late(self.late, self.has_resume, number, &rec);
         self.has_resume = with_resume(self.has_resume, &rec);

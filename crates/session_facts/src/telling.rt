@@ -1,16 +1,18 @@
 //! What a recording lacks by its records, told before it is written.
 
-ghost use Rattle.std.specs.Prelude.{◌<◌, ⊤, OnOk};
+ghost use Rattle.std.specs.Prelude.{◌≡◌, ◌<◌, ⊤, OnOk};
+ghost use Rattle.migration_types.specs.Sessions.{Recorded};
 ghost use Rattle.recorded_files.specs.Fronts.{cursors_of};
-ghost use Rattle.session_facts.specs.Facts.{SomeIn};
+ghost use Rattle.session_facts.specs.Facts.{IsFacts, SomeIn};
+ghost use Rattle.session_facts.specs.Unresumed.{NeverUnresumed};
 ghost use Rattle.session_words.specs.Telling.{SaysUnless};
 
 use crate::facts::Facts;
-use command_texts::TextSource;
 use migration_types::LogName;
 use recorded_files::{Front, Party};
 use session_words::{Stop, line_on, push, push_message, push_place};
 use std::alloc::{AllocError, Global};
+use text_access::TextSource;
 
 /// Adds what is said of a guest that runs after its halt without a resume.
 pub fn tell_unresumed<S: TextSource>(
@@ -20,7 +22,9 @@ pub fn tell_unresumed<S: TextSource>(
     paths: &[String],
     facts: &Facts,
 ) -> Result<(), Stop>
-    ensures { OnOk result (SaysUnless said.old.items said.new.items ⊤) }
+    ensures unless { OnOk result (SaysUnless said.old.items said.new.items ⊤) }
+    ensures told { OnOk result ((s : Recorded) → IsFacts facts.now s → SaysUnless said.old.items said.new.items (NeverUnresumed s.guest)) }
+    ensures silent { OnOk result ((s : Recorded) → IsFacts facts.now s → NeverUnresumed s.guest → said.new.items ≡ said.old.items) }
 {
     let Some(halt) = facts.unresumed() else {
         return Ok(());

@@ -1,2 +1,3 @@
+pub mod Extended
 pub mod Opened
 pub mod Pushed

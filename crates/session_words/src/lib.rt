@@ -1,7 +1,7 @@
-//! What `session` tells of the files of recorders: the lines of its messages, where a record stands, and why a text is none.
+//! What `session` tells of the files of recorders: the lines of its messages, where a record stands, and why a line is none of a
+//! recorder's file.
 #![tactic(auto)]
 
-mod fields;
 mod lines;
 mod machine_words;
 mod places;
@@ -9,10 +9,10 @@ mod stops;
 mod system_errors;
 mod words;
 
-pub use fields::record_words;
-pub use lines::{FIRST_RECORD, line_words};
+pub use lines::{FIRST_RECORD, line_words, no_record_words};
 pub use machine_words::{
-    push_other_contents, push_outside, push_page_twice, push_two_pages, push_wrong_record,
+    push_no_page, push_other_cells, push_other_contents, push_outside, push_page_twice,
+    push_two_pages, push_wrong_record,
 };
 pub use places::{
     FoundRecord, changed_file, find_in, find_record, find_record_from, line_of, open_file,

@@ -3,9 +3,9 @@
 use crate::places::line_of;
 use crate::stops::Stop;
 use crate::words::{Piece, sentence};
-use command_texts::TextSource;
 use recorded_files::{Last, Party, read_numbered};
 use std::alloc::{AllocError, Global};
+use text_access::TextSource;
 
 /// The line of a file's first record.
 pub const FIRST_RECORD: u64 = 4;
@@ -34,8 +34,8 @@ fn head_words<'a>(
     )
 }
 
-/// Returns the words on a line that is no record.
-pub(crate) fn no_record_words<'a>(
+/// Returns the words on a line of a file, counted from 1, that is no record.
+pub fn no_record_words<'a>(
     alloc: Global,
     path: &'a str,
     line: u64,

@@ -3,15 +3,15 @@
 use crate::places::{FoundRecord, find_record, push_place, push_placed};
 use crate::stops::Stop;
 use crate::words::{Piece, push, push_sentence, word_at};
-use command_texts::TextSource;
 use migration_types::MOST_CELLS;
 use recorded_files::Party;
 use session_grammar::PAGES_KEY;
 use std::alloc::{AllocError, Global};
+use text_access::TextSource;
 use text_lines::{after_key, number_then, read_decimal};
 
-/// Appends that there is no such page.
-pub(crate) fn push_no_page(
+/// Appends that the machine has no page of this number, and how many pages it has.
+pub fn push_no_page(
     out: &mut Vec<u8>,
     alloc: Global,
     page: u64,
@@ -25,8 +25,8 @@ pub(crate) fn push_no_page(
     )
 }
 
-/// Appends that contents have another number of cells than a page.
-pub(crate) fn push_other_cells(
+/// Appends how many cells contents have, where a page of the machine has another number of them.
+pub fn push_other_cells(
     out: &mut Vec<u8>,
     alloc: Global,
     found: u64,

@@ -6,10 +6,10 @@ ghost use Rattle.recorded_files.specs.Said.{CameTo};
 use crate::lines::FIRST_RECORD;
 use crate::stops::{NOT_READ, NOT_THE_SAME, Stop, add, unread};
 use crate::words::{Piece, push_sentence};
-use command_texts::TextSource;
 use recorded_files::{FileFault, FileReader, Party};
 use std::alloc::{AllocError, Global};
 use std::io::Read;
+use text_access::TextSource;
 use text_lines::next_line;
 
 /// How many bytes are read at a time.

@@ -2,10 +2,10 @@
 
 ghost use Rattle.std.specs.Prelude.{◌≡◌, ◌∷◌, ◌++◌, [], OnOk};
 
-use command_texts::cause_of;
 use std::alloc::AllocError;
 use std::io;
 use std::io::ErrorKind;
+use text_access::cause_of;
 
 /// Why no session is made.
 #[derive(Drop)]

@@ -1,6 +1,7 @@
 //! The words of messages.
 
 ghost use Rattle.std.specs.Prelude.{◌≢◌, [], OnOk};
+ghost use Rattle.session_words.specs.Telling.{Extends};
 
 use crate::stops::add;
 use recorded_files::Party;
@@ -68,7 +69,10 @@ fn hex_digit(number: u8) -> u8 {
 }
 
 /// Appends a byte as an escape of two hexadecimal digits.
-fn push_escape(out: &mut Vec<u8>, byte: u8) -> Result<(), AllocError> {
+#[tactic(auto, using(crate::proofs::Extended::ok_extends))]
+fn push_escape(out: &mut Vec<u8>, byte: u8) -> Result<(), AllocError>
+    ensures { OnOk result (Extends out.old.items out.new.items) }
+{
     out.extend_from_slice(&[b'\\', b'x', hex_digit(byte / 16), hex_digit(byte % 16)])
 }
 
@@ -83,7 +87,10 @@ fn escape_letter(byte: u8) -> Option<u8> {
 }
 
 /// Appends a byte, as an escape if it is not printed.
-fn push_printed(out: &mut Vec<u8>, byte: u8) -> Result<(), AllocError> {
+#[tactic(auto, using(crate::proofs::Extended::ok_extends))]
+fn push_printed(out: &mut Vec<u8>, byte: u8) -> Result<(), AllocError>
+    ensures { OnOk result (Extends out.old.items out.new.items) }
+{
     match escape_letter(byte) {
         Some(letter) => out.extend_from_slice(&[b'\\', letter]),
         None => {
@@ -96,33 +103,50 @@ fn push_printed(out: &mut Vec<u8>, byte: u8) -> Result<(), AllocError> {
     }
 }
 
+/// Appends the first byte of a character from U+0080 on, if it is held.
+#[tactic(auto, using(crate::proofs::Extended::ok_extends, crate::proofs::Extended::extends_same))]
+fn push_held(out: &mut Vec<u8>, is_held: bool) -> Result<(), AllocError>
+    ensures { OnOk result (Extends out.old.items out.new.items) }
+{
+    if is_held {
+        add(out, CONTROL_LEAD)
+    } else {
+        Ok(())
+    }
+}
+
+/// Appends the next byte of a text, behind the one that is held, if one is. Returns whether this byte is held now.
+fn push_next(out: &mut Vec<u8>, is_held: bool, byte: u8) -> Result<bool, AllocError>
+    ensures { OnOk result (Extends out.old.items out.new.items) }
+{
+    if is_held && byte >= 0x80 && byte <= 0x9f {
+        push_escape(out, byte)?;
+        return Ok(false);
+    }
+    push_held(out, is_held)?;
+    if byte == CONTROL_LEAD {
+        return Ok(true);
+    }
+    push_printed(out, byte)?;
+    Ok(false)
+}
+
 /// Appends a text of UTF-8. Control characters are escaped: U+0000 to U+001F, and U+007F to U+009F, of which those from
 /// U+0080 on have two bytes.
-fn push_text(out: &mut Vec<u8>, text: &[u8]) -> Result<(), AllocError> {
+fn push_text(out: &mut Vec<u8>, text: &[u8]) -> Result<(), AllocError>
+    ensures { OnOk result (Extends out.old.items out.new.items) }
+{
     let mut is_held = false;
     for byte in text {
-        if is_held && *byte >= 0x80 && *byte <= 0x9f {
-            push_escape(out, *byte)?;
-            is_held = false;
-            continue;
-        }
-        if is_held {
-            add(out, CONTROL_LEAD)?;
-        }
-        is_held = *byte == CONTROL_LEAD;
-        if !is_held {
-            push_printed(out, *byte)?;
-        }
+        is_held = push_next(out, is_held, *byte)?;
     }
-    if is_held {
-        add(out, CONTROL_LEAD)?;
-    }
-    Ok(())
+    push_held(out, is_held)
 }
 
 /// Appends a line of a message. Control characters, as in a file's name, are escaped.
 pub fn push_message(out: &mut Vec<u8>, line: &[u8]) -> Result<(), AllocError>
-    ensures { OnOk result (out.new.items ≢ []) }
+    ensures some { OnOk result (out.new.items ≢ []) }
+    ensures front { OnOk result (Extends out.old.items out.new.items) }
 {
     out.extend_from_slice(NAME)?;
     push_text(out, line)?;

@@ -1,10 +1,4 @@
-pub mod Contents
 pub mod Dots
 pub mod Gaps
 pub mod Parting
 pub mod Reading
-pub mod Rising
-pub mod Sizes
-pub mod Ties
-pub mod Toldpages
-pub mod Yielding

@@ -1,6 +1,4 @@
 pub mod Lacks
-pub mod Machine
 pub mod Names
 pub mod Parts
 pub mod Surveys
-pub mod inner

@@ -9,7 +9,7 @@ use Rattle.command_texts.specs.declared.answer.Answer.{Answer}
 use Rattle.command_texts.specs.declared.answer.Fault.{Fault}
 use Rattle.command_texts.specs.Answers.{IsOutputFault, IsReadFault, IsTextFault, Says}
 use Rattle.command_texts.specs.Reasons.{Place, TellsWhy, place_of, told_place}
-use Rattle.command_texts.specs.Written.{AppendsFront}
+use Rattle.text_access.specs.Written.{AppendsFront}
 use Rattle.command_texts.specs.declared.why.Telling.TheVariants.{Short}
 use Rattle.command_texts.specs.declared.why.Why.{Why}
 use Rattle.command_texts.proofs.Endings.{not_read, not_written, output_fault, text_fault, written_whole}

@@ -12,7 +12,7 @@ use Rattle.command_texts.specs.Answers.{IsAnswer, IsTextFault, numbered}
 use Rattle.command_texts.specs.Reasons.{IsRefusedAt, TellsWhyOf}
 use Rattle.command_texts.specs.declared.why.Telling.TheVariants.{Short}
 use Rattle.command_texts.specs.Told.{Ends}
-use Rattle.command_texts.specs.Written.{Streams}
+use Rattle.text_access.specs.Written.{Streams}
 
 -- the text is refused at this line; or its machine does not have these pages; or this is their session, and each of its
 -- lines is this line of the recording

@@ -3,7 +3,7 @@
 ghost use Rattle.std.specs.Prelude.{◌≡◌, ◌≢◌, ◌<◌, ℕ, Bool, List, Ok, Some, None, true, false, IfOk, IfErr, IfSome, MatchOption, codes, option_map};
 ghost use Rattle.command_texts.specs.Answers.{IsReadFault, Says, numbered};
 ghost use Rattle.command_texts.specs.Reasons.{IsRefusedAt, place_of, told_place};
-ghost use Rattle.command_texts.specs.Written.{BothGain};
+ghost use Rattle.text_access.specs.Written.{BothGain};
 ghost use Rattle.recordings.specs.Recordings.{SpellsRecording};
 ghost use Rattle.window_cut.specs.Cuts.{IsTold, OfRead};
 ghost use Rattle.window_cut.specs.declared.pages.Window.{Window as Pages};
@@ -14,13 +14,14 @@ ghost use Rattle.window_commands.specs.inner.Answered.{HasTable, IsAnswered, IsA
 use crate::push_table;
 use crate::wanting::misread_of;
 use command_texts::{
-    ACCEPTED, Answer, Console, Fault, NOT_THE_SAME, NOT_WHOLE, REFUSED, Telling, TextSource, Why,
-    given, opened, remark, tell_why, written,
+    ACCEPTED, Answer, Console, Fault, REFUSED, Telling, Why, given, opened, remark, tell_why,
+    written,
 };
 use recordings::{RecordingFault, RefusedLine};
 use refusal_words::Refused;
 use std::alloc::{AllocError, Global};
 use std::io::Write;
+use text_access::{NOT_THE_SAME, NOT_WHOLE, TextSource};
 use text_lines::push_keyed;
 use window_cut::{CutFault, Window, WindowText, cut};
 

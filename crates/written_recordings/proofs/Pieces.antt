@@ -2,8 +2,8 @@
 use Rattle.std.proofs.Common.{◌≡◌, ℕ, zero, suc, length, drop, ◌+◌, ◌<◌, take, add-zero, arith, List, [], ◌++◌, Option, Some, None, refl, sym, ap, subst, ◌∙◌}
 use Rattle.std.proofs.lemmas.List.{append-nil, take-append-drop}
 use Rattle.std.proofs.Math.Seq.{take-length, take-append_seam}
-use Rattle.command_texts.specs.Written.{Gains}
-use Rattle.command_texts.proofs.Fronts.{both_gain}
+use Rattle.text_access.specs.Written.{Gains}
+use Rattle.text_access.proofs.Fronts.{both_gain}
 use Rattle.std.specs.Prelude.{Result, Ok, Err, OnOk, IsOk, false}
 use Rattle.std.specs.Option.{is_some}
 use Rattle.std.specs.Io.KnownBytes.{Appends}

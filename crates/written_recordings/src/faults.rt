@@ -1,6 +1,6 @@
 //! Why the text of a recording is not written.
 
-use command_texts::Cause;
+use text_access::Cause;
 
 /// Why the text of a recording is not written. `F` is why a recording is not gone through.
 #[derive(Drop)]

@@ -2,12 +2,11 @@
 
 ghost use Rattle.std.specs.Prelude.{◌≡◌, ℕ, ◌≤◌, [], List, OnOk};
 ghost use Rattle.std.specs.Io.KnownBytes.{Appends};
-ghost use Rattle.command_texts.specs.Written.{Gains};
+ghost use Rattle.text_access.specs.Written.{Gains};
 ghost use Rattle.recordings.specs.Wide.{init_of, guest_of, source_of, link_of, lane_of, pager_of};
 ghost use Rattle.recordings.specs.inner.Held.{SessionDraft};
 
 use crate::faults::PushFault;
-use command_texts::{Cause, write_or_why};
 use migration_types::Version;
 use recorded_files::Front;
 use recordings::{WideGuest, WideInit, WideLane, WideLink, WideMachine, WidePager, WideSource};
@@ -17,6 +16,7 @@ use session_grammar::{
 };
 use std::alloc::{AllocError, Global};
 use std::io::Write;
+use text_access::{Cause, write_or_why};
 use text_lines::{CLOSING, push_keyed, push_line};
 
 /// A counted list of lines in the text.

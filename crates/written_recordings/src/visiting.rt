@@ -4,7 +4,7 @@ ghost use Rattle.std.specs.Prelude.{◌≡◌, ℕ, List, [], length, Option, No
 ghost use Rattle.std.specs.Io.KnownBytes.{Appends};
 ghost use Rattle.std.proofs.Props.{props};
 ghost use Rattle.migration_types.specs.Sessions.{Recorded};
-ghost use Rattle.command_texts.specs.Written.{Gains};
+ghost use Rattle.text_access.specs.Written.{Gains};
 ghost use Rattle.recordings.specs.inner.Held.{SessionDraft};
 ghost use Rattle.written_recordings.specs.Written.{text_of, HasRecords};
 ghost use Rattle.written_recordings.specs.inner.Made.{Holds, IsKept, IsSame, Meets};

@@ -1,7 +1,7 @@
 //! Writing the text of a whole recording.
 
 ghost use Rattle.std.specs.Prelude.{◌≡◌, None, OnOk};
-ghost use Rattle.command_texts.specs.Written.{Gains};
+ghost use Rattle.text_access.specs.Written.{Gains};
 ghost use Rattle.written_recordings.specs.Written.{Writes};
 ghost use Rattle.written_recordings.specs.inner.Made.{IsKept, IsNothing};
 

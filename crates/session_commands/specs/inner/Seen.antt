@@ -1,26 +1,17 @@
 -- What is known of a recording before its text is written.
-use Rattle.std.specs.Prelude.{◌≡◌, ℕ, Bool, List, [], Option, IsTrue, ⊤}
+use Rattle.std.specs.Prelude.{◌≡◌, ℕ, List, [], Option, ⊤}
 use Rattle.migration_types.specs.Sessions.{Recorded}
 use Rattle.recordings.specs.declared.machine.WideMachine.{WideMachine}
-use Rattle.walked_logs.specs.Walks.{Bytes, HasNoHole, IsRecordingOf}
-use Rattle.session_facts.specs.Facts.{IsFacts}
+use Rattle.walked_logs.specs.Walks.{Bytes, IsRecordingOf}
 use Rattle.session_facts.specs.Written.{IsWrittenFront}
 use Rattle.session_commands.specs.Files.{IsChosen, IsFormOf, LeavesNothing, LosesNothing}
 use Rattle.session_words.specs.Telling.{SaysUnless}
 use Rattle.session_words.specs.declared.stops.Stop.{Stop}
 use Rattle.session_words.specs.declared.stops.Stop.TheVariants.{Unfit}
-use Rattle.session_facts.specs.declared.facts.Facts.{Facts}
 use Rattle.found_logs.specs.declared.found.FoundLog.{FoundLog}
 use Rattle.found_logs.specs.declared.found.FoundLogs.{FoundLogs}
 use Rattle.session_commands.specs.declared.making.Known.{Known}
 use Rattle.session_commands.specs.declared.making.Form.{Form}
-
--- the files tell a recording of which this was collected; and whether no log has a hole
-pub record HasFacts (machine : WideMachine) (bytes : Bytes) (facts : Facts) (has_all : Bool) : Type 0 where
-  pub s : Recorded
-  pub made : IsRecordingOf machine [] bytes s
-  pub collected : IsFacts facts s
-  pub all : IsTrue has_all → HasNoHole made
 
 -- what is written of the recording that the files tell; and where nothing is said of what is lacking, nothing is left out
 pub record HasSeen (machine : WideMachine) (bytes : Bytes) (lane : FoundLog) (said_before said : List ℕ) (seen : Form) : Type 0 where

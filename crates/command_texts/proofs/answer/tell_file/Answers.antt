@@ -1,7 +1,7 @@
 use Rattle.std.proofs.Common.{◌≡◌, true}
 use Rattle.command_texts.specs.Answers.{file_line}
 use Rattle.command_texts.specs.Shown.{line_on}
-use Rattle.command_texts.proofs.Fronts.{front_before, front_behind}
+use Rattle.text_access.proofs.Fronts.{front_before, front_behind}
 use Rattle.command_texts.proofs.answer.tell_file.Goals as goal
 
 pub returns-then-write_file_line : goal.returns-then-write_file_line

@@ -1,6 +1,6 @@
 use Rattle.std.proofs.Common.{◌≡◌, codes, true}
 use Rattle.command_texts.specs.Shown.{line_on}
-use Rattle.command_texts.proofs.Fronts.{front_before, front_behind}
+use Rattle.text_access.proofs.Fronts.{front_before, front_behind}
 use Rattle.command_texts.proofs.answer.tell_output.Goals as goal
 
 pub returns-then-write_whole : goal.returns-then-write_whole

@@ -1,7 +1,7 @@
 use Rattle.std.proofs.Common.{◌≡◌, codes, ◌++◌, true}
 use Rattle.std.proofs.KnownBytes.{Appends-trans}
 use Rattle.command_texts.specs.Shown.{shown}
-use Rattle.command_texts.proofs.Fronts.{front_before, front_behind}
+use Rattle.text_access.proofs.Fronts.{front_before, front_behind}
 use Rattle.command_texts.proofs.answer.write_file_line.Goals as goal
 
 pub returns-then-not-write_whole-clause-front : goal.returns-then-not-write_whole-clause-front

@@ -2,8 +2,8 @@ use Rattle.std.proofs.Common.{◌∙◌, ℕ, List, [], arith, inl, refl}
 use Rattle.std.proofs.lemmas.Result.{err_from_is_err_and}
 use Rattle.std.specs.Borrow.{Bor}
 use Rattle.command_texts.specs.Several.{style_of}
-use Rattle.command_texts.specs.Written.{Streams}
-use Rattle.command_texts.proofs.Fronts.{both_gain, same_gains}
+use Rattle.text_access.specs.Written.{Streams}
+use Rattle.text_access.proofs.Fronts.{both_gain, same_gains}
 use Rattle.command_texts.proofs.Listed.{all_listed, greater_known, next_listed, none_listed, one_unread, stops_there}
 use Rattle.command_texts.proofs.several.list_each.Goals as goal
 

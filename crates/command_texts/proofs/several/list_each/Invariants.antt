@@ -1,7 +1,8 @@
 use Rattle.std.proofs.Common.{◌≡◌, ◌≤◌, take}
 use Rattle.command_texts.specs.Fields.{IsAnswerTold}
-use Rattle.command_texts.specs.Several.{AreListed, IsListStatus, TellsOneUnread, names_of, style_of}
-use Rattle.command_texts.specs.Written.{BothGain}
+use Rattle.command_texts.specs.Several.{AreListed, IsListStatus, TellsOneUnread, style_of}
+use Rattle.text_access.specs.Names.{names_of}
+use Rattle.text_access.specs.Written.{BothGain}
 use Rattle.command_texts.proofs.several.list_each.Given as goal
 
 abbrev pub invariant-loop-name : goal.invariant-loop-name

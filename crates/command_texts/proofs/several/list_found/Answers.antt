@@ -6,9 +6,10 @@ use Rattle.command_texts.specs.declared.why.Telling.TheVariants.{Short}
 use Rattle.command_texts.specs.Answers.{Says}
 use Rattle.command_texts.specs.Reasons.{IsNote, Place, TellsWhy}
 use Rattle.command_texts.specs.Several.{listed_as, style_of}
-use Rattle.command_texts.specs.Written.{MayTell}
+use Rattle.text_access.specs.Written.{MayTell}
 use Rattle.command_texts.proofs.Endings.{output_stops}
-use Rattle.command_texts.proofs.Fronts.{both_gain, front_gains, note_told, same_gains, told_gains, why_gains}
+use Rattle.command_texts.proofs.Beside.{note_told, why_gains}
+use Rattle.text_access.proofs.Fronts.{both_gain, front_gains, same_gains, told_gains}
 use Rattle.command_texts.proofs.Objects.{answer_told, some_place}
 use Rattle.command_texts.proofs.several.list_found.Goals as goal
 

@@ -1,5 +1,5 @@
 use Rattle.command_texts.specs.Several.{style_of}
-use Rattle.command_texts.proofs.Fronts.{same_gains}
+use Rattle.text_access.proofs.Fronts.{same_gains}
 use Rattle.command_texts.proofs.Listed.{few_listed, few_read, named_anyhow, unread_known, unread_listed, unread_there}
 use Rattle.command_texts.proofs.several.list_one.Goals as goal
 

@@ -1,4 +1,4 @@
-use Rattle.command_texts.proofs.Fronts.{front_gains}
+use Rattle.text_access.proofs.Fronts.{front_gains}
 use Rattle.command_texts.proofs.several.list_unread.Goals as goal
 
 pub returns-in-File-clause-told : goal.returns-in-File-clause-told

@@ -1,8 +1,9 @@
 use Rattle.std.proofs.Common.{◌≡◌, ℕ, List, sym}
 use Rattle.std.proofs.lemmas.List.{length-map}
 use Rattle.std.specs.Borrow.{Bor}
-use Rattle.command_texts.specs.Several.{IsListStatus, TellsOneUnread, names_of, style_of}
-use Rattle.command_texts.proofs.Fronts.{both_gain}
+use Rattle.command_texts.specs.Several.{IsListStatus, TellsOneUnread, style_of}
+use Rattle.text_access.specs.Names.{names_of}
+use Rattle.text_access.proofs.Fronts.{both_gain}
 use Rattle.command_texts.proofs.Listed.{same_status, several_ends}
 use Rattle.command_texts.proofs.several.perform_several.Goals as goal
 

@@ -1,5 +1,5 @@
 use Rattle.command_texts.proofs.Endings.{outputs_stop}
-use Rattle.command_texts.proofs.Fronts.{front_gains, same_gains}
+use Rattle.text_access.proofs.Fronts.{front_gains, same_gains}
 use Rattle.command_texts.proofs.several.write_end.Goals as goal
 
 pub returns-clause-stop : goal.returns-clause-stop

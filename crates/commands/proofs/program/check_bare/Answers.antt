@@ -1,4 +1,4 @@
-use Rattle.command_texts.proofs.Fronts.{both_gain}
+use Rattle.text_access.proofs.Fronts.{both_gain}
 use Rattle.commands.specs.Told.{EndsBare}
 use Rattle.commands.proofs.Settled.{known, settled, told_at_last}
 use Rattle.commands.proofs.program.check_bare.Goals as goal

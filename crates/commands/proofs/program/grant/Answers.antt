@@ -1,11 +1,12 @@
-use Rattle.std.proofs.Common.{◌≡◌, ℕ, List, None, Ok, subst}
+use Rattle.std.proofs.Common.{◌≡◌, List, Ok, subst}
 use Rattle.std.specs.Borrow.{Bor}
 use Rattle.std.specs.Io.KnownBytes.{Keeps}
 use Rattle.clap.specs.Words.{Text}
 use Rattle.command_words.specs.Table.{asked_names, several_names}
-use Rattle.command_texts.specs.Several.{IsListStatus, names_of}
-use Rattle.command_texts.specs.Written.{Streams}
-use Rattle.command_texts.proofs.Fronts.{both_gain}
+use Rattle.command_texts.specs.Several.{IsListStatus}
+use Rattle.text_access.specs.Names.{names_of}
+use Rattle.text_access.specs.Written.{Streams}
+use Rattle.text_access.proofs.Fronts.{both_gain}
 use Rattle.commands.specs.Told.{EndsAsked, EndsSeveral, HasLines}
 use Rattle.commands.proofs.Settled.{kept_lines, known, known_list, settled, settled_as, told_at_last, told_of_list, unmade, well_lines}
 use Rattle.session_commands.specs.Texts.{WritesSession}

@@ -1,6 +1,6 @@
-use Rattle.std.proofs.Common.{◌≡◌, ◌∙◌, ◌<◌, ℕ, Bool, List, Some, None, inl, sym, ap, subst, arith, option_and_then}
+use Rattle.std.proofs.Common.{◌≡◌, ◌∙◌, List, Some, None, sym, ap, option_and_then}
 use Rattle.std.specs.Io.KnownBytes.{Keeps}
-use Rattle.clap.specs.Words.{Text, kind_of}
+use Rattle.clap.specs.Words.{Text}
 use Rattle.command_words.specs.declared.requests.Request.{Request}
 use Rattle.command_words.specs.declared.requests.Request.TheVariants.{Two}
 use Rattle.command_words.specs.declared.requests.TwoTexts.TheVariants.{Check}
@@ -8,7 +8,7 @@ use Rattle.command_words.specs.declared.requests.Lacking.{Lacking}
 use Rattle.command_words.specs.declared.requests.Lists.{Lists}
 use Rattle.session_commands.specs.Texts.{WritesSession}
 use Rattle.command_words.specs.Table.{folders_of, job_of, plain, several_of}
-use Rattle.command_words.specs.Words.{asked, asked_by, clashing, folders_asked, several_asked}
+use Rattle.command_words.specs.Words.{asked, asked_by, folders_asked, several_asked}
 use Rattle.command_words.proofs.Clashes.{asked_alike, folders_asked_alike, several_asked_alike}
 use Rattle.command_words.proofs.Plain.{taken_plain}
 use Rattle.commands.specs.Told.{EndsAsked, EndsSeveral, HasLines, IsSettled, IsSettledList}

@@ -1,5 +1,5 @@
 use Rattle.std.proofs.Common.{rules}
-use Rattle.command_texts.proofs.Fronts.{front_gains}
+use Rattle.text_access.proofs.Fronts.{front_gains}
 use Rattle.commands.proofs.Settled.{unshown}
 use Rattle.commands.proofs.program.tell_words.Goals as goal
 

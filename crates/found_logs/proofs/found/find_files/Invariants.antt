@@ -1,5 +1,5 @@
 use Rattle.std.proofs.Common.{take}
-use Rattle.command_texts.specs.Several.{names_of}
+use Rattle.text_access.specs.Names.{names_of}
 use Rattle.found_logs.specs.inner.Finding.{AreFound}
 use Rattle.found_logs.proofs.found.find_files.Given as goal
 

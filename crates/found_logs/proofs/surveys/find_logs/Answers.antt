@@ -1,5 +1,5 @@
 use Rattle.std.proofs.lemmas.Result.{IfOk-weaker}
-use Rattle.command_texts.specs.Several.{names_of}
+use Rattle.text_access.specs.Names.{names_of}
 use Rattle.found_logs.proofs.surveys.find_logs.Goals as goal
 
 pub returns : goal.returns

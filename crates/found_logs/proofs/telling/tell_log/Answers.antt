@@ -5,7 +5,7 @@ use Rattle.found_logs.proofs.telling.tell_log.Goals as goal
 pub returns-then-branch-count : goal.returns-then-branch-count
 returns-then-branch-count g c = λ none.
     let h = c.in_ok-count.ensures none in
-    let same : c.in_ok-count.count ≡ records_in c.args.log.now = omega (arith, c.if-branch-count.true, c.in_ok-records-in-None.ensures) in
+    let same : c.in_ok-count.count ≡ records_in c.args.log.now = omega (arith, c.if-branch-count.true, c.in_ok-records-in-None.ensures.counted) in
     (h.0, (subst (λ (n : ℕ). LacksNothing c.args.log.now n) same h.1, c.in-None.is))
 
 pub returns : goal.returns

@@ -1,4 +1,4 @@
-use Rattle.command_texts.proofs.Fronts.{both_gain}
+use Rattle.text_access.proofs.Fronts.{both_gain}
 use Rattle.session_commands.proofs.Gained.{unread_later}
 use Rattle.session_commands.proofs.making.perform_session.Goals as goal
 

@@ -5,5 +5,5 @@ pub returns : goal.returns
 returns g c = λ s naming none.
     let empty = c.in_ok-tell_empty.ensures none in
     let left = c.in_ok-tell_left_out.ensures s naming empty.0 in
-    let before = c.in_ok-tell_unresumed.ensures left.0 in
+    let before = c.in_ok-tell_unresumed.ensures.unless left.0 in
     (before.0, (left.1, λ log other. subst (λ (n : ℕ). 0 < n) (c.counts.ensures s naming log) (empty.1 log other)))

@@ -5,4 +5,4 @@ pub returns-then-count-eq0 : goal.returns-then-count-eq0
 returns-then-count-eq0 g c = λ s naming none. (none, omega (arith, c.left_out-count.ensures, c.if-count-eq0.true, c.counts-counts.ensures s naming c.args.log))
 
 pub returns : goal.returns
-returns g c = λ s naming none. absurd (c.in_ok-push_message.ensures none)
+returns g c = λ s naming none. absurd (c.in_ok-push_message.ensures.some none)

@@ -1,7 +1,7 @@
 use Rattle.std.proofs.Common.{◌≡◌, false, sym, ◌∙◌}
 use Rattle.std.specs.List.{list_any}
 use Rattle.recordings.specs.Wide.{guest_of}
-use Rattle.session_facts.specs.Written.{is_release, is_resume}
+use Rattle.audit_model.specs.Shape.{is_release, is_resume}
 use Rattle.session_facts.proofs.Late.{first_now, none_yet}
 use Rattle.session_facts.proofs.facts.first_late.Goals as goal
 

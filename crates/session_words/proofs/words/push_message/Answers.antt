@@ -1,6 +1,10 @@
 use Rattle.std.proofs.Common.{◌∙◌, sym}
+use Rattle.session_words.proofs.Extended.{extends_more}
 use Rattle.session_words.proofs.Pushed.{not_empty}
 use Rattle.session_words.proofs.words.push_message.Goals as goal
 
-pub returns : goal.returns
-returns c = λ none. not_empty _ _ (sym c.in_ok-add.ensures ∙ none)
+pub returns-clause-some : goal.returns-clause-some
+returns-clause-some c = λ none. not_empty _ _ (sym c.in_ok-add.ensures ∙ none)
+
+pub returns-clause-front : goal.returns-clause-front
+returns-clause-front c = extends_more _ _ _ (extends_more _ _ _ (_, c.in_ok-extend_from_slice.ensures.items) c.in_ok-push_text.ensures) (_, c.in_ok-add.ensures)

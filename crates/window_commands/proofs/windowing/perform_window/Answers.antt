@@ -1,7 +1,8 @@
 use Rattle.std.proofs.Common.{◌≡◌, ◌∙◌, ℕ, Bool, Ok, sym, ap, subst}
 use Rattle.std.proofs.lemmas.Result.{err_from_is_err_and}
 use Rattle.command_texts.specs.declared.why.Telling.TheVariants.{Short}
-use Rattle.command_texts.proofs.Fronts.{front_gains, same_gains, why_gains}
+use Rattle.command_texts.proofs.Beside.{why_gains}
+use Rattle.text_access.proofs.Fronts.{front_gains, same_gains}
 use Rattle.window_commands.proofs.Told.{TellsOf, few_written, lines_kept, lines_told, lines_unasked, window_unread, window_unwritten, window_written}
 use Rattle.window_commands.proofs.windowing.perform_window.Goals as goal
 

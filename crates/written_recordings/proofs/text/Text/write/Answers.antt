@@ -1,4 +1,4 @@
-use Rattle.command_texts.proofs.Fronts.{front_gains}
+use Rattle.text_access.proofs.Fronts.{front_gains}
 use Rattle.written_recordings.proofs.text.Text.write.Goals as goal
 
 pub returns-clause-gains : goal.returns-clause-gains

@@ -1,0 +1,7 @@
+pub mod Contents
+pub mod Entries
+pub mod Rising
+pub mod Sizes
+pub mod Ties
+pub mod Toldpages
+pub mod Yielding

@@ -1,0 +1,33 @@
+use Rattle.std.proofs.Common.{rules, take}
+use Rattle.std.proofs.KnownBytes.{Appends-kept, Appends-nil}
+use Rattle.text_access.proofs.Fronts.{failed, some_more, some_of}
+use Rattle.text_access.proofs.writing.write_or_why.Goals.{in-Ok, in-Err+else-ne}
+use Rattle.text_access.proofs.writing.write_or_why.Goals as goal
+
+pub loop-init : goal.loop-init
+loop-init g c = record { within = search rules; written = Appends-nil _ }
+
+pub loop-preserved : goal.loop-preserved
+loop-preserved g c =
+    let i = c.loop.invariant in
+    let contents = g.W.Write.contents in
+    let bytes = c.args.bytes.now in
+    elim c.match-write.branch [
+      | in-Ok w ↦ record {
+        within = rw w.count-is (search rules);
+        written = rw w.count-is (some_more (contents c.args.output.now) (contents c.loop.output) (contents c.write.new.self) c.loop.count w.in-Ok.more bytes i.written w.in-Ok.ensures.bytes);
+      }
+      | in-Err+else-ne w ↦ record {
+        within = rw w.count-is (search rules);
+        written = rw w.count-is (Appends-kept (contents c.args.output.now) (contents c.loop.output) (contents c.write.new.self) (take c.loop.count bytes) i.written w.in-Err.ensures.bytes);
+      }
+    ]
+
+pub returns-in-Ok-eq0-clause-front : goal.returns-in-Ok-eq0-clause-front
+returns-in-Ok-eq0-clause-front g c = some_of _ _ _ c.args.bytes.now (some_more _ _ _ c.loop.count c.in-Ok-eq0.field-0 c.args.bytes.now c.loop.invariant.written c.in-Ok-eq0.ensures.bytes)
+
+pub returns-then-ne-clause-front : goal.returns-then-ne-clause-front
+returns-then-ne-clause-front g c = failed _ _ _ c.loop.count c.args.bytes.now c.loop.invariant.written c.in-Err.ensures.bytes
+
+pub returns-clause-front : goal.returns-clause-front
+returns-clause-front g c = some_of _ _ c.loop.count c.args.bytes.now c.loop.invariant.written
