@@ -74,11 +74,15 @@ fn mark<R: Read, W: Way>(
     let mut marking = Marking::<W>::new(alloc, window, known);
     match walk_or_why(alloc, reader, &mut marking, why) {
         Ok(()) => {}
-        Err(fault) => return Err(CutFault::Recording(fault)),
+        Err(fault) => {
+            drop(marking);
+            return Err(CutFault::Recording(fault));
+        }
     }
     if window.is_of(marking.found.machine.pages) {
-        Ok(marking.found)
+        Ok(marking.into_found())
     } else {
+        drop(marking);
         Err(CutFault::Outside)
     }
 }
@@ -97,7 +101,14 @@ fn write<R: Read, W: Way>(
 {
     let mut writing = Writing::<W>::new(alloc, window, known);
     match walk(alloc, reader, &mut writing) {
-        Ok(()) => writing.window_text(alloc, window),
-        Err(fault) => Err(CutFault::Recording(fault)),
+        Ok(()) => {
+            let out = writing.window_text(alloc, window);
+            drop(writing);
+            out
+        }
+        Err(fault) => {
+            drop(writing);
+            Err(CutFault::Recording(fault))
+        }
     }
 }

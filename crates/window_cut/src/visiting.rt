@@ -49,6 +49,14 @@ impl<W> Marking<W> {
             of: PhantomData,
         }
     }
+
+    /// Returns the marks that it found.
+    pub(crate) fn into_found(self) -> Marks
+        ensures { result ≡ self.found }
+    {
+        drop(self.guide);
+        self.found
+    }
 }
 
 impl<W: Way> Visitor for Marking<W> {
