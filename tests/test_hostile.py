@@ -24,7 +24,7 @@ from typing import NamedTuple
 import pytest
 from cases import right
 from check_model import Session, run_not_walked, verdict
-from expected_words import place_of, texts_of
+from expected_words import place_of, texts_beyond, texts_of
 from report_model import first_line
 from session_text import logs_of
 from steps_model import recorded
@@ -261,8 +261,8 @@ expected_before = set()
 
 
 def misled(kind, text, line, words, errors):
-    """What the words on a text that is refused tell as expected though it is refused there as well, or None. Of each that is
-    expected at a line this looks once."""
+    """What the words on a text that is refused tell as expected though it is refused there as well, or do not tell though it is taken,
+    or None. Of each that is expected at a line this looks once."""
     said, begun = errors.decode(), text.partition(b"\n")[0]
     told = (kind, begun, line, said.rpartition("; expected ")[2])
     if told in expected_before:
@@ -273,6 +273,10 @@ def misled(kind, text, line, words, errors):
         again = runner.ran(words, changed).errors.decode() if refusal_line(kind, changed) == line else LINE_FEED
         if LINE_FEED not in again and place_of(again)[1] <= place_of(said)[1]:
             return f"expects {changed.splitlines()[line - 1]!r}, which is refused"
+    for other in texts_beyond(said, text.decode("latin-1")):
+        changed = other.encode("latin-1")
+        if refusal_line(kind, changed) != line:
+            return f"does not expect {changed.splitlines()[line - 1]!r}, which is taken"
     return None
 
 

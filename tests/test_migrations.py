@@ -11,7 +11,7 @@ Where a script has a lane, that brings the pages that were pushed, each of them 
 the page at the target, and the link all else; some of them are taken from the lane; and `audit` says that the session is clean.
 Over a link that loses and repeats nothing, the pager says at most twice that all is there: once, and once more if it looks just
 before the source learns of it. The connection of a link over TCP is one of the loopback address, which no other machine reaches.
-A guest whose log has no room is answered by log-full. Nothing waits for ever: each run ends within two minutes.
+A guest whose log has no room is answered by log-full, at the source and at the target. Nothing waits for ever: each run ends within two minutes.
 """
 import os
 import random
@@ -88,9 +88,10 @@ def window_script(window, has_lane):
     return script_of(32, 4, window, ["-", "-", fates] if has_lane else [fates, "-"], list(zip(ops[:16], ops[16:])), 2 if has_lane else 1)
 
 
-def full_script():
-    """More reads before `move` than a log has room for, while another virtual processor is at its move and waits."""
-    return script_of(1, 1, 1, "--", [([], ["r 0 0"])] + [(["r 0 0"] * 65_536, [])] * 17)
+def full_script(is_after):
+    """More reads than a log has room for, before `move`, while another virtual processor is at its move and waits; or after it."""
+    reads = ["r 0 0"] * 65_536
+    return script_of(1, 1, 1, "--", [([], ["r 0 0"])] + [([], reads) if is_after else (reads, [])] * 17)
 
 
 def ran(program, words, text):
@@ -306,6 +307,8 @@ def scripts():
     yield "one that needs a released page late", late_script(20_000), ["-"], 5
     yield "pages over a lane where nothing else is under way", quiet_script(), ["-"], 5
     yield "a released page that is waited for before the resume", script_of(2, 1, 4, ("-", "-"), [(["z 0"], ["r 0 0"])]), ["-"], 10
+    yield "one that has released all pages before it moves", script_of(2, 1, 4, ("-", "-"), [(["z 0", "z 1"], ["r 0 0", "w 1 0 5"])]), ["-"], 10
+    yield "two that do nothing at the target", script_of(4, 1, 4, ("-", "-"), [(["w 0 0 5"], []), ([], ["r 3 0"]), ([], [])]), ["-"], 10
     yield "pages that come where the state is lost", script_of(4, 1, 4, ("l", "-"), [([], ["r 0 0"])]), ["-"], 30
     yield "sixteen virtual processors", busy_script(1, 64, 30, (1, 0, 0, 0)), ["--link", "memory", "-"], 20
     yield "sixteen over a bad link", busy_script(2, 64, 30, (7, 1, 1, 1)), ["-"], 50
@@ -334,7 +337,7 @@ def scripts():
 
 
 @pytest.mark.slow
-@pytest.mark.cases(1050)
+@pytest.mark.cases(1070)
 def test_migrations(program):
     kinds = set()
     for name, text, words, runs in scripts():
@@ -343,8 +346,9 @@ def test_migrations(program):
     assert "pull" in kinds, "no run took a page from a lane"
 
 
-def test_full_log(program):
-    assert ran(program, ["migrate", "-"], full_script()) == ("log-full\n", "", 1)
+@pytest.mark.parametrize("is_after", (False, True), ids=("at_the_source", "at_the_target"))
+def test_full_log(program, is_after):
+    assert ran(program, ["migrate", "-"], full_script(is_after)) == ("log-full\n", "", 1)
 
 
 def test_loopback(program, cc, room):

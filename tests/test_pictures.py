@@ -6,12 +6,13 @@ it. They are the same in each run. Where `audit` refuses a session's
 text, `draw` has to say the same line. Else it has to write a well-formed picture with no script, of at most 203 rows, in which
 each record of the order has its place in one row, in the order's sequence: of the order that the report has, of the found order
 as far as it goes where the report has none, and of the runs before the first bad one where runs are given. The heading has to
-be the report's first line, and then what `explain` says first, and to say which order that is, and whether all show the fault. The row
+be the report's first line, and then what `explain` says first, and to say which order that is, whether all show the fault, and how
+much there is. The row
 of the faulty record has to be marked, and that of the record which it concerns by its reason, which `explain` has to name;
 behind the order stand the next of each log, these two where it has not come to them, and a circle with its arrows. Each record's
 row has one title, and its label in a box that has room for it. Which records have a row of their own, and no fold, is what
 picture_rows.py says; where each box, arrow, stub, column and sign stands, how it is painted, and what the legend says of it, is
-what picture_shapes.py wants of the order.
+what picture_shapes.py wants of the order. So it is in a picture of a page of some of them, whether it has a fault or not.
 """
 import glob
 import os
@@ -79,7 +80,21 @@ def headed_wrongly(told, shown, picture):
     sentences = " ".join(sentences_of(told.report, told.told))
     if " ".join(found[:-2]) != sentences:
         return f"the heading {found[:-2]}, not {sentences!r}"
-    return None if found[-2] == shown else f"the heading {found[-2]!r}, not {shown!r}"
+    if found[-2] != shown:
+        return f"the heading {found[-2]!r}, not {shown!r}"
+    facts = facts_of(told.session)
+    return None if found[-1] == facts else f"the heading {found[-1]!r}, not {facts!r}"
+
+
+def facts_of(session):
+    """What the heading has to say of how much there is."""
+    def many(count, word):
+        return f"{count} {word}{'s' * (count != 1)}"
+
+    lengths = {log: len(records) for log, records in session.logs.items()}
+    each = ", ".join(f"{log} {lengths[log]}" for log in LOGS if lengths[log])
+    records = many(sum(lengths.values()), "record") + (f": {each}" if each else "")
+    return f"{many(session.pages, 'page')} of {many(session.cells, 'cell')}, {records}"
 
 
 def rows_of(picture):
@@ -205,6 +220,34 @@ def drawn_wrongly(program, session, runs=None):
             or shown_wrongly(picture, told.session, lambda name: records.named(*name), told.circle)), kind
 
 
+def page_headed_wrongly(told, picture):
+    """What is wrong with the heading of a picture of a page, or None."""
+    title, *found, order, facts = [line.text for line in picture.findall(SVG + "text")]
+    first, *lines = told.told.splitlines()
+    shown = "In the found order" if first == "clean" else "In the order that shows the first fault of the session"
+    if (title, order, facts) != (f"{first}\n", shown, facts_of(told.session)):
+        return f"the heading {[title, order, facts]}"
+    wanted = [lines[0], *[line for line in lines if told.fault and line.startswith(f"Line {told.head[2]} (")][:1]]
+    return None if " ".join(found) == " ".join(wanted) else f"the heading {found}, not {wanted}"
+
+
+def drawn_of_a_page_wrongly(program, session, page):
+    """What is wrong with the picture of a page of a session that is clean or has a fault of a page, or None."""
+    report, _ = program.says("audit", session=session)
+    faults, _ = program.says("audit --all", session=session)
+    answer, status = program.says(f"draw --page {page}", session=session)
+    if status != 0:
+        return f"status {status}"
+    picture, records, order = ElementTree.fromstring(answer), SessionText(session), order_of(session, report, None)
+    told = Told(session, report, program.says(f"explain --page {page}", session=session)[0])
+    fault = re.search(rf"^page {page} (line \d+ \S+)$", faults, re.M)
+    told.topic, told.head = page, ["faulty", *fault[1].split(" ")] if fault else ["clean"]
+    told.look_at({records.line(log, n): (log, n) for log in LOGS for n in range(len(records.logs[log]))})
+    return (page_headed_wrongly(told, picture) or ordered_wrongly(records, order, picture) or behind_wrongly(told, order, picture)
+            or marked_wrongly(told, picture) or boxed_wrongly(told, picture) or kept_wrongly(told, records, order, picture)
+            or shown_wrongly(picture, told.session, lambda name: records.named(*name), told.circle))
+
+
 def changed(rng, session):
     """The session with one record changed, left out or moved."""
     session = SessionText(session)
@@ -252,7 +295,14 @@ def sent_often(repeats):
     return "".join(["postcopy-session 1\npages 2\ncells 1\ninit 0\n", *("\n".join([f"{log} {len(records)}", *records, ""]) for log, records in logs.items()), "end\n"])
 
 
+def never_resumed(repeats):
+    """The state is sent again so often, and the guest is never resumed: around the beginning most is shown."""
+    logs = {"guest": ["halt"], "source": ["halted 0", "state", *["again 1"] * repeats], "link": [f"down {1 + it}" for it in range(repeats)], "pager": ["got 0"]}
+    return "".join(["postcopy-session 1\npages 1\ncells 1\ninit 0\n", *("\n".join([f"{log} {len(records)}", *records, ""]) for log, records in logs.items()), "end\n"])
+
+
 def sessions():
+    yield "a guest that is never resumed", never_resumed(90)
     for repeats in range(36, 41):
         yield f"a page that is sent {repeats} times again", sent_often(repeats)
     for file in sorted(glob.glob(TOP + "/examples/*/session") + glob.glob(TOP + "/tests/cases/*/session")):
@@ -273,10 +323,10 @@ def sessions():
 
 
 @pytest.mark.slow
-@pytest.mark.cases(2150)
+@pytest.mark.cases(2300)
 def test_pictures(program, room):
     kinds, asked = set(), Program(program, room)
-    for name, session in sessions():
+    for number, (name, session) in enumerate(sessions()):
         found, kind = drawn_wrongly(asked, session)
         kinds.add(kind)
         right(found, name)
@@ -285,5 +335,8 @@ def test_pictures(program, room):
         for some in (lines, lines[:-1], lines[1:]) if len(lines) > 2 else ():
             runs = "\n".join(["postcopy-runs 1", f"runs {len(some)}", *some, "end", ""])
             right(drawn_wrongly(asked, session, runs)[0], f"{name}, along runs")
+        if number % 3 == 0 and kind.startswith(("clean", "faulty")):
+            page = number // 3 % Session(session).pages
+            right(drawn_of_a_page_wrongly(asked, session, page), f"{name}, page {page}")
     wanted = {"clean", "knot", "session-text", "shape", *(f"faulty {reason}" for reason in REASONS)}
     assert not wanted - kinds, "no session comes out so"

@@ -47,8 +47,9 @@ REFUSED = {
     "audit_report": "audit print_report",
     "active_push": "SourceBook::halted SourceBook::push SourceBook::serve SourceBook::tick",
     "link_book": "LinkBook::room LinkBook::turn",
-    "target_side": "GuestBook::new GuestBook::access GuestBook::halt TargetBook::access PagerBook::new PagerBook::pop "
-                   "PagerBook::next_fault PagerBook::deliver PagerBook::tick",
+    "target_side": "GuestBook::new GuestBook::access GuestBook::halt",
+    "target_book": "TargetBook::access",
+    "pager_book": "PagerBook::new PagerBook::pop PagerBook::next_fault PagerBook::deliver PagerBook::tick",
     "session_core": "Core::start Core::step Core::session run",
     "guest_script": "read_script write_script read_events write_events",
     "host_threads": "migrate migrate_tcp",
@@ -69,8 +70,9 @@ NONE = {
     "link_book": "LinkBook::new LinkBook::offer_down LinkBook::offer_up LinkBook::head LinkBook::peek_down LinkBook::peek_up "
                  "LinkBook::pop_down LinkBook::pop_up LinkBook::down_len LinkBook::quiet LinkBook::link_log "
                  "LinkBook::offer_lane LinkBook::lane_len LinkBook::peek_lane LinkBook::pop_lane",
-    "target_side": "GuestBook::guest_log TargetBook::guest_log TargetBook::geometry TargetBook::into_parts PagerBook::pager_log "
-                   "PagerBook::flush PagerBook::next_page",
+    "target_side": "GuestBook::guest_log",
+    "target_book": "TargetBook::guest_log TargetBook::geometry TargetBook::into_parts",
+    "pager_book": "PagerBook::pager_log PagerBook::flush PagerBook::next_page",
 }
 
 # Those that make the growth of a line again, by itself, where it was refused to them among others.

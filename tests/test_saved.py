@@ -107,7 +107,7 @@ def the_users_own(run):
 
 
 def who_may_read(run):
-    """The mode of a file that is there stays; that of a new one is left to the process's mask."""
+    """The permissions of a file that is there stay, and no other bit of its mode; those of a new one are left to the process's mask."""
     for mask, name, mode in ((0o22, "plain", 0o644), (0o77, "private", 0o600), (0, "open", 0o666)):
         yield f"a new file under the mask {mask:o}", run(*steps_words("-o", name), umask=mask), (0, b"", b"")
         yield f"its mode under the mask {mask:o}", stat.S_IMODE(os.stat(f"{run.room}/{name}").st_mode), mode
@@ -117,6 +117,12 @@ def who_may_read(run):
         yield f"over a file of mode {mode:o}", run(*steps_words("-o", "old"), umask=0o22), (0, b"", b"")
         yield f"the mode {mode:o}", stat.S_IMODE(os.stat(f"{run.room}/old").st_mode), mode
         yield f"the file of mode {mode:o}", run.has("old"), run.has("plain")
+        os.remove(f"{run.room}/old")
+    for mode in (0o4755, 0o2750, 0o1644):
+        run.put("old", b"what was there\n")
+        os.chmod(f"{run.room}/old", mode)
+        yield f"over a file of mode {mode:o}", run(*steps_words("-o", "old"), umask=0o22), (0, b"", b"")
+        yield f"what is left of the mode {mode:o}", stat.S_IMODE(os.stat(f"{run.room}/old").st_mode), mode & 0o777
         os.remove(f"{run.room}/old")
 
 
@@ -130,6 +136,10 @@ def who_owns_it(run):
     yield "over another's file", run(*steps_words("-o", "old")), (0, b"", b"")
     found = os.stat(f"{run.room}/old")
     yield "another's file", (found.st_uid, found.st_gid, stat.S_IMODE(found.st_mode)), (12345, 23456, 0o640)
+    os.chown(f"{run.room}/old", os.geteuid(), 23456)
+    yield "over a file of one's own, of another group", run(*steps_words("-o", "old")), (0, b"", b"")
+    found = os.stat(f"{run.room}/old")
+    yield "a file of one's own, of another group", (found.st_uid, found.st_gid, stat.S_IMODE(found.st_mode)), (os.geteuid(), 23456, 0o640)
 
 
 def by_another(run, mode):
@@ -474,7 +484,7 @@ ALL = (a_new_file, an_old_file, the_users_own, who_may_read, who_owns_it, whose_
 
 
 # How many cases each has at least.
-LEAST = {other_commands: 28, a_link: 14, two_writers: 62, two_names: 23, who_may_read: 21, the_users_own: 8, a_new_file: 11, refused_memory: 750, one_file_without_memory: 40, a_device: 6, a_long_answer: 11, a_write_that_fails: 13, a_long_answer_that_gets_no_name: 6, a_long_list: 4, a_folder_without_memory: 300}
+LEAST = {other_commands: 28, a_link: 14, two_writers: 62, two_names: 23, who_may_read: 27, the_users_own: 8, a_new_file: 11, refused_memory: 750, one_file_without_memory: 40, a_device: 6, a_long_answer: 11, a_write_that_fails: 13, a_long_answer_that_gets_no_name: 6, a_long_list: 4, a_folder_without_memory: 300}
 
 
 @pytest.mark.parametrize("tested", [pytest.param(it, marks=pytest.mark.cases(LEAST.get(it, 1)), id=it.__name__) for it in ALL])

@@ -28,11 +28,11 @@ class Program:
         self.file, self.folder = file, folder
 
     def says(self, command, **texts):
-        """What the program writes of these texts, and its status."""
+        """What the program writes of these texts, and its status. Options may stand behind the command."""
         for name, text in texts.items():
             with open(f"{self.folder}/{name}", "w", encoding="latin-1") as file:
                 file.write(text)
-        ran = subprocess.run([self.file, command, *texts], cwd=self.folder, stdin=subprocess.DEVNULL, stdout=subprocess.PIPE, stderr=subprocess.DEVNULL)
+        ran = subprocess.run([self.file, *command.split(" "), *texts], cwd=self.folder, stdin=subprocess.DEVNULL, stdout=subprocess.PIPE, stderr=subprocess.DEVNULL)
         return ran.stdout.decode("latin-1"), ran.returncode
 
 

@@ -17,7 +17,7 @@ import subprocess
 
 import pytest
 from cases import leave_out, same
-from expected_words import place_of, texts_of
+from expected_words import place_of, texts_beyond, texts_of
 from made_recordings import GREATEST, known_texts, machine, pages_of, random_text, recorded_texts, refused_texts, some_windows
 from made_sessions import TOP, files_of, run_script, text_of
 from session_text import LOGS, SessionText
@@ -89,6 +89,8 @@ class Tests:
             again, more, _ = self.run("window", "changed", 0, 1)
             is_there = again == told and place_of(more)[1] <= place_of(errors)[1] and LINE_FEED not in more
             self.same(f"what {errors!r} of {what} expects", is_there, False)
+        for changed in texts_beyond(errors.rstrip("\n"), self.has("recording")):
+            self.same(f"whether {changed.splitlines()[line - 1]!r} in the place of {errors!r} of {what} is refused", refusal_line("recording", changed.encode("latin-1")), line)
 
     def is_cut(self, what, first, count, told, lines):
         """Whether what is told of a window of the file `recording` is this, with these lines; with none where there is no window."""

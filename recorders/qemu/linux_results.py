@@ -5,6 +5,7 @@ import os
 import re
 import time
 from dataclasses import asdict, dataclass
+from typing import Optional
 
 import dialect
 from convert import recording_in
@@ -41,7 +42,7 @@ class Result:
     made: str = ""       # when it ended, by UTC
     word: str = ""       # what became of it, where this alone is known
     is_precopy: bool = False  # whether pre-copy alone was asked for
-    stands_still: bool = None  # whether the guest stood still at the target; None where nobody looked
+    stands_still: Optional[bool] = None  # whether the guest stood still at the target; None where nobody looked
 
     def to_text(self):
         fields = asdict(self)

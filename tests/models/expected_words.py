@@ -43,9 +43,29 @@ def lines_of(said, line):
     return [form for form in QUOTED.findall(forms[0]) if not FIELD.search(form)] if forms else []
 
 
-def texts_of(said, text):
-    """The text with each of these lines in the place of the one that is refused."""
+def lines_beyond(said, line):
+    """The lines with the next number below those that are told as expected, and above; none where it is not told how they are written."""
+    (_, column), expected = place_of(said), said.rpartition("; expected ")[2]
+    fields, is_told, form = expected.partition(", as in ")
+    if not is_told or "the text ends in the middle" in said or '"' in fields:
+        return []
+    ends = [(int(low or only or one), int(high or only or one)) for low, high, only, one in NUMBERS.findall(fields)]
+    beyond = [number for low, high in ends for number in (low - 1, high + 1) if number >= 0 and len(ends) == 1]
+    return [with_word(line, column, str(number), QUOTED.search(form)[1]) for number in beyond]
+
+
+def put_into(said, text, lines_by):
     at = place_of(said)[0] - 1
     lines = text.split("\n")
-    for line in lines_of(said, lines[at]) if at < len(lines) else ():
+    for line in lines_by(said, lines[at]) if at < len(lines) else ():
         yield "\n".join([*lines[:at], line, *lines[at + 1:]])
+
+
+def texts_of(said, text):
+    """The text with each line that is told as expected in the place of the one that is refused."""
+    return put_into(said, text, lines_of)
+
+
+def texts_beyond(said, text):
+    """The text with each line of a number just beyond those that are told as expected there."""
+    return put_into(said, text, lines_beyond)

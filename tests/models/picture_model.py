@@ -127,6 +127,7 @@ class Told:
         self.head = report.split("\n", 1)[0].split()
         self.circle = circle_of(report, told)
         self.fault = self.concerned = None
+        self.topic = None  # the page that was named
 
     def look_at(self, names):
         """Takes the name of the record at each line."""

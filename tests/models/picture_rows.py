@@ -1,7 +1,7 @@
-"""Which records of an order have a row of their own in a picture of a report, and which are folded.
+"""Which records of an order have a row of their own in a picture of a report, or of a page, and which are folded.
 
 A record is of interest where it is the halt or the resume, the faulty one or the one that the fault concerns; where it is about
-the page of the faulty record, but before that one of the page's reads and writes only those that are told of; of a report
+the page of the faulty record, or the page that was named, but before that one of the page's reads and writes only those that are told of; of a report
 without a page, where it receives another; and where such a record receives it. With them stand the neighbours of the faulty
 record. Of too many, the first eight and the last eight have rows, and forty on each side of the faulty one, or of the end of
 an order that stops, or of the resume; and in any case the record that the fault concerns. A single record between two that
@@ -56,7 +56,7 @@ def concerns(told, records, page, middle, place, name):
 
 def kept_places(told, records, order):
     """The places of the order that have a row, but for single records between them."""
-    page, middle = told.fault and page_of(records, told.fault), middle_of(told, records, order)
+    page, middle = told.fault and page_of(records, told.fault) if told.topic is None else told.topic, middle_of(told, records, order)
     interest = {name for place, name in enumerate(order) if concerns(told, records, page, middle, place, name)}
     interest |= {records.named(*name) for name in interest} - {None}
     wanted = {place for place, name in enumerate(order) if name in interest}

@@ -1,7 +1,7 @@
 """Where the shapes of a picture stand, and how they are painted, read back from its text.
 
 What is wanted comes from the session and its order: which records have a box in which column and row, which arrow goes from
-which box to which, and what each sign looks like.
+which box to which, and what each sign looks like. Nothing stands outside the picture or upon another, and words have room.
 """
 import re
 
@@ -9,6 +9,8 @@ from session_text import LOGS
 
 SVG = "{http://www.w3.org/2000/svg}"
 SHARED = 40  # half the room between two columns is less
+LETTER = 6  # the least width of a letter
+SIGN_HEIGHT, BESIDE = 16, 12  # of a sign of the legend, and of the room below the last one at least
 
 # What a row's class says of the record, and the box and the sign that go with it.
 BOXES = {"row record faulty": ("box-faulty", "cross"), "row record concerned": ("box-concerned", "diamond"),
@@ -152,11 +154,15 @@ def wanted_ties(circle, named):
 
 def arrows_wrongly(drawing, named, circle):
     """What is wrong with the arrows, or None."""
-    found = []
+    found, ends = [], set()
     for line in drawing.lines:
         kind = line.get("class")
         if kind == "life":
             continue
+        both = frozenset((number(line, f"x{n}"), number(line, f"y{n}")) for n in (1, 2))
+        if both in ends:
+            return f"an arrow upon another: {line.attrib}"
+        ends.add(both)
         if kind not in ARROWS or (line.get("stroke"), line.get("stroke-width"), line.get("marker-end")) != ARROWS[kind]:
             return f"an arrow {line.attrib}"
         begin, end = arrow_of(drawing, line)
@@ -225,7 +231,23 @@ def sized_wrongly(drawing):
         return f"a heading at {heading} above columns at {top}"
     if any(box.right > width for box in drawing.rows) or any(box.top + box.height + down > height for box in drawing.rows):
         return f"a box beyond {width} by {height}"
-    return None
+    wide = [text.text for text in picture.findall(SVG + "text")[1:] if LETTER * len(text.text) > width - 2 * number(text, "x")]
+    if wide:
+        return f"a line of the heading as wide as the picture, {width}: {wide}"
+    folds = [box.row.find(SVG + "text").text for box in drawing.rows if is_fold(box.row) and LETTER * len(box.row.find(SVG + "text").text) > box.width]
+    return f"folds wider than their frames: {folds}" if folds else legend_placed_wrongly(drawing, height - down)
+
+
+def legend_placed_wrongly(drawing, height):
+    """What is wrong with where the legend stands, or None: below all rows, with room below it, and each sign in a place of its own."""
+    def moved(group):
+        return tuple(map(int, re.match(r"translate\((\d+) (\d+)\)$", group.get("transform")).groups()))
+
+    top, places = moved(drawing.legend)[1], [moved(entry) for entry in drawing.legend.findall(SVG + "g")]
+    low = top + max((y + SIGN_HEIGHT for _, y in places), default=0)
+    if any(box.top + box.height >= top for box in drawing.rows) or not low + BESIDE <= height:
+        return f"a legend from {top} to {low}, of {height}"
+    return None if len(set(places)) == len(places) else f"signs of the legend at {places}"
 
 
 def shown_wrongly(picture, session, named, circle):

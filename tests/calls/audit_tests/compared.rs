@@ -159,7 +159,10 @@ fn agrees_on_report<R: Threads + Sync>(
         }
         Report::Clean(cert) => is_clean(rt, alloc, session, cert),
         Report::Faulty {
-            line, fault, order, ..
+            line,
+            fault,
+            order,
+            ..
         } => {
             is_faulty(alloc, session, (*line, fault.reason), order)
                 && line_of(session, fault.log, fault.place) == *line

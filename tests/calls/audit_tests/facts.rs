@@ -438,12 +438,7 @@ fn is_entry_judged(
 /// A fault: its page, its record and its reason.
 fn told_fault(fault: Option<PageFault>) -> Option<(u32, LogName, u32, PageReason)> {
     let fault = fault?;
-    Some((
-        fault.page.number(),
-        fault.log,
-        fault.place,
-        fault.reason,
-    ))
+    Some((fault.page.number(), fault.log, fault.place, fault.reason))
 }
 
 /// Whether this is the first fault of a session's pages.

@@ -6,10 +6,10 @@ use migration_types::{LogName, Session, Topic};
 use order_picture::{plan_on, print_picture_on};
 use picture_plan::Picture;
 use session_answers::print_topic;
-use story_facts::record_on;
 use std::alloc::Global;
 use std::marker::Sync;
 use std::thread::Threads;
+use story_facts::record_on;
 
 /// What is told of page 1 of a handover where its second use reads another value than was written.
 const MISREAD: &str = "faulty line 15 read

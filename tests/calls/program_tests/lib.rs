@@ -2,7 +2,7 @@
 
 use audit_model::ShapeReason;
 use cert_check::{ShapeFault, Verdict};
-use command_texts::{Console, TextSource};
+use command_texts::Console;
 use commands::{read_words, run};
 use judge_commands::{push_verdict, verdict_status};
 use migration_types::LogName;
@@ -14,6 +14,7 @@ use std::net::{Net, TcpListener, TcpStream};
 use std::process::Abort;
 use std::sync::Wait;
 use std::thread::Threads;
+use text_access::TextSource;
 use texts::{
     ACCEPTED_LINE, BOTH, CERT, CLEAN_REPORT, EMPTY_CERT_LINE, EMPTY_SESSION_LINE, HANDOVER,
     RECORDED, SAFE_RUNS, SCRIPT_AND_EVENTS, SESSION, TEXTS,

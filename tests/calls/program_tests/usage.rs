@@ -31,7 +31,9 @@ static NO_COMMANDS: [&[&str]; 19] = [
     ],
     &["postcopy", "audit", "--all", "--quiet", "session"],
     &["postcopy", "audit", "session", "--all", "session"],
-    &["postcopy", "explain", "--page", "0", "--line", "9", "session"],
+    &[
+        "postcopy", "explain", "--page", "0", "--line", "9", "session",
+    ],
     &[
         "postcopy", "explain", "--page", "0", "--line", "9", "--format", "json", "session",
     ],

@@ -46,6 +46,8 @@ w 0 3 0 -5
 9: found "-5" in "w 0 3 0 -5"; expected X, a value from 0 to 18446744073709551615, as in "w V P C X"; a number has no sign
 w 0 3 0 0x1f
 9: found "0x1f" in "w 0 3 0 0x1f"; expected X, a value from 0 to 18446744073709551615, as in "w V P C X"; numbers are decimal
+w 0 3 0 0X1F
+9: found "0X1F" in "w 0 3 0 0X1F"; expected X, a value from 0 to 18446744073709551615, as in "w V P C X"; numbers are decimal
 w 0 03 0 5
 5: found "03" in "w 0 03 0 5"; expected P, a page from 0 to 63, as in "w V P C X"; a number has no leading zero
 w 0 00 0 5
@@ -369,7 +371,7 @@ pub static BYTES: [Case; 16] = [
 ];
 
 /// Lines at which the text ends, with no line feed.
-pub static LAST: [Case; 16] = [
+pub static LAST: [Case; 17] = [
     Case(
         At::ThirdOfGuest,
         30,
@@ -427,6 +429,12 @@ pub static LAST: [Case; 16] = [
     Case(
         At::Source,
         12,
+        b"send 3 0000000000000000000000000000000",
+        r#"39: the text ends in the middle of a line, after "send 3 0000000000000000000000000000000"; expected HEX, 32 digits for 2 cells, each 0 to 9 or a to f, as in "send P HEX""#,
+    ),
+    Case(
+        At::Source,
+        12,
         b"send 3 00A",
         r#"10: found "A" in "send 3 00A"; expected HEX, 32 digits for 2 cells, each 0 to 9 or a to f, as in "send P HEX"; contents are written in lower case"#,
     ),
@@ -469,7 +477,7 @@ pub static LAST: [Case; 16] = [
 ];
 
 /// Lines with all that is said of them.
-pub static IN_FULL: [Case; 6] = [
+pub static IN_FULL: [Case; 7] = [
     Case(
         At::Guest,
         9,
@@ -535,6 +543,19 @@ its form:
         r#"session:12:307: found "A" in "send 3 11111111111111111111111111111111111111111111111111111"..; expected HEX, 512 digits for 32 cells, each 0 to 9 or a to f, as in "send P HEX"; contents are written in lower case
   ..11111111111111111111A2222222222222222222222222222222222222222222222222222222222222222222222222..
                         ^
+its form:
+  send P HEX
+P is a page from 0 to 63
+HEX is 512 digits for 32 cells, each 0 to 9 or a to f
+"#,
+    ),
+    Case(
+        At::BigContents,
+        12,
+        b"send 3 1111111111111111111111111111111111111111111111111111111111111111111111111111111111111111A",
+        r#"session:12:96: found "A" in "send 3 11111111111111111111111111111111111111111111111111111"..; expected HEX, 512 digits for 32 cells, each 0 to 9 or a to f, as in "send P HEX"; contents are written in lower case
+  send 3 1111111111111111111111111111111111111111111111111111111111111111111111111111111111111111A
+                                                                                                 ^
 its form:
   send P HEX
 P is a page from 0 to 63

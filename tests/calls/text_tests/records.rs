@@ -284,8 +284,11 @@ static OTHERS: [(LogName, &str); 57] = [
 ];
 
 /// The same in the first version: no receipt from the lane is a record there.
-static FIRST_OTHERS: [(LogName, &str); 3] =
-    [(Pager, "pull 0"), (Pager, "pull 1048575"), (Source, "back")];
+static FIRST_OTHERS: [(LogName, &str); 3] = [
+    (Pager, "pull 0"),
+    (Pager, "pull 1048575"),
+    (Source, "back"),
+];
 
 /// The same in the second.
 static SECOND_OTHERS: [(LogName, &str); 12] = [
@@ -344,10 +347,12 @@ fn other_lines_have_not_their_form(rt: HostRuntime) {
 }
 
 /// A session of the third version of which the source starts its guest again.
-const BACK: &str = "postcopy-session 3\npages 3\ncells 2\ninit 0\nguest 0\nsource 1\nback\nlink 0\nlane 0\npager 0\nend\n";
+const BACK: &str =
+    "postcopy-session 3\npages 3\ncells 2\ninit 0\nguest 0\nsource 1\nback\nlink 0\nlane 0\npager 0\nend\n";
 
 /// The same with a number behind the word.
-const BACK_TO: &str = "postcopy-session 3\npages 3\ncells 2\ninit 0\nguest 0\nsource 1\nback 0\nlink 0\nlane 0\npager 0\nend\n";
+const BACK_TO: &str =
+    "postcopy-session 3\npages 3\ncells 2\ninit 0\nguest 0\nsource 1\nback 0\nlink 0\nlane 0\npager 0\nend\n";
 
 #[test]
 fn the_third_version_has_a_back(rt: HostRuntime) {

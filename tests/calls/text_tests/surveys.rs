@@ -1,11 +1,12 @@
-//! What the files of a log say of it but for its records, and what it lacks.
+//! What the files of a log say of it but for its records, what it lacks, and the machine that the machine's log describes.
 
+use machine_logs::{DescribeFault, MachineLog, MachineLogFault};
 use migration_types::LogName;
 use recorded_files::{FileFault, FileReader, Last, Opening, Party};
 use std::alloc::Global;
 use surveyed_logs::{
-    DescribeFault, LogLack, PartEnd, MachineLog, MachineLogFault, LogPart, PartFault, Surveyed,
-    count_records, find_lacks, find_parts, read_file_name, survey,
+    LogLack, LogPart, PartEnd, PartFault, Surveyed, count_records, find_lacks, find_parts,
+    read_file_name, survey,
 };
 
 #[test]
@@ -145,9 +146,17 @@ fn lacks_of(alloc: Global, files: &[Surveyed]) -> Option<Vec<LogLack>> {
 #[test]
 fn a_later_part_goes_on_where_a_log_is_handed_over(rt: HostRuntime) {
     let (next, end) = (Some(Last::Next(6)), Some(Last::End(6)));
-    let taken = [file(0, 0, 6, 6, end), file(1, 0, 6, 6, next), file(2, 0, 0, 6, next)];
+    let taken = [
+        file(0, 0, 6, 6, end),
+        file(1, 0, 6, 6, next),
+        file(2, 0, 0, 6, next),
+    ];
     assert!(rt; lacks_of(rt.alloc(), &taken).is_some_and(|lacks| lacks.is_empty()));
-    let untaken = [file(0, 0, 0, 6, end), file(1, 0, 6, 6, next), file(2, 0, 6, 6, next)];
+    let untaken = [
+        file(0, 0, 0, 6, end),
+        file(1, 0, 6, 6, next),
+        file(2, 0, 6, 6, next),
+    ];
     let Some(lacks) = lacks_of(rt.alloc(), &untaken) else {
         assert!(rt; false);
         return;

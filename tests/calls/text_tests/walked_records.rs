@@ -7,7 +7,7 @@ use gathered_logs::{GatherFault, LogFault};
 use migration_types::{Contents, LogName, Size, Version};
 use recorded_files::{FileFault, FileReader, Party};
 use recordings::{
-    WideMachine, Visitor, WideGuest, WideInit, WideLane, WideLink, WidePager, WideSource,
+    Visitor, WideGuest, WideInit, WideLane, WideLink, WideMachine, WidePager, WideSource,
 };
 use std::alloc::{AllocError, Global};
 use walked_logs::{LogFiles, WalkFault, note_messages, walk_logs};
