@@ -1,6 +1,6 @@
 //! The turns of the lines of the link and of the lane.
 
-ghost use Rattle.std.specs.Prelude.{◌≡◌, ℕ, ◌<◌, ◌≤◌, true, Some, None, drop, slice_get, IfOk, OnErr, MatchBool};
+ghost use Rattle.std.specs.Prelude.{◌≡◌, ℕ, ◌<◌, ◌≤◌, true, false, Some, None, drop, slice_get, IfOk, OnErr, MatchBool};
 ghost use Rattle.link_book.specs.LinkPart.{line_of, turned};
 ghost use Rattle.page_stream.specs.declared.Packet.{Packet as Sent};
 ghost use Rattle.host_primitives.specs.Fates.{next_fate, line, Meets, HaveMet, HaveTurned};
@@ -130,9 +130,9 @@ fn turn_line<L: Relay>(
     Ok(most)
 }
 
-/// Carries out turns of one line, at most this many. Returns whether a packet got its delivery outcome. The other lines
-/// and their delivery outcomes stay. The error says why the run must stop. Packets that got their delivery outcomes
-/// before it keep them.
+/// Carries out turns of one line, at most this many. Returns whether a packet got its delivery outcome: none does only if
+/// there is none on the line, or no turn is asked for. The other lines and their delivery outcomes stay. The error says
+/// why the run must stop. Packets that got their delivery outcomes before it keep them.
 pub fn turn_at<L: Relay>(
     link: &mut LinkBook,
     passage: &mut Passage<L>,
@@ -140,10 +140,12 @@ pub fn turn_at<L: Relay>(
     lines: &mut LineFates<'_>,
     most: usize,
 ) -> Result<bool, StopReason>
-    ensures { IfOk result (λ any. (count : ℕ)
+    ensures turned { IfOk result (λ any. (count : ℕ)
         × (count ≤ most)
         × HaveTurned direction count (record { link = link.old.part; down = lines.old.down.left.now; up = lines.old.up.left.now; lane = lines.old.lane.left.now }) (record { link = link.new.part; down = lines.new.down.left.now; up = lines.new.up.left.now; lane = lines.new.lane.left.now })
         × MatchBool any (0 < count) (count ≡ 0)) }
+    ensures idle { IfOk result (λ any. any ≡ false → 0 < most → slice_get (line_of direction link.new.part) 0 ≡ None) }
+    ensures err { OnErr result ((count : ℕ) × HaveTurned direction count (record { link = link.old.part; down = lines.old.down.left.now; up = lines.old.up.left.now; lane = lines.old.lane.left.now }) (record { link = link.new.part; down = lines.new.down.left.now; up = lines.new.up.left.now; lane = lines.new.lane.left.now })) }
 {
     let count = match direction {
         Direction::Down => turn_line(link, passage, direction, &mut lines.down, most)?,
