@@ -486,9 +486,14 @@ def test_windows(page, program, room):
     web_reports.tests_of_windows(room, program)
 
 
-@pytest.mark.cases(14)
+@pytest.mark.cases(16)
 def test_refusals(page, room):
     web_reports.tests_of_refusals(room)
+
+
+@pytest.mark.cases(5)
+def test_outputs(page, room):
+    web_reports.tests_of_outputs(room)
 
 
 @pytest.mark.browser

@@ -4,6 +4,7 @@ import gzip
 import json
 import os
 import re
+import stat
 import subprocess
 
 from cases import count, same
@@ -89,14 +90,37 @@ def tests_of_refusals(room):
         ("no report", [session], 2, "required"),
         ("a size that is none", ["--most", "0", session, "-o", "out.html"], 2, "1 or more"),
         ("a file that is not there", [session, "no\nthing", "-o", "out.html"], 3, '"no\\nthing": No such file'),
-        ("a folder", [room, "-o", "out.html"], 3, "Is a directory"),
+        ("a folder", [room, "-o", "out.html"], 3, "Is a directory: 'postcopy session' makes"),
+        ("a report in place of a folder", [session, "-o", room], 3, "Is a directory"),
         ("a page that is none", ["--page", session, session, "-o", "out.html"], 3, "is not a page of postcopy for a report"),
         ("a place that is not there", [session, "-o", "no/out.html"], 3, "No such file"),
     ):
         write(f"{room}/out.html", "as it was")
         ran = subprocess.run([SCRIPT, "--page", PAGE, *words], cwd=room, stdin=subprocess.DEVNULL, capture_output=True)
         same(f"{what}: {ran.stderr.decode()}", (ran.returncode, part in ran.stderr.decode(), ran.stdout), (wanted, True, b""))
-        same(f"the report that was there, with {what}", (read(f"{room}/out.html"), [it for it in os.listdir(room) if it.startswith("out.html.")]), (b"as it was", []))
+        same(f"the report that was there, with {what}", (read(f"{room}/out.html"), os.listdir(room)), (b"as it was", ["out.html"]))
+
+
+def tests_of_outputs(room):
+    """Where a report goes: into the file that a link leads to, with the permissions that it has, and through a pipe, which stays one."""
+    session = example("handover")[0]
+    made(room, session)
+    wanted = read(f"{room}/report.html")
+    def put_out(name):
+        ran = subprocess.Popen([SCRIPT, "--page", PAGE, session, "-o", name], cwd=room, stdin=subprocess.DEVNULL, stdout=subprocess.PIPE, stderr=subprocess.STDOUT)
+        told = subprocess.run(["timeout", "60", "cat", "pipe"], cwd=room, capture_output=True).stdout if name == "pipe" else b""
+        return told + ran.communicate()[0], ran.returncode
+    write(f"{room}/target", "as it was")
+    os.chmod(f"{room}/target", 0o640)
+    os.symlink("target", f"{room}/link")
+    same("a report by a link", (put_out("link"), read(f"{room}/target") == wanted, os.readlink(f"{room}/link")), ((b"", 0), True, "target"))
+    same("the permissions of a report that was there", stat.S_IMODE(os.stat(f"{room}/target").st_mode), 0o640)
+    os.mkfifo(f"{room}/pipe")
+    told, status = put_out("pipe")
+    same("a report through a pipe", (told == wanted, status, stat.S_ISFIFO(os.stat(f"{room}/pipe").st_mode)), (True, 0, True))
+    told, status = put_out("/dev/stdout")
+    same("a report to standard output", (told == wanted, status), (True, 0))
+    same("the files beside the reports", sorted(os.listdir(room)), ["link", "pipe", "report.html", "target"])
 
 
 def tests_of_words():
