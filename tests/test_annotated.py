@@ -109,19 +109,23 @@ class Tests:
         alone = "".join(self.told(name)[1] for name in CONTENTS)
         self.same("several sessions", self.told(*CONTENTS), (1, alone, ""))
         self.same("clean sessions", self.told("clean", "clean"), (0, "", ""))
-        self.same("a file that is not there", self.told("nothing", "early")[:2], (3, "nothing: not judged: file nothing\n" + self.told("early")[1]))
+        self.same("a file that is not there", self.told("nothing", "early")[:2], (3, "nothing: not judged: no such file or directory\n" + self.told("early")[1]))
         for name, shown in (("a\nb: clean", '"a\\u000ab: clean"'), ("x\x1b[31m", '"x\\u001b[31m"'), ('"q"', '"\\"q\\""'), ("back\\slash é", "back\\slash é")):
             shutil.copy(f"{TOP}/tests/cases/refused-page-past-the-machine/session", f"{self.room}/{name}")
             status, output, errors = self.told(name)
             self.same(f"a session of the name {shown}", (status, output.startswith(f"{shown}:7:5: session-text: found "), output.count("\n"), errors), (1, True, 1, ""))
+        os.makedirs(f"{self.room}/folder/guest.1.0")
+        self.same("a folder with a file that cannot be read", self.told("folder")[:2], (3, "folder: not judged: folder/guest.1.0: it is a directory\n"))
+        os.rmdir(f"{self.room}/folder/guest.1.0")
+        self.same("a folder without files", self.told("folder")[:2], (3, "folder: not judged: session: folder: there is no file of a recorder, PARTY.PROCESS.N\n"))
         report = ElementTree.fromstring(self.told("--as", "junit", "nothing", *CONTENTS)[1].encode())
         counts = [report.get(it) for it in ("tests", "failures", "errors")]
         self.same("the counts of a report", counts, ["6", "4", "1"])
         run, = self.sarif_log("nothing", *CONTENTS)["runs"]
         notes = [it["message"]["text"] for it in run["invocations"][0]["toolExecutionNotifications"]]
         self.same("a log with a session that was not judged", (len(run["results"]), run["invocations"][0]["executionSuccessful"], notes),
-                  (4, False, ["nothing: file nothing"]))
-        self.same("the error of a report", report.find("testcase").find("error").get("message"), "file nothing")
+                  (4, False, ["nothing: no such file or directory"]))
+        self.same("the error of a report", report.find("testcase").find("error").get("message"), "no such file or directory")
 
     def calls(self):
         """How often the program is called, and with how many words."""
@@ -139,7 +143,7 @@ class Tests:
         self.same("one that is left over", made(*["clean"] * 501), ((0, "", ""), ["audit 501", "audit 2"]))
         early = self.told("early")[1]
         self.same("two of 600 that are not", made(*["clean"] * 300, "early", *["clean"] * 298, "early"), ((1, early * 2, ""), ["audit 501", "audit 101", "explain 2", "explain 2"]))
-        gone = "nothing: not judged: file nothing\n"
+        gone = "nothing: not judged: no such file or directory\n"
         self.same("two that are not there", [made(*["clean"] * 3, "nothing", "clean", "early", "nothing")[0]], [(3, gone + early + gone, "")])
         self.same("none that is there", self.told("nothing", "nothing")[:2], (3, gone * 2))
         self.same("a program that always fails", self.told("early", "clean", program="false")[:2],
@@ -174,7 +178,7 @@ class Tests:
         run, = self.sarif_log("clean", *names)["runs"]
         places = [unquote(it["locations"][0]["physicalLocation"]["artifactLocation"]["uri"], errors="surrogateescape") for it in run["results"]]
         self.same("names in SARIF", places, list(names))
-        self.same("a name that is not there", self.told("no\nthing", "clean")[1], '"no\\u000athing": not judged: file "no\\u000athing"\n')
+        self.same("a name that is not there", self.told("no\nthing", "clean")[1], '"no\\u000athing": not judged: no such file or directory\n')
 
     def meanings(self):
         """Each reason has its words in SARIF."""
@@ -232,7 +236,7 @@ class Tests:
 
 
 @pytest.mark.parametrize("part", (
-    pytest.param(Tests.each, marks=pytest.mark.cases(86)), pytest.param(Tests.many, marks=pytest.mark.cases(10)),
+    pytest.param(Tests.each, marks=pytest.mark.cases(86)), pytest.param(Tests.many, marks=pytest.mark.cases(12)),
     pytest.param(Tests.calls, marks=pytest.mark.cases(8)), pytest.param(Tests.outputs, marks=pytest.mark.cases(4)), pytest.param(Tests.odd_names, marks=pytest.mark.cases(3)),
     pytest.param(Tests.meanings, marks=pytest.mark.cases(1)), pytest.param(Tests.incomplete, marks=pytest.mark.cases(23)),
     pytest.param(Tests.refused, marks=pytest.mark.cases(4)), pytest.param(Tests.wrong_words, marks=pytest.mark.cases(3))),
