@@ -248,19 +248,22 @@ def by_zsh(prefix, asked):
     return run("zsh", "-f", f"{TOP}/tests/offered.zsh", f"{prefix}/share/zsh/site-functions", *asked, env=env, timeout=300)
 
 
-@pytest.mark.cases(31)
+@pytest.mark.cases(37)
 @pytest.mark.parametrize("name, offered", (("bash", by_bash), ("zsh", by_zsh), ("fish", by_fish)), ids=("bash", "zsh", "fish"))
 def test_completions(prefix, commands, name, offered):
-    """What a shell offers behind a dash, and in the place of a value. A file is offered where there is one."""
+    """What a shell offers behind a dash, and in the place of a value. A file is offered where there is one, and not in the place of a number."""
     if not (shutil.which(name) or can_have(f"{name}:{name}")):
         pytest.skip(f"there is no {name}")
     wanted = {"postcopy audit --format ": {"text", "json"}, "postcopy migrate --link ": {"memory", "tcp"}, "postcopy-annotate --as ": {"lines", "github", "junit", "sarif"},
+              "postcopy explain --page ": set(), "postcopy explain --line ": set(), "postcopy draw --page ": set(), "postcopy-session --windows ": set(),
               "postcopy ": {words[1] for words, _ in commands if len(words) > 1} | {"help"}}
     for words, options in commands:
         wanted[f"{' '.join(words)} -"] = {it for it in options if it[1] != "-"}
         wanted[f"{' '.join(words)} --"] = {it for it in options if it[1] == "-"}
     file = f"postcopy audit {prefix}/lib/pkg"
-    found = dict(zip([*wanted, file], offered(prefix, [*wanted, file]).split("\n\n")))
+    # (an empty line ends what is offered behind each)
+    sections = "".join(f"{it}\n" if it else "\0" for it in offered(prefix, [*wanted, file]).splitlines()).split("\0")
+    found = dict(zip([*wanted, file], sections))
     for typed, options in wanted.items():
         # (a shell may offer long options behind one dash, and options beside commands)
         hits = {it for it in found.get(typed, "").split("\n") if it and (it[0] == "-") == typed.endswith("-") and not (typed.endswith(" -") and it[:2] == "--")}

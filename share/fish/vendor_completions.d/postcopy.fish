@@ -26,3 +26,4 @@ complete -c postcopy -n 'not __postcopy_has_command' -s V -l version -d 'Print v
 complete -c postcopy -n '__postcopy_has_command; and string match -q -- "-*" (commandline -ct)' -a '(__postcopy_options)'
 complete -c postcopy -n '__postcopy_behind --format' -f -a 'text json'
 complete -c postcopy -n '__postcopy_behind --link' -f -a 'memory tcp'
+complete -c postcopy -n '__postcopy_behind --line; or __postcopy_behind --page' -f
