@@ -10,6 +10,9 @@ WHOLE = f"{TOP}/tests/cases/complete-whole-migration/session"
 EMPTY = b"postcopy-session 1\npages 2\ncells 1\ninit 0\nguest 0\nsource 0\nlink 0\npager 0\nend\n"
 # What docs/ANSWERS.md says that the program notes.
 NOTE = "the guest neither reads nor writes a page after a resume, so no use of one was judged"
+# A whole session of the second version whose guest only releases its page at the target.
+RELEASED = (b"postcopy-session 2\npages 1\ncells 1\ninit 0\nguest 3\nhalt\nresume 1\nz 0 0\nsource 4\nhalted 0\nstate\nask 1\ndone\n"
+            b"link 2\ndown 1\nup 2\nlane 0\npager 3\ngot 0\nready\nall\nend\n")
 CLEAR = 'complete="pages"', "complete=None"
 
 
@@ -76,7 +79,7 @@ def of_assertions(postcopy, same):
         fails(same, f"a text that is refused, {how}", said(lambda: assert_clean(f"{TOP}/examples/leading-zero/session", **how)),
               "session-text line 7\n", 'Line 7, column 9: found "03" in "r 0 0 0 03"; expected X', "a number has no leading zero")
     for how in ({}, {"complete": "whole"}, {"complete": None}):
-        for what, text, notes in (("with uses", WHOLE, []), ("without any", f"{TOP}/tests/cases/complete-with-nothing-owed/session", [NOTE])):
+        for what, text, notes in (("with uses", WHOLE, []), ("with a release alone", RELEASED, [NOTE]), ("without any", f"{TOP}/tests/cases/complete-with-nothing-owed/session", [NOTE])):
             with warnings.catch_warnings(record=True) as caught:
                 warnings.simplefilter("always")
                 assert_clean(text, **how)

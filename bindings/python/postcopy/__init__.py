@@ -29,7 +29,7 @@ import subprocess
 import warnings
 from dataclasses import dataclass, field, replace
 from pathlib import Path
-from typing import Callable, List, NamedTuple, Optional, Tuple, TypeVar, Union
+from typing import BinaryIO, Callable, List, NamedTuple, Optional, Tuple, TypeVar, Union
 
 from .records import page_in
 
@@ -328,9 +328,14 @@ class _Bytes:
             self._file.close()
 
 
+def _lines(text: Text) -> BinaryIO:
+    """A text, to be read line by line."""
+    return open(text, "rb") if isinstance(text, (str, os.PathLike)) else io.BytesIO(bytes(text))
+
+
 def _line(text: Text, number: int) -> str:
     """A line of a text, counted from 1."""
-    with open(text, "rb") if isinstance(text, (str, os.PathLike)) else io.BytesIO(bytes(text)) as lines:
+    with _lines(text) as lines:
         return next(itertools.islice(lines, number - 1, None), b"").decode("ascii").rstrip("\n")
 
 

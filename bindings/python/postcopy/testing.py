@@ -7,11 +7,10 @@
 """
 from __future__ import annotations
 
-import re
 import warnings
 from typing import Optional
 
-from . import Answer, Kind, Report, Text, audit, missing, missing_pages
+from . import Answer, Kind, Report, Text, _lines, audit, missing, missing_pages
 
 __all__ = ["assert_clean"]
 
@@ -31,10 +30,6 @@ _MISSING = {
     "done": "The source never learned that every owed page had come: its log has no `done` behind the `ask` of that.",
     "line": "What the pager took by its record at line {} was neither placed nor dropped.",
 }
-
-
-#: The entry of a page that the guest uses after the resume, in a certificate: it ends with a number.
-_USE = re.compile(rb"^page [0-9]+ .*[0-9]$", re.MULTILINE)
 
 
 def assert_clean(session: Text, complete: Optional[str] = "pages") -> Report:
@@ -57,9 +52,18 @@ def assert_clean(session: Text, complete: Optional[str] = "pages") -> Report:
         lacks = call(session)
         if lacks.kind is not Kind.CLEAN:
             raise AssertionError(f"{lacks}\n{_what_is_missing(lacks)}\n{less}")
-    if not _USE.search(report.certificate or b""):
+    if not _tells_use(session):
         warnings.warn("the guest neither reads nor writes a page after a resume, so no use of one was judged", stacklevel=2)
     return report
+
+
+def _tells_use(session: Text) -> bool:
+    """Whether the guest of a clean session reads or writes a page after a resume. (No other log has records of these words.)"""
+    with _lines(session) as lines:
+        for line in lines:
+            if line.startswith(b"resume "):
+                return any(it.startswith((b"r ", b"w ")) for it in lines)
+    return False
 
 
 def _what_happened(report: Report) -> str:
