@@ -374,7 +374,7 @@ def tests_of_network(browser, url):
         try:
             server.accept()[0].close()
             count(False, "the page reached a server")
-        except TimeoutError:
+        except socket.timeout:  # (a TimeoutError only from Python 3.10 on)
             count(True, "")
 
 

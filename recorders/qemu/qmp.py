@@ -53,7 +53,7 @@ class Qmp:
             before = self.waited()
             try:
                 return self.socket.recv(1 << 16)
-            except TimeoutError:
+            except socket.timeout:  # (a TimeoutError only from Python 3.10 on)
                 if self.waited() - before < self.seconds / 2:
                     break
             except OSError as fault:
