@@ -23,8 +23,6 @@ COMMANDS = {1: "open-return-path", 2: "ping", 3: "advise", 4: "listen", 5: "run"
 ENDS = ("completed", "failed", "cancelled", "postcopy-paused")
 IN_POSTCOPY = ("postcopy-active", "postcopy-recover", "postcopy-recover-setup",  # 10.0
                "postcopy-device")  # 11.1: the target loads the package
-IN_PRECOPY = ("active", "device",
-              "failing")  # 11.1
 STOPS, RUNS = "vm_state_notify running 0 ", "vm_state_notify running 1 "  # what the lines of a guest's halt and start begin with
 LIBRARY = "uffd"  # what the lines of the preloaded library begin with
 

@@ -21,7 +21,6 @@ KINDS = {
     "keep": "the target is not told to forget a page: QEMU finds this one itself",
     "twice": "a page comes twice: QEMU finds this one itself",
 }
-IN_PRELOAD = ("early",)
 NEED_CUT = ("forget",)
 FOUND_BY_QEMU = ("keep", "twice")
 
