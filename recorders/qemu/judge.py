@@ -99,12 +99,12 @@ def complete_line(folder):
     return line if whole == "clean" else whole or "not judged: the program does not say whether the session tells of a whole migration"
 
 
-def explain_and_draw(folder, *options):
-    """Returns the story, and the path of the picture, or None if the program cannot make them."""
-    words, status = ask(folder, "explain", *options, "session")
-    if status not in (0, 1) or not words.count("\n") > 1:
+def explain_and_draw(folder, *options, session="session"):
+    """Writes the story of a session, and its picture, to its folder. Returns the story, or None if the program cannot make both."""
+    words, told = ask(folder, "explain", *options, session)
+    picture, drawn = ask(folder, "draw", session)
+    if told not in (0, 1) or drawn != 0 or words.count("\n") < 2:
         return None
     write(f"{folder}/explained", words)
-    picture, _ = ask(folder, "draw", "session")
     write(f"{folder}/picture.svg", picture)
     return words

@@ -269,9 +269,5 @@ def explain_and_draw(folder, is_clean):
     _, status = judge.ask(folder, "window", "session", str(page), "1", "-o", "page", "--lines", "lines")
     if status:
         return None
-    words, status = judge.ask(folder, "explain", "--lines", "lines", "page")
-    if status not in (0, 1):
-        return None
-    judge.write(f"{folder}/explained", words)
-    judge.write(f"{folder}/picture.svg", judge.ask(folder, "draw", "page")[0])
-    return words, page
+    words = judge.explain_and_draw(folder, "--lines", "lines", session="page")
+    return None if words is None else (words, page)

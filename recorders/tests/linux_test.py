@@ -199,6 +199,18 @@ def of_the_page_that_is_shown(tests):
             words, shown = linux_session.explain_and_draw(folder, verdict.is_clean)
             tests.wants(f"the page that is shown of one that is {what}", (shown, words.split()[0], read(f"{folder}/explained") == words, read(f"{folder}/picture.svg")[:4]),
                         (page, first, True, "<svg"))
+            os.remove(f"{folder}/picture.svg")
+            with mock.patch.dict(os.environ, POSTCOPY=program_without(folder, "draw")):
+                tests.wants(f"no page is shown of one that is {what}, where the program cannot draw", (linux_session.explain_and_draw(folder, verdict.is_clean),
+                            os.path.exists(f"{folder}/picture.svg")), (None, False))
+
+
+def program_without(folder, command):
+    """A program that is out of memory at a command, and otherwise the one that the variable POSTCOPY names."""
+    with open(f"{folder}/program", "w", encoding="utf-8") as file:
+        file.write(f"#!/bin/sh\n[ \"$1\" != {command} ] || exit 4\nexec {judge.program()} \"$@\"\n")
+    os.chmod(file.name, 0o755)
+    return file.name
 
 
 def of_a_page_that_never_came(tests):
