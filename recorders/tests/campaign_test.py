@@ -1,6 +1,9 @@
 """Plans of a campaign, and the table of what became of them."""
 import itertools
+import os
 import random
+import subprocess
+import sys
 from dataclasses import asdict, replace
 from types import SimpleNamespace
 
@@ -11,6 +14,8 @@ from kinds import Plan, plan_from_text, plan_of
 from plans import DRAWN, random_plan
 from results import Result, outcome_in_words, result_from_text
 from run import Migration, Outcome
+
+RECORDERS = os.path.dirname(os.path.dirname(os.path.abspath(__file__)))
 
 
 def plans(seed, count=300, **options):
@@ -123,7 +128,16 @@ def of_the_limit(tests):
     series.make, series.time = make, time
 
 
+def of_words(tests):
+    """A series of no migrations is no command: nothing would be wrong in it."""
+    for words in (["qemu/campaign", "0"], ["qemu/campaign", "2", "--jobs", "0"], ["qemu/compare", "x", "--runs", "0"], ["qemu/both_sides", "--tries", "0"],
+                  ["qemu/direct", "live", "--tries", "-1"], ["criu/campaign", "0"], ["criu/campaign", "2", "--jobs", "x"]):
+        ran = subprocess.run([sys.executable, "-B", f"{RECORDERS}/{words[0]}", *words[1:]], capture_output=True, text=True)
+        tests.wants(f"the words {' '.join(words)}", (ran.returncode, ran.stdout, "is not a number of 1 or more" in ran.stderr), (2, "", True))
+
+
 def run(tests):
+    of_words(tests)
     of_plans(tests)
     of_results(tests)
     of_a_busy_machine(tests)

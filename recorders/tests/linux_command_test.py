@@ -363,6 +363,7 @@ def of_runs(tests, room):
                                  made("0", f"{room}/seen", "--write"), made("1", room, "--", "0")], [0, 0, 3, 0, 2])
     with mock.patch.object(runs, "time", Clock()):
         tests.wants("where the minutes are over before the last was made", made("3", f"{room}/late", "--minutes", "0.02", "--", "0"), 3)
+    tests.wants("with no minutes at all", (made("3", f"{room}/never", "--minutes", "0", "--", "0"), len(linux_results.results_in(f"{room}/never/results"))), (3, 0))
     tests.wants("those that were made", len(linux_results.results_in(f"{room}/late/results")), 1)
     tests.wants("what is kept", [sorted(os.listdir(f"{room}/seen/{number:04}")) for number in range(3)],
                 [["result.json", "verdict"]] * 2 + [["halt.mem", "result.json", "session", "verdict"]])
