@@ -38,7 +38,8 @@ enum party { MACHINE, GUEST, SOURCE, LINK, LANE, PAGER, PARTIES };
 static const char *const names[PARTIES] = {"machine", "guest", "source", "link", "lane", "pager"};
 
 /* The file of one thread. `at` is where its next line goes; the mapping is of `start` on. It belongs to the thread and to the
-   log, and goes with the last of them. */
+   log, and goes with the last of them. (A thread that lives on behind the end of the log is not told of its own end any more, as
+   the key is gone: these few bytes stay, and neither file nor mapping.) */
 struct part {
     struct part *next;
     atomic_int owners;
