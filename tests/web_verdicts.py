@@ -17,6 +17,9 @@ LACKS = {
     "explain-incomplete-placement": None,
     "complete-whole-migration": None,
 }
+# A whole session of the second version whose guest only releases its page at the target.
+RELEASED = (b"postcopy-session 2\npages 1\ncells 1\ninit 0\nguest 3\nhalt\nresume 1\nz 0 0\nsource 4\nhalted 0\nstate\nask 1\ndone\n"
+            b"link 2\ndown 1\nup 2\nlane 0\npager 3\ngot 0\nready\nall\nend\n")
 FOUND, UNUSED = "the guest found each page in place", "tells of no use of any page after the resume"
 
 
@@ -57,3 +60,5 @@ def tests_of_lacks(browser, room):
     text = re.sub(rb"(?m)^(?:r 0 0 0 5|w 0 1 0 9|r 0 1 0 9)\n", b"", read(example("handover")[0])).replace(b"guest 9", b"guest 6")
     is_shown(browser, "a session with no use after the resume", [write(f"{room}/unused", text)], "good", "Safe.", UNUSED)
     same("whether each page is said to be found in place, where none is used", FOUND in browser.text("#verdict"), False)
+    is_shown(browser, "a session whose guest only releases a page after the resume", [write(f"{room}/released", RELEASED)], "good", "Safe.", UNUSED)
+    same("whether each page is said to be found in place, where one is released", FOUND in browser.text("#verdict"), False)

@@ -40,12 +40,13 @@ async function linesOf(file, say) {
   return { lines: lines + !ended, marks, perMark: PER_MARK };
 }
 
-// Whether a certificate tells of a use of any page at the target. Of its lines on pages, those that tell of one alone end with a
-// number: that of the first use, or of the look before it.
+// Whether the guest of a session reads or writes a page after a resume. (No other log has records of these words.)
 function tellsOfUse(bytes) {
-  const [P, SPACE, ZERO, NINE] = [112, 32, 48, 57];
-  for (let at = bytes.indexOf(10) + 1, end; (end = bytes.indexOf(10, at)) >= 0; at = end + 1) {
-    if (bytes[at] === P && bytes[at + 4] === SPACE && bytes[end - 1] >= ZERO && bytes[end - 1] <= NINE) return true;
+  const [R, S, W, SPACE] = [114, 115, 119, 32];
+  let isResumed = false;
+  for (let at = 0, end; (end = bytes.indexOf(10, at)) >= 0; at = end + 1) {
+    if (isResumed && (bytes[at] === R || bytes[at] === W) && bytes[at + 1] === SPACE) return true;
+    isResumed ||= bytes[at] === R && bytes[at + 2] === S;
   }
   return false;
 }
@@ -73,7 +74,7 @@ async function judgement({ it, room }, { call, beside, asks, topic }, say) {
   const refused = { SESSION_TEXT: room, CERT_TEXT: second, RUNS_TEXT: second }[answer.kind];
   const why = refused && it.why(answer.kind, refused);
   if (second) it.free(second);
-  const isUsed = answer.kind === "CLEAN" && answer.texts.audit && tellsOfUse(answer.texts.audit);
+  const isUsed = answer.kind === "CLEAN" && tellsOfUse(it.view(room));
   return { ...answer, ...why, isUsed, ms, memory: it.memory() };
 }
 
