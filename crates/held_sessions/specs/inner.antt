@@ -1,0 +1,4 @@
+-- Definitions that only proofs use.
+pub mod Fitting
+pub mod Kept
+pub mod Needs
