@@ -23,8 +23,9 @@ input_unknown : (dash : Bool) (file input : Option (List ℕ)) (text : List ℕ)
 input_unknown true file input text h = record { few = h.few; whole = tt }
 input_unknown false file input text h = h
 
-pub named_anyhow : (name : List ℕ) (files : List ℕ → Option (List ℕ)) (input : Option (List ℕ)) (text : List ℕ) → IsNamed name files input text → IsNamed name files None text
-named_anyhow name files input text h = input_unknown (is_dash name) (files name) input text h
+pub named_anyhow : (name : List ℕ) (files : List ℕ → Option (List ℕ)) (HasSession : List ℕ → List ℕ → Type 0) (input : Option (List ℕ)) (text : List ℕ) → IsNamed name files HasSession input text → IsNamed name files HasSession None text
+named_anyhow name files HasSession input text (inl h) = inl (input_unknown (is_dash name) (files name) input text h)
+named_anyhow name files HasSession input text (inr h) = inr h
 
 -- ---- lists with one more at the end
 
@@ -81,20 +82,20 @@ told_more : (HasNote : List ℕ → Type 0) (es : List Entry) (e : Entry) (a b c
 told_more HasNote [] e a b c h k = (c, told_behind HasNote e.name e.said a b c h k, Keeps-refl c)
 told_more HasNote (x ∷ es) e a b c h k = (h.0, h.1, told_more HasNote es e h.0 b c h.2 k)
 
-module _ (files : List ℕ → Option (List ℕ)) (IsAnswer : List ℕ → List ℕ → ℕ → Type 0) (IsRefused : List ℕ → Option ℕ → Type 0) (HasNote : List ℕ → Type 0) (style : Style) where
+module _ (files : List ℕ → Option (List ℕ)) (HasSession : List ℕ → List ℕ → Type 0) (IsAnswer : List ℕ → List ℕ → ℕ → Type 0) (IsRefused : List ℕ → Option ℕ → Type 0) (HasNote : List ℕ → Type 0) (style : Style) where
   -- nothing was listed yet
-  pub none_listed : (old : Streams) → AreListed files IsAnswer IsRefused HasNote style [] old old 0 0
+  pub none_listed : (old : Streams) → AreListed files HasSession IsAnswer IsRefused HasNote style [] old old 0 0
   none_listed old = record { entries = []; are_names = refl; are_right = tt; written = Appends-nil old.0; beside = Keeps-refl old.1; is_count = refl; is_status = refl }
 
   -- one more was listed
-  one_listed : (names : List (List ℕ)) (name : List ℕ) (old mid new : Streams) (count worse status : ℕ) → AreListed files IsAnswer IsRefused HasNote style names old mid count worse → IsListed files IsAnswer IsRefused HasNote style name mid new status → AreListed files IsAnswer IsRefused HasNote style (names ++ name ∷ []) old new (count + cond (status == 0) 1 0) (greater worse status)
+  one_listed : (names : List (List ℕ)) (name : List ℕ) (old mid new : Streams) (count worse status : ℕ) → AreListed files HasSession IsAnswer IsRefused HasNote style names old mid count worse → IsListed files HasSession IsAnswer IsRefused HasNote style name mid new status → AreListed files HasSession IsAnswer IsRefused HasNote style (names ++ name ∷ []) old new (count + cond (status == 0) 1 0) (greater worse status)
   one_listed names name old mid new count worse status h k =
       let es = h.entries in
       let e = k.entry in
       record {
         entries = es ++ e ∷ [];
         are_names = map_more (λ (x : Entry). x.name) es e ∙ ap₂ (λ (xs : List (List ℕ)) (x : List ℕ). xs ++ x ∷ []) h.are_names k.is_name;
-        are_right = all_more (IsRight files IsAnswer IsRefused) es e h.are_right k.is_right;
+        are_right = all_more (IsRight files HasSession IsAnswer IsRefused) es e h.are_right k.is_right;
         written = subst (Appends old.0 new.0) (sym (ap concat (map_more (listed style) es e) ∙ concat_more (map (listed style) es) (listed style e))) (Appends-trans old.0 mid.0 new.0 (concat (map (listed style) es)) (listed style e) h.written k.written);
         beside = told_more HasNote es e old.1 mid.1 new.1 h.beside k.beside;
         is_count = ap₂ (λ (n m : ℕ). n + cond (m == 0) 1 0) h.is_count k.is_status ∙ sym (well_more es e);
@@ -102,32 +103,32 @@ module _ (files : List ℕ → Option (List ℕ)) (IsAnswer : List ℕ → List 
       }
 
   -- the next of the names was listed
-  pub next_listed : (names : List (Bor (List ℕ))) (k : ℕ) (d : Bor (List ℕ)) (old mid new : Streams) (count worse status : ℕ) → k < length names → AreListed files IsAnswer IsRefused HasNote style (names_of (take k names)) old mid count worse → IsListed files IsAnswer IsRefused HasNote style (get_or names k d).now mid new status → AreListed files IsAnswer IsRefused HasNote style (names_of (take (k + 1) names)) old new (count + cond (status == 0) 1 0) (greater worse status)
+  pub next_listed : (names : List (Bor (List ℕ))) (k : ℕ) (d : Bor (List ℕ)) (old mid new : Streams) (count worse status : ℕ) → k < length names → AreListed files HasSession IsAnswer IsRefused HasNote style (names_of (take k names)) old mid count worse → IsListed files HasSession IsAnswer IsRefused HasNote style (get_or names k d).now mid new status → AreListed files HasSession IsAnswer IsRefused HasNote style (names_of (take (k + 1) names)) old new (count + cond (status == 0) 1 0) (greater worse status)
   next_listed names k d old mid new count worse status lt h next =
       let more : names_of (take (k + 1) names) ≡ names_of (take k names) ++ (get_or names k d).now ∷ [] = ap names_of (take_more names k d lt) ∙ map_more (λ (name : Bor (List ℕ)). name.now) (take k names) (get_or names k d) in
-      subst (λ ns. AreListed files IsAnswer IsRefused HasNote style ns old new (count + cond (status == 0) 1 0) (greater worse status)) (sym more) (one_listed (names_of (take k names)) (get_or names k d).now old mid new count worse status h next)
+      subst (λ ns. AreListed files HasSession IsAnswer IsRefused HasNote style ns old new (count + cond (status == 0) 1 0) (greater worse status)) (sym more) (one_listed (names_of (take k names)) (get_or names k d).now old mid new count worse status h next)
 
   -- all names were listed
-  pub all_listed : (names : List (Bor (List ℕ))) (k : ℕ) (old new : Streams) (count worse : ℕ) → length names ≤ k → AreListed files IsAnswer IsRefused HasNote style (names_of (take k names)) old new count worse → AreListed files IsAnswer IsRefused HasNote style (names_of names) old new count worse
-  all_listed names k old new count worse le h = subst (λ ns. AreListed files IsAnswer IsRefused HasNote style (names_of ns) old new count worse) (take_all k names le) h
+  pub all_listed : (names : List (Bor (List ℕ))) (k : ℕ) (old new : Streams) (count worse : ℕ) → length names ≤ k → AreListed files HasSession IsAnswer IsRefused HasNote style (names_of (take k names)) old new count worse → AreListed files HasSession IsAnswer IsRefused HasNote style (names_of names) old new count worse
+  all_listed names k old new count worse le h = subst (λ ns. AreListed files HasSession IsAnswer IsRefused HasNote style (names_of ns) old new count worse) (take_all k names le) h
 
   -- the list ends at the next name
-  pub stops_there : (names : List (Bor (List ℕ))) (k : ℕ) (old mid new : Streams) (count worse : ℕ) (fault : Fault) → AreListed files IsAnswer IsRefused HasNote style (names_of (take k names)) old mid count worse → IsListStop fault → BothGain mid new → StopsSeveral files IsAnswer IsRefused HasNote style (names_of names) old new fault
+  pub stops_there : (names : List (Bor (List ℕ))) (k : ℕ) (old mid new : Streams) (count worse : ℕ) (fault : Fault) → AreListed files HasSession IsAnswer IsRefused HasNote style (names_of (take k names)) old mid count worse → IsListStop fault → BothGain mid new → StopsSeveral files HasSession IsAnswer IsRefused HasNote style (names_of names) old new fault
   stops_there names k old mid new count worse fault h stop gains =
-      record { is_stop = stop; dealt = k; count = count; status = worse; between = mid; listed = subst (λ ns. AreListed files IsAnswer IsRefused HasNote style ns old mid count worse) (sym (take_map k names)) h; gains = gains }
+      record { is_stop = stop; dealt = k; count = count; status = worse; between = mid; listed = subst (λ ns. AreListed files HasSession IsAnswer IsRefused HasNote style ns old mid count worse) (sym (take_map k names)) h; gains = gains }
 
   -- or behind the last
-  stops_behind : (names : List (List ℕ)) (old mid new : Streams) (count worse : ℕ) (fault : Fault) → AreListed files IsAnswer IsRefused HasNote style names old mid count worse → IsListStop fault → BothGain mid new → StopsSeveral files IsAnswer IsRefused HasNote style names old new fault
+  stops_behind : (names : List (List ℕ)) (old mid new : Streams) (count worse : ℕ) (fault : Fault) → AreListed files HasSession IsAnswer IsRefused HasNote style names old mid count worse → IsListStop fault → BothGain mid new → StopsSeveral files HasSession IsAnswer IsRefused HasNote style names old new fault
   stops_behind names old mid new count worse fault h stop gains =
-      record { is_stop = stop; dealt = length names; count = count; status = worse; between = mid; listed = subst (λ ns. AreListed files IsAnswer IsRefused HasNote style ns old mid count worse) (sym (take_all (length names) names (omega arith))) h; gains = gains }
+      record { is_stop = stop; dealt = length names; count = count; status = worse; between = mid; listed = subst (λ ns. AreListed files HasSession IsAnswer IsRefused HasNote style ns old mid count worse) (sym (take_all (length names) names (omega arith))) h; gains = gains }
 
   -- a text was not read
-  pub unread_listed : (name : List ℕ) (old : Streams) (errors : Option (List ℕ)) (r : Result ℕ Fault) → IfOk r (λ s. (s ≡ 3) × TellsUnread name old.1 errors) → IfOk r (IsListed files IsAnswer IsRefused HasNote style name old (old.0, errors))
+  pub unread_listed : (name : List ℕ) (old : Streams) (errors : Option (List ℕ)) (r : Result ℕ Fault) → IfOk r (λ s. (s ≡ 3) × TellsUnread name old.1 errors) → IfOk r (IsListed files HasSession IsAnswer IsRefused HasNote style name old (old.0, errors))
   unread_listed name old errors (Ok s) h = record { entry = record { name = name; said = None }; is_name = refl; is_right = tt; written = Appends-nil old.0; beside = h.1; is_status = h.0 }
   unread_listed name old errors (Err fault) h = tt
 
   -- all of the list was written
-  told_several : (names : List (List ℕ)) (old mid : Streams) (output : Option (List ℕ)) (count all worse status : ℕ) → AreListed files IsAnswer IsRefused HasNote style names old mid count worse → all ≡ length names → status ≡ worse → Appends mid.0 output (list_end style count all) → TellsSeveral files IsAnswer IsRefused HasNote style names old (output, mid.1) status
+  told_several : (names : List (List ℕ)) (old mid : Streams) (output : Option (List ℕ)) (count all worse status : ℕ) → AreListed files HasSession IsAnswer IsRefused HasNote style names old mid count worse → all ≡ length names → status ≡ worse → Appends mid.0 output (list_end style count all) → TellsSeveral files HasSession IsAnswer IsRefused HasNote style names old (output, mid.1) status
   told_several names old mid output count all worse status h is_all same end =
       let es = h.entries in
       let many : all ≡ length es = is_all ∙ (ap length (sym h.are_names) ∙ length-map es (λ (e : Entry). e.name)) in
@@ -141,8 +142,8 @@ module _ (files : List ℕ → Option (List ℕ)) (IsAnswer : List ℕ → List 
       }
 
   -- or not all of it
-  pub several_ends : (names : List (List ℕ)) (old mid : Streams) (output : Option (List ℕ)) (count all worse : ℕ) (r : Result ℕ Fault) → AreListed files IsAnswer IsRefused HasNote style names old mid count worse → all ≡ length names → IfOk r (λ s. s ≡ worse) → IfOk r (λ _. Appends mid.0 output (list_end style count all)) → IfErr r IsListStop → Gains mid.0 output
-      → MatchResult r (TellsSeveral files IsAnswer IsRefused HasNote style names old (output, mid.1)) (StopsSeveral files IsAnswer IsRefused HasNote style names old (output, mid.1))
+  pub several_ends : (names : List (List ℕ)) (old mid : Streams) (output : Option (List ℕ)) (count all worse : ℕ) (r : Result ℕ Fault) → AreListed files HasSession IsAnswer IsRefused HasNote style names old mid count worse → all ≡ length names → IfOk r (λ s. s ≡ worse) → IfOk r (λ _. Appends mid.0 output (list_end style count all)) → IfErr r IsListStop → Gains mid.0 output
+      → MatchResult r (TellsSeveral files HasSession IsAnswer IsRefused HasNote style names old (output, mid.1)) (StopsSeveral files HasSession IsAnswer IsRefused HasNote style names old (output, mid.1))
   several_ends names old mid output count all worse (Ok s) h is_all same end stop gains = told_several names old mid output count all worse s h is_all same end
   several_ends names old mid output count all worse (Err fault) h is_all same end stop gains = stops_behind names old mid (output, mid.1) count worse fault h stop (gains, same_gains mid.1)
 

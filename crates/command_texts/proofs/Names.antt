@@ -1,5 +1,5 @@
 -- The texts under two names.
-use Rattle.std.proofs.Common.{◌≡◌, ℕ, List, subst, refl, sym, codes}
+use Rattle.std.proofs.Common.{◌≡◌, ◌⊎◌, ℕ, List, subst, refl, sym, codes, inl}
 use Rattle.std.specs.Prelude.{Bool, true, false, Option, Some, None, Result, Ok, Err, IfOk, IfSome, if◌then◌else◌, ◌&&◌}
 use Rattle.std.proofs.lemmas.Slice.Eq.{bytes_eq-Decides}
 use Rattle.command_texts.specs.declared.answer.Fault.{Fault}
@@ -12,14 +12,10 @@ same_under false true file input mid e h = h refl
 same_under true true file input mid e h = absurd cc
 
 -- the texts under two names, which are not both the input: where the first is not, it leaves the input
-pub are_named : (first second : List ℕ) (files : List ℕ → Option (List ℕ)) (input mid : Option (List ℕ)) (t u : List ℕ) → false ≡ (is_dash first && is_dash second) → (is_dash first ≡ false → mid ≡ input) → IsNamed first files input t → IsNamed second files mid u → AreNamed first second files input (t, u)
-are_named first second files input mid t u apart_yet apart p q =
+pub are_named : (first second : List ℕ) (files : List ℕ → Option (List ℕ)) (HasFirst HasSecond : List ℕ → List ℕ → Type 0) (input mid : Option (List ℕ)) (t u : List ℕ) → false ≡ (is_dash first && is_dash second) → (is_dash first ≡ false → mid ≡ input) → IsNamed first files HasFirst input t → IsNamed second files HasSecond mid u → AreNamed first second files HasFirst HasSecond input (t, u)
+are_named first second files HasFirst HasSecond input mid t u apart_yet apart p q =
     let same : bytes_under second files mid ≡ bytes_under second files input = same_under (is_dash first) (is_dash second) (files second) input mid apart_yet apart in
-    subst (λ (b : Bool). AreTextsBy b (bytes_under first files input) (bytes_under second files input) input (t, u)) apart_yet (p, subst (λ (known : Option (List ℕ)). AreRead known u) same q)
-
--- both are the input
-pub are_of_input : (first second : List ℕ) (files : List ℕ → Option (List ℕ)) (input : Option (List ℕ)) (texts : List ℕ × List ℕ) → true ≡ (is_dash first && is_dash second) → AreTextsBy true (bytes_under first files input) (bytes_under second files input) input texts → AreNamed first second files input texts
-are_of_input first second files input texts both of_input = subst (λ (b : Bool). AreTextsBy b (bytes_under first files input) (bytes_under second files input) input texts) both of_input
+    subst (λ (b : Bool). AreTextsBy b (IsNamed first files HasFirst input) (IsNamed second files HasSecond input) input (t, u)) apart_yet (p, subst (λ (known : Option (List ℕ)). AreRead known u ⊎ ((is_dash second ≡ false) × HasSecond second u)) same q)
 
 -- the first of two, seen so
 pub map_or : {X Y : Type 0} (f : X → Y) (a b : Option X) → option_map f (option_or a b) ≡ option_or (option_map f a) (option_map f b)
@@ -31,11 +27,24 @@ known_file : (file known : Option (List ℕ)) (text : List ℕ) → IfSome file 
 known_file None known text e h = record { few = h.few; whole = tt }
 known_file (Some xs) known text e h = subst (λ (k : Option (List ℕ)). AreRead k text) e h
 
-pub named_file : {V : Type 0} (r : Result V Fault) (IsFound IsRefused : List ℕ → V → Type 0) (name : List ℕ) (files : List ℕ → Option (List ℕ)) (input known : Option (List ℕ)) → is_dash name ≡ false → IfSome (files name) (λ xs. known ≡ Some xs)
+pub read_file : {V : Type 0} (r : Result V Fault) (IsFound IsRefused : List ℕ → V → Type 0) (file known : Option (List ℕ)) → IfSome file (λ xs. known ≡ Some xs)
     → IfOk r (λ v. (text : List ℕ) × AreRead known text × IsFound text v × IsRefused text v)
-    → IfOk r (λ v. (text : List ℕ) × IsNamed name files input text × IsFound text v × IsRefused text v)
-named_file (Ok v) IsFound IsRefused name files input known plain e h = (h.0, subst (λ (b : Bool). AreRead (if b then input else files name) h.0) (sym plain) (known_file (files name) known h.0 e h.1), h.2, h.3)
-named_file (Err fault) IsFound IsRefused name files input known plain e h = tt
+    → IfOk r (λ v. (text : List ℕ) × AreRead file text × IsFound text v × IsRefused text v)
+read_file (Ok v) IsFound IsRefused file known e h = (h.0, known_file file known h.0 e h.1, h.2, h.3)
+read_file (Err fault) IsFound IsRefused file known e h = tt
+
+pub named_file : {V : Type 0} (r : Result V Fault) (IsFound IsRefused : List ℕ → V → Type 0) (name : List ℕ) (files : List ℕ → Option (List ℕ)) (HasSession : List ℕ → List ℕ → Type 0) (input : Option (List ℕ)) → is_dash name ≡ false
+    → IfOk r (λ v. (text : List ℕ) × AreRead (files name) text × IsFound text v × IsRefused text v)
+    → IfOk r (λ v. (text : List ℕ) × IsNamed name files HasSession input text × IsFound text v × IsRefused text v)
+named_file (Ok v) IsFound IsRefused name files HasSession input plain h = (h.0, inl (subst (λ (b : Bool). AreRead (if b then input else files name) h.0) (sym plain) h.1), h.2, h.3)
+named_file (Err fault) IsFound IsRefused name files HasSession input plain h = tt
+
+-- what was read of the input is the text that its name stands for
+pub named_input : {V : Type 0} (r : Result V Fault) (IsFound IsRefused : List ℕ → V → Type 0) (name : List ℕ) (files : List ℕ → Option (List ℕ)) (HasSession : List ℕ → List ℕ → Type 0) (input : Option (List ℕ)) → is_dash name ≡ true
+    → IfOk r (λ v. (text : List ℕ) × AreRead input text × IsFound text v × IsRefused text v)
+    → IfOk r (λ v. (text : List ℕ) × IsNamed name files HasSession input text × IsFound text v × IsRefused text v)
+named_input (Ok v) IsFound IsRefused name files HasSession input dash h = (h.0, inl (subst (λ (b : Bool). AreRead (if b then input else files name) h.0) (sym dash) h.1), h.2, h.3)
+named_input (Err fault) IsFound IsRefused name files HasSession input dash h = tt
 
 both_true : (x y : Bool) → true ≡ (x && y) → (x ≡ true) × (y ≡ true)
 both_true true y e = (refl, sym e)

@@ -25,15 +25,15 @@ pub record Entry : Type 0 where
   pub name : List ℕ
   pub said : Option Said
 
--- The text under the name was read. This is the answer to it, and the line at which it is refused. If the name is that
--- of the input, nothing is said about the bytes that the input held.
-pub record IsSaid (files : List ℕ → Option (List ℕ)) (IsAnswer : List ℕ → List ℕ → ℕ → Type 0) (IsRefused : List ℕ → Option ℕ → Type 0) (name : List ℕ) (s : Said) : Type 0 where
-  pub is_named : IsNamed name files None s.text
+-- The name stands for this text. This is the answer to it, and the line at which it is refused. If the name is that of
+-- the input, nothing is said about the bytes that the input held.
+pub record IsSaid (files : List ℕ → Option (List ℕ)) (HasSession : List ℕ → List ℕ → Type 0) (IsAnswer : List ℕ → List ℕ → ℕ → Type 0) (IsRefused : List ℕ → Option ℕ → Type 0) (name : List ℕ) (s : Said) : Type 0 where
+  pub is_named : IsNamed name files HasSession None s.text
   pub is_answer : IsAnswer s.text s.answer s.status
   pub is_line : IsRefused s.text s.line
 
-abbrev pub IsRight : (List ℕ → Option (List ℕ)) → (List ℕ → List ℕ → ℕ → Type 0) → (List ℕ → Option ℕ → Type 0) → Entry → Type 0
-IsRight files IsAnswer IsRefused e = IfSome e.said (IsSaid files IsAnswer IsRefused e.name)
+abbrev pub IsRight : (List ℕ → Option (List ℕ)) → (List ℕ → List ℕ → Type 0) → (List ℕ → List ℕ → ℕ → Type 0) → (List ℕ → Option ℕ → Type 0) → Entry → Type 0
+IsRight files HasSession IsAnswer IsRefused e = IfSome e.said (IsSaid files HasSession IsAnswer IsRefused e.name)
 
 -- how answers are listed: after their names, with these words after the counts at the end, or as objects with the names
 -- in them
@@ -111,20 +111,20 @@ TellsEach HasNote [] old new = Keeps old new
 TellsEach HasNote (e ∷ es) old new = (between : Option (List ℕ)) × TellsEntry HasNote e old between × TellsEach HasNote es between new
 
 -- the text under a name is one of a list: its answer was written, with what goes beside it, and this is its status
-pub record IsListed (files : List ℕ → Option (List ℕ)) (IsAnswer : List ℕ → List ℕ → ℕ → Type 0) (IsRefused : List ℕ → Option ℕ → Type 0) (HasNote : List ℕ → Type 0) (style : Style) (name : List ℕ) (old new : Streams) (status : ℕ) : Type 0 where
+pub record IsListed (files : List ℕ → Option (List ℕ)) (HasSession : List ℕ → List ℕ → Type 0) (IsAnswer : List ℕ → List ℕ → ℕ → Type 0) (IsRefused : List ℕ → Option ℕ → Type 0) (HasNote : List ℕ → Type 0) (style : Style) (name : List ℕ) (old new : Streams) (status : ℕ) : Type 0 where
   pub entry : Entry
   pub is_name : entry.name ≡ name
-  pub is_right : IsRight files IsAnswer IsRefused entry
+  pub is_right : IsRight files HasSession IsAnswer IsRefused entry
   pub written : Appends old.0 new.0 (listed style entry)
   pub beside : TellsEntry HasNote entry old.1 new.1
   pub is_status : status ≡ entry_status entry
 
 -- The texts under these names are of a list. For each one, its answer was written, or the errors say that it was not
 -- read. This many answers have status 0, and this is the greatest status.
-pub record AreListed (files : List ℕ → Option (List ℕ)) (IsAnswer : List ℕ → List ℕ → ℕ → Type 0) (IsRefused : List ℕ → Option ℕ → Type 0) (HasNote : List ℕ → Type 0) (style : Style) (names : List (List ℕ)) (old new : Streams) (count status : ℕ) : Type 0 where
+pub record AreListed (files : List ℕ → Option (List ℕ)) (HasSession : List ℕ → List ℕ → Type 0) (IsAnswer : List ℕ → List ℕ → ℕ → Type 0) (IsRefused : List ℕ → Option ℕ → Type 0) (HasNote : List ℕ → Type 0) (style : Style) (names : List (List ℕ)) (old new : Streams) (count status : ℕ) : Type 0 where
   pub entries : List Entry
   pub are_names : map (λ e. e.name) entries ≡ names
-  pub are_right : AllByRecursion (IsRight files IsAnswer IsRefused) entries
+  pub are_right : AllByRecursion (IsRight files HasSession IsAnswer IsRefused) entries
   pub written : Appends old.0 new.0 (concat (map (listed style) entries))
   pub beside : TellsEach HasNote entries old.1 new.1
   pub is_count : count ≡ well entries
@@ -132,22 +132,22 @@ pub record AreListed (files : List ℕ → Option (List ℕ)) (IsAnswer : List �
 
 -- The answers to the texts under these names were written, with how many have status 0. Beside them, the errors say why
 -- texts are refused, which texts were not read, and the notes. The status is the greatest of all.
-pub record TellsSeveral (files : List ℕ → Option (List ℕ)) (IsAnswer : List ℕ → List ℕ → ℕ → Type 0) (IsRefused : List ℕ → Option ℕ → Type 0) (HasNote : List ℕ → Type 0) (style : Style) (names : List (List ℕ)) (old new : Streams) (status : ℕ) : Type 0 where
+pub record TellsSeveral (files : List ℕ → Option (List ℕ)) (HasSession : List ℕ → List ℕ → Type 0) (IsAnswer : List ℕ → List ℕ → ℕ → Type 0) (IsRefused : List ℕ → Option ℕ → Type 0) (HasNote : List ℕ → Type 0) (style : Style) (names : List (List ℕ)) (old new : Streams) (status : ℕ) : Type 0 where
   pub entries : List Entry
   pub are_names : map (λ e. e.name) entries ≡ names
-  pub are_right : AllByRecursion (IsRight files IsAnswer IsRefused) entries
+  pub are_right : AllByRecursion (IsRight files HasSession IsAnswer IsRefused) entries
   pub written : Appends old.0 new.0 (list_text style entries)
   pub beside : TellsEach HasNote entries old.1 new.1
   pub is_status : status ≡ worst entries
 
 -- the first of the names were handled, and then the output could not be written, or memory ran out
-pub record StopsSeveral (files : List ℕ → Option (List ℕ)) (IsAnswer : List ℕ → List ℕ → ℕ → Type 0) (IsRefused : List ℕ → Option ℕ → Type 0) (HasNote : List ℕ → Type 0) (style : Style) (names : List (List ℕ)) (old new : Streams) (fault : Fault) : Type 0 where
+pub record StopsSeveral (files : List ℕ → Option (List ℕ)) (HasSession : List ℕ → List ℕ → Type 0) (IsAnswer : List ℕ → List ℕ → ℕ → Type 0) (IsRefused : List ℕ → Option ℕ → Type 0) (HasNote : List ℕ → Type 0) (style : Style) (names : List (List ℕ)) (old new : Streams) (fault : Fault) : Type 0 where
   pub is_stop : IsListStop fault
   pub dealt : ℕ
   pub count : ℕ
   pub status : ℕ
   pub between : Streams
-  pub listed : AreListed files IsAnswer IsRefused HasNote style (take dealt names) old between count status
+  pub listed : AreListed files HasSession IsAnswer IsRefused HasNote style (take dealt names) old between count status
   pub gains : BothGain between new
 
 -- the status of a list: below 2 if each text was read, and 3 if one was not

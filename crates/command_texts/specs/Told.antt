@@ -1,5 +1,5 @@
 -- The answers to the texts under names.
-use Rattle.std.specs.Prelude.{◌≡◌, ℕ, Bool, true, false, List, Option, Result, IfSome, MatchResult, codes, if◌then◌else◌, ◌&&◌}
+use Rattle.std.specs.Prelude.{◌≡◌, ◌⊎◌, ℕ, Bool, true, false, List, Option, Result, IfSome, MatchResult, codes, if◌then◌else◌, ◌&&◌}
 use Rattle.std.specs.Str.{bytes_eq}
 use Rattle.std.specs.Io.KnownBytes.{Appends, Keeps}
 use Rattle.command_texts.specs.declared.answer.Fault.{Fault}
@@ -21,9 +21,13 @@ pub record AreRead (known : Option (List ℕ)) (bytes : List ℕ) : Type 0 where
   pub few : IsWithin bytes
   pub whole : IfSome known (λ xs. bytes ≡ xs)
 
--- the text that a name stands for
-abbrev pub IsNamed : List ℕ → (List ℕ → Option (List ℕ)) → Option (List ℕ) → List ℕ → Type 0
-IsNamed name files input text = AreRead (bytes_under name files input) text
+-- no name has a session
+abbrev pub NoSession : List ℕ → List ℕ → Type 0
+NoSession name text = ⊥
+
+-- the text that a name stands for: it was read; or the name is not the input's, and it has the session of this text
+abbrev pub IsNamed : List ℕ → (List ℕ → Option (List ℕ)) → (List ℕ → List ℕ → Type 0) → Option (List ℕ) → List ℕ → Type 0
+IsNamed name files HasSession input text = AreRead (bytes_under name files input) text ⊎ ((is_dash name ≡ false) × HasSession name text)
 
 -- the two texts of an input
 pub record AreOfInput (input : Option (List ℕ)) (texts : List ℕ × List ℕ) : Type 0 where
@@ -31,14 +35,15 @@ pub record AreOfInput (input : Option (List ℕ)) (texts : List ℕ × List ℕ)
   pub are_read : AreRead input bytes
   pub are_cut : IsCutAtEnd bytes texts.0 texts.1
 
-abbrev pub AreTextsBy : Bool → Option (List ℕ) → Option (List ℕ) → Option (List ℕ) → List ℕ × List ℕ → Type 0
-AreTextsBy true first second input texts = AreOfInput input texts
-AreTextsBy false first second input texts = AreRead first texts.0 × AreRead second texts.1
+abbrev pub AreTextsBy : Bool → (List ℕ → Type 0) → (List ℕ → Type 0) → Option (List ℕ) → List ℕ × List ℕ → Type 0
+AreTextsBy true IsFirst IsSecond input texts = AreOfInput input texts
+AreTextsBy false IsFirst IsSecond input texts = IsFirst texts.0 × IsSecond texts.1
 
--- the two texts that two names stand for; if both names are the input's, the input holds both texts
-abbrev pub AreNamed : List ℕ → List ℕ → (List ℕ → Option (List ℕ)) → Option (List ℕ) → List ℕ × List ℕ → Type 0
-AreNamed first second files input texts =
-    AreTextsBy (is_dash first && is_dash second) (bytes_under first files input) (bytes_under second files input) input texts
+-- The two texts that two names stand for. If both names are the input's, the input holds both texts. The first name may
+-- have a session, and the second one too.
+abbrev pub AreNamed : List ℕ → List ℕ → (List ℕ → Option (List ℕ)) → (List ℕ → List ℕ → Type 0) → (List ℕ → List ℕ → Type 0) → Option (List ℕ) → List ℕ × List ℕ → Type 0
+AreNamed first second files HasFirst HasSecond input texts =
+    AreTextsBy (is_dash first && is_dash second) (IsNamed first files HasFirst input) (IsNamed second files HasSecond input) input texts
 
 -- the answer's text was appended to the output, and the status is the answer's
 pub record TellsOf (IsAnswer : List ℕ → ℕ → Type 0) (old new : Option (List ℕ)) (status : ℕ) : Type 0 where

@@ -53,7 +53,25 @@ pub fn opened<'a, S: TextSource>(texts: &S, name: &'a str) -> Result<S::Text, Fa
     }
 }
 
-// Returns what is found in the text under a name, and why the text is refused, if it is.
+// Reads the text under a name, which must not be that of the input. Returns what is found in it, and why it is refused,
+// if it is.
+fn read_opened<'a, T: Taker, R: Threads + Sync, S: TextSource>(
+    rt: &R,
+    alloc: Global,
+    name: &'a str,
+    texts: &S,
+) -> Result<(T::Found, Option<Refusal>), Fault<'a>>
+    ensures read { IfOk result (λ read. (text : List ℕ) × AreRead (S.bytes_of texts.now name.entry.now) text × T.is_found text read.0 × T.is_refused text (line_of read.1)) }
+    ensures fault { IfErr result (IsReadFault (λ n. n ≡ name.entry.now)) }
+{
+    match opened(texts, name) {
+        Ok(mut text) => read_from::<T, R, S::Text>(rt, alloc, name, &mut text),
+        Err(fault) => Err(fault),
+    }
+}
+
+// Returns what is found in the text that a name stands for, and why the text is refused, if it is. A session under the
+// name stands for its text, if the taker takes it.
 fn read_under<'a, T: Taker, R: Threads + Sync, S: TextSource, I: Read + Send>(
     rt: &R,
     alloc: Global,
@@ -61,21 +79,22 @@ fn read_under<'a, T: Taker, R: Threads + Sync, S: TextSource, I: Read + Send>(
     texts: &S,
     input: &mut I,
 ) -> Result<(T::Found, Option<Refusal>), Fault<'a>>
-    ensures named { IfOk result (λ read. (text : List ℕ) × IsNamed name.entry.now (S.bytes_of texts.now) (I.remaining input.old) text × T.is_found text read.0 × T.is_refused text (line_of read.1)) }
+    ensures named { IfOk result (λ read. (text : List ℕ) × IsNamed name.entry.now (S.bytes_of texts.now) (T.taken_in (S.text_in texts.now)) (I.remaining input.old) text × T.is_found text read.0 × T.is_refused text (line_of read.1)) }
     ensures apart { is_dash name.entry.now ≡ false → input.new ≡ input.old }
     ensures fault { IfErr result (IsReadFault (λ n. n ≡ name.entry.now)) }
 {
     if name == "-" {
         return read_from::<T, R, I>(rt, alloc, name, input);
     }
-    match opened(texts, name) {
-        Ok(mut text) => read_from::<T, R, S::Text>(rt, alloc, name, &mut text),
-        Err(fault) => Err(fault),
+    match T::find_session(alloc, texts, name) {
+        Ok(Some(found)) => Ok((found, None)),
+        Ok(None) => read_opened::<T, R, S>(rt, alloc, name, texts),
+        Err(_) => Err(Fault::Memory),
     }
 }
 
-/// Returns what is found in the text under a name, and why the text is refused, if it is. The name `-` is that of the
-/// input.
+/// Returns what is found in the text that a name stands for, and why the text is refused, if it is. The name `-` is that
+/// of the input. A taker of sessions takes the session under a name, and nothing is read.
 pub fn read_named<'a, T: Taker, R: Threads + Sync, S: TextSource, I: Read + Send>(
     rt: &R,
     alloc: Global,
@@ -83,7 +102,7 @@ pub fn read_named<'a, T: Taker, R: Threads + Sync, S: TextSource, I: Read + Send
     texts: &S,
     input: &mut I,
 ) -> Result<(T::Found, Option<Why<'a>>), Fault<'a>>
-    ensures named { IfOk result (λ read. (text : List ℕ) × IsNamed name.entry.now (S.bytes_of texts.now) (I.remaining input.old) text × T.is_found text read.0 × IsWhy T.is_refused name.entry.now text read.1) }
+    ensures named { IfOk result (λ read. (text : List ℕ) × IsNamed name.entry.now (S.bytes_of texts.now) (T.taken_in (S.text_in texts.now)) (I.remaining input.old) text × T.is_found text read.0 × IsWhy T.is_refused name.entry.now text read.1) }
     ensures apart { is_dash name.entry.now ≡ false → input.new ≡ input.old }
     ensures fault { IfErr result (IsReadFault (λ n. n ≡ name.entry.now)) }
 {
@@ -140,7 +159,7 @@ pub(crate) fn read_pair<'a, A: Taker, B: Taker, R: Threads + Sync, S: TextSource
     texts: &S,
     input: &mut I,
 ) -> Result<((A::Found, B::Found), Refusals<'a>), Fault<'a>>
-    ensures named { IfOk result (λ read. (pair : List ℕ × List ℕ) × AreNamed first.entry.now second.entry.now (S.bytes_of texts.now) (I.remaining input.old) pair × A.is_found pair.0 read.0.0 × B.is_found pair.1 read.0.1 × IsWhy A.is_refused first.entry.now pair.0 read.1.first × IsWhy B.is_refused second.entry.now pair.1 read.1.second) }
+    ensures named { IfOk result (λ read. (pair : List ℕ × List ℕ) × AreNamed first.entry.now second.entry.now (S.bytes_of texts.now) (A.taken_in (S.text_in texts.now)) (B.taken_in (S.text_in texts.now)) (I.remaining input.old) pair × A.is_found pair.0 read.0.0 × B.is_found pair.1 read.0.1 × IsWhy A.is_refused first.entry.now pair.0 read.1.first × IsWhy B.is_refused second.entry.now pair.1 read.1.second) }
     ensures fault { IfErr result (IsReadFault (λ n. (n ≡ first.entry.now) ⊎ (n ≡ second.entry.now))) }
 {
     if are_input(first, second) {

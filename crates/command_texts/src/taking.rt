@@ -1,6 +1,6 @@
 //! Texts that are taken piece by piece while they are read.
 
-ghost use Rattle.std.specs.Prelude.{◌≡◌, ◌≢◌, ℕ, List, [], ◌++◌, Option, Some, None, Ok, Err, IfOk, OnOk, MatchResult};
+ghost use Rattle.std.specs.Prelude.{◌≡◌, ◌≢◌, ℕ, List, [], ◌++◌, Option, Some, None, Ok, Err, IfOk, IfSome, OnOk, MatchResult};
 ghost use Rattle.std.specs.Thread.{IsSync};
 ghost use Rattle.text_lines.specs.Answer.{IsRead};
 ghost use Rattle.text_lines.specs.Progress.{CameSoFar};
@@ -9,6 +9,7 @@ ghost use Rattle.command_texts.specs.Reasons.{IsRefusedAt, line_of};
 use std::alloc::{AllocError, Global};
 use std::marker::Model;
 use std::thread::Threads;
+use text_access::TextSource;
 use text_lines::{FaultKind, LinesApart, Refusal, Staged, Stages, TextReader, read_or_why};
 
 /// Takes a text piece by piece, and returns at the end what it found.
@@ -24,6 +25,25 @@ pub trait Taker: Drop {
 
     /// These bytes have been taken so far.
     ghost came: { Self → List ℕ → Type 0 };
+
+    /// The texts of sessions that are taken under names, without being read, out of those that are there. Only a taker of
+    /// sessions takes any.
+    ghost taken_in: { (List ℕ → List ℕ → Type 0) → List ℕ → List ℕ → Type 0 } = { λ _ _ _. ⊥ };
+
+    /// Returns what is found in the text of the session under a name, if there is one that is taken. Fails only if memory
+    /// runs out.
+    fn find_session<S: TextSource>(
+        alloc: Global,
+        texts: &S,
+        name: &str,
+    ) -> Result<Option<Self::Found>, AllocError>
+        ensures { IfOk result (λ session. IfSome session (λ found. (text : List ℕ) × taken_in (S.text_in texts.now) name.now text × is_found text found × is_refused text None)) }
+    {
+        let _ = alloc;
+        let _ = texts;
+        let _ = name;
+        Ok(None)
+    }
 
     /// Returns a taker that has taken nothing. Allocates no memory.
     fn new(alloc: Global) -> Self

@@ -13,11 +13,11 @@ ghost use Rattle.commands.specs.Drawings.{IsDrawAnswer, IsDrawAlongAnswer, IsDra
 use audit_report::{audit, print_refused_session};
 use cert_text::OrderReader;
 use command_texts::{
-    ACCEPTED, Answer, Fault, Given, OnOne, OnTwo, REFUSED, Telling, given, given_alone, refused,
+    ACCEPTED, Answer, Fault, Given, OnOne, OnTwo, REFUSED, SessionTaker, Telling, given,
+    given_alone, refused,
 };
 use migration_types::{Run, Seq, Session, Topic};
 use order_picture::{print_picture_along, print_picture_on};
-use session_log::SessionReader;
 use std::alloc::{AllocError, Global};
 use std::thread::Threads;
 
@@ -116,7 +116,7 @@ pub struct DrawCommand<'a, R> {
 }
 
 impl<R: Threads + Sync> OnOne for DrawCommand<'_, R> {
-    type Text = SessionReader;
+    type Text = SessionTaker;
 
     ghost ready = { IsSync R.row };
 
@@ -148,7 +148,7 @@ pub struct DrawAlongCommand<'a, R> {
 }
 
 impl<R: Threads + Sync> OnTwo for DrawAlongCommand<'_, R> {
-    type First = SessionReader;
+    type First = SessionTaker;
 
     type Second = OrderReader;
 

@@ -6,7 +6,7 @@ ghost use Rattle.clap.specs.Words.{kind_of, takes};
 ghost use Rattle.command_words.specs.Table.{folders_of, job_of, several_of};
 ghost use Rattle.command_words.specs.Words.{IsPlain, asked, asked_by, clashing, folders_asked, postcopy_words, several_asked};
 ghost use Rattle.command_texts.specs.Answers.{fault_line, fault_status};
-ghost use Rattle.command_texts.specs.Told.{AreNamed, AreOfInput};
+ghost use Rattle.command_texts.specs.Told.{AreNamed, AreOfInput, NoSession};
 ghost use Rattle.text_access.specs.Written.{AppendsFront, BothGain, Gains};
 ghost use Rattle.session_commands.specs.Texts.{WritesSession};
 ghost use Rattle.commands.specs.Refused.{IsRefusalOf};
@@ -103,8 +103,8 @@ fn grant<
 >(console: &mut Console<'_, R, S, I, O, E>, intent: Intent<'_>, lines: &mut Option<Vec<u8>>) -> u8
     ensures known { (result ≢ 2) × (result ≤ 4) }
     ensures fault { 2 < result → IsFaultTold (E.contents console.old.errors) (E.contents console.new.errors) result }
-    ensures job { IfSome (job_of intent.entry) (λ job. IsSettled (EndsAsked job (S.bytes_of console.old.texts.now) (I.remaining console.old.input) (O.contents console.old.output, E.contents console.old.errors)) (O.contents console.new.output, E.contents console.new.errors) result) }
-    ensures several { IfSome (several_of intent.entry) (λ asked. IsSettledList (EndsSeveral asked (S.bytes_of console.old.texts.now) (O.contents console.old.output, E.contents console.old.errors)) (O.contents console.new.output, E.contents console.new.errors) result) }
+    ensures job { IfSome (job_of intent.entry) (λ job. IsSettled (EndsAsked job (S.bytes_of console.old.texts.now) (S.text_in console.old.texts.now) (I.remaining console.old.input) (O.contents console.old.output, E.contents console.old.errors)) (O.contents console.new.output, E.contents console.new.errors) result) }
+    ensures several { IfSome (several_of intent.entry) (λ asked. IsSettledList (EndsSeveral asked (S.bytes_of console.old.texts.now) (S.text_in console.old.texts.now) (O.contents console.old.output, E.contents console.old.errors)) (O.contents console.new.output, E.contents console.new.errors) result) }
     ensures folders { IfSome (folders_of intent.entry) (λ asked. result ≡ 0 → WritesSession (S.names_in console.old.texts.now) (S.bytes_of console.old.texts.now) asked.1 asked.0 (O.contents console.old.output) (O.contents console.new.output)) }
     ensures unmade { IfSome (folders_of intent.entry) (λ asked. result ≡ 1 → Keeps (O.contents console.old.output) (O.contents console.new.output)) }
     ensures lines { result ≡ 0 → IfSome (job_of intent.entry) (λ job. HasLines job (S.bytes_of console.old.texts.now) (O.contents console.old.output) (O.contents console.new.output) lines.old lines.new) }
@@ -193,16 +193,16 @@ pub fn run<
     ensures bare { length reading.entry ≤ 1 → IsSettled (EndsBare (I.remaining console.old.input) (O.contents console.old.output, E.contents console.old.errors)) (O.contents console.new.output, E.contents console.new.errors) result }
     ensures usage { takes postcopy_words reading.entry ≡ true → clashing reading.entry ≡ false → result ≢ 2 }
     ensures clash { takes postcopy_words reading.entry ≡ true → clashing reading.entry ≡ true → (result ≡ 2) ⊎ (result ≡ 4) }
-    ensures told { takes postcopy_words reading.entry ≡ true → IfSome (asked reading.entry) (λ job. IsSettled (EndsAsked job (S.bytes_of console.old.texts.now) (I.remaining console.old.input) (O.contents console.old.output, E.contents console.old.errors)) (O.contents console.new.output, E.contents console.new.errors) result) }
-    ensures several { takes postcopy_words reading.entry ≡ true → IfSome (several_asked reading.entry) (λ asked. IsSettledList (EndsSeveral asked (S.bytes_of console.old.texts.now) (O.contents console.old.output, E.contents console.old.errors)) (O.contents console.new.output, E.contents console.new.errors) result) }
+    ensures told { takes postcopy_words reading.entry ≡ true → IfSome (asked reading.entry) (λ job. IsSettled (EndsAsked job (S.bytes_of console.old.texts.now) (S.text_in console.old.texts.now) (I.remaining console.old.input) (O.contents console.old.output, E.contents console.old.errors)) (O.contents console.new.output, E.contents console.new.errors) result) }
+    ensures several { takes postcopy_words reading.entry ≡ true → IfSome (several_asked reading.entry) (λ asked. IsSettledList (EndsSeveral asked (S.bytes_of console.old.texts.now) (S.text_in console.old.texts.now) (O.contents console.old.output, E.contents console.old.errors)) (O.contents console.new.output, E.contents console.new.errors) result) }
     ensures folders { takes postcopy_words reading.entry ≡ true → IfSome (folders_asked reading.entry) (λ asked. result ≡ 0 → WritesSession (S.names_in console.old.texts.now) (S.bytes_of console.old.texts.now) asked.1 asked.0 (O.contents console.old.output) (O.contents console.new.output)) }
     ensures unmade { takes postcopy_words reading.entry ≡ true → IfSome (folders_asked reading.entry) (λ asked. result ≡ 1 → Keeps (O.contents console.old.output) (O.contents console.new.output)) }
     ensures lines { takes postcopy_words reading.entry ≡ true → result ≡ 0 → IfSome (asked reading.entry) (λ job. HasLines job (S.bytes_of console.old.texts.now) (O.contents console.old.output) (O.contents console.new.output) lines.old lines.new) }
     ensures unlined { asked reading.entry ≡ None → lines.new ≡ lines.old }
     ensures kept { result ≢ 0 → lines.new ≡ lines.old }
-    ensures plain { (name : List ℕ) (names : List (List ℕ)) → IsPlain reading.entry name names → IfSome (asked_by name names) (λ job. (result ≢ 2) × IsSettled (EndsAsked job (S.bytes_of console.old.texts.now) (I.remaining console.old.input) (O.contents console.old.output, E.contents console.old.errors)) (O.contents console.new.output, E.contents console.new.errors) result) }
+    ensures plain { (name : List ℕ) (names : List (List ℕ)) → IsPlain reading.entry name names → IfSome (asked_by name names) (λ job. (result ≢ 2) × IsSettled (EndsAsked job (S.bytes_of console.old.texts.now) (S.text_in console.old.texts.now) (I.remaining console.old.input) (O.contents console.old.output, E.contents console.old.errors)) (O.contents console.new.output, E.contents console.new.errors) result) }
     ensures bare_headline { length reading.entry ≤ 1 → result ≡ 0 → ShowsHeadline (AreOfInput (I.remaining console.old.input)) }
-    ensures headline { (first second : List ℕ) → AsksCheck reading.entry first second → result ≡ 0 → ShowsHeadline (AreNamed first second (S.bytes_of console.old.texts.now) (I.remaining console.old.input)) }
+    ensures headline { (first second : List ℕ) → AsksCheck reading.entry first second → result ≡ 0 → ShowsHeadline (AreNamed first second (S.bytes_of console.old.texts.now) (S.text_in console.old.texts.now) NoSession (I.remaining console.old.input)) }
 {
     headline_holds_at_yes();
     match reading.intent() {

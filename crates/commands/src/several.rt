@@ -25,7 +25,7 @@ pub(crate) fn asked_several<
 >(console: &mut Console<'_, R, S, I, O, E>, several: &Several<'a>) -> Result<u8, Fault<'a>>
     ensures known { IfOk result IsListStatus }
     ensures unread { IfOk result (λ status. status ≡ 3 → TellsOneUnread (E.contents console.old.errors) (E.contents console.new.errors)) }
-    ensures told { EndsSeveral (several_names several.now) (S.bytes_of console.old.texts.now) (O.contents console.old.output, E.contents console.old.errors) (O.contents console.new.output, E.contents console.new.errors) result }
+    ensures told { EndsSeveral (several_names several.now) (S.bytes_of console.old.texts.now) (S.text_in console.old.texts.now) (O.contents console.old.output, E.contents console.old.errors) (O.contents console.new.output, E.contents console.new.errors) result }
     ensures gains { BothGain (O.contents console.old.output, E.contents console.old.errors) (O.contents console.new.output, E.contents console.new.errors) }
 {
     let command = AuditCommand {

@@ -16,11 +16,11 @@ use crate::completing::held;
 use crate::forms::telling_by;
 use crate::noting::note_on;
 use audit_report::{FullAudit, OwnLines, Report, audit, audit_in_full};
-use command_texts::{Answer, Given, OnOne, REFUSED, Telling, given, status_where};
+use command_texts::{Answer, Given, OnOne, REFUSED, SessionTaker, Telling, given, status_where};
 use migration_types::Session;
 use page_facts::InThreads;
 use session_answers::{AnswerForm, Ask, print_refusal, print_told};
-use session_log::{SessionReader, session_texts_are_unambiguous};
+use session_log::session_texts_are_unambiguous;
 use std::alloc::{AllocError, Global};
 use std::thread::Threads;
 
@@ -123,7 +123,7 @@ pub struct AuditCommand<'a, R> {
 }
 
 impl<R: Threads + Sync> OnOne for AuditCommand<'_, R> {
-    type Text = SessionReader;
+    type Text = SessionTaker;
 
     ghost ready = { IsSync R.row };
 

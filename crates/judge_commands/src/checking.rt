@@ -18,12 +18,12 @@ use crate::noting::note_on;
 use audit_report::{OwnLines, push_refused_certificate, push_refused_session, push_shape};
 use cert_check::Verdict;
 use cert_text::CertReader;
-use command_texts::{Answer, Fault, OnTwo, Telling, given, status_where};
+use command_texts::{Answer, Fault, OnTwo, SessionTaker, Telling, given, status_where};
 use command_words::VerdictForm;
 use completeness::Extent;
 use judged_texts::check_read;
 use migration_types::{Cert, Session};
-use session_log::{SessionReader, session_texts_are_unambiguous};
+use session_log::session_texts_are_unambiguous;
 use std::alloc::{AllocError, Global};
 use std::thread::Threads;
 use text_lines::{push_keyed, push_line};
@@ -109,7 +109,7 @@ pub struct CheckCommand<'a, R> {
 }
 
 impl<R: Threads + Sync> OnTwo for CheckCommand<'_, R> {
-    type First = SessionReader;
+    type First = SessionTaker;
 
     type Second = CertReader;
 

@@ -19,12 +19,14 @@ use crate::completing::held;
 use crate::forms::telling_by;
 use crate::noting::note_on;
 use audit_report::{Lines, audit};
-use command_texts::{Answer, Fault, Gathered, OnTwo, REFUSED, Telling, given_alone, refused};
+use command_texts::{
+    Answer, Fault, Gathered, OnTwo, REFUSED, SessionTaker, Telling, given_alone, refused,
+};
 use completeness::Extent;
 use migration_types::{Seq, Session};
 use report_json::push_refused_table;
 use session_answers::{LackForm, Story, print_story, print_story_refusal};
-use session_log::{SessionReader, session_texts_are_unambiguous};
+use session_log::session_texts_are_unambiguous;
 use std::alloc::{AllocError, Global};
 use std::thread::Threads;
 use window_commands::TableParts;
@@ -139,7 +141,7 @@ pub struct ExplainByTable<'a, R> {
 }
 
 impl<R: Threads + Sync> OnTwo for ExplainByTable<'_, R> {
-    type First = SessionReader;
+    type First = SessionTaker;
 
     type Second = Gathered<TableParts>;
 

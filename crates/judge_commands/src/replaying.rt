@@ -9,10 +9,9 @@ ghost use Rattle.judge_commands.specs.Replayed.{IsReplayAnswer, outcome_line, ou
 
 use audit_report::{push_refused_session, push_shape};
 use cert_text::OrderReader;
-use command_texts::{Answer, Fault, OnTwo, Telling, given_alone, status_where};
+use command_texts::{Answer, Fault, OnTwo, SessionTaker, Telling, given_alone, status_where};
 use judged_texts::{Outcome, find_outcome};
 use migration_types::{Run, Seq, Session};
-use session_log::SessionReader;
 use std::alloc::{AllocError, Global};
 use text_lines::{push_keyed, push_line};
 
@@ -59,7 +58,7 @@ fn replay_read(
 pub struct ReplayCommand;
 
 impl OnTwo for ReplayCommand {
-    type First = SessionReader;
+    type First = SessionTaker;
 
     type Second = OrderReader;
 

@@ -2,8 +2,11 @@
 
 ghost use Rattle.std.specs.Prelude.{◌≡◌, ℕ, List, Option, Some, None, IfOk, IfSome, map, string_bytes};
 ghost use Rattle.std.specs.List.Sorted.{IsPermutation};
+ghost use Rattle.text_lines.specs.Text.{IsSpelling};
+ghost use Rattle.session_grammar.specs.Grammar.{SpellsSession};
 
-use std::alloc::Global;
+use migration_types::Session;
+use std::alloc::{AllocError, Global};
 use std::io;
 use std::io::{ErrorKind, Read};
 
@@ -18,6 +21,9 @@ pub trait TextSource {
     /// The names of what is in a folder, if they are known.
     ghost names_in: { Self → List ℕ → Option (List (List ℕ)) } = { λ _ _. None };
 
+    /// This is the text of the session under a name that has no text of its own, such as that of a folder.
+    ghost text_in: { Self → List ℕ → List ℕ → Type 0 } = { λ _ _ _. ⊥ };
+
     /// Opens the text under a name.
     fn text(&self, name: &str) -> io::Result<Self::Text>
         ensures { IfOk result (λ t. IfSome (bytes_of self.now name.now) (λ xs. Self.Text.remaining t ≡ Some xs)) };
@@ -25,6 +31,16 @@ pub trait TextSource {
     /// Returns whether the text under a name can be read again. The text of a pipe cannot. No proof depends on it.
     fn stays(&self, _name: &str) -> bool {
         true
+    }
+
+    /// Returns the session under a name that has no text of its own, or `None` if there is none. A source has no such
+    /// sessions unless it says so. Fails only if memory runs out.
+    fn session(&self, alloc: Global, name: &str) -> Result<Option<Session>, AllocError>
+        ensures { IfOk result (λ found. IfSome found (λ session. (text : List ℕ) × text_in self.now name.now text × IsSpelling SpellsSession session text)) }
+    {
+        let _ = alloc;
+        let _ = name;
+        Ok(None)
     }
 
     /// Returns the names of what is in a folder, in no order. Names that are not UTF-8 are left out. A source has no

@@ -27,7 +27,7 @@ returns-clause-named g c =
     let n = c.in_ok-found.ensures.named in
     let m = c.in_ok-other.ensures.named in (
       (n.0, m.0),
-      are_named c.args.first.now c.args.second.now (g.S.TextSource.bytes_of c.args.texts.now) (g.I.Read.remaining c.args.input.now) _ n.0 m.0 c.if-are_input.ensures (λ e. ap g.I.Read.remaining (c.in_ok-found.ensures.apart e)) n.1 m.1,
+      are_named c.args.first.now c.args.second.now (g.S.TextSource.bytes_of c.args.texts.now) (g.A.Taker.taken_in (g.S.TextSource.text_in c.args.texts.now)) (g.B.Taker.taken_in (g.S.TextSource.text_in c.args.texts.now)) (g.I.Read.remaining c.args.input.now) _ n.0 m.0 c.if-are_input.ensures (λ e. ap g.I.Read.remaining (c.in_ok-found.ensures.apart e)) n.1 m.1,
       n.2,
       m.2,
       n.3,

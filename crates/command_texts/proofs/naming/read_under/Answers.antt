@@ -1,10 +1,15 @@
-use Rattle.std.proofs.Common.{◌≡◌, false}
+use Rattle.std.proofs.Common.{◌≡◌, true, false}
 use Rattle.command_texts.specs.Reasons.{line_of}
 use Rattle.command_texts.specs.Told.{is_dash}
-use Rattle.command_texts.proofs.Names.{named_file}
+use Rattle.command_texts.proofs.Names.{named_file, named_input}
 use Rattle.command_texts.proofs.naming.read_under.Goals as goal
 
-pub returns-in-Ok-clause-named : goal.returns-in-Ok-clause-named
-returns-in-Ok-clause-named g c =
+pub returns-then-eq-clause-named : goal.returns-then-eq-clause-named
+returns-then-eq-clause-named g c =
+    let dash : is_dash c.args.name.now ≡ true = cc in
+    named_input c.read_from.result (λ text read. g.T.Taker.is_found text read.0) (λ text read. g.T.Taker.is_refused text (line_of read.1)) c.args.name.now (g.S.TextSource.bytes_of c.args.texts.now) (g.T.Taker.taken_in (g.S.TextSource.text_in c.args.texts.now)) (g.I.Read.remaining c.args.input.now) dash c.read_from.ensures.read
+
+pub returns-in-Ok-None-clause-named : goal.returns-in-Ok-None-clause-named
+returns-in-Ok-None-clause-named g c =
     let plain : is_dash c.args.name.now ≡ false = cc in
-    named_file c.read_from-in-Ok.result (λ text read. g.T.Taker.is_found text read.0) (λ text read. g.T.Taker.is_refused text (line_of read.1)) c.args.name.now (g.S.TextSource.bytes_of c.args.texts.now) (g.I.Read.remaining c.args.input.now) _ plain c.in-Ok.ensures.text c.read_from-in-Ok.ensures.read
+    named_file c.read_opened.result (λ text read. g.T.Taker.is_found text read.0) (λ text read. g.T.Taker.is_refused text (line_of read.1)) c.args.name.now (g.S.TextSource.bytes_of c.args.texts.now) (g.T.Taker.taken_in (g.S.TextSource.text_in c.args.texts.now)) (g.I.Read.remaining c.args.input.now) plain c.read_opened.ensures.read

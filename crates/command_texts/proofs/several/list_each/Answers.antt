@@ -12,7 +12,7 @@ abbrev no_name : Bor (List ℕ)
 no_name = record { ref_ptr = (0, 0); now = [] }
 
 pub loop-name-init : goal.loop-name-init
-loop-name-init g c = record { few = omega arith; stays = refl; listed = none_listed _ _ _ _ _ _; known = inl (omega arith); unread = λ three. absurd cc; gains = (same_gains _, same_gains _) }
+loop-name-init g c = record { few = omega arith; stays = refl; listed = none_listed _ _ _ _ _ _ _; known = inl (omega arith); unread = λ three. absurd cc; gains = (same_gains _, same_gains _) }
 
 pub loop-name-preserved : goal.loop-name-preserved
 loop-name-preserved g c =
@@ -23,7 +23,7 @@ loop-name-preserved g c =
     let mid : Streams = (g.O.Write.contents c.loop-name.console.output, g.E.Write.contents c.loop-name.console.errors) in
     let new : Streams = (g.O.Write.contents c.list_one.new.console.output, g.E.Write.contents c.list_one.new.console.errors) in
     let listed = rw i.stays at one.listed in
-    let more = next_listed _ _ _ _ (style_of c.args.listing) c.args.names.now c.loop-name.name-index no_name old mid new c.loop-name.well c.loop-name.worst status c.loop-name-test.true i.listed listed in
+    let more = next_listed _ _ _ _ _ (style_of c.args.listing) c.args.names.now c.loop-name.name-index no_name old mid new c.loop-name.well c.loop-name.worst status c.loop-name-test.true i.listed listed in
     record {
       few = omega (arith, i.few, c.count_of-well.ensures.few);
       stays = one.stays ∙ i.stays;
@@ -34,13 +34,13 @@ loop-name-preserved g c =
     }
 
 pub returns-clause-listed : goal.returns-clause-listed
-returns-clause-listed g c = all_listed _ _ _ _ (style_of c.args.listing) c.args.names.now c.loop-name.name-index (g.O.Write.contents c.args.console.now.output, g.E.Write.contents c.args.console.now.errors) (g.O.Write.contents c.loop-name.console.output, g.E.Write.contents c.loop-name.console.errors) c.loop-name.well c.loop-name.worst c.loop-name-test.false c.loop-name.invariant.listed
+returns-clause-listed g c = all_listed _ _ _ _ _ (style_of c.args.listing) c.args.names.now c.loop-name.name-index (g.O.Write.contents c.args.console.now.output, g.E.Write.contents c.args.console.now.errors) (g.O.Write.contents c.loop-name.console.output, g.E.Write.contents c.loop-name.console.errors) c.loop-name.well c.loop-name.worst c.loop-name-test.false c.loop-name.invariant.listed
 
 pub returns-in_err-status-clause-stops : goal.returns-in_err-status-clause-stops
 returns-in_err-status-clause-stops g c =
     let p = err_from_is_err_and c.from_residual.result c.from_residual.ensures.1 in
     let i = c.loop-name.invariant in
-    rw (p.1, p.2) (stops_there _ _ _ _ (style_of c.args.listing) c.args.names.now c.loop-name.name-index (g.O.Write.contents c.args.console.now.output, g.E.Write.contents c.args.console.now.errors) (g.O.Write.contents c.loop-name.console.output, g.E.Write.contents c.loop-name.console.errors) (g.O.Write.contents c.list_one.new.console.output, g.E.Write.contents c.list_one.new.console.errors) c.loop-name.well c.loop-name.worst _ i.listed c.in_err-status.ensures.stop c.in_err-status.ensures.gains)
+    rw (p.1, p.2) (stops_there _ _ _ _ _ (style_of c.args.listing) c.args.names.now c.loop-name.name-index (g.O.Write.contents c.args.console.now.output, g.E.Write.contents c.args.console.now.errors) (g.O.Write.contents c.loop-name.console.output, g.E.Write.contents c.loop-name.console.errors) (g.O.Write.contents c.list_one.new.console.output, g.E.Write.contents c.list_one.new.console.errors) c.loop-name.well c.loop-name.worst _ i.listed c.in_err-status.ensures.stop c.in_err-status.ensures.gains)
 
 pub returns-in_err-status-clause-gains : goal.returns-in_err-status-clause-gains
 returns-in_err-status-clause-gains g c =

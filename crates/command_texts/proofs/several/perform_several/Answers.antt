@@ -15,7 +15,7 @@ returns-clause-unread g c = same_status (λ (s : ℕ). s ≡ 3 → TellsOneUnrea
 
 pub returns-clause-told : goal.returns-clause-told
 returns-clause-told g c =
-    several_ends _ _ _ _ (style_of c.args.listing) (names_of c.args.names.now) (g.O.Write.contents c.args.console.now.output, g.E.Write.contents c.args.console.now.errors) (g.O.Write.contents c.list_each.new.console.output, g.E.Write.contents c.list_each.new.console.errors) _ c.in_ok-well.well _ c.in_ok-well.status c.write_end.result c.in_ok-well.ensures.listed (sym (length-map c.args.names.now (λ (name : Bor (List ℕ)). name.now))) c.write_end.ensures.status c.write_end.ensures.text c.write_end.ensures.stop c.write_end.ensures.gains
+    several_ends _ _ _ _ _ (style_of c.args.listing) (names_of c.args.names.now) (g.O.Write.contents c.args.console.now.output, g.E.Write.contents c.args.console.now.errors) (g.O.Write.contents c.list_each.new.console.output, g.E.Write.contents c.list_each.new.console.errors) _ c.in_ok-well.well _ c.in_ok-well.status c.write_end.result c.in_ok-well.ensures.listed (sym (length-map c.args.names.now (λ (name : Bor (List ℕ)). name.now))) c.write_end.ensures.status c.write_end.ensures.text c.write_end.ensures.stop c.write_end.ensures.gains
 
 pub returns-clause-gains : goal.returns-clause-gains
 returns-clause-gains g c =

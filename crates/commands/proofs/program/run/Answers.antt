@@ -17,11 +17,11 @@ use Rattle.commands.proofs.Settled.{if_some, refusal_fault, refusal_gains, refus
 use Rattle.commands.proofs.program.run.Goals as goal
 
 pub returns-in-Ok-Some-clause-told : goal.returns-in-Ok-Some-clause-told
-returns-in-Ok-Some-clause-told g c = λ taken. some_told (job_of c.in-Ok-Some.intent) (asked c.args.reading) (λ (job : Request Text). IsSettled (EndsAsked job (g.S.TextSource.bytes_of c.args.console.now.texts.now) (g.I.Read.remaining c.args.console.now.input) (g.O.Write.contents c.args.console.now.output, g.E.Write.contents c.args.console.now.errors)) (g.O.Write.contents c.grant.new.console.output, g.E.Write.contents c.grant.new.console.errors) c.grant.result)
+returns-in-Ok-Some-clause-told g c = λ taken. some_told (job_of c.in-Ok-Some.intent) (asked c.args.reading) (λ (job : Request Text). IsSettled (EndsAsked job (g.S.TextSource.bytes_of c.args.console.now.texts.now) (g.S.TextSource.text_in c.args.console.now.texts.now) (g.I.Read.remaining c.args.console.now.input) (g.O.Write.contents c.args.console.now.output, g.E.Write.contents c.args.console.now.errors)) (g.O.Write.contents c.grant.new.console.output, g.E.Write.contents c.grant.new.console.errors) c.grant.result)
     (ap (option_and_then job_of) (sym c.in-Ok-Some.field-0-is) ∙ c.in-Ok-Some.ensures.job) c.grant.ensures.job
 
 pub returns-in-Ok-Some-clause-several : goal.returns-in-Ok-Some-clause-several
-returns-in-Ok-Some-clause-several g c = λ taken. some_told (several_of c.in-Ok-Some.intent) (several_asked c.args.reading) (λ (several : Lists × List Text). IsSettledList (EndsSeveral several (g.S.TextSource.bytes_of c.args.console.now.texts.now) (g.O.Write.contents c.args.console.now.output, g.E.Write.contents c.args.console.now.errors)) (g.O.Write.contents c.grant.new.console.output, g.E.Write.contents c.grant.new.console.errors) c.grant.result)
+returns-in-Ok-Some-clause-several g c = λ taken. some_told (several_of c.in-Ok-Some.intent) (several_asked c.args.reading) (λ (several : Lists × List Text). IsSettledList (EndsSeveral several (g.S.TextSource.bytes_of c.args.console.now.texts.now) (g.S.TextSource.text_in c.args.console.now.texts.now) (g.O.Write.contents c.args.console.now.output, g.E.Write.contents c.args.console.now.errors)) (g.O.Write.contents c.grant.new.console.output, g.E.Write.contents c.grant.new.console.errors) c.grant.result)
     (ap (option_and_then several_of) (sym c.in-Ok-Some.field-0-is) ∙ c.in-Ok-Some.ensures.several) c.grant.ensures.several
 
 pub returns-in-Ok-Some-clause-folders : goal.returns-in-Ok-Some-clause-folders
@@ -31,14 +31,14 @@ returns-in-Ok-Some-clause-folders g c = λ taken. some_told (folders_of c.in-Ok-
 pub returns-in-Ok-Some-clause-plain : goal.returns-in-Ok-Some-clause-plain
 returns-in-Ok-Some-clause-plain g c = λ name names plain. if_some (asked_by name names) _ (λ job e. (
   c.grant.ensures.known.0,
-  some_given (job_of c.in-Ok-Some.intent) job (λ (job : Request Text). IsSettled (EndsAsked job (g.S.TextSource.bytes_of c.args.console.now.texts.now) (g.I.Read.remaining c.args.console.now.input) (g.O.Write.contents c.args.console.now.output, g.E.Write.contents c.args.console.now.errors)) (g.O.Write.contents c.grant.new.console.output, g.E.Write.contents c.grant.new.console.errors) c.grant.result)
+  some_given (job_of c.in-Ok-Some.intent) job (λ (job : Request Text). IsSettled (EndsAsked job (g.S.TextSource.bytes_of c.args.console.now.texts.now) (g.S.TextSource.text_in c.args.console.now.texts.now) (g.I.Read.remaining c.args.console.now.input) (g.O.Write.contents c.args.console.now.output, g.E.Write.contents c.args.console.now.errors)) (g.O.Write.contents c.grant.new.console.output, g.E.Write.contents c.grant.new.console.errors) c.grant.result)
       (ap (option_and_then job_of) (sym c.in-Ok-Some.field-0-is) ∙ c.in-Ok-Some.ensures.job ∙ (taken_plain c.args.reading name names job plain e).given) c.grant.ensures.job,
 ))
 
 pub returns-in-Ok-Some-clause-headline : goal.returns-in-Ok-Some-clause-headline
 returns-in-Ok-Some-clause-headline g c = λ first second asks zero.
     let is = taken_check c.args.reading first second asks in
-    shown is.checks _ _ _ _ _ c.grant.result c.headline_holds_at_yes.ensures (some_given (job_of c.in-Ok-Some.intent) (Two (Check is.checks) first second) (λ (job : Request Text). IsSettled (EndsAsked job (g.S.TextSource.bytes_of c.args.console.now.texts.now) (g.I.Read.remaining c.args.console.now.input) (g.O.Write.contents c.args.console.now.output, g.E.Write.contents c.args.console.now.errors)) (g.O.Write.contents c.grant.new.console.output, g.E.Write.contents c.grant.new.console.errors) c.grant.result)
+    shown is.checks _ _ _ _ _ c.grant.result c.headline_holds_at_yes.ensures (some_given (job_of c.in-Ok-Some.intent) (Two (Check is.checks) first second) (λ (job : Request Text). IsSettled (EndsAsked job (g.S.TextSource.bytes_of c.args.console.now.texts.now) (g.S.TextSource.text_in c.args.console.now.texts.now) (g.I.Read.remaining c.args.console.now.input) (g.O.Write.contents c.args.console.now.output, g.E.Write.contents c.args.console.now.errors)) (g.O.Write.contents c.grant.new.console.output, g.E.Write.contents c.grant.new.console.errors) c.grant.result)
     (ap (option_and_then job_of) (sym c.in-Ok-Some.field-0-is) ∙ c.in-Ok-Some.ensures.job ∙ is.asks) c.grant.ensures.job) zero
 
 pub returns-in-Ok-None-clause-headline : goal.returns-in-Ok-None-clause-headline
