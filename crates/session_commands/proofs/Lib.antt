@@ -1,4 +1,5 @@
 pub mod Gained
+pub mod Held
 pub mod Opened
 pub mod Spelled
 pub mod Settled

@@ -1,10 +1,13 @@
-//! The command `session`: the session of the files that recorders left in folders, whose text is written as the files are read.
+//! The session of the files that recorders left in folders: the command `session`, which writes its text as the files are read, and
+//! the session itself, without a text.
 #![tactic(auto)]
 
 mod files;
 mod forms;
+mod gathering;
 mod making;
 mod recording;
 mod walk_stops;
 
+pub use gathering::gather_session;
 pub use making::perform_session;

@@ -5,7 +5,7 @@ ghost use Rattle.command_words.specs.declared.requests.Lacking.TheVariants.{Refu
 ghost use Rattle.migration_types.specs.Sessions.{Recorded, log_length};
 ghost use Rattle.recordings.specs.Recordings.{IsMachine};
 ghost use Rattle.recordings.specs.Wide.{extent_of};
-ghost use Rattle.recorded_files.specs.Named.{IsBlank, IsNaming};
+ghost use Rattle.recorded_files.specs.Named.{IsNaming};
 ghost use Rattle.walked_logs.specs.Walks.{HasNoHole, WalksFiles};
 ghost use Rattle.command_texts.specs.Several.{IsListStatus, TellsOneUnread};
 ghost use Rattle.text_access.specs.Names.{names_of};
@@ -13,7 +13,7 @@ ghost use Rattle.text_access.specs.Written.{BothGain, Gains};
 ghost use Rattle.session_commands.specs.Files.{bytes_in, WritesText};
 ghost use Rattle.session_commands.specs.Texts.{WritesSession};
 ghost use Rattle.std.specs.Io.KnownBytes.{Keeps};
-ghost use Rattle.session_commands.specs.inner.Seen.{HasSeen, IsKnown, IsUnfit};
+ghost use Rattle.session_commands.specs.inner.Seen.{HasSeen, IsKnown, IsKnownAndMet, IsUnfit};
 ghost use Rattle.session_facts.specs.Facts.{HasNone, IsFacts, ReachIn, SomeIn};
 ghost use Rattle.session_facts.specs.Written.{IsWrittenFront};
 ghost use Rattle.session_words.specs.Telling.{SaysUnless};
@@ -28,7 +28,7 @@ use found_logs::{FoundLogs, check_logs, describe, find_logs, tell_logs, tell_mac
 use migration_types::{LogName, Size, Version};
 use recorded_files::Front;
 use recordings::{Visitor, WideInit, WideMachine};
-use session_facts::{Ends, Facts, tell_cut, tell_empty, tell_unresumed};
+use session_facts::{Ends, FactFinder, Facts, Nobody, tell_cut, tell_empty, tell_unresumed};
 use session_words::{Stop, push_message};
 use std::alloc::{AllocError, Global};
 use std::io::Write;
@@ -38,7 +38,7 @@ use written_recordings::write_recording;
 
 /// What is said last where something is lacking, and is not to be left out.
 const NOTHING_WRITTEN: &str =
-    "nothing was written: repair this, or use --cut to write what is left";
+    "nothing was written: repair this, or use session --cut to write what is left";
 
 /// Goes through the logs with a visitor. Returns whether no log has a hole.
 fn walk<S: TextSource, V: Visitor>(
@@ -179,16 +179,16 @@ fn tell_facts<S: TextSource>(
     Ok(())
 }
 
-/// A recording that was gone through, and is not yet written.
+/// A recording that was gone through, and is not yet written or held.
 #[derive(Drop)]
 pub(crate) struct Known {
-    machine: WideMachine,
-    init: Vec<WideInit>,
+    pub(crate) machine: WideMachine,
+    pub(crate) init: Vec<WideInit>,
     messages: Messages,
     /// How many records of each log are written.
     front: Front,
     /// What is lacking, in lines.
-    said: Vec<u8>,
+    pub(crate) said: Vec<u8>,
 }
 
 /// How many records of each log are written, and the form of their text.
@@ -234,10 +234,9 @@ fn judge_facts<S: TextSource>(
     Ok(front)
 }
 
-/// Goes through the records of the logs, whose messages were noted. Keeps what is to be known of them in facts that are new, and adds
-/// what is said of them.
-fn see_records<S: TextSource>(
-    facts: &mut Facts,
+/// Goes through the records of the logs, whose messages were noted, and adds what is said of them.
+fn see_records<S: TextSource, V: Visitor>(
+    finder: &mut FactFinder<V>,
     said: &mut Vec<u8>,
     alloc: Global,
     machine: &WideMachine,
@@ -245,11 +244,12 @@ fn see_records<S: TextSource>(
     messages: &Messages,
     expected: Front,
 ) -> Result<Form, Stop>
-    requires new { IsBlank facts.old.naming × HasNone facts.old }
+    requires new { HasNone finder.old.facts × V.IsNew finder.old.other }
     requires machine { IsMachine (extent_of machine.now) }
-    ensures { IfOk result (HasSeen machine.now (bytes_in (S.bytes_of files.now.texts.now) files.now.logs.now) files.now.logs.now.lane said.old.items said.new.items) }
+    ensures { IfOk result (HasSeen (V.Met finder.new.other) machine.now (bytes_in (S.bytes_of files.now.texts.now) files.now.logs.now) files.now.logs.now.lane said.old.items said.new.items) }
 {
-    let has_all = walk(alloc, machine, files, messages, facts)?;
+    let has_all = walk(alloc, machine, files, messages, finder)?;
+    let facts = &finder.facts;
     let front = judge_facts(
         said, alloc, machine, files, messages, facts, has_all, expected,
     )?;
@@ -261,41 +261,34 @@ fn see_records<S: TextSource>(
     })
 }
 
-/// Goes through the records of the logs, whose messages were noted, and adds what is said of them.
-fn see_facts<S: TextSource>(
-    said: &mut Vec<u8>,
-    alloc: Global,
-    machine: &WideMachine,
-    files: &OpenedLogs<'_, S>,
-    messages: &Messages,
-    expected: Front,
-) -> Result<Form, Stop>
-    requires { IsMachine (extent_of machine.now) }
-    ensures { IfOk result (HasSeen machine.now (bytes_in (S.bytes_of files.now.texts.now) files.now.logs.now) files.now.logs.now.lane said.old.items said.new.items) }
-{
-    let mut facts = Facts::new(alloc);
-    see_records(&mut facts, said, alloc, machine, files, messages, expected)
-}
-
 /// Goes through the records of the logs, and adds what is said of them.
-fn see<S: TextSource>(
+fn see<S: TextSource, V: Visitor>(
+    finder: &mut FactFinder<V>,
     said: &mut Vec<u8>,
     alloc: Global,
     machine: &WideMachine,
     files: &OpenedLogs<'_, S>,
     expected: Front,
 ) -> Result<Seen, Stop>
-    requires { IsMachine (extent_of machine.now) }
-    ensures { IfOk result (λ seen. HasSeen machine.now (bytes_in (S.bytes_of files.now.texts.now) files.now.logs.now) files.now.logs.now.lane said.old.items said.new.items seen.form) }
+    requires new { HasNone finder.old.facts × V.IsNew finder.old.other }
+    requires machine { IsMachine (extent_of machine.now) }
+    ensures { IfOk result (λ seen. HasSeen (V.Met finder.new.other) machine.now (bytes_in (S.bytes_of files.now.texts.now) files.now.logs.now) files.now.logs.now.lane said.old.items said.new.items seen.form) }
 {
     let messages = messages_of(alloc, machine, files)?;
-    let form = see_facts(said, alloc, machine, files, &messages, expected)?;
+    let form = see_records(finder, said, alloc, machine, files, &messages, expected)?;
     Ok(Seen { messages, form })
 }
 
-/// Goes through the files, up to what is to be known before the text is written.
-fn know<S: TextSource>(alloc: Global, texts: &S, logs: &FoundLogs) -> Result<Known, Stop>
-    ensures { IfOk result (λ known. IsKnown (S.bytes_of texts.now) logs.now known) }
+/// Goes through the files, up to what is to be known before the text is written or the session is there. A finder of facts, which is
+/// new, and its other visitor meet the recording that they make with the widest machine, and with no initial pages.
+pub(crate) fn know<S: TextSource, V: Visitor>(
+    finder: &mut FactFinder<V>,
+    alloc: Global,
+    texts: &S,
+    logs: &FoundLogs,
+) -> Result<Known, Stop>
+    requires { HasNone finder.old.facts × V.IsNew finder.old.other }
+    ensures { IfOk result (IsKnownAndMet (V.Met finder.new.other) (S.bytes_of texts.now) logs.now) }
 {
     check_logs(alloc, texts, logs)?;
     let description = describe(alloc, texts, &logs.machine)?;
@@ -309,7 +302,7 @@ fn know<S: TextSource>(alloc: Global, texts: &S, logs: &FoundLogs) -> Result<Kno
         cells: description.cells,
     };
     let files = OpenedLogs { texts, logs };
-    let seen = see(&mut said, alloc, &machine, &files, expected)?;
+    let seen = see(finder, &mut said, alloc, &machine, &files, expected)?;
     Ok(Known {
         machine: WideMachine {
             version: seen.form.version,
@@ -321,6 +314,14 @@ fn know<S: TextSource>(alloc: Global, texts: &S, logs: &FoundLogs) -> Result<Kno
         front: seen.form.front,
         said,
     })
+}
+
+/// Goes through the files, up to what is to be known before the text is written.
+fn know_facts<S: TextSource>(alloc: Global, texts: &S, logs: &FoundLogs) -> Result<Known, Stop>
+    ensures { IfOk result (λ known. IsKnown (S.bytes_of texts.now) logs.now known) }
+{
+    let mut finder = FactFinder::new(alloc, Nobody);
+    know(&mut finder, alloc, texts, logs)
 }
 
 /// Writes the text of a recording as its files are read.
@@ -417,7 +418,7 @@ fn make<S: TextSource, O: Write, E: Write>(
     ensures gains { BothGain (O.contents output.old, E.contents errors.old) (O.contents output.new, E.contents errors.new) }
 {
     let logs = find_logs(alloc, texts, folders)?;
-    let known = know(alloc, texts, &logs)?;
+    let known = know_facts(alloc, texts, &logs)?;
     settle(alloc, texts, lacking, &logs, known, output, errors)
 }
 

@@ -1,4 +1,4 @@
--- What is known of a recording before its text is written.
+-- What is known of a recording before it is written or held.
 use Rattle.std.specs.Prelude.{◌≡◌, ◌≢◌, ◌<◌, ◌≤◌, ℕ, false, List, Option, Some, None}
 use Rattle.std.specs.List.{list_any}
 use Rattle.migration_types.specs.declared.records.GuestRec.{GuestRec}
@@ -6,7 +6,7 @@ use Rattle.migration_types.specs.declared.records.LogName.{LogName}
 use Rattle.migration_types.specs.declared.records.LogName.TheVariants.{Lane}
 use Rattle.migration_types.specs.Sessions.{Recorded, log_length}
 use Rattle.recorded_files.specs.Fronts.{cursors_of}
-use Rattle.recorded_files.specs.Named.{IsNaming}
+use Rattle.recorded_files.specs.Named.{IsBlank, IsNaming}
 use Rattle.recorded_files.specs.declared.fronts.Front.{Front}
 use Rattle.session_facts.specs.Unresumed.{ends_halted, IsHaltOf}
 use Rattle.session_facts.specs.Written.{begins_halted, is_back, is_pull, IsLateRelease}
@@ -25,6 +25,7 @@ IsBefore (Some first) count = first < count
 
 -- nothing was collected of the records
 pub record HasNone (facts : Facts) : Type 0 where
+  pub naming : IsBlank facts.naming
   pub halted : facts.begins_halted ≡ false
   pub back : facts.has_back ≡ false
   pub pull : facts.has_pull ≡ false

@@ -1,6 +1,6 @@
 //! What is to be known of a recording before its text is written.
 
-ghost use Rattle.std.specs.Prelude.{◌≡◌, ◌<◌, ◌≤◌, ◌-◌, ◌⊎◌, ◌↔◌, ◌==◌, ◌&&◌, ◌||◌, ◌++◌, ℕ, [], ◌∷◌, List, IsTrue, None, Some, length};
+ghost use Rattle.std.specs.Prelude.{◌≡◌, ◌<◌, ◌≤◌, ◌-◌, ◌⊎◌, ◌↔◌, ◌==◌, ◌&&◌, ◌||◌, ◌++◌, ℕ, [], ◌∷◌, List, IsTrue, None, OnOk, Some, length};
 ghost use Rattle.std.specs.List.{list_any};
 ghost use Rattle.migration_types.specs.declared.records.GuestRec.{GuestRec};
 ghost use Rattle.migration_types.specs.declared.records.PagerRec.{PagerRec};
@@ -8,8 +8,11 @@ ghost use Rattle.migration_types.specs.declared.records.SourceRec.{SourceRec};
 ghost use Rattle.migration_types.specs.declared.records.LogName.{LogName as Log};
 ghost use Rattle.recorded_files.specs.Fronts.{cursors_of};
 ghost use Rattle.migration_types.specs.Sessions.{Recorded};
-ghost use Rattle.recorded_files.specs.Named.{IsBlank};
-ghost use Rattle.recordings.specs.Wide.{guest_of, pager_of, source_of};
+ghost use Rattle.recordings.specs.Recordings.{IsMachine};
+ghost use Rattle.recordings.specs.Seen.{nothing_of, with_guest, with_source, with_link, with_lane, with_pager, BeforeSource, BeforeLink, BeforeLane, BeforePager};
+ghost use Rattle.recordings.specs.Wide.{extent_of, guest_of, lane_of, link_of, pager_of, source_of};
+ghost use Rattle.migration_types.specs.Rows.{pager_row, source_row};
+ghost use Rattle.recorded_files.specs.inner.Reaches.{named_first};
 ghost use Rattle.session_facts.specs.Written.{begins_halted, has_lone_halted, is_back, is_halted, is_pull, IsLateRelease, IsSmall, IsWrittenFront, NeedsLarge};
 ghost use Rattle.audit_model.specs.Shape.{is_release, is_resume};
 ghost use Rattle.session_facts.specs.Unresumed.{ends_halted, GoesUnresumed, IsHaltOf};
@@ -21,12 +24,10 @@ use crate::names::{
 };
 use migration_types::{LogName, Size};
 use recorded_files::{Front, Naming};
-use recordings::{
-    Visitor, WideGuest, WideInit, WideLane, WideLink, WideMachine, WidePager, WideSource,
-};
+use recordings::{Visitor, WideGuest, WideLane, WideLink, WideMachine, WidePager, WideSource};
 use std::alloc::{AllocError, Global};
 
-/// A visitor that collects what is to be known of a recording before its text is written.
+/// What is to be known of a recording before it is written or held.
 #[derive(Drop)]
 pub struct Facts {
     pub naming: Naming,
@@ -205,6 +206,33 @@ fn with_late(late: Option<u64>, has_resume: bool, number: u64, rec: &WideGuest) 
     }
 }
 
+/// Returns a record without contents that names the same.
+fn naming_source(rec: &WideSource) -> WideSource
+    ensures { named_first (source_row (source_of result)).fields ≡ named_first (source_row (source_of rec.now)).fields }
+{
+    match rec {
+        WideSource::Halted { halt } => WideSource::Halted { halt: *halt },
+        WideSource::Again { sending } => WideSource::Again { sending: *sending },
+        WideSource::Ask { up } => WideSource::Ask { up: *up },
+        _ => WideSource::Done,
+    }
+}
+
+/// Returns a record without contents that names the same.
+fn naming_pager(rec: &WidePager) -> WidePager
+    ensures { named_first (pager_row (pager_of result)).fields ≡ named_first (pager_row (pager_of rec.now)).fields }
+{
+    match rec {
+        WidePager::Got { down } => WidePager::Got { down: *down },
+        WidePager::Pull { down } => WidePager::Pull { down: *down },
+        WidePager::Fault { miss } => WidePager::Fault { miss: *miss },
+        WidePager::Join { want } => WidePager::Join { want: *want },
+        WidePager::Place { got, .. } => WidePager::Skip { got: *got },
+        WidePager::Skip { got } => WidePager::Skip { got: *got },
+        _ => WidePager::All,
+    }
+}
+
 /// Returns whether no log has more records in a front than this.
 fn are_few(front: Front, most: u64) -> bool
     ensures { IsTrue result ↔ ((log : Log) → cursors_of front log ≤ most) }
@@ -229,10 +257,9 @@ fn is_small(front: Front, pages: u64, cells: u32) -> bool
 }
 
 impl Facts {
-    /// Returns a visitor that has met nothing.
+    /// Returns the facts of which nothing was seen.
     pub fn new(alloc: Global) -> Self
-        ensures naming { IsBlank result.naming }
-        ensures none { HasNone result }
+        ensures { HasNone result }
     {
         Facts {
             naming: Naming::new(alloc),
@@ -302,27 +329,21 @@ impl Facts {
     }
 }
 
-impl Visitor for Facts {
-    ghost use Rattle.recorded_files.specs.Named.{IsBlank};
-    ghost use Rattle.session_facts.specs.Unresumed.{ends_halted, GoesUnresumed, IsHaltOf};
-    ghost use Rattle.audit_model.specs.Shape.{is_halt};
-    ghost use Rattle.session_facts.specs.Facts.{HasNone, IsFacts};
-
-    ghost IsNew = { λ a. IsBlank a.naming × HasNone a };
-
-    ghost Met = { IsFacts };
-
-    fn machine(&mut self, machine: &WideMachine) -> Result<(), AllocError> {
+impl Facts {
+    /// Sees the machine.
+    pub(crate) fn see_machine(&mut self, machine: &WideMachine) -> Result<(), AllocError>
+        requires new { HasNone self.old }
+        requires machine { IsMachine (extent_of machine.now) }
+        ensures { OnOk result (IsFacts self.new (nothing_of machine.now.version (extent_of machine.now))) }
+    {
         self.naming.machine(machine)?;
         Ok(())
     }
 
-    fn init(&mut self, page: WideInit) -> Result<(), AllocError> {
-        self.naming.init(page)?;
-        Ok(())
-    }
-
-    fn guest(&mut self, number: u64, rec: WideGuest) -> Result<(), AllocError> {
+    /// Sees a record of the guest.
+    pub(crate) fn see_guest(&mut self, number: u64, rec: WideGuest) -> Result<(), AllocError>
+        ensures { (s : Recorded) → BeforeSource s → length s.guest ≡ number → IsFacts self.old s → OnOk result (IsFacts self.new (with_guest s (guest_of rec))) }
+    {
         self.halts_at_last = halts_last(&rec);
         self.halt = with_halt(self.halt, number, &rec);
         self.late = with_late(self.late, self.has_resume, number, &rec);
@@ -333,34 +354,46 @@ impl Visitor for Facts {
         Ok(())
     }
 
-    fn source(&mut self, number: u64, rec: WideSource) -> Result<(), AllocError> {
-        self.begins_halted = with_halted(self.begins_halted, number, &rec);
-        self.has_back = with_back(self.has_back, &rec);
-        let named = named_by_source(&rec);
+    /// Sees a record of the source.
+    pub(crate) fn see_source(&mut self, number: u64, rec: &WideSource) -> Result<(), AllocError>
+        ensures { (s : Recorded) → BeforeLink s → length s.source ≡ number → IsFacts self.old s → OnOk result (IsFacts self.new (with_source s (source_of rec.now))) }
+    {
+        self.begins_halted = with_halted(self.begins_halted, number, rec);
+        self.has_back = with_back(self.has_back, rec);
+        let named = named_by_source(rec);
         keep_beyond(&mut self.beyond, LogName::Source, number, named);
-        self.naming.source(number, rec)?;
+        self.naming.source(number, naming_source(rec))?;
         Ok(())
     }
 
-    fn link(&mut self, number: u64, rec: WideLink) -> Result<(), AllocError> {
+    /// Sees a record of the link.
+    pub(crate) fn see_link(&mut self, number: u64, rec: WideLink) -> Result<(), AllocError>
+        ensures { (s : Recorded) → BeforeLane s → length s.link ≡ number → IsFacts self.old s → OnOk result (IsFacts self.new (with_link s (link_of rec))) }
+    {
         let named = named_by_link(&rec);
         keep_beyond(&mut self.beyond, LogName::Link, number, named);
         self.naming.link(number, rec)?;
         Ok(())
     }
 
-    fn lane(&mut self, number: u64, rec: WideLane) -> Result<(), AllocError> {
+    /// Sees a record of the lane.
+    pub(crate) fn see_lane(&mut self, number: u64, rec: WideLane) -> Result<(), AllocError>
+        ensures { (s : Recorded) → BeforePager s → length s.lane ≡ number → IsFacts self.old s → OnOk result (IsFacts self.new (with_lane s (lane_of rec))) }
+    {
         let named = named_by_lane(&rec);
         keep_beyond(&mut self.beyond, LogName::Lane, number, named);
         self.naming.lane(number, rec)?;
         Ok(())
     }
 
-    fn pager(&mut self, number: u64, rec: WidePager) -> Result<(), AllocError> {
-        self.has_pull = with_pull(self.has_pull, &rec);
-        let named = named_by_pager(&rec);
+    /// Sees a record of the pager.
+    pub(crate) fn see_pager(&mut self, number: u64, rec: &WidePager) -> Result<(), AllocError>
+        ensures { (s : Recorded) → length s.pager ≡ number → IsFacts self.old s → OnOk result (IsFacts self.new (with_pager s (pager_of rec.now))) }
+    {
+        self.has_pull = with_pull(self.has_pull, rec);
+        let named = named_by_pager(rec);
         keep_beyond(&mut self.beyond, LogName::Pager, number, named);
-        self.naming.pager(number, rec)?;
+        self.naming.pager(number, naming_pager(rec))?;
         Ok(())
     }
 }

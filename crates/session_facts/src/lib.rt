@@ -4,9 +4,11 @@
 
 mod ends;
 mod facts;
+mod finder;
 mod names;
 mod telling;
 
 pub use ends::{Ends, tell_cut};
 pub use facts::Facts;
+pub use finder::{FactFinder, Nobody};
 pub use telling::{tell_empty, tell_unresumed};

@@ -5,12 +5,13 @@ use Rattle.session_commands.proofs.making.see_records.Goals as goal
 pub returns : goal.returns
 returns g c =
     let w = c.in_ok-has_all.ensures in
-    let judged = c.in_ok-front.ensures w.0.s w.0.met in
+    let judged = c.in_ok-front.ensures w.0.s w.0.met.0 in
     record {
       s = w.0.s;
       made = w.0.made;
+      met = w.0.met.1;
       written = judged.0;
-      form = c.form_of-form.ensures w.0.s w.0.met;
+      form = c.form_of-form.ensures w.0.s w.0.met.0;
       whole = λ none.
           let told = judged.1 none in (
             told.0,

@@ -1,0 +1,81 @@
+//! The session of the files that recorders left in folders, without a text.
+
+ghost use Rattle.std.specs.Prelude.{ℕ, List, Option, IfOk, IfSome};
+ghost use Rattle.command_words.specs.declared.requests.Lacking.TheVariants.{Refused};
+ghost use Rattle.session_grammar.specs.Grammar.{SpellsSession};
+ghost use Rattle.text_lines.specs.Text.{IsSpelling};
+ghost use Rattle.text_access.specs.Names.{names_of};
+ghost use Rattle.found_logs.specs.declared.found.FoundLogs.{FoundLogs as Found};
+ghost use Rattle.held_sessions.specs.Held.{HasMet, IsHeld};
+ghost use Rattle.session_commands.specs.Files.{IsTextOf};
+ghost use Rattle.session_commands.specs.Texts.{IsSessionText};
+ghost use Rattle.session_commands.specs.inner.Seen.{IsKnownAndMet};
+
+use crate::making::{Known, know};
+use found_logs::{FoundLogs, find_logs};
+use held_sessions::HeldRecording;
+use migration_types::Session;
+use session_facts::FactFinder;
+use session_words::Stop;
+use std::alloc::{AllocError, Global};
+use text_access::TextSource;
+
+/// Returns the session of a recording that is known and was met, if nothing is lacking and it is within the limits of a session.
+fn session_of(held: HeldRecording, known: Known) -> Result<Option<Session>, AllocError>
+    requires { HasMet held }
+    ensures { (files : List ℕ → Option (List ℕ)) (logs : Found) → IsKnownAndMet (IsHeld held) files logs known → IfOk result (λ found. IfSome found (λ session. (text : List ℕ) × IsTextOf files logs Refused text × IsSpelling SpellsSession session text)) }
+{
+    if !known.said.is_empty() {
+        return Ok(None);
+    }
+    let Known { machine, init, .. } = known;
+    match held.into_session(machine.version, machine.size, init)? {
+        Some(session) => {
+            session.keeps_limits();
+            Ok(Some(session))
+        }
+        None => Ok(None),
+    }
+}
+
+/// Returns the session of the files of logs.
+fn gather_files<S: TextSource>(
+    alloc: Global,
+    texts: &S,
+    logs: &FoundLogs,
+) -> Result<Option<Session>, Stop>
+    ensures { IfOk result (λ found. IfSome found (λ session. (text : List ℕ) × IsTextOf (S.bytes_of texts.now) logs.now Refused text × IsSpelling SpellsSession session text)) }
+{
+    let mut finder = FactFinder::new(alloc, HeldRecording::new(alloc));
+    let known = know(&mut finder, alloc, texts, logs)?;
+    Ok(session_of(finder.other, known)?)
+}
+
+/// Returns the session of the files in folders.
+fn gather<S: TextSource>(
+    alloc: Global,
+    texts: &S,
+    folders: &[&str],
+) -> Result<Option<Session>, Stop>
+    ensures { IfOk result (λ found. IfSome found (λ session. (text : List ℕ) × IsSessionText (S.names_in texts.now) (S.bytes_of texts.now) (names_of folders.now) Refused text × IsSpelling SpellsSession session text)) }
+{
+    let logs = find_logs(alloc, texts, folders)?;
+    gather_files(alloc, texts, &logs)
+}
+
+/// Returns the session of the files that recorders left in folders, without a text in between. Answers `None` where `session` would
+/// not end with status 0, and where it writes a recording that is beyond the limits of a session: then `session` tells why. Writes
+/// nothing.
+pub fn gather_session<S: TextSource>(
+    alloc: Global,
+    texts: &S,
+    folders: &[&str],
+) -> Result<Option<Session>, AllocError>
+    ensures { IfOk result (λ found. IfSome found (λ session. (text : List ℕ) × IsSessionText (S.names_in texts.now) (S.bytes_of texts.now) (names_of folders.now) Refused text × IsSpelling SpellsSession session text)) }
+{
+    match gather(alloc, texts, folders) {
+        Ok(found) => Ok(found),
+        Err(Stop::Memory) => Err(AllocError),
+        Err(_) => Ok(None),
+    }
+}
