@@ -1,11 +1,14 @@
 """A folder with files of recorders in the place of a session: a command answers as of the text that `session` writes of it"""
 import os
+import random
 import subprocess
 
 import pytest
 from cases import same
+from made_sessions import files_of, known_sessions
 from recorded_faults import Faults
-from test_session_command import Silent
+from session_text import SessionText
+from test_session_command import Beside, Silent
 
 UNREAD = "its files make no session"
 
@@ -72,3 +75,55 @@ def test_no_session(run, room):
     told = run("explain", "none")
     wanted = f"session: none: there is no file of a recorder, PARTY.PROCESS.N\nfile none\nnone: {UNREAD}\n"
     same("a folder without files of recorders", (told.returncode, told.stdout, told.stderr), (3, "", wanted))
+
+
+class BesideItsText(Beside):
+    """What commands answer to a folder, beside what they answer to the text that `session` writes of it."""
+
+    def __init__(self, room, program, commands):
+        super().__init__(room, program, has_script=False)
+        self.commands, self.forms = commands, set()
+
+    def session(self, *words):
+        made = self.by_command(*words)
+        if len(words) == 1 and words[0].isprintable():
+            self.compare(words[0], made)
+        return made
+
+    def compare(self, folder, made):
+        self.put(f"{self.room}/text", made.stdout)
+        self.forms.add((made.returncode, made.stdout[:18]))
+        unread = f"{made.stderr}file {folder}\n{folder}: {UNREAD}\n"
+        for command in self.commands:
+            told, wanted = (subprocess.run([self.command, *command, it], capture_output=True, encoding="utf-8", timeout=60, check=False)
+                            for it in (folder, f"{self.room}/text"))
+            answer = (wanted.returncode, wanted.stdout, wanted.stderr.replace(f"{self.room}/text", folder))
+            wants = (3, "", unread) if made.returncode else answer
+            same(f"{' '.join(command)} {folder}", (told.returncode, told.stdout, told.stderr), wants)
+
+
+FORMS = [(0, f"postcopy-session {version}") for version in (1, 2, 3)]
+
+
+@pytest.mark.cases(480)
+def test_known_sessions(program, room):
+    """Sessions of each version that are known, as recorders' files, whole and cut short."""
+    def audit(text):
+        return subprocess.run([program, "audit", "--quiet", "-"], input=text, stdout=subprocess.PIPE, encoding="ascii", check=False).stdout
+
+    beside, chance = BesideItsText(room, program, [("audit", "--all", "--format", "json"), ("explain",)]), random.Random(11)
+    for text in known_sessions(audit):
+        session = SessionText(text)
+        for parts, lengths in ((1, None), (3, None), (2, {log: chance.randrange(len(session.logs[log]) + 1) for log in session.told()})):
+            folder = beside.folder()
+            files_of(session, folder, parts, chance, lengths)
+            beside.session(folder)
+    same("a session of each version, and none", beside.forms.issuperset([*FORMS, (1, "")]), True)
+
+
+@pytest.mark.cases(50)
+def test_faults(program, room):
+    """Recordings with faults: what keeps them from being a session is told once."""
+    beside = BesideItsText(room, program, [("audit",)])
+    for run in (beside.of_whole_ones, beside.of_lost_files, beside.of_slips, beside.of_two_recordings, beside.of_machines):
+        run()

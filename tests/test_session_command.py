@@ -210,32 +210,55 @@ NOT_READ = b"the file was not read to its end, or has changed since"
 CHANGED = b"a file of this recording was not read to its end, or has changed since"
 
 
-@pytest.mark.cases(900)
+@pytest.mark.cases(600)
 def test_refused_calls(program, room, refusing):
     """A read that fails, in any pass, is told with the name of its file, and refused memory as such. Neither makes a session. An
     interrupted read is made again."""
     run, folder = Run(program, room, refusing), Beside(room, program).recording()
     files = {f"{folder}/{name}".encode() for name in os.listdir(folder)}
-    for words, behind in ((("session", folder), ""), (("session", "--cut", folder), ""), (("audit", folder), f"file {folder}\n{folder}: its files make no session\n")):
+    for words in (("session", folder), ("session", "--cut", folder)):
         plain, (growths, reads, *_) = run.counted("-", *words)
         same(f"{words}: a whole recording", (plain[0], plain[2][:8]), (0, b""))
         told_of = set()
         for number in range(1, reads + 1):
             (status, output, errors), _ = run.counted(f"read {number} {number} {errno.EIO}", *words)
             name = errors.split(b"\n")[0].removeprefix(b"file ")
-            same(f"{words}: read {number} fails", (status, output, errors), (3, b"", b"file %s\n%s: %s\n%s" % (name, name, NOT_READ, behind.encode())))
+            same(f"{words}: read {number} fails", (status, output, errors), (3, b"", b"file %s\n%s: %s\n" % (name, name, NOT_READ)))
             told_of.add(name)
             same(f"{words}: read {number} is interrupted", run.counted(f"read {number} {number} {errno.EINTR}", *words)[0], plain)
         same(f"{words}: the files that are told", told_of, files)
-        if words[0] == "session":
-            run.put("kept", b"as it was\n")
-            found = run.counted(f"read {reads} {reads} {errno.EIO}", *words, "-o", "kept")[0]
-            same(f"{words}: the file of an answer whose last read fails", (found[:2], run.has("kept")), ((3, b""), b"as it was\n"))
-        for number in range(1, growths + 1):
-            found = run.counted(f"memory {number} {number} memory", *words)[0]
-            count(found in (MEMORY, plain), f"{words}: growth {number} is refused: {found}")
-            if number % 10 == 1:
-                same(f"{words}: no growth from {number} on", run.counted(f"memory {number} 9999999 memory", *words)[0], MEMORY)
+        run.put("kept", b"as it was\n")
+        found = run.counted(f"read {reads} {reads} {errno.EIO}", *words, "-o", "kept")[0]
+        same(f"{words}: the file of an answer whose last read fails", (found[:2], run.has("kept")), ((3, b""), b"as it was\n"))
+        refuse_memory(run, words, plain, growths)
+
+
+def refuse_memory(run, words, plain, growths):
+    """Runs a command with each growth of memory refused in turn, and sometimes all from there on."""
+    for number in range(1, growths + 1):
+        found = run.counted(f"memory {number} {number} memory", *words)[0]
+        count(found in (MEMORY, plain), f"{words}: growth {number} is refused: {found}")
+        if number % 10 == 1:
+            same(f"{words}: no growth from {number} on", run.counted(f"memory {number} 9999999 memory", *words)[0], MEMORY)
+
+
+@pytest.mark.cases(300)
+def test_refused_calls_of_an_audit(program, room, refusing):
+    """An audit of a folder reads its files less often than `session`, which writes their text. If a read fails, all are read again, as
+    `session` reads them, so that what it tells then is told, and otherwise the answer stays."""
+    run, folder = Run(program, room, refusing), Beside(room, program).recording()
+    words = ("audit", folder)
+    plain, (growths, reads, *_) = run.counted("-", *words)
+    same("a whole recording", (plain[0], plain[2][:8]), (0, b""))
+    count(reads < run.counted("-", "session", folder)[1][1], f"an audit reads {reads} times")
+    behind = b"file %s\n%s: its files make no session\n" % (folder.encode(), folder.encode())
+    for number in range(1, reads + 1):
+        for error in (errno.EIO, errno.EINTR):
+            same(f"read {number} fails with {error}", run.counted(f"read {number} {number} {error}", *words)[0], plain)
+        (status, output, errors), _ = run.counted(f"read {number} 9999999 {errno.EIO}", *words)
+        name = errors.split(b"\n")[0].removeprefix(b"file ")
+        same(f"no read from {number} on", (status, output, errors), (3, b"", b"file %s\n%s: %s\n%s" % (name, name, NOT_READ, behind)))
+    refuse_memory(run, words, plain, growths)
 
 
 @pytest.mark.quick

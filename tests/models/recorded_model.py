@@ -26,7 +26,7 @@ from postcopy.sessions import Session
 
 # What stands before each line that is told, and the last line where something is missing.
 PREFIX = "session: "
-NOTHING = "nothing was written: repair this, or use --cut to write what is left"
+NOTHING = "nothing was written: repair this, or use session --cut to write what is left"
 
 _FILE = re.compile(rf"(machine|{'|'.join(LOGS)})\.([0-9]+)\.[0-9]+", re.ASCII)
 _HEAD = ("postcopy-records 1", "recording ([A-Za-z0-9_.-]{1,64})", "log %s (0|[1-9][0-9]{0,9}) (0|[1-9][0-9]{0,9})")

@@ -1,10 +1,11 @@
-//! Folders in the place of sessions: the text of a folder is that of the session of the files that recorders left in it.
+//! Folders in the place of sessions: a folder is the session of the files that recorders left in it.
 
 use command_texts::{Console, Fault};
 use commands::Lacking;
+use migration_types::Session;
 use process_io::Disk;
-use session_commands::perform_session;
-use std::alloc::Global;
+use session_commands::{gather_session, perform_session};
+use std::alloc::{AllocError, Global};
 use std::fs::File;
 use std::io;
 use std::io::{Cursor, ErrorKind, Read};
@@ -26,7 +27,8 @@ impl Read for SessionText {
     }
 }
 
-/// The files of the system. A folder that the words name has a text too.
+/// The files of the system. A folder that the words name is a session too. It has a text where it makes none, so that
+/// this can be told.
 #[derive(Drop)]
 pub struct WithFolders<'a> {
     pub rt: &'a HostRuntime,
@@ -39,8 +41,8 @@ fn has(words: &[&str], name: &str) -> bool {
     words.iter().any(|word| *word == name)
 }
 
-// Returns the session of the files in a folder. The errors say what it lacks.
-fn session_of(rt: &HostRuntime, disk: &Disk<'_, HostRuntime>, folder: &str) -> io::Result<Vec<u8>> {
+// Returns the text of the session of the files in a folder. The errors say what it lacks.
+fn text_of(rt: &HostRuntime, disk: &Disk<'_, HostRuntime>, folder: &str) -> io::Result<Vec<u8>> {
     let mut console = Console {
         rt,
         alloc: rt.alloc(),
@@ -60,15 +62,29 @@ fn session_of(rt: &HostRuntime, disk: &Disk<'_, HostRuntime>, folder: &str) -> i
 impl TextSource for WithFolders<'_> {
     type Text = SessionText;
 
+    ghost use Rattle.std.specs.Prelude.{None, [], ◌∷◌};
+    ghost use Rattle.command_words.specs.declared.requests.Lacking.TheVariants.{Refused};
+    ghost use Rattle.session_commands.specs.Texts.{IsSessionText};
+
+    // (What is in the files of the system is not known.)
+    ghost text_in = { λ _ name text. IsSessionText (λ _. None) (λ _. None) (name ∷ []) Refused text };
+
     fn text(&self, name: &str) -> io::Result<SessionText> {
         match self.disk.text(name) {
             Ok(file) => Ok(SessionText::File(file)),
             Err(error) if error.kind() == ErrorKind::IsADirectory && has(self.words, name) => {
-                let session = session_of(self.rt, &self.disk, name)?;
+                let session = text_of(self.rt, &self.disk, name)?;
                 Ok(SessionText::OfFolder(Cursor::new(session)))
             }
             Err(error) => Err(error),
         }
+    }
+
+    fn session(&self, alloc: Global, name: &str) -> Result<Option<Session>, AllocError> {
+        if !has(self.words, name) {
+            return Ok(None);
+        }
+        gather_session(alloc, &self.disk, &[name])
     }
 
     fn stays(&self, name: &str) -> bool {
