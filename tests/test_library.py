@@ -383,6 +383,75 @@ def compare_texts(postcopy):
     same("a call short of memory, and the next", said, b"OutOfMemory\nclean\n")
 
 
+def of_reads(count):
+    """A session that only reads, and its order: one run."""
+    session = f"postcopy-session 1\npages 1\ncells 1\ninit 0\nguest {count}\n" + "r 0 0 0 0\n" * count + "source 0\nlink 0\npager 0\nend\n"
+    return session.encode(), f"postcopy-runs 1\nruns 1\nrun guest {count}\nend\n".encode()
+
+
+def compare_questions(postcopy):
+    """Questions in any order, more than once, alone and by the hundred: each is answered as by its own function."""
+    asks, session = postcopy.Asks, f"{TOP}/examples/stale-page/session"
+    singly = {it: getattr(postcopy, it.name.lower())(session) for it in list(asks)[:6]}
+    singly.update({(asks.EXPLAIN_PAGE, n): postcopy.explain(session, page=n) for n in range(4)})
+    singly.update({(asks.EXPLAIN_LINE, n): postcopy.explain(session, line=n) for n in range(24)})
+    singly.update({asks.DRAW: postcopy.draw(session), (asks.DRAW_PAGE, 1): postcopy.draw(session, page=1)})
+    every = list(singly)
+    lists = {"none": [[]], "each alone": [[it] for it in every], "backwards": [every[::-1]], "each twice": [[it, it] for it in every], "all twice": [every * 2], "many": [every * 10]}
+    for what, asked in lists.items():
+        same(f"questions, {what}", [postcopy.answers(session, *it) for it in asked], [[singly[question] for question in it] for it in asked])
+
+
+# A page and a line that no session has, the greatest that a call takes, and what is told of them.
+GREATEST_NUMBER = (1 << 32) - 1
+NO_TOPICS = (({"page": 2}, "The machine has no page 2: it has 2 pages, and the first is page 0."),
+             ({"page": GREATEST_NUMBER}, f"The machine has no page {GREATEST_NUMBER}: it has 2 pages, and the first is page 0."),
+             ({"line": 0}, "Line 0 tells no record of the logs."), ({"line": GREATEST_NUMBER}, f"Line {GREATEST_NUMBER} tells no record of the logs."))
+
+
+def compare_limits(postcopy, program):
+    """What is told of pages and lines that are not there, and of long texts."""
+    session = f"{TOP}/examples/stale-page/session"
+    for topic, words in NO_TOPICS:
+        same(f"{topic}, explained", postcopy.explain(session, **topic).text.decode(), f"faulty line 18 stale\n{words}\n")
+    for page in (1, 2, GREATEST_NUMBER):
+        said = subprocess.run([program, "draw", "--page", str(page), session], stdin=subprocess.DEVNULL, stdout=subprocess.PIPE).stdout
+        same(f"page {page}, drawn", postcopy.draw(session, page=page).text, said)
+    long, runs = of_reads(150000)
+    certificate = b"postcopy-certificate 1\npages 1\npage 0 none\n" + runs.partition(b"\n")[2]
+    same("the certificate of a long session", postcopy.certify(long).text, certificate)
+    same("a long session that is checked", postcopy.check(long, certificate).kind, postcopy.Kind.YES)
+    for name, order in (("runs", runs), ("a certificate", certificate)):
+        same(f"a long session that is replayed by {name}", postcopy.replay(long, order).kind, postcopy.Kind.SAFE)
+    told = postcopy.why(long[: -len(b"end\n")] + b"edn\n")
+    same("why a long text is refused at its end", (told.line, told.column), (150009, 1))
+    wrong = long.replace(b"r 0 0 0 0\nsource", b"r 0 0 0 x\nsource")
+    told = postcopy.why(wrong)
+    same("why a record of it is refused", (told.line, told.column), (150005, 9))
+    same("why an order with a long line is refused", postcopy.why(b"postcopy-runs 1\nruns " + b"1" * 200000 + b"\n", postcopy.Kind.RUNS_TEXT).line, 2)
+
+
+# Texts that are refused at an empty line, or behind their last one, with the line, the column and what is said.
+HEADERS = '"postcopy-session 1", "postcopy-session 2" or "postcopy-session 3", the header of a session'
+REFUSED_LINES = (
+    (b"", 1, 1, f"the text is empty; expected {HEADERS}"),
+    (b"\n", 1, 1, f"found an empty line; expected {HEADERS}"), (b"\n\n", 1, 1, f"found an empty line; expected {HEADERS}"),
+    (b"postcopy-session 1\n\npages 1\n", 2, 1, 'found an empty line; expected "pages N", the number of pages'),
+    (b"postcopy-session 1\npages 1\n\n", 3, 1, 'found an empty line; expected "cells N", the number of cells'),
+    (b"postcopy-session 1\n", 2, 1, 'the text ends here; expected "pages N", the number of pages'),
+    (b"postcopy-session 1\npages 1", 2, 8, 'the text ends in the middle of a line; expected a line feed after "pages 1"'),
+    (b"postcopy-session 1\npages x\n", 2, 7, 'found "x"; expected N, a number from 1 to 65536, as in "pages N"'),
+)
+
+
+def compare_refused_lines(postcopy):
+    """Where and why texts are refused whose line has nothing to show, or little; and one that is not refused."""
+    for text, line, column, words in REFUSED_LINES:
+        told = postcopy.why(text)
+        same(f"why {text} is refused", told and (told.line, told.column, told.why), (line, column, words))
+    same("why a text is not refused", postcopy.why(f"{TOP}/examples/handover/session"), None)
+
+
 # What is installed.
 
 
@@ -593,6 +662,21 @@ def test_reports(postcopy, program, found):
 @pytest.mark.cases(13)
 def test_texts(postcopy):
     compare_texts(postcopy)
+
+
+@pytest.mark.cases(6)
+def test_questions(postcopy):
+    compare_questions(postcopy)
+
+
+@pytest.mark.cases(14)
+def test_limits(postcopy, program):
+    compare_limits(postcopy, program)
+
+
+@pytest.mark.cases(len(REFUSED_LINES) + 1)
+def test_refused_lines(postcopy):
+    compare_refused_lines(postcopy)
 
 
 @pytest.mark.cases(294)

@@ -262,3 +262,55 @@ def test_objects(program, room):
     missing = {reason for verdict, reason in tests.seen if verdict == "incomplete"}
     same("the roles that were met", sorted(tests.roles), sorted(ROLES))
     same("what was missing", sorted(missing), ["all", "done", "halt", "page", "placement", "resume", "returned"])
+
+
+ZERO = "0" * 16
+
+
+def of_zeros(pages, guest, source, link, pager):
+    """A session of the first version, of a machine whose pages are zeros at the start and have one cell each."""
+    logs = "".join(f"{name} {len(log)}\n" + "".join(f"{it}\n" for it in log) for name, log in (("guest", guest), ("source", source), ("link", link), ("pager", pager)))
+    return f"postcopy-session 1\npages {pages}\ncells 1\ninit 0\n{logs}end\n".encode()
+
+
+def missed_one_by_one(pages):
+    """The guest misses each page in turn, and reads it once it came: so the orders have some eight runs for each."""
+    guest = [it for n in range(pages) for it in (f"miss 0 {n}", f"see {4 * n + 5}", f"r 0 {n} 0 0")]
+    source = [it for n in range(pages) for it in (f"ask {2 * n + 1}", f"send {n} {ZERO}")]
+    link = [it for n in range(pages) for it in (f"up {4 * n + 3}", f"down {2 * n + 3}")]
+    pager = [it for n in range(pages) for it in (f"fault {3 * n + 2}", f"want {n}", f"got {2 * n + 2}", f"place {n} {4 * n + 4} {ZERO}")]
+    return of_zeros(pages, ["halt", "resume 1", *guest], ["halted 0", "state", *source, f"ask {2 * pages + 1}", "done"],
+                    ["down 1", *link, f"up {4 * pages + 2}"], ["got 0", "ready", *pager, "all"])
+
+
+def read_before_they_came(pages):
+    """The guest reads each page at the target, and none is placed there."""
+    return of_zeros(pages, ["halt", "resume 1", *(f"r 0 {n} 0 0" for n in range(pages))], ["halted 0", "state"], ["down 1"], ["got 0", "ready"])
+
+
+def moved(told, lines):
+    """An object whose lines are so many higher."""
+    if isinstance(told, list):
+        return [moved(it, lines) for it in told]
+    return {name: it + lines if name == "line" else moved(it, lines) for name, it in told.items()} if isinstance(told, dict) else told
+
+
+@pytest.mark.quick
+@pytest.mark.cases(330)
+def test_large_objects(program, room):
+    """Objects with thousands of runs, with a long one, with hundreds of pages, and with lines of 64 bits."""
+    tests = Tests(program, room)
+    tests.session("a machine whose pages are missed one by one", missed_one_by_one(400))
+    runs = json.loads(tests.ran("audit", "--format", "json", "session")[1])["runs"]
+    same("whether they have thousands of runs", len(runs) > 2000, True)
+    tests.session("a long run", of_zeros(1, ["r 0 0 0 0"] * 70000, [], [], []))
+    same("the long run", json.loads(tests.ran("audit", "--format", "json", "session")[1])["runs"], [["guest", 70000]])
+    tests.session("a machine whose pages are read before they came", read_before_they_came(600))
+    told = json.loads(tests.ran("audit", "--all", "--format", "json", "session")[1])
+    same("all of these pages", told["pages"], [{"page": n, "line": n + 8, "reason": "early"} for n in range(600)])
+    far = 1 << 63
+    tests.write("lines", "".join(f"{n + far}\n" for n in range(1, 700)).encode())
+    for topic in ((), ("--page", "7"), ("--line", "9")):
+        told = json.loads(tests.ran("explain", "--format", "json", *topic, "session")[1])
+        given = json.loads(tests.ran("explain", "--format", "json", "--lines", "lines", *topic, "session")[1])
+        same(f"the object by lines of 64 bits {' '.join(topic)}", given, moved(told, far))

@@ -21,7 +21,7 @@ SESSIONS = [f"{TOP}/{name}" for name in ("examples/handover/session", "examples/
                                          "tests/cases/audit-all-wrong-shape/session", "tests/cases/object-of-what-is-missing/session", "examples/wrong-read/session")]
 WHOLE, PAGES, ALL, QUIET, JSON = ("--complete",), ("--complete-pages",), ("--all",), ("--quiet",), ("--format", "json")
 PAGE, LINE = ("--page", "0"), ("--line", "9")
-MORE = 1000
+MORE, MANY = 1000, 200
 
 
 def first_line(text):
@@ -165,6 +165,7 @@ HELP = {
 }
 
 
+FIRST_OF_HELP = "Record post-copy migrations, and audit recorded sessions. Without a command, it runs: check - -"
 END_OF_HELP = """ - means standard input. Two such files share it: the first text ends at its first line 'end'.
 
 Exit status:
@@ -177,25 +178,89 @@ Exit status:
 
 
 def listed(told, heading):
-    """What stands in a list of a help, by the word that it is about."""
+    """What stands in a list of a help, each with the word that it is about."""
     part = told.partition(f"\n{heading}:\n")[2].partition("\n\n")[0]
-    return dict(re.split(r"  +", line.strip(), maxsplit=1) for line in part.splitlines())
+    return [tuple(re.split(r"  +", line.strip(), maxsplit=1)) for line in part.splitlines()]
 
 
 @pytest.mark.quick
-@pytest.mark.cases(4 * len(HELP) + 3)
+@pytest.mark.cases(6 * len(HELP) + 6)
 def test_help(program, room):
-    """What the help says of each command, each of its words and each of its options."""
+    """What the help says of each command, each of its words and each of its options, in which order, and whichever way it is asked for."""
     tests = Tests(program, room)
     overall = tests.run("--help")[1]
+    same("the first line of the help", overall.partition("\n")[0], FIRST_OF_HELP)
     same("the end of the help", overall.partition("\n\nThe file name")[2], END_OF_HELP)
     with open(f"{TOP}/VERSION", encoding="ascii") as file:
         same("the version", tests.run("--version"), (0, f"postcopy {file.read().strip()}\n", ""))
     about = {name: words for name, (words, *_) in HELP.items()}
-    same("the commands", listed(overall, "Commands"), {**about, "help": "Print this message or the help of the given subcommand(s)"})
+    same("the commands", listed(overall, "Commands"), list({**about, "help": "Print this message or the help of the given subcommand(s)"}.items()))
+    for word in ("-h", "help"):
+        same(f"the help by {word}", tests.run(word), (0, overall, ""))
     for name, (words, arguments, options) in HELP.items():
         status, told, errors = tests.run(name, "--help")
         same(f"the help of {name}", (status, errors, told.split("\n")[0]), (0, "", words))
         same(f"the usage of {name}", told.split("\n")[2], f"Usage: {os.path.basename(program)} {name} [OPTIONS] {' '.join(arguments)}")
-        same(f"the words of {name}", listed(told, "Arguments"), arguments)
-        same(f"the options of {name}", listed(told, "Options"), {**options, **COMMON})
+        same(f"the words of {name}", listed(told, "Arguments"), list(arguments.items()))
+        same(f"the options of {name}", listed(told, "Options"), list({**options, **COMMON}.items()))
+        for words in ((name, "-h"), ("help", name)):
+            same(f"the help by {' '.join(words)}", tests.run(*words), (0, told, ""))
+
+
+NEEDED, UNKNOWN = "the following required arguments were not provided:\n", "unexpected argument"
+VALUE, TWICE = "invalid value", "cannot be used multiple times"
+# Words that are no command, and what is told of them, each kind of error once at least.
+WRONG_WORDS = (
+    ("check session", f"{NEEDED}  <CERT>"),
+    ("check", f"{NEEDED}  <SESSION>\n  <CERT>"),
+    ("window recording", f"{NEEDED}  <FIRST>\n  <COUNT>"),
+    ("audit -o file", f"{NEEDED}  <SESSION>..."),
+    ("session --cut", f"{NEEDED}  <FOLDER>..."),
+    ("check session cert more", f"{UNKNOWN} 'more' found"),
+    ("draw session runs more", f"{UNKNOWN} 'more' found"),
+    ("certify --quiet session", f"{UNKNOWN} '--quiet' found"),
+    ("--quiet", f"{UNKNOWN} '--quiet' found"),
+    ("send session", "unrecognized subcommand 'send'"),
+    ("help send", "unrecognized subcommand 'send'"),
+    ("--", f"'{{name}}' requires a subcommand but one was not provided\n  [subcommands: {', '.join(HELP)}, help]"),
+    ("migrate script --link paper", f"{VALUE} 'paper' for '--link <CARRIER>'\n  [possible values: memory, tcp]"),
+    ("audit --format xml session", f"{VALUE} 'xml' for '--format <FORM>'\n  [possible values: text, json]"),
+    ("audit session --format", "a value is required for '--format <FORM>' but none was supplied\n  [possible values: text, json]"),
+    ("explain session --lines", "a value is required for '--lines <FILE>' but none was supplied"),
+    ("draw --page first session", f"{VALUE} 'first' for '--page <NUMBER>': invalid digit found in string"),
+    ("explain --line 4294967296 session", f"{VALUE} '4294967296' for '--line <NUMBER>': 4294967296 is not in 0..=4294967295"),
+    ("window recording first 1", f"{VALUE} 'first' for '<FIRST>': invalid digit found in string"),
+    ("window recording 0 9223372036854775808", f"{VALUE} '9223372036854775808' for '<COUNT>': 9223372036854775808 is not in 0..=9223372036854775807"),
+    ("audit --quiet=yes session", "unexpected value 'yes' for '--quiet' found; no more were expected"),
+    ("audit --quiet --quiet session", f"the argument '--quiet' {TWICE}"),
+    ("check session cert -o one -o other", f"the argument '--output <FILE>' {TWICE}"),
+    ("explain --page 0 --line 9 session", "the argument '--page <NUMBER>' cannot be used with '--line <NUMBER>'"),
+    ("audit --all --quiet session", "the argument '--all' cannot be used with '--quiet'"),
+    ("audit --all session other", "the argument '--all' cannot be used with several sessions, unless '--format json' is given"),
+)
+
+
+@pytest.mark.quick
+@pytest.mark.cases(len(WRONG_WORDS))
+def test_wrong_words(program, room):
+    """What is told of words that are no command: which of them is wrong, and what may stand there where it is one of few."""
+    tests = Tests(program, room)
+    for words, told in WRONG_WORDS:
+        status, output, errors = tests.run(*words.split(" "))
+        first = re.split(r"\n\n(?=  tip: |Usage: |For more )", errors)[0]
+        wanted = f"error: {told.format(name=os.path.basename(program))}"
+        same(words, (status, output, first, errors.split("\n")[-2]), (2, "", wanted, "For more information, try '--help'."))
+
+
+@pytest.mark.quick
+@pytest.mark.cases(3)
+def test_many_sessions(program, room):
+    """As many sessions as words: a line, or an object, on each."""
+    names, kinds = [SESSIONS[0], SESSIONS[2]] * MANY, ["clean", "faulty line 18 stale"] * MANY
+    tests = Tests(program, room)
+    status, output, _ = tests.run("audit", *names)
+    same("the status for many", status, 1)
+    wanted = [f"{name}: {told}" for name, told in zip(names, kinds)]
+    same("the lines of many", output.splitlines(), [*wanted, f"{MANY} of {2 * MANY} sessions are clean"])
+    objects = [json.loads(it) for it in tests.run("audit", *JSON, *names)[1].splitlines()]
+    same("the objects of many", [(it["file"], it["verdict"]) for it in objects], [(name, told.split(" ")[0]) for name, told in zip(names, kinds)])

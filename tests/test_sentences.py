@@ -281,6 +281,50 @@ def test_back_for_the_state(program, room):
           "The source's log begins with `halted` and `state`, and has them nowhere else."])
 
 
+# Sessions of one page that comes to the target, each with what else is told of it, and of which page.
+def of_one_page(version, source, link, lane, pager):
+    """A session of a page with 6 in its one cell, of which the guest is halted and resumed."""
+    logs = (("guest", ["halt", "resume 1"]), ("source", ["halted 0", "state", *source]), ("link", ["down 1", *link]), ("lane", lane), ("pager", ["got 0", "ready", *pager]))
+    told = "".join(f"{log} {len(records)}\n" + "".join(f"{it}\n" for it in records) for log, records in logs if log != "lane" or version > 1)
+    return f"postcopy-session {version}\npages 1\ncells 1\ninit 1\npage 0 {SIX}\n{told}end\n"
+
+
+SIX, SEVEN = "0000000000000006", "0000000000000007"
+SENT = f"send 0 {SIX}"
+STORIES = (
+    ("a page that the lane brought, and nobody took", of_one_page(2, [SENT], [], ["down 2"], []), ("--page", "0"), [
+        "  line 12 (source 2): the source sends page 0", "  line 16 (lane 0): the lane delivers to the pager what source 2 sent", "  the pager does not take it"]),
+    ("a page that both links brought, and nobody took", of_one_page(2, [SENT], ["down 2"], ["down 2"], []), ("--page", "0"), [
+        "  line 12 (source 2): the source sends page 0", "  line 15 (link 1): the link delivers to the pager what source 2 sent", "  the pager does not take it"]),
+    ("how far that came", of_one_page(2, [SENT], ["down 2"], ["down 2"], []), ("--complete",), [
+        "Page 0 was owed to the target at the halt. The pager never placed it, and the guest did not release it there.",
+        "It came as far as the link: line 15 (link 1): the link delivers to the pager what source 2 sent."]),
+    ("a page that both links brought, and the lane first", of_one_page(2, [SENT], ["down 2"], ["down 2"], ["pull 0", f"place 0 2 {SIX}"]), ("--page", "0"), [
+        "  line 17 (lane 0): the lane delivers to the pager what source 2 sent", "  line 21 (pager 2): the pager pulls what lane 0 delivered"]),
+    ("a page that is placed otherwise than a repeat of it had it", of_one_page(1, [SENT, "again 2"], ["down 3"], [], ["got 1", f"place 0 2 {SEVEN}"]), (), [
+        "Line 21 (pager 3) is wrong: the pager places page 0, which came with pager 2.",
+        f"The page is placed with 7, {SEVEN}, in cell 0, where it has 6, {SIX}, at the halt, as at the start.",
+        f"What came with pager 2 was sent with 6, {SIX}, there: line 12 (source 2): the source sends page 0."]),
+    ("a pager that says twice that all is there", of_one_page(1, [SENT], ["down 2"], [], ["got 1", f"place 0 2 {SIX}", "all", "all"]), ("--complete",), [
+        "The source never learned that every owed page had come: its log has no `done` behind the `ask` of that.", "The pager said so at line 22 (pager 5)."]),
+    ("a fault that the report does not name", read(f"{TOP}/tests/cases/audit-all/session"), ("--page", "1"), [
+        "Of the looks before it, this one reaches furthest: line 11 (guest 4): the guest looks at the placement pager 5.",
+        "No look reaches it at all.", "What the logs say of page 1:"]),
+)
+
+
+@pytest.mark.quick
+@pytest.mark.cases(len(STORIES))
+def test_stories(program, room):
+    """What is told of a page that came by two ways, that was repeated, or that has a fault which is not the report's."""
+    for what, session, options, wanted in STORIES:
+        with open(f"{room}/session", "w", encoding="ascii") as file:
+            file.write(session)
+        told = explained(program, *options, f"{room}/session")
+        at = told.index(wanted[0]) if wanted[0] in told else 0
+        same(what, told[at:at + len(wanted)], wanted)
+
+
 # The sentences that tell of a record with a role in the object of JSON.
 ROLES = {"Wrong": "faulty", "Misshapen": "faulty", "Change": "changed", "Halt": "halt", "Sending": "sent", "SentBefore": "sent", "Delivery": "delivered",
          "Taking": "taken", "Placement": "placed", "SecondPlacement": "placed-again", "FirstLook": "look", "FirstUse": "touch", "ResumedToo": "resume", "Waits": "waits"}

@@ -148,7 +148,7 @@ static int holds(const uint8_t *room, size_t len, const uint8_t *text, size_t te
 
 enum { LAST_QUESTION = POSTCOPY_ASKS_EXPLAIN_OBJECT, MANY = LAST_QUESTION + 1 };
 
-/* The answers to the first questions, with room for one end more, and with room for one too few. */
+/* The answers to the first questions, with room for more ends, and with room for one too few. */
 static postcopy_answer answers(const job *it, size_t questions_len, uint8_t *room, size_t room_len) {
     postcopy_question questions[MANY];
     for (uint32_t i = 0; i < MANY; i++) questions[i] = (postcopy_question){.asks = i + 1, .about = it->number};
@@ -157,7 +157,7 @@ static postcopy_answer answers(const job *it, size_t questions_len, uint8_t *roo
     long was_passing = passing;
     postcopy_answer with_few = postcopy_answers(it->session, it->session_len, questions, questions_len, few, questions_len - 1, room, room_len);
     passing = was_passing;
-    postcopy_answer answer = postcopy_answers(it->session, it->session_len, questions, questions_len, ends, questions_len + 1, room, room_len);
+    postcopy_answer answer = postcopy_answers(it->session, it->session_len, questions, questions_len, ends, MANY + 1, room, room_len);
     if (!same(with_few, answer)) fail("another answer with few ends", it->line);
     int is_told = answer.kind != POSTCOPY_NO_MEMORY && answer.kind != POSTCOPY_NO_QUESTION;
     size_t written = is_told ? questions_len : 0;
