@@ -14,6 +14,8 @@ pub(crate) enum Special {
     Swapped { found: Kind, wanted: Kind },
     /// The output of an audit, and the kind of the text after its first line.
     Report { behind: Option<Kind>, wanted: Kind },
+    /// One of the files that recorders leave in a folder.
+    Records { wanted: Kind },
     CarriageReturn,
 }
 
@@ -120,8 +122,14 @@ const LONE: [&[u8]; 4] = [
     b"incomplete ",
 ];
 
-/// Returns the output of an audit that a text is, if it begins with this line.
-fn report(line: &[u8], wanted: Kind) -> Option<Special> {
+/// The beginning of the first line of a recorder's file.
+const RECORDS: &[u8] = b"postcopy-records ";
+
+/// Returns the output of an audit, or the recorder's file, that a text is, if it begins with this line.
+fn output(line: &[u8], wanted: Kind) -> Option<Special> {
+    if line.starts_with(RECORDS) {
+        return Some(Special::Records { wanted });
+    }
     let behind = if line == CLEAN {
         Some(Kind::Certificate)
     } else if line.starts_with(FAULTY) {
@@ -150,7 +158,7 @@ fn of_another_kind(line: &[u8], wanted: &WideWanted) -> Option<Special> {
     }
     let wanted = Kind::wanted(wanted)?;
     match Kind::of(line) {
-        None => report(line, wanted),
+        None => output(line, wanted),
         Some(found) if found != wanted => Some(Special::Swapped { found, wanted }),
         Some(_) => None,
     }

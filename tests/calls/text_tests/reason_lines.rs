@@ -363,6 +363,18 @@ pub static BYTES: [Case; 16] = [
         r#"1: this is a zip file; unpack it first"#,
     ),
     Case(
+        At::SessionHead,
+        1,
+        b"postcopy-records 1",
+        r#"1: this is one file of a recording; name its folder, or make a session of that (postcopy session FOLDER)"#,
+    ),
+    Case(
+        At::CertHead,
+        1,
+        b"postcopy-records 1",
+        r#"1: this is one file of a recording; expected a certificate"#,
+    ),
+    Case(
         At::Guest,
         9,
         b"w 0 3 0 5\r",

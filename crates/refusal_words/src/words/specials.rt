@@ -12,6 +12,15 @@ fn push_report(out: &mut String, behind: Option<Kind>, wanted: Kind) -> Result<(
     Ok(())
 }
 
+fn push_records(out: &mut String, wanted: Kind) -> Result<(), AllocError> {
+    out.push_str("this is one file of a recording; ")?;
+    if wanted == Kind::Session {
+        return out.push_str("name its folder, or make a session of that (postcopy session FOLDER)");
+    }
+    let kind = wanted.words();
+    write!(out, "expected {kind}")
+}
+
 /// Appends what a file is, or how its lines end, and what helps.
 pub(crate) fn push_special(out: &mut String, special: Special) -> Result<(), AllocError> {
     match special {
@@ -31,6 +40,7 @@ pub(crate) fn push_special(out: &mut String, special: Special) -> Result<(), All
             )
         }
         Special::Report { behind, wanted } => push_report(out, behind, wanted),
+        Special::Records { wanted } => push_records(out, wanted),
         Special::CarriageReturn => out.push_str(
             "found a carriage return at the end of the line; lines end with a line feed alone (dos2unix mends a file)",
         ),
