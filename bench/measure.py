@@ -11,6 +11,7 @@ from collections import namedtuple
 
 TOP = os.path.dirname(os.path.dirname(os.path.abspath(__file__)))
 NAME = os.path.basename(sys.argv[0])
+LAUNCHER = f"{TOP}/postcopy"
 
 # The processors that a command may use: all that there are.
 PROCESSORS = sorted(os.sched_getaffinity(0))
@@ -82,6 +83,13 @@ def parsed(words, times, given=None):
 def surroundings():
     """The variables of a run: memory is given as the system does it unless it is told otherwise."""
     return {name: value for name, value in os.environ.items() if name != "GLIBC_TUNABLES"}
+
+
+def tunables():
+    """How the launcher has memory given, by its text."""
+    with open(LAUNCHER, encoding="utf-8") as file:
+        found = dict.fromkeys(re.findall(r"glibc\.malloc\.\w+=\d+", file.read()))
+    return {"GLIBC_TUNABLES": ":".join(found)}
 
 
 def took(words, status=0, processors=ALL, given=os.devnull, written=os.devnull, extra=()):
