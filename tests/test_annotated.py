@@ -1,9 +1,12 @@
 """What postcopy-annotate tells other tools of sessions, beside what the program says of them."""
+import glob
 import json
 import os
 import re
 import shutil
+import signal
 import subprocess
+import time
 import xml.etree.ElementTree as ElementTree
 from urllib.parse import unquote
 
@@ -227,6 +230,45 @@ class Tests:
         status, output, errors = self.told("early", program=f"{self.room}/no-program")
         self.same("a program that is not there", (status, output, "no-program" in errors), (3, "", True))
 
+    def streams(self):
+        """Sessions that come by standard input or a pipe: they are read once, and judged as the same file is."""
+        def fed(data, *names, **others):
+            child = subprocess.run([SCRIPT, "--program", self.program, *names], cwd=self.room, input=data, capture_output=True, **others)
+            return child.returncode, child.stdout.decode(), child.stderr.decode()
+        for kind in ("clean", "early", "refused"):
+            with open(f"{self.room}/{kind}", "rb") as file:
+                data = file.read()
+            status, output, errors = self.told(kind)
+            name = "/dev/stdin" if kind == "refused" else "-"
+            self.same(f"{kind} by {name}", fed(data, name), (status, output.replace(f"{kind}:", f"{name}:", 1), errors))
+            with open(f"{self.room}/{kind}", "rb") as file:
+                child = subprocess.run([SCRIPT, "--program", self.program, "/dev/stdin"], cwd=self.room, stdin=file, capture_output=True)
+            self.same(f"{kind}, a file that is standard input", child.returncode, status)
+        os.mkfifo(f"{self.room}/pipe")
+        with subprocess.Popen(["sh", "-c", "cat early > pipe"], cwd=self.room):
+            self.same("a pipe with a name", self.told("clean", "pipe"), (1, self.told("early")[1].replace("early:", "pipe:", 1), ""))
+        self.same("a standard input that is closed", fed(None, "-", preexec_fn=lambda: os.close(0)), (3, "", "postcopy-annotate: -: Bad file descriptor\n"))
+
+    def ended(self):
+        """A signal in the middle leaves nothing temporary, and no verdict. And which program is run where none is named."""
+        rooms = f"{self.room}/rooms"
+        os.mkdir(rooms)
+        with open(f"{self.room}/waits", "w", encoding="ascii") as file:
+            file.write("#!/bin/sh\nexec sleep 60\n")
+        os.chmod(file.name, 0o755)
+        for number in (signal.SIGINT, signal.SIGTERM, signal.SIGHUP):
+            script = subprocess.Popen([SCRIPT, "--program", file.name, "clean"], cwd=self.room, stdin=subprocess.DEVNULL, stdout=subprocess.PIPE, stderr=subprocess.PIPE,
+                                      env={**os.environ, "TMPDIR": rooms}, preexec_fn=lambda number=number: signal.signal(number, signal.SIG_DFL if number != signal.SIGINT else signal.default_int_handler))
+            until = time.monotonic() + 30
+            while not glob.glob(f"{rooms}/*/0.session") and time.monotonic() < until:
+                time.sleep(0.01)
+            script.send_signal(number)
+            self.same(f"the end by the signal {number}", (*script.communicate(), script.returncode, os.listdir(rooms)), (b"", b"", 128 + number, []))
+        env = {name: value for name, value in os.environ.items() if name != "POSTCOPY"}
+        for named in ({}, {"POSTCOPY": ""}):
+            child = subprocess.run([SCRIPT, "clean"], cwd=self.room, env={**env, **named, "PATH": "/usr/bin:/bin"}, capture_output=True)
+            self.same("the program of the checkout", (child.returncode, child.stderr), (0, b""))
+
     def each(self):
         for kind in CONTENTS:
             self.one_session(kind)
@@ -239,7 +281,8 @@ class Tests:
     pytest.param(Tests.each, marks=pytest.mark.cases(86)), pytest.param(Tests.many, marks=pytest.mark.cases(12)),
     pytest.param(Tests.calls, marks=pytest.mark.cases(8)), pytest.param(Tests.outputs, marks=pytest.mark.cases(4)), pytest.param(Tests.odd_names, marks=pytest.mark.cases(3)),
     pytest.param(Tests.meanings, marks=pytest.mark.cases(1)), pytest.param(Tests.incomplete, marks=pytest.mark.cases(23)),
-    pytest.param(Tests.refused, marks=pytest.mark.cases(4)), pytest.param(Tests.wrong_words, marks=pytest.mark.cases(3))),
+    pytest.param(Tests.refused, marks=pytest.mark.cases(4)), pytest.param(Tests.wrong_words, marks=pytest.mark.cases(3)),
+    pytest.param(Tests.streams, marks=pytest.mark.cases(8)), pytest.param(Tests.ended, marks=pytest.mark.cases(5))),
     ids=lambda it: it.__name__)
 def test_annotated(program, room, part):
     for kind, example in CONTENTS.items():
