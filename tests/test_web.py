@@ -486,7 +486,7 @@ def test_windows(page, program, room):
     web_reports.tests_of_windows(room, program)
 
 
-@pytest.mark.cases(16)
+@pytest.mark.cases(20)
 def test_refusals(page, room):
     web_reports.tests_of_refusals(room)
 

@@ -99,6 +99,11 @@ def tests_of_refusals(room):
         ran = subprocess.run([SCRIPT, "--page", PAGE, *words], cwd=room, stdin=subprocess.DEVNULL, capture_output=True)
         same(f"{what}: {ran.stderr.decode()}", (ran.returncode, part in ran.stderr.decode(), ran.stdout), (wanted, True, b""))
         same(f"the report that was there, with {what}", (read(f"{room}/out.html"), os.listdir(room)), (b"as it was", ["out.html"]))
+    for was in (read(session), read(example("handover", "certificate")[0])):
+        write(f"{room}/out.html", was)
+        ran = subprocess.run([SCRIPT, "--page", PAGE, session, "-o", "out.html"], cwd=room, stdin=subprocess.DEVNULL, capture_output=True)
+        same("a session in the report's place", (ran.returncode, ran.stdout, ran.stderr.startswith(b"postcopy-report: out.html is a session or another text of postcopy")), (3, b"", True))
+        same("the session that was there", (read(f"{room}/out.html"), os.listdir(room)), (was, ["out.html"]))
 
 
 def tests_of_outputs(room):
