@@ -17,6 +17,7 @@ import signal
 import subprocess
 import sys
 import time
+import zlib
 from dataclasses import dataclass
 
 MIRROR = "http://deb.debian.org/debian"
@@ -54,6 +55,23 @@ def cache(name):
     return f"{os.environ.get('XDG_CACHE_HOME') or os.path.expanduser('~/.cache')}/postcopy/{name}"
 
 
+def built_in(sources):
+    """Returns the folder for what is built from the sources in a folder: `out` beside them, or one in the user's cache if nothing can be written
+    there, as in a checkout of another user."""
+    out = f"{sources}/out"
+    if os.access(out if os.path.isdir(out) else sources, os.W_OK | os.X_OK):
+        return out
+    return cache(f"built-{zlib.crc32(os.fsencode(sources)):08x}")
+
+
+def make_folder(path):
+    """Makes a folder for what is built, if it is not there."""
+    try:
+        os.makedirs(path, exist_ok=True)
+    except OSError as fault:
+        raise Missing(f"{path} cannot be made, the folder for what is built: {fault.strerror}") from None
+
+
 def folder():
     """Returns the folder of all roots: POSTCOPY_ROOTS, or a folder in the user's cache."""
     return os.path.abspath(os.environ.get("POSTCOPY_ROOTS") or cache("roots"))
@@ -86,7 +104,7 @@ def require_tools():
 def make(root, say=lambda line: None):
     """Makes a root if it does not exist. Calls `say` with each line of progress. A root that is not whole yet has another name."""
     require_tools()
-    os.makedirs(folder(), exist_ok=True)
+    make_folder(folder())
     with open(f"{folder()}/{root.name}.lock", "w", encoding="ascii") as lock:
         fcntl.flock(lock, fcntl.LOCK_EX)
         if is_made(root):

@@ -8,7 +8,7 @@ import roots
 from roots import Missing, Root
 
 HERE = os.path.dirname(os.path.abspath(__file__))
-OUT = f"{HERE}/out"
+OUT = roots.built_in(HERE)
 
 # Suites of Debian with CRIU 4.1 or newer.
 ROOTS = {suite: Root(f"criu-{suite}", suite, ("criu",)) for suite in ("trixie", "sid")}
@@ -66,7 +66,7 @@ def compile_one(name):
 def build():
     """Returns the paths of the walk, of the library and of what gives CRIU its pipe. Builds those that are missing or older than their
     sources."""
-    os.makedirs(OUT, exist_ok=True)
+    roots.make_folder(OUT)
     with open(f"{OUT}/lock", "w", encoding="ascii") as lock:
         fcntl.flock(lock, fcntl.LOCK_EX)
         for name, (source, _) in BUILT.items():

@@ -101,7 +101,7 @@ class Migration:
             file.write(text)
 
     def side(self, name):
-        side = Side(name, self.root, [self.folder, self.room.path, criu_build.HERE], self.errors)
+        side = Side(name, self.root, [self.folder, self.room.path, criu_build.HERE, criu_build.OUT], self.errors)
         self.sides.append(side)
         return side
 

@@ -7,10 +7,10 @@ import shutil
 import struct
 import subprocess
 
-from roots import Missing
+from roots import Missing, built_in, make_folder
 
 HERE = os.path.dirname(os.path.abspath(__file__))
-OUT = f"{HERE}/out"
+OUT = built_in(HERE)
 ROM_LENGTH = 65536
 PACKAGES = "qemu-system-x86 binutils libc6-dev gcc"
 USERFAULTFD = {"x86_64": 323, "aarch64": 282}  # the system call's number
@@ -72,7 +72,7 @@ def build_library(library):
 
 def built(path, names, headers, *how):
     """Returns a program or library for these sources. Builds it if it is missing or older than they are."""
-    os.makedirs(OUT, exist_ok=True)
+    make_folder(OUT)
     sources = [f"{HERE}/{name}" for name in names]
     with open(f"{path}.lock", "w") as lock:
         fcntl.flock(lock, fcntl.LOCK_EX)
@@ -100,7 +100,7 @@ def build_work():
 
 def build():
     """Returns the paths of the ROM and of the library. Builds them if they are missing or older than their sources."""
-    os.makedirs(OUT, exist_ok=True)
+    make_folder(OUT)
     rom, library = f"{OUT}/guest.bin", f"{OUT}/preload.so"
     with open(f"{OUT}/lock", "w") as lock:
         fcntl.flock(lock, fcntl.LOCK_EX)

@@ -2,7 +2,9 @@
 
 Nothing is removed from a folder that was not made here. A folder that was made here has the file MARK, and only the files that a
 recorder writes are replaced in it. Those of a recording, which MARK lists, are replaced by a recording of another recorder too.
+A process that has taken a folder keeps it until it ends: two recordings at once would each have files of the other.
 """
+import fcntl
 import os
 import re
 import shutil
@@ -21,6 +23,9 @@ FILES = (PLAN, "guest.bin", "outcome.json", "halt.mem", "relay.log", "relay.page
 # A socket's path has at most 107 bytes. QEMU's options are cut at commas, and the name of its log at a percent sign.
 LONGEST_TOP = 60
 PLAIN = re.compile(r"/[A-Za-z0-9/._-]*")
+
+
+HELD = {}  # the marks of the folders that this process has taken, which stay open and locked
 
 
 class NotOurs(Exception):
@@ -55,12 +60,30 @@ def take(folder, files=FILES, recorder="qemu"):
     look_at(folder, files)
     try:
         os.makedirs(folder, exist_ok=True)
+        hold(folder)
         is_recording, earlier = PLAN in files, listed(folder)
         clear(folder, {*files, *earlier} if is_recording else files)
         with open(f"{folder}/{MARK}", "w", encoding="ascii") as mark:
             mark.write(ON_MARK % recorder + "".join(f"{name}\n" for name in (files if is_recording else earlier)))
     except OSError as fault:
         raise NotOurs(f"{folder} cannot be recorded into: {fault.strerror}") from None
+
+
+def hold(folder):
+    """Locks a folder's mark, which is made if it is not there, until this process ends. Raises NotOurs if another process holds it."""
+    path = os.path.realpath(folder)
+    mark = open(f"{folder}/{MARK}", "a", encoding="ascii")
+    if path in HELD and os.path.samestat(os.fstat(HELD[path].fileno()), os.fstat(mark.fileno())):
+        mark.close()
+        return
+    try:
+        fcntl.flock(mark, fcntl.LOCK_EX | fcntl.LOCK_NB)
+    except BlockingIOError:
+        mark.close()
+        raise NotOurs(f"{folder} is being recorded into by another process: name another folder, or wait until it has ended") from None
+    except OSError:
+        pass  # a file system without locks
+    HELD[path] = mark
 
 
 def listed(folder):

@@ -4,6 +4,7 @@ debootstrap resolves and downloads the packages for QEMU. A root has QEMU itself
 QEMU runs, nothing is installed, and neither a chroot nor root's rights are needed.
 """
 import contextlib
+import fcntl
 import glob
 import os
 import re
@@ -13,7 +14,7 @@ import subprocess
 import tarfile
 
 from build import PACKAGES
-from roots import Missing, cache
+from roots import Missing, cache, make_folder
 
 NAME = "qemu-system-x86_64"
 PACKAGE = "qemu-system-x86"
@@ -114,11 +115,36 @@ def write_start(root, place):
     os.chmod(start, 0o755)
 
 
-def make(suite, mirror, say):
-    """Makes the root of a suite. It appears as a whole, or not at all."""
+def make(suite, mirror, say, is_anew=True):
+    """Makes the root of a suite, one process at a time. It appears as a whole, or not at all. What another process made meanwhile is taken,
+    unless it is to be made anew."""
     if not SUITE.fullmatch(suite):
         raise Missing(f"'{suite}' is no name of a release of Debian")
     root = f"{top()}/{suite}"
+    with held(say):
+        if is_anew or not os.path.exists(qemu_of(root)):
+            make_alone(suite, root, mirror, say)
+    return root
+
+
+@contextlib.contextmanager
+def held(say):
+    """Keeps other processes from making roots."""
+    make_folder(top())
+    folder = os.open(top(), os.O_RDONLY | os.O_CLOEXEC)
+    try:
+        try:
+            fcntl.flock(folder, fcntl.LOCK_EX | fcntl.LOCK_NB)
+        except BlockingIOError:
+            say("wait: another process makes a root")
+            fcntl.flock(folder, fcntl.LOCK_EX)
+        yield
+    finally:
+        os.close(folder)
+
+
+def make_alone(suite, root, mirror, say):
+    """Makes the root of a suite, of which no other process makes a part."""
     new, downloads = f"{root}.new", f"{root}.packages"
     for folder in (new, downloads):
         shutil.rmtree(folder, ignore_errors=True)
@@ -136,7 +162,6 @@ def make(suite, mirror, say):
     finally:
         for folder in (new, downloads):
             shutil.rmtree(folder, ignore_errors=True)
-    return root
 
 
 def found(name):

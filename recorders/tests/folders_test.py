@@ -113,6 +113,25 @@ def of_another_recorder(tests, room):
     tests.wants("nothing elsewhere is removed", os.path.exists(f"{room}/elsewhere"), True)
 
 
+def of_two_at_once(tests, room):
+    """A folder that a process records into is refused to every other, and what is in it stays; once it has ended the folder is taken again."""
+    folder = f"{room}/at once"
+    script = ("import sys, time\nsys.path[:0] = sys.argv[1:3]\nimport folders\nfolders.take(sys.argv[3])\nfolders.take(sys.argv[3])\n"
+              "open(f'{sys.argv[3]}/session', 'w').close()\nprint('taken', flush=True)\nsys.stdin.read()")
+    words = [sys.executable, "-B", "-c", script, QEMU, os.path.dirname(QEMU), folder]
+    with subprocess.Popen(words, stdin=subprocess.PIPE, stdout=subprocess.PIPE, text=True) as first:
+        tests.wants("the first", first.stdout.readline(), "taken\n")
+        said = tests.refuses("the second", folders.NotOurs, lambda: folders.take(folder))
+        tests.wants("it is named", said.startswith(f"{folder} is being recorded into by another process"), True)
+        tests.wants("what is in it", sorted(os.listdir(folder)), [folders.MARK, "session"])
+        first.communicate("")
+    folders.take(folder)
+    tests.wants("behind the first", os.listdir(folder), [folders.MARK])
+    folders.remove(folder)
+    folders.take(folder)
+    tests.wants("one that was removed", os.listdir(folder), [folders.MARK])
+
+
 def modes_of(path):
     return stat.S_IMODE(os.stat(path).st_mode)
 
@@ -207,6 +226,7 @@ def run(tests):
         of_a_users_folder(tests, room)
         of_a_folder_of_its_own(tests, room)
         of_another_recorder(tests, room)
+        of_two_at_once(tests, room)
         of_a_room(tests, room)
         of_the_sockets(tests, room)
         of_a_full_disk(tests, room)

@@ -38,6 +38,19 @@ def of_places(tests):
         tests.wants("where it is asked for", roots.path(PLAIN), "/elsewhere/plain")
 
 
+def of_what_is_built(tests, room):
+    """What is built goes beside its sources, or where these cannot be written, as in a checkout of another user, into the user's cache."""
+    tests.wants("beside the sources", roots.built_in(room), f"{room}/out")
+    with environment(XDG_CACHE_HOME=f"{room}/cache"):
+        others = [roots.built_in(f"{room}/{name}") for name in ("none", "nor-this")]
+        tests.wants("in the cache, each for itself", [os.path.dirname(it) for it in others], [f"{room}/cache/postcopy"] * 2)
+        tests.wants("each for itself", len({*others}), 2)
+        roots.make_folder(others[0])
+        tests.wants("its folder is made", os.path.isdir(others[0]), True)
+    said = tests.refuses("a folder that cannot be made", roots.Missing, lambda: roots.make_folder("/dev/null/built"))
+    tests.wants("it is named", said.startswith("/dev/null/built cannot be made"), True)
+
+
 class Steps:
     """Stands in for the steps of making a root: writes down what was to be run, and fails at a step if that is asked for."""
 
@@ -144,5 +157,6 @@ def run(tests):
     of_places(tests)
     of_the_parent(tests)
     with tempfile.TemporaryDirectory(dir="/tmp") as room:
+        of_what_is_built(tests, room)
         of_making(tests, room)
         of_running(tests, room)

@@ -1,5 +1,6 @@
 """What differs between QEMUs: what one lacks is told before, roots of other releases, one that hangs, and a guest at both sides."""
 import contextlib
+import fcntl
 import functools
 import importlib.machinery
 import importlib.util
@@ -129,6 +130,19 @@ def of_roots(tests, room):
     made = releases.make("sid", "http://nowhere", lambda line: None)
     tests.wants("what fails once is tried again, with what is there already", (releases.found("sid"), len(read(f"{room}/tries"))), (releases.qemu_of(made), 2))
     tests.wants("the downloads are gone", sorted(os.listdir(f"{room}/cache/postcopy/qemu")), ["sid", "trixie"])
+    before_it = read(f"{room}/tries")
+    releases.make("sid", "http://nowhere", lambda line: None, is_anew=False)
+    tests.wants("what another process has made is taken", read(f"{room}/tries"), before_it)
+    said, folder = [], os.open(f"{room}/cache/postcopy/qemu", os.O_RDONLY)
+    fcntl.flock(folder, fcntl.LOCK_EX)
+    second = threading.Thread(target=releases.make, args=("sid", "http://nowhere", said.append, False))
+    second.start()
+    while not said:
+        time.sleep(0.01)
+    tests.wants("while another process makes a root", (second.is_alive(), said), (True, ["wait: another process makes a root"]))
+    os.close(folder)
+    second.join(60)
+    tests.wants("and once it has ended", second.is_alive(), False)
     tests.refuses("a name that is no release", build.Missing, lambda: releases.make("../up", "http://nowhere", lambda line: None))
     os.environ["PATH"] = before
     os.environ.pop("XDG_CACHE_HOME")
