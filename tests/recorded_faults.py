@@ -4,6 +4,7 @@ Each is a right recording with one fault: of the disk, of a file, of the program
 where others write there too, or the disk is full.
 """
 import contextlib
+import errno
 import os
 import re
 import resource
@@ -292,8 +293,8 @@ class Faults:
         for _ in range(30):
             child = os.fork()
             if child == 0:
-                answers = (log.read(0, 0, 0, 2), log.hand_over(), log.close())
-                os._exit(0 if answers == (LOST, LOST, None) else 1)
+                answers = (log.hand_over(), log.close())
+                os._exit(0 if answers == (LOST, None) else 1)
             ends.append(self.waited(child))
         is_over.set()
         for thread in threads:
@@ -301,6 +302,49 @@ class Faults:
         self.tests.same("forked children in Python", ends, [0] * 30)
         self.tests.same("the parent goes on", log.read(0, 0, 0, 3) != LOST, True)
         log.close()
+        self.tests.same("what its file tells", self.ends_of(log), ["r", "end"])
+        self.of_strays()
+
+    def of_strays(self):
+        """Calls that cannot be recorded: on a log by a child of its process, and on a closed one, as by a thread that ends late. What was recorded
+        stays, and the log says that a record was not written."""
+        folder = self.folder()
+        ran = subprocess.run([self.program, "stray", folder], stdout=subprocess.PIPE, timeout=120)
+        self.tests.same("bindings/c/tests/recording.c stray", (ran.returncode, ran.stdout), (0, b""))
+        self.tests.same("a child's call in C", self.has(f"{folder}/{self.only(folder, 'guest')}").split("\n", 3)[3], f"0 halt\n1 resume 1\nlost {errno.EPERM}\n")
+        log = Log(self.folder(), "guest")
+        log.halt()
+        child = os.fork()
+        if child == 0:
+            os._exit(0 if log.see(1) == LOST else 1)
+        answers = self.waited(child), log.resume(1), log.hand_over(), log.error.errno
+        self.tests.same("a child's call in Python", (*answers, self.ends_of(log)), (0, 1, 2, errno.EPERM, ["resume", "lost"]))
+        for forks in (False, True):
+            log = Log(self.folder(), "guest")
+            log.halt()
+            log.close()
+            self.tests.same("a log that was closed", self.ends_of(log), ["halt", "end"])
+            child = os.fork() if forks else None
+            if child is None:
+                self.tests.same("a late call", (log.see(1), log.error.errno), (LOST, errno.EBADF))
+            elif child == 0:
+                os._exit(0 if log.see(1) == LOST else 1)
+            else:
+                self.tests.same("a late call of a child", self.waited(child), 0)
+            self.tests.same("what its file tells then", (self.ends_of(log), log.see(1), self.ends_of(log)), (["halt", "lost"], LOST, ["halt", "lost"]))
+        made = self.folder()
+        log = Log(made, "guest")
+        log.close()
+        shutil.rmtree(made)
+        other = Log(made, "guest")
+        other.close()
+        self.tests.same("a late call whose recording is gone", (log.see(1), self.ends_of(other)), (LOST, ["end"]))
+
+    @staticmethod
+    def ends_of(log):
+        """The words of the last lines of a log's file, behind its head: of two where there are two."""
+        with open(log._path, encoding="ascii") as file:
+            return [line.split()[0 if line[0].isalpha() else 1] for line in file.read().splitlines()[3:][-2:]]
 
     @staticmethod
     def waited(child):
@@ -325,7 +369,7 @@ class Faults:
         with Log(folder, "guest") as guest:
             guest.halt()
             number = guest.hand_over()
-            self.tests.same("a log that was handed over", (number, guest.halt(), guest.hand_over()), (1, LOST, LOST))
+            self.tests.same("a log that was handed over", (number, guest.hand_over()), (1, LOST))
         with Log(folder, "guest", number) as guest:
             self.tests.same("who goes on", guest.resume(1), 1)
         lost = Log(folder, "pager", LOST)

@@ -282,6 +282,8 @@ class Recorders:
         self.tests.same("a closed log", log.halt(), LOST)
         self.of_greatest_numbers()
         self.of_closed_outputs()
+        ran = subprocess.run(["cc", "-fsyntax-only", "-D__cplusplus=201703L", f"{TOP}/bindings/c/postcopy_record.c"], stderr=subprocess.PIPE, encoding="utf-8", errors="replace")
+        self.tests.same("a compiler for C++ is told what to do, in one error", (ran.returncode, "compile it by a compiler for C" in ran.stderr, ran.stderr.count("error:")), (1, True, 1))
         words = "import postcopy.recorder, postcopy.records, postcopy.sessions"
         env = {**os.environ, "PYTHONPATH": f"{TOP}/bindings/python", "POSTCOPY_LIBRARY": "/none"}
         self.tests.same("the recorder with no library", subprocess.run([sys.executable, "-B", "-c", words], env=env).returncode, 0)
@@ -422,14 +424,14 @@ def test_made_sessions(program, room):
 
 
 @pytest.mark.slow
-@pytest.mark.cases(408)
+@pytest.mark.cases(409)
 def test_recorders(program, room, cc):
     tests = Tests(program)
     Recorders(tests, room).run(MadeSessions(tests, room).known)
 
 
 @pytest.mark.slow
-@pytest.mark.cases(291)
+@pytest.mark.cases(303)
 def test_faults(program, room, cc):
     tests = Tests(program)
     Faults(tests, room, program, Recorders(tests, room).program).run()

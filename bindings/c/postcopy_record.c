@@ -13,6 +13,10 @@
 
    A file grows by chunks, which are taken from the disk before they are mapped. Behind the last line there are bytes 0, until
    the thread or the log ends. The end of a line is written last, so one that a process did not live to finish has none. */
+#ifdef __cplusplus
+#error "this file is C, also for a program in C++: compile it by a compiler for C, cc -c postcopy_record.c, and link its object"
+#else
+
 #define _GNU_SOURCE
 #include "postcopy_record.h"
 
@@ -55,6 +59,7 @@ struct postcopy_log {
     unsigned forks;               /* how often this process had been forked off when the log was opened */
     _Atomic uint64_t next;        /* the next record's number */
     atomic_int error;             /* why the log has ended, or 0 */
+    atomic_int *stray;            /* whether a forked child has made a call, which it cannot record: it shares this with its parent */
     atomic_uint files;            /* how many names of files were tried */
     _Atomic(struct part *) parts; /* of all threads */
     struct part *first;
@@ -346,8 +351,12 @@ static uint32_t lose(postcopy_log *log, int error)
 
 static uint32_t append(postcopy_log *log, unsigned parties, struct record record)
 {
-    if (!log || atomic_load(&log->error) || log->forks != atomic_load(&forks))
+    if (!log || atomic_load(&log->error))
         return POSTCOPY_LOST;
+    if (log->forks != atomic_load(&forks)) {
+        atomic_store(log->stray, 1);
+        return POSTCOPY_LOST;
+    }
     if (!(parties >> log->party & 1) || (record.is_of_page && !(record.contents && record.cells && record.cells <= CELLS_MAX)))
         return lose(log, EINVAL);
     int error = errno;
@@ -387,13 +396,16 @@ postcopy_log *postcopy_log_open(const char *folder, const char *party, uint32_t 
     atomic_store(&log->next, first);
     strcpy(log->name, name);
     snprintf(log->stem, length, "%s/%s.%ld", folder, party, (long)getpid());
-    int error = pthread_key_create(&log->mine, leave_part);
+    log->stray = mmap(NULL, sizeof *log->stray, PROT_READ | PROT_WRITE, MAP_SHARED | MAP_ANONYMOUS, -1, 0);
+    int error = log->stray == MAP_FAILED ? errno : pthread_key_create(&log->mine, leave_part);
     if (!error && !(log->first = begin_part(log))) {
         error = errno;
         pthread_key_delete(log->mine);
     }
     if (!error)
         return log;
+    if (log->stray != MAP_FAILED)
+        munmap(log->stray, sizeof *log->stray);
     free(log);
     errno = error;
     return NULL;
@@ -406,16 +418,18 @@ const char *postcopy_log_recording(const postcopy_log *log)
 
 int postcopy_log_error(const postcopy_log *log)
 {
-    return log ? atomic_load(&log->error) : 0;
+    int error = log ? atomic_load(&log->error) : 0;
+    return !error && log && atomic_load(log->stray) ? EPERM : error;
 }
 
-/* Closes a log. Answers the number behind its last record, or POSTCOPY_LOST where one was lost, or where it is the parent's. */
+/* Closes a log. Answers the number behind its last record, or POSTCOPY_LOST where one was lost, or where it is the parent's. (A child's call
+   took no number, so that another process can go on; the last line tells of it.) */
 static uint32_t close_log(postcopy_log *log, const char *word)
 {
     if (!log)
         return POSTCOPY_LOST;
-    int is_own = log->forks == atomic_load(&forks), error = atomic_load(&log->error);
-    uint32_t count = is_own && !error ? atomic_load(&log->next) : POSTCOPY_LOST;
+    int is_own = log->forks == atomic_load(&forks), error = postcopy_log_error(log);
+    uint32_t count = is_own && !atomic_load(&log->error) ? atomic_load(&log->next) : POSTCOPY_LOST;
     struct part *mine = pthread_getspecific(log->mine);
     pthread_key_delete(log->mine);
     if (is_own)
@@ -428,6 +442,7 @@ static uint32_t close_log(postcopy_log *log, const char *word)
     }
     if (mine)
         disown_part(mine);
+    munmap(log->stray, sizeof *log->stray);
     free(log);
     return count;
 }
@@ -524,3 +539,5 @@ uint64_t postcopy_page_hash(const void *page, size_t length)
         hash = mix(hash, rest);
     return any | rest ? (hash ? hash : 1) : 0;
 }
+
+#endif

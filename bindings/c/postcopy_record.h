@@ -14,7 +14,10 @@
    threads, and postcopy_log_error says why. EFBIG means that the process has reached its limit on files; it raises no SIGXFSZ.
    (Others can end a process: if somebody truncates a file, or a disk does not keep space that it gave, the next write there
    raises SIGBUS.) A log that is NULL records nothing, and all its calls return POSTCOPY_LOST. So do calls on a log in a forked
-   child; a child opens its own logs. */
+   child: a child opens its own logs. The log's last line then tells that a record was not written (EPERM), so that the recording
+   counts as one that is not whole.
+
+   These files are for C. A program in C++ includes the header, and links what a compiler for C makes of postcopy_record.c. */
 #ifndef POSTCOPY_RECORD_H
 #define POSTCOPY_RECORD_H
 

@@ -7,6 +7,7 @@
        recording full FOLDER                      appends until a record is lost, and tells how many were not, and why
        recording refused FOLDER                   calls that record nothing
        recording forked FOLDER                    records on, where forked children end in each way that they have
+       recording stray FOLDER                     has a forked child call on its parent's log
        recording leaving FOLDER                   closes logs while threads end that appended to them
        recording named FOLDER                     names of recordings
        recording moved FOLDER PAGES               a migration of so many pages; the last comes as zeros, and is read so
@@ -272,8 +273,6 @@ static void *fork_in_thread(void *what)
     fflush(stdout);
     pid_t child = fork();
     if (child == 0) {
-        if (postcopy_record_read(guest, 0, 0, 0, how) != POSTCOPY_LOST)
-            _exit(1);
         if (how == CLOSED)
             postcopy_log_close(guest);
         if (how == ENDED)
@@ -301,6 +300,22 @@ static void fork_children(const char *folder)
             fork_in_thread((void *)how);
     }
     want(postcopy_log_hand_over(guest) == (2 * FORKS - 1) * 10001, "the number of the records");
+}
+
+/* A forked child that calls on its parent's log: nothing of the log is lost, and its last line tells of the call. */
+static void stray(const char *folder)
+{
+    guest = postcopy_log_open(folder, "guest", 0);
+    want(postcopy_record_halt(guest) == 0, "a record in front of a fork");
+    fflush(stdout);
+    if (fork() == 0)
+        _exit(postcopy_record_see(guest, 1) != POSTCOPY_LOST || postcopy_log_error(guest) != EPERM);
+    int status;
+    wait(&status);
+    want(WIFEXITED(status) && WEXITSTATUS(status) == 0, "a child's call");
+    want(postcopy_log_error(guest) == EPERM, "what its parent is told");
+    want(postcopy_record_resume(guest, 1) == 1, "the parent goes on");
+    want(postcopy_log_hand_over(guest) == 2, "another process may go on");
 }
 
 /* Threads that have appended, and end while the log is closed. */
@@ -425,6 +440,8 @@ int main(int count, char **words)
         refuse(folder);
     else if (!strcmp(what, "forked"))
         fork_children(folder);
+    else if (!strcmp(what, "stray"))
+        stray(folder);
     else if (!strcmp(what, "leaving"))
         leave(folder);
     else if (!strcmp(what, "named"))

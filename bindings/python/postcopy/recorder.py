@@ -15,19 +15,21 @@ the log's file when its call returns, and stays there however the process ends. 
 A folder holds one recording: give each run a folder of its own. `postcopy-session FOLDER..` makes the session from the files,
 whether this module or the C recorder wrote them, and says what is missing. So close each log when its party has finished.
 
-If a record cannot be written, the call returns LOST, the log ends there, and `error` says why. In a forked child, calls on the logs
-that its parent opened also return LOST. Nothing here needs the library.
+If a record cannot be written, the call returns LOST, the log ends there, and `error` says why. Calls on a log that was closed, and in a
+forked child on the logs that its parent opened, also return LOST. The log's last line then tells that a record was not written, so that
+the recording counts as one that is not whole. Nothing here needs the library.
 """
 from __future__ import annotations
 
 import contextlib
 import errno
 import fcntl
+import mmap
 import os
 import re
 import secrets
 import threading
-from typing import Iterable, Optional, Union
+from typing import Iterable, Optional, Tuple, Union
 
 from .records import LOGS, LOST
 
@@ -87,11 +89,15 @@ class Log:
         self.recording: Optional[str] = None
         self._party, self._next, self._lock = party, first, threading.Lock()
         self._process, self._file = os.getpid(), -1
+        self._path, self._head = "", b""  # of the file, and how it begins
+        self._last: Optional[Tuple[int, bytes]] = None  # where the last line of the closed log is, and what it is
+        self._stray: Optional[mmap.mmap] = None  # whether a forked child has made a call, which shares this with its parent
         if first >= LOST:
             self.error = OSError(errno.EINVAL, "the log was not handed over, as a record was lost")
         elif folder is not None:
             self.recording = _name_recording(folder)
-            self._begin(os.path.join(folder, f"{party}.{self._process}"))
+            self._stray = mmap.mmap(-1, 1)
+            self._begin(os.path.join(os.path.abspath(folder), f"{party}.{self._process}"))
 
     def _begin(self, stem: str) -> None:
         number = -1
@@ -100,12 +106,14 @@ class Log:
             path = f"{stem}.{number}"
             with contextlib.suppress(FileExistsError):
                 self._file = _above_standard(os.open(path, os.O_WRONLY | os.O_APPEND | os.O_CREAT | os.O_EXCL | os.O_CLOEXEC, 0o666))
+        head = f"postcopy-records 1\nrecording {self.recording}\nlog {self._party} {self._next} {number}\n"
         try:
-            self._put(f"postcopy-records 1\nrecording {self.recording}\nlog {self._party} {self._next} {number}\n")
+            self._put(head)
         except OSError:
             os.close(self._file)
             os.remove(path)
             raise
+        self._path, self._head = path, head.encode("ascii")
 
     def _put(self, text: str) -> None:
         """Writes all of the lines, or none."""
@@ -123,7 +131,8 @@ class Log:
 
     def close(self) -> None:
         """Closes the log: its file then says how many records it has. Without this no record is lost, but nobody can know that they
-        are all, and the recording counts as one that is not whole. Later calls return LOST."""
+        are all, and the recording counts as one that is not whole. Later calls return LOST, and the file says that a record was not
+        written."""
         self._end("end")
 
     def hand_over(self) -> int:
@@ -138,14 +147,32 @@ class Log:
             if self._file < 0:
                 return LOST
             number = self._next if self.error is None else LOST
+            if self.error is None and self._stray is not None and self._stray[0]:
+                # (it took no number, so that another process can go on)
+                self.error = OSError(errno.EPERM, "a forked child made a call on its parent's log")
             try:
                 if word is not None:
-                    self._put(f"{word} {number}\n" if self.error is None else f"lost {self.error.errno}\n")
+                    length, last = os.fstat(self._file).st_size, f"{word} {number}\n"
+                    self._put(last if self.error is None else f"lost {self.error.errno}\n")
+                    self._last = (length, last.encode("ascii")) if self.error is None else None
             except OSError as error:
                 self.error = self.error or error
             os.close(self._file)
             self._file = -1
             return number
+
+    def _end_late(self) -> None:
+        """What becomes of a call on a log that was closed, as by a thread that ends late: its last line tells that a record was lost."""
+        if self._last is None:
+            return
+        self.error = OSError(errno.EBADF, "a call on a log that was closed")
+        (length, last), self._last = self._last, None
+        with contextlib.suppress(OSError), open(self._path, "r+b") as file:
+            # (another recording may have a file of this name by now)
+            if file.read(len(self._head)) == self._head and file.seek(length) and file.read() == last:
+                file.truncate(length)
+                file.seek(length)
+                file.write(b"lost %d\n" % errno.EBADF)
 
     def __enter__(self) -> "Log":
         return self
@@ -156,9 +183,14 @@ class Log:
     def _append(self, party: str, *record: object) -> int:
         if party != self._party:
             raise ValueError(f"'{record[0]}' is no record of the {self._party}'s log")
-        if not self._is_open():
+        if self._process != os.getpid():
+            if self._stray is not None:
+                self._stray[0] = 1
+            self._end_late()
             return LOST
         with self._lock:
+            if self._file < 0:
+                self._end_late()
             if self._file < 0 or self.error is not None:
                 return LOST
             number = self._next
