@@ -16,6 +16,7 @@ import shutil
 import subprocess
 import sys
 import tempfile
+import time
 import zipfile
 
 import pytest
@@ -368,12 +369,13 @@ def compare_texts(postcopy):
         same(f"a session as {type(text).__name__}", (report, report.page, report.explain()), (wanted, wanted.page, wanted.explain()))
     for text in (b"", bytearray(), memoryview(b""), os.devnull):
         same(f"an empty text as {text!r}", str(postcopy.check(text, text)), "session-text line 1")
-    for text, error in ((7, TypeError), (f"{TOP}/no-such-file", FileNotFoundError)):
+    for text, error, words in ((7, TypeError, "bytes or a path"), (f"{TOP}/no-such-file", FileNotFoundError, "no-such-file"),
+                               (session.decode(), TypeError, "give the text as bytes"), (TOP, IsADirectoryError, "'postcopy session' makes the session")):
         try:
             postcopy.check(session, text)
             count(False, f"{text!r} is taken for a text")
-        except error:
-            count(True, "")
+        except error as fault:
+            count(words in str(fault), f"the words on {text!r}: {fault}")
     same("an exception when out of memory", issubclass(postcopy.OutOfMemory, MemoryError), True)
     # a text that is longer than the session by much, so that a second room is wanted
     pages = "".join(f"page {page} none\n" for page in range(65536))
@@ -530,6 +532,9 @@ def tests_of_examples(postcopy, prefix, room):
         shutil.copytree(f"{TOP}/bindings/rust", f"{room}/rust", ignore=shutil.ignore_patterns("target", "Cargo.lock"))
         how = {"CARGO_TARGET_DIR": f"{room}/cargo", "POSTCOPY_LIB_DIR": f"{prefix}/lib", "CARGO_NET_OFFLINE": "true"}
         run("cargo", "build", "--quiet", "--release", cwd=f"{room}/rust", env={**os.environ, **how})
+        os.utime(f"{prefix}/lib/libpostcopy.a", (time.time() + 9, time.time() + 9))
+        ran = subprocess.run(["cargo", "build", "--release"], cwd=f"{room}/rust", env={**os.environ, **how}, stderr=subprocess.PIPE)
+        same("a program in Rust whose library is newer is linked again", (ran.returncode, b"Compiling postcopy-example" in ran.stderr), (0, True))
         programs["Rust"] = f"{room}/cargo/release/postcopy-example"
     else:
         leave_out("the example for Rust (there is no cargo)")
@@ -698,7 +703,7 @@ def test_installed(prefix):
 
 
 @pytest.mark.slow
-@pytest.mark.cases(25)
+@pytest.mark.cases(26)
 def test_examples(postcopy, prefix, room):
     tests_of_examples(postcopy, prefix, room)
 

@@ -19,6 +19,7 @@ from __future__ import annotations
 import ctypes
 import ctypes.util
 import enum
+import errno
 import functools
 import io
 import itertools
@@ -312,6 +313,10 @@ class _Bytes:
         raise TypeError(f"a text is bytes or a path, and not {type(text).__name__}")
 
     def _mapped(self, name: Union[str, "os.PathLike[str]"]) -> Union[bytes, mmap.mmap]:
+        if isinstance(name, str) and name.startswith("postcopy-") and "\n" in name:
+            raise TypeError("a str is the path of a file, and not a text: give the text as bytes, such as text.encode()")
+        if os.path.isdir(name):
+            raise IsADirectoryError(errno.EISDIR, "it is a folder; 'postcopy session' makes the session of a folder of recorders' files", os.fspath(name))
         with open(name, "rb") as file:
             if os.fstat(file.fileno()).st_size == 0:
                 return file.read()
