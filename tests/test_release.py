@@ -122,7 +122,7 @@ def test_version(prefix):
 # What is installed, and removed.
 
 
-@pytest.mark.cases(17)
+@pytest.mark.cases(20)
 def test_installation(prefix, room):
     """What stands under a prefix, and that nothing of it stays."""
     wanted = sorted(INSTALLED.replace("1.2.3", read("VERSION").strip()).split())
@@ -135,7 +135,21 @@ def test_installation(prefix, room):
     modes = {it: os.stat(f"{prefix}/{it}").st_mode & 0o777 for it in wanted}
     same("what may be run", sorted(it for it, mode in modes.items() if mode != 0o644),
          sorted(it for it in wanted if it.startswith("bin/") or it.startswith("lib/libpostcopy.so")))
+    told_to_the_loader(room)
     removed(f"{room}/where files were")
+
+
+def told_to_the_loader(room):
+    """Root has the loader told of a library in a folder that it looks into, and nobody else has."""
+    os.makedirs(f"{room}/bin")
+    with open(f"{room}/bin/ldconfig", "w") as file:
+        file.write(f'#!/bin/sh\necho "$*" >> {room}/calls\n[ "$*" != "-v -N" ] || echo "{room}/a.b/lib: (from here)"\n')
+    os.chmod(file.name, 0o755)
+    asked = ["-v -N"] if os.geteuid() == 0 else []
+    for name, env, wanted in (("a.b", {}, [*asked, ""] if asked else []), ("a-b", {}, asked), ("a.b", {"DESTDIR": f"{room}/below"}, [])):
+        open(f"{room}/calls", "w").close()
+        run(f"{TOP}/tools/install", f"{room}/{name}", env={**os.environ, "PATH": f"{room}/bin:{os.environ['PATH']}", **env})
+        same(f"what is asked of ldconfig for {name} {env}", read(f"{room}/calls").splitlines(), wanted)
 
 
 def removed(prefix):
