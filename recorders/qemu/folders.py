@@ -69,6 +69,12 @@ def take(folder, files=FILES, recorder="qemu"):
         raise NotOurs(f"{folder} cannot be recorded into: {fault.strerror}") from None
 
 
+def refuse_words(parser, folder, words, what):
+    """Ends with a usage fault if a folder has the name of one of these words, as where the folder was left out behind it."""
+    if folder in words:
+        parser.error(f"'{folder}' is a {what}, and no FOLDER is named; './{folder}' would be one")
+
+
 def hold(folder):
     """Locks a folder's mark, which is made if it is not there, until this process ends. Raises NotOurs if another process holds it."""
     path = os.path.realpath(folder)

@@ -62,6 +62,17 @@ def of_a_users_folder(tests, room):
     tests.refuses("a name that is too long", folders.NotOurs, lambda: folders.take(f"{room}/{'x' * 300}"))
 
 
+def of_a_word_alone(tests, room):
+    """What names a kind or a workload, with no folder behind it, is no folder: another kind would be recorded there than was asked for."""
+    for command, word, others in (("qemu/migrate", "preempt", ["live", "preempt"]), ("criu/migrate", "threads", ["live", "threads"]), ("qemu/linux", "busy", ["./busy"])):
+        words = [sys.executable, f"{os.path.dirname(QEMU)}/{command}"]
+        done = subprocess.run([*words, word], cwd=room, capture_output=True, text=True)
+        tests.wants(f"{command} {word}", (done.returncode, done.stdout, f"'{word}' is a " in done.stderr, os.path.exists(f"{room}/{word}")), (2, "", True, False))
+        # (the folder is taken, and the number behind it is refused)
+        done = subprocess.run([*words, *others, "--cpus" if "qemu" in command else "--threads", "99"], cwd=room, capture_output=True, text=True)
+        tests.wants(f"{command} {' '.join(others)}", (done.returncode, "is a " in done.stderr), (2, False))
+
+
 def of_a_folder_of_its_own(tests, room):
     for what, folder in (("a folder that is not there", f"{room}/new/within"), ("an empty folder", f"{room}/empty")):
         if what.startswith("an"):
@@ -224,6 +235,7 @@ def of_packed(tests, room):
 def run(tests):
     with tempfile.TemporaryDirectory() as room:
         of_a_users_folder(tests, room)
+        of_a_word_alone(tests, room)
         of_a_folder_of_its_own(tests, room)
         of_another_recorder(tests, room)
         of_two_at_once(tests, room)
