@@ -280,6 +280,10 @@ class Faults:
             self.tests.same(f"bindings/c/tests/recording.c {mode}", (ran.returncode, ran.stdout), (0, b""))
             ends = sum("\nnext " in self.has(f"{folder}/{name}") for name in os.listdir(folder))
             self.tests.same(f"the ends of {mode} logs", ends, {"forked": 1, "leaving": 200}[mode])
+        folder = self.folder()
+        ran = subprocess.run([self.program, "elsewhere", folder], stdout=subprocess.PIPE, timeout=120)
+        records = sorted(line for name in os.listdir(folder) for line in self.has(f"{folder}/{name}").splitlines()[3:])
+        self.tests.same("a process that changes its working folder", (ran.returncode, ran.stdout, records), (0, b"", ["0 halt", "end 1"]))
         log, is_over = Log(self.folder(), "guest"), threading.Event()
 
         def append():

@@ -387,15 +387,22 @@ postcopy_log *postcopy_log_open(const char *folder, const char *party, uint32_t 
     if (name_recording(folder, NULL, name))
         return NULL;
     pthread_once(&watched, watch_forks);
-    size_t length = strlen(folder) + strlen(party) + 32;
-    postcopy_log *log = calloc(1, sizeof *log + length);
-    if (!log)
+    char *path = realpath(folder, NULL); /* a thread begins its file later, where the process may have another working folder */
+    if (!path)
         return NULL;
+    size_t length = strlen(path) + strlen(party) + 32;
+    postcopy_log *log = calloc(1, sizeof *log + length);
+    if (!log) {
+        free(path);
+        errno = ENOMEM;
+        return NULL;
+    }
     log->party = which;
     log->forks = atomic_load(&forks);
     atomic_store(&log->next, first);
     strcpy(log->name, name);
-    snprintf(log->stem, length, "%s/%s.%ld", folder, party, (long)getpid());
+    snprintf(log->stem, length, "%s/%s.%ld", path, party, (long)getpid());
+    free(path);
     log->stray = mmap(NULL, sizeof *log->stray, PROT_READ | PROT_WRITE, MAP_SHARED | MAP_ANONYMOUS, -1, 0);
     int error = log->stray == MAP_FAILED ? errno : pthread_key_create(&log->mine, leave_part);
     if (!error && !(log->first = begin_part(log))) {

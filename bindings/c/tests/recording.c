@@ -8,6 +8,7 @@
        recording refused FOLDER                   calls that record nothing
        recording forked FOLDER                    records on, where forked children end in each way that they have
        recording stray FOLDER                     has a forked child call on its parent's log
+       recording elsewhere FOLDER                 has a thread append once the process has another working folder
        recording leaving FOLDER                   closes logs while threads end that appended to them
        recording named FOLDER                     names of recordings
        recording moved FOLDER PAGES               a migration of so many pages; the last comes as zeros, and is read so
@@ -318,6 +319,27 @@ static void stray(const char *folder)
     want(postcopy_log_hand_over(guest) == 2, "another process may go on");
 }
 
+/* A process that changes its working folder, and a thread that appends for the first time then. */
+
+static void *append_one(void *log)
+{
+    want(postcopy_record_halt(log) == 0, "a record of a thread, from another working folder");
+    return NULL;
+}
+
+static void elsewhere(char *folder)
+{
+    pthread_t thread;
+    char *name = strrchr(folder, '/');
+    *name = 0;
+    want(chdir(folder) == 0, folder);
+    postcopy_log *log = postcopy_log_open(name + 1, "guest", 0);
+    want(chdir("/") == 0, "the root");
+    want(pthread_create(&thread, NULL, append_one, log) == 0, "a thread");
+    pthread_join(thread, NULL);
+    postcopy_log_close(log);
+}
+
 /* Threads that have appended, and end while the log is closed. */
 
 static atomic_int has_left;
@@ -442,6 +464,8 @@ int main(int count, char **words)
         fork_children(folder);
     else if (!strcmp(what, "stray"))
         stray(folder);
+    else if (!strcmp(what, "elsewhere"))
+        elsewhere(folder);
     else if (!strcmp(what, "leaving"))
         leave(folder);
     else if (!strcmp(what, "named"))
