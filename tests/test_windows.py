@@ -414,6 +414,17 @@ def memory(tests):
     os.remove(f"{tests.room}/large")
 
 
+def beyond_in_python(tests):
+    """A window that has pages which the machine does not have is refused in Python too, and all others are not."""
+    session = Session(3, 1)
+    for first, last in ((0, 3), (3, 3), (2, 1), (-1, 0), (0, 2), (2, 2)):
+        try:
+            found = session.window(first, last).pages
+        except ValueError as fault:
+            found = str(fault).split(",")[0]
+        tests.same(f"the window of the pages {first} to {last} of 3", found, last - first + 1 if 0 <= first <= last < 3 else "the machine has 3 pages")
+
+
 @pytest.fixture
 def tests(program, room):
     return Tests(program, room)
@@ -435,6 +446,6 @@ def test_windows(tests):
 
 @pytest.mark.parametrize("part", (
     pytest.param(wrong_words, marks=pytest.mark.cases(45)), pytest.param(pipes, marks=pytest.mark.cases(9)), pytest.param(many_windows, marks=pytest.mark.cases(20)),
-    pytest.param(memory, marks=pytest.mark.cases(2))), ids=lambda it: it.__name__)
+    pytest.param(memory, marks=pytest.mark.cases(2)), pytest.param(beyond_in_python, marks=pytest.mark.cases(6))), ids=lambda it: it.__name__)
 def test_alone(tests, part):
     part(tests)

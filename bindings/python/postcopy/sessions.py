@@ -149,7 +149,9 @@ class Session:
         """Returns the session seen through some of its pages, which are numbered from 0. Records about another page are left out, and
         so are records that name those. A look names the newest placement that is kept, and is left out if an earlier look named
         the same one. The version stays: the windows of a large session are large. No record of this session may name a missing
-        one."""
+        one. Raises ValueError if the machine does not have all of these pages."""
+        if not 0 <= first <= last < self.pages:
+            raise ValueError(f"the machine has {self.pages} pages, from 0 on, and a window from {first} to {last} is none of it")
         return next(self._seen(first, last - first + 1, last + 1))
 
     def windows(self, size: int) -> Iterator["Session"]:
