@@ -33,6 +33,7 @@ NOT_RUN = {
     "tools/release": "test_release.py does it",
     "cc ": "test_library.py and test_recording.py do it",
     "./smallest ": "test_recording.py does it",
+    "rustc ": "test_recording.py does it, if rustc is there",
     "LD_LIBRARY_PATH=": "test_library.py does it",
     "apt-get ": "it installs packages",
     "recorders/qemu/": "it moves a guest of QEMU, which takes minutes",

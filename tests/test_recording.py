@@ -13,7 +13,7 @@ import subprocess
 import sys
 
 import pytest
-from cases import same
+from cases import leave_out, same
 from page_text import commands_of
 
 from postcopy.recorder import Log
@@ -247,6 +247,29 @@ def test_skeleton(program, cc, room):
         shutil.rmtree(f"{room}/recording", ignore_errors=True)
         ran = subprocess.run(["bash", "-c", f"{strict} && {judging}"], cwd=room, stdout=subprocess.PIPE, encoding="ascii")
         assert ran.stdout.splitlines() == lines
+
+
+def test_skeletons_of_other_languages(program, room, cc):
+    """The skeleton is C++ too, and the one in Rust records what is judged as the page shows."""
+    page = read("docs/RECORDING.md")
+    for folder in ("bindings", "recorders"):
+        os.symlink(f"{TOP}/{folder}", f"{room}/{folder}")
+    os.symlink(program, f"{room}/postcopy")
+    for language, name, compiler in (("c", "smallest.cpp", "c++"), ("rust", "smallest.rs", "rustc")):
+        with open(f"{room}/{name}", "w", encoding="ascii") as file:
+            file.write(re.search(rf"```{language}\n(/[/*] smallest\.\w+: .*?)```", page, re.S)[1])
+        if not shutil.which(compiler):
+            leave_out(f"the skeleton by {compiler}, which is not there")
+            continue
+        commands = commands_of(page)
+        at = next(at for at, (command, _, _) in enumerate(commands) if command.startswith("rustc "))
+        (object_file, _, _), (linking, _, _), (judging, shown, _) = commands[at - 1:at + 2]
+        assert (object_file.startswith(f"{cc} -O2 -pthread "), shown) == (True, ["clean"])
+        if language == "c":
+            linking = "c++ -std=c++17 -Wall -Wextra -Werror -pthread -Ibindings/c -o smallest smallest.cpp postcopy_record.o"
+        shutil.rmtree(f"{room}/recording", ignore_errors=True)
+        ran = subprocess.run(["bash", "-c", f"{object_file} && {linking} && {judging}"], cwd=room, stdout=subprocess.PIPE, stderr=subprocess.STDOUT, encoding="utf-8")
+        assert ran.stdout.splitlines() == shown
 
 
 def record(folder, placed=lambda page: page + 1, is_closed=True):
