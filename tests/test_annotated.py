@@ -215,6 +215,19 @@ class Tests:
         self.same("a whole migration", self.told("--complete", "whole"), (0, "", ""))
         self.same("a fault, where a whole migration is asked for", self.told("--complete", "early"), self.told("early"))
 
+    def noted(self):
+        """What is noted of a clean session is told in each form that a viewer shows, and not only on standard error."""
+        shutil.copy(f"{TOP}/examples/right/session", f"{self.room}/a,b")
+        note = self.notes(["a,b"]).removeprefix("a,b: ").rstrip("\n")
+        self.same("a note", note.startswith("note: the guest neither reads nor writes"), True)
+        told = {form: self.told("--as", form, "clean", "a,b") for form in ("lines", "github", "junit")}
+        self.same("in lines", told["lines"], (0, "", f"a,b: {note}\n"))
+        self.same("of GitHub", told["github"], (0, f"::warning file=a%2Cb::{note}\n", f"a,b: {note}\n"))
+        cases = ElementTree.fromstring(told["junit"][1].encode()).findall("testcase")
+        self.same("in a JUnit report", (told["junit"][0], [it.findtext("system-err") for it in cases]), (0, [None, note]))
+        run, = self.sarif_log("clean", "a,b")["runs"]
+        self.same("in SARIF", run["invocations"], [{"executionSuccessful": True, "toolExecutionNotifications": [{"level": "warning", "message": {"text": f"a,b: {note}"}}]}])
+
     def refused(self):
         """Texts that are refused, with the words that stand in their folders."""
         for case in ("page-past-the-machine", "upper-case-contents", "count-too-large", "gzip-file"):
@@ -282,7 +295,7 @@ class Tests:
     pytest.param(Tests.calls, marks=pytest.mark.cases(8)), pytest.param(Tests.outputs, marks=pytest.mark.cases(4)), pytest.param(Tests.odd_names, marks=pytest.mark.cases(3)),
     pytest.param(Tests.meanings, marks=pytest.mark.cases(1)), pytest.param(Tests.incomplete, marks=pytest.mark.cases(23)),
     pytest.param(Tests.refused, marks=pytest.mark.cases(4)), pytest.param(Tests.wrong_words, marks=pytest.mark.cases(3)),
-    pytest.param(Tests.streams, marks=pytest.mark.cases(8)), pytest.param(Tests.ended, marks=pytest.mark.cases(5))),
+    pytest.param(Tests.streams, marks=pytest.mark.cases(8)), pytest.param(Tests.ended, marks=pytest.mark.cases(5)), pytest.param(Tests.noted, marks=pytest.mark.cases(6))),
     ids=lambda it: it.__name__)
 def test_annotated(program, room, part):
     for kind, example in CONTENTS.items():
