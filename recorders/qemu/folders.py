@@ -8,7 +8,9 @@ import fcntl
 import os
 import re
 import shutil
+import signal
 import stat
+import sys
 import tempfile
 
 import build
@@ -73,6 +75,13 @@ def refuse_words(parser, folder, words, what):
     """Ends with a usage fault if a folder has the name of one of these words, as where the folder was left out behind it."""
     if folder in words:
         parser.error(f"'{folder}' is a {what}, and no FOLDER is named; './{folder}' would be one")
+
+
+def end_in_order():
+    """Has a signal that would end this process at once end it as an exception does, so that its temporary folder does not stay."""
+    for number in (signal.SIGHUP, signal.SIGTERM):
+        if signal.getsignal(number) == signal.SIG_DFL:
+            signal.signal(number, lambda number, _: sys.exit(128 + number))
 
 
 def hold(folder):

@@ -86,6 +86,11 @@ def result_from_text(text):
     return Result(**json.loads(text))
 
 
+def plain(line):
+    """Returns a line of a console as a terminal shows it: what is not printable is escaped, since the guest may write anything."""
+    return "".join(it if it.isprintable() else ascii(it)[1:-1] for it in line.strip())
+
+
 def what_guest_says(folder):
     """Returns lines of the consoles that report something wrong."""
     lines = []
@@ -93,7 +98,7 @@ def what_guest_says(folder):
         path = f"{folder}/{side}.console"
         if os.path.exists(path):
             with open(path, encoding="utf-8", errors="replace") as file:
-                lines += [f"{side}: {line.strip()}" for line in file if WRONG.search(line)]
+                lines += [f"{side}: {plain(line)}" for line in file if WRONG.search(line)]
     return lines
 
 

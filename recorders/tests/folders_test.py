@@ -4,6 +4,7 @@ import lzma
 import os
 import resource
 import shutil
+import signal
 import socket
 import stat
 import subprocess
@@ -143,6 +144,19 @@ def of_two_at_once(tests, room):
     tests.wants("one that was removed", os.listdir(folder), [folders.MARK])
 
 
+def of_signals(tests, room):
+    """A signal ends a recorder with its status, and its temporary folder is gone."""
+    script = ("import sys, time\nsys.path[:0] = sys.argv[1:3]\nimport folders\nfolders.end_in_order()\nroom = folders.Room()\n"
+              "try:\n    print(room.path, flush=True)\n    time.sleep(60)\nfinally:\n    room.end()")
+    for number in (signal.SIGTERM, signal.SIGHUP):
+        with subprocess.Popen([sys.executable, "-B", "-c", script, QEMU, os.path.dirname(QEMU)], stdout=subprocess.PIPE, text=True,
+                              preexec_fn=lambda number=number: signal.signal(number, signal.SIG_DFL)) as recorder:
+            path = recorder.stdout.readline().rstrip("\n")
+            is_there = os.path.isdir(path)
+            recorder.send_signal(number)
+        tests.wants(f"the signal {number}", (is_there, recorder.returncode, os.path.exists(path)), (True, 128 + number, False))
+
+
 def modes_of(path):
     return stat.S_IMODE(os.stat(path).st_mode)
 
@@ -239,6 +253,7 @@ def run(tests):
         of_a_folder_of_its_own(tests, room)
         of_another_recorder(tests, room)
         of_two_at_once(tests, room)
+        of_signals(tests, room)
         of_a_room(tests, room)
         of_the_sockets(tests, room)
         of_a_full_disk(tests, room)

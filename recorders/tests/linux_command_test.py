@@ -338,6 +338,13 @@ def of_a_guest_that_says_what_is_wrong(tests, room):
         tests.wants(f"the status where the {console} says {words!r}", found, status)
 
 
+def of_what_a_guest_says(tests, room):
+    """What a guest says reaches into no terminal, and is no line of the recorder's."""
+    with open(f"{room}/target.console", "wb") as console:
+        console.write(b"all is well\nguest: WRONG \x1b[2J\xff\xc2\x9b1A\n")
+    tests.wants("what a guest says", linux_results.what_guest_says(room), ["target: guest: WRONG \\x1b[2J\ufffd\\x9b1A"])
+
+
 def of_runs(tests, room):
     """Runs one after another: each adds a line, big files go, and the table of all is written."""
     results = [Result("7.2.22", False, 1, "spread", True, "", verdict, 0, [], 60.0, 4.0) for verdict in ("clean, yes", "faulty line 7 read")]
@@ -402,6 +409,6 @@ def run(tests):
     of_precopy_alone(tests)
     of_a_guest_that_stands_still(tests)
     of_boots(tests)
-    for of_them in (of_packages, of_words, of_a_guest_that_does_not_boot, of_a_guest_that_says_what_is_wrong, of_runs):
+    for of_them in (of_packages, of_words, of_a_guest_that_does_not_boot, of_a_guest_that_says_what_is_wrong, of_what_a_guest_says, of_runs):
         with tempfile.TemporaryDirectory() as room:
             of_them(tests, room)
