@@ -193,6 +193,13 @@ class Tests:
         unknown = changed(traces, {"guest": [("g24 read", "g24 raed")]})
         said = "session_from_traces.py: guest.trace: line 26 has the event 'raed', which is in no table here\n"
         self.wants("an event that is not known", self.written(unknown), ("", said, 1))
+        for what, old, new, said in (("a key that is not there", "g12 start pager=p3", "g12 start", "has no pager"), ("a sum that is not there", " sum=", " som=", "has no sum"),
+                                     ("a key that comes twice", "g12 start pager=p3", "g12 start pager=p3 pager=p4", "has a key twice")):
+            wrong = {**traces, "guest": traces["guest"].replace(old, new, 1)}
+            text, told, status = self.written(wrong)
+            self.wants(what, (text, re.sub("line [0-9]+", "line N", told), status), ("", f"session_from_traces.py: guest.trace: line N {said}\n", 1))
+        text, told, status = self.written({**traces, "link": "\x1f\x0b no text"})
+        self.wants("a trace that is none", (text, told, status), ("", "session_from_traces.py: link.trace: the last line was not written to its end\n", 1))
         alone = {log: "".join(traces[log].partition(f" {ends}\n")[:2]) for log, ends in (("guest", "g11 stop"), ("source", "a1 stopped guest=g11"))}
         text, said, status = self.written({**alone, "link": "", "pager": ""})
         verdict = self.answer("audit", text)[0].split("\n", 1)[0]
@@ -215,7 +222,7 @@ class Tests:
 
 
 @pytest.mark.quick
-@pytest.mark.cases(51)
+@pytest.mark.cases(55)
 def test_recording(program, room):
     tests = Tests(program, room)
     tests.of_folders()

@@ -13,10 +13,11 @@ A page has one cell: the sum, which is a hash of 64 bits of the whole page, and 
 
 Where an event tells of one that no trace has, there is a hole, and no session is written. With --cut that event is left out
 with all that follow it in its trace, until there is no hole, and standard error says so. A last line that was not written to
-its end is a hole too. An event that is in no table here is refused.
+its end is a hole too. An event that is in no table here is refused, and so is one that lacks a key, or has one twice.
 """
 import argparse
 import os
+import re
 import sys
 
 LOGS = ("guest", "source", "link", "lane", "pager")
@@ -59,6 +60,8 @@ RECORDS = {
 }
 # The events that become no record.
 OTHERS = {"guest": ("begin", "found"), "source": (), "link": ("hold",), "lane": ("hold",), "pager": ("devices", "wake")}
+# The keys of an event that becomes no record, where something is made of it.
+KEYS = {"begin": ("frames", "actors"), "found": ("frame", "sum")}
 LOOKS = ("look", "woken")
 PLACEMENTS = ("place", "zero")
 
@@ -79,10 +82,15 @@ class Event:
         return {key: (logs[key], name) for key, name in self.fields.items() if key in logs}
 
 
+def keys_of(log, what):
+    """The keys that an event has to have. (A value is a sum, as a number.)"""
+    return KEYS.get(what) or re.findall(r"\{(\w+)\}", RECORDS[log].get(what, "").replace("{value}", "{sum}"))
+
+
 def trace(folder, log, cut):
     """The events of a trace by their names, in their order, and what is to be said of a last line that was not written to its end."""
     events, said = {}, []
-    with open(f"{folder}/{log}.trace", encoding="ascii") as lines:
+    with open(f"{folder}/{log}.trace", encoding="ascii", errors="backslashreplace") as lines:
         for number, line in enumerate(lines, 1):
             if line.startswith("#"):
                 continue
@@ -98,6 +106,11 @@ def trace(folder, log, cut):
                 raise Hole(f"{log}.trace: line {number} names a second {name}")
             if what not in (*RECORDS[log], *OTHERS[log]):
                 raise Hole(f"{log}.trace: line {number} has the event '{what}', which is in no table here")
+            if len(event.fields) < len(fields):
+                raise Hole(f"{log}.trace: line {number} has a key twice")
+            for key in keys_of(log, what):
+                if key not in event.fields:
+                    raise Hole(f"{log}.trace: line {number} has no {key}")
             events[name] = event
     if said and not cut:
         raise Hole(said[0])
