@@ -1,25 +1,37 @@
 """The program's answers about a recording: its session, the verdict, the story and the picture."""
+import functools
 import os
 import re
 import subprocess
+import sys
 
 from convert import recording_in
 from records import Hole
 from witness import witness
 
+NOT_RUN = 127  # the status of a program that cannot be run, as a shell has it
 TOP = os.path.dirname(os.path.dirname(os.path.dirname(os.path.abspath(__file__))))
 
 
 def program():
     """Returns the program: the checkout's launcher, or the one that POSTCOPY names."""
-    name = os.environ.get("POSTCOPY", f"{TOP}/postcopy")
+    name = os.environ.get("POSTCOPY") or f"{TOP}/postcopy"
     return os.path.abspath(name) if "/" in name else name
 
 
 def ask(folder, *words):
     """Returns what the program writes, and its status. It runs in the folder, so the words name files there."""
-    done = subprocess.run([program(), *words], cwd=folder, stdout=subprocess.PIPE)
+    try:
+        done = subprocess.run([program(), *words], cwd=folder, stdout=subprocess.PIPE)
+    except OSError as fault:
+        tell_once(f"{program()}: {fault.strerror}: the program, which the variable POSTCOPY may name")
+        return "", NOT_RUN
     return done.stdout.decode(), done.returncode
+
+
+@functools.lru_cache(maxsize=None)
+def tell_once(line):
+    print(line, file=sys.stderr)
 
 
 def write(path, text):

@@ -1,4 +1,5 @@
 """Kept recordings of QEMU, and each fact that their conversion rests on, told wrong in one of them."""
+import contextlib
 import hashlib
 import io
 import os
@@ -395,6 +396,10 @@ def of_statuses(tests):
         with mock.patch.dict(os.environ, POSTCOPY=f"{room}/program"):
             verdict = judge.judge(room)
         tests.wants("where the program is killed before it says so", (verdict.line.split(":")[0], verdict.status(True)), ("not judged", 1))
+        with mock.patch.dict(os.environ, POSTCOPY=f"{room}/none"), contextlib.redirect_stderr(io.StringIO()) as told:
+            verdict = judge.judge(room)
+        wanted = f"{room}/none: No such file or directory: the program, which the variable POSTCOPY may name\n"
+        tests.wants("where there is no program", (verdict.line, verdict.status(True), told.getvalue()), ("not judged: the program said nothing", 1, wanted))
 
 
 def of_what_is_not_put_in(tests):
