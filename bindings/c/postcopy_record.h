@@ -15,7 +15,7 @@
    (Others can end a process: if somebody truncates a file, or a disk does not keep space that it gave, the next write there
    raises SIGBUS.) A log that is NULL records nothing, and all its calls return POSTCOPY_LOST. So do calls on a log in a forked
    child: a child opens its own logs. The log's last line then tells that a record was not written (EPERM), so that the recording
-   counts as one that is not whole.
+   counts as one that is not whole. A signal handler may not call where it may interrupt another call of its thread on the log.
 
    These files are for C. A program in C++ includes the header, and links what a compiler for C makes of postcopy_record.c. */
 #ifndef POSTCOPY_RECORD_H
@@ -49,7 +49,8 @@ int postcopy_log_error(const postcopy_log *log);
 void postcopy_log_close(postcopy_log *log);
 
 /* Closes the log like postcopy_log_close, so that another process can go on with it. Returns the number with which that process
-   opens it, or POSTCOPY_LOST if a record was lost, because then nobody can go on. */
+   opens it, or POSTCOPY_LOST if a record was lost, because then nobody can go on. (What a forked child could not record took no
+   number.) */
 uint32_t postcopy_log_hand_over(postcopy_log *log);
 
 /* Returns the recording's name: letters, digits, `-`, `_` and `.`, at most POSTCOPY_NAME_SIZE bytes with the final 0. The first
