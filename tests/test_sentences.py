@@ -307,6 +307,10 @@ STORIES = (
         f"What came with pager 2 was sent with 6, {SIX}, there: line 12 (source 2): the source sends page 0."]),
     ("a pager that says twice that all is there", of_one_page(1, [SENT], ["down 2"], [], ["got 1", f"place 0 2 {SIX}", "all", "all"]), ("--complete",), [
         "The source never learned that every owed page had come: its log has no `done` behind the `ask` of that.", "The pager said so at line 22 (pager 5)."]),
+    ("a release between the halt and the resume, where a release at the target is no fault",
+     of_one_page(2, [], [], [], []).replace("guest 2\nhalt\n", "guest 3\nhalt\nz 0 0\n"), (), [
+         "Line 8 (guest 1) does not have the right shape: virtual processor 0 releases page 0.",
+         "The guest does nothing between its halt and its resume. Its first halt is line 7 (guest 0), and its first resume is line 9 (guest 2)."]),
     ("a fault that the report does not name", read(f"{TOP}/tests/cases/audit-all/session"), ("--page", "1"), [
         "Of the looks before it, this one reaches furthest: line 11 (guest 4): the guest looks at the placement pager 5.",
         "No look reaches it at all.", "What the logs say of page 1:"]),
@@ -316,7 +320,7 @@ STORIES = (
 @pytest.mark.quick
 @pytest.mark.cases(len(STORIES))
 def test_stories(program, room):
-    """What is told of a page that came by two ways, that was repeated, or that has a fault which is not the report's."""
+    """What is told of a page that came by two ways, that was repeated, or that has a fault which is not the report's, and of a release too early."""
     for what, session, options, wanted in STORIES:
         with open(f"{room}/session", "w", encoding="ascii") as file:
             file.write(session)

@@ -1,4 +1,4 @@
-"""Compares the shapes of pictures with lists of them that were written by hand.
+"""Compares the shapes of pictures with lists of them that were written by hand, and looks at their colours, arrow heads and sizes.
 
 Each file of tests/shapes is a case. It has the words of `draw`, and then a line for each shape that this picture has to have, in the
 order of picture_lines.py, which reads them back. The table below has each kind of shape, and each case of what a shape may say, by its
@@ -12,8 +12,9 @@ import subprocess
 import xml.etree.ElementTree as ElementTree
 
 import pytest
-from cases import count, same
+from cases import count, right, same
 from picture_lines import lines_of
+from picture_shapes import Drawing, looks_wrongly
 
 TOP = os.path.dirname(os.path.dirname(os.path.realpath(__file__)))
 SOURCES = f"{TOP}/crates/picture_plan/src"
@@ -70,11 +71,15 @@ def drawn(program, words):
     """The lines of the picture that the program draws."""
     ran = subprocess.run([program, *words], cwd=TOP, stdin=subprocess.DEVNULL, capture_output=True, text=True)
     same(f"the status of {' '.join(words)}", ran.returncode, 0)
-    return lines_of(ElementTree.fromstring(ran.stdout)) if ran.stdout else []
+    if not ran.stdout:
+        return []
+    picture = ElementTree.fromstring(ran.stdout)
+    right(looks_wrongly(Drawing(picture)), " ".join(words))
+    return lines_of(picture)
 
 
 @pytest.mark.quick
-@pytest.mark.cases(220)
+@pytest.mark.cases(228)
 def test_shapes(program):
     told = set()
     for path in sorted(glob.glob(f"{TOP}/tests/shapes/*")):

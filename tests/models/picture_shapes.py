@@ -27,6 +27,15 @@ PAINTS = {"box-faulty": ("#ffe3dc", "#c21e1e", "3.5", None), "box-concerned": ("
 ARROWS = {"arrow": ("#6e7781", "1.2", "url(#head)"), "arrow-page": ("#0969da", "2", "url(#head-page)"),
           "arrow-tied": ("#c21e1e", "2", "url(#head-tied)")}
 
+# The heads of arrows: the size of each, and the class of its tip. Each turns with its line, and has its tip at the line's end.
+HEADS = {"head": ("9", "tip"), "head-page": ("10", "tip-page"), "head-tied": ("10", "tip-tied")}
+HEAD = {"viewBox": "0 0 8 8", "refX": "8", "refY": "4", "markerUnits": "userSpaceOnUse", "orient": "auto"}
+TIP = "M0 0L8 4L0 8z"
+
+# On what texts stand, and the least contrast that they have with it, as WCAG 2.2 has it for texts.
+GROUNDS = ("paper", "fold", "box", "box-page", "box-concerned", "box-faulty", "box-stuck")
+CONTRAST = 4.5
+
 # What the legend says of each sign: of a box or an arrow, and whether it is dashed.
 MEANINGS = {("box-faulty", False): {"the faulty record", "waits for another of these"},
             ("box-concerned", True): {"the record that its fault concerns"}, ("box-page", False): {"about the same page"},
@@ -87,6 +96,8 @@ def columns_wrongly(drawing, session):
     wanted = [log for log in LOGS if log != "lane" or session.logs["lane"]]
     if list(drawing.columns) != wanted:
         return f"columns {list(drawing.columns)}, not {wanted}"
+    if any(text.get("text-anchor") != "middle" for text in drawing.picture.iter(SVG + "text") if text.text in drawing.columns):
+        return "a column's name that is not in its middle"
     places = list(drawing.columns.values())
     lines = sorted(number(line, "x1") for line in drawing.lines if line.get("class") == "life" and line.get("x1") == line.get("x2"))
     return None if places == sorted(set(places)) == lines else f"columns at {places}, and lines down at {lines}"
@@ -201,6 +212,55 @@ def painted_wrongly(drawing):
     return None
 
 
+def heads_wrongly(drawing):
+    """What is wrong with the heads of arrows, or None."""
+    found = {marker.get("id"): marker for marker in drawing.picture.iter(SVG + "marker")}
+    if found.keys() != HEADS.keys():
+        return f"heads of arrows {list(found)}"
+    for name, (size, kind) in HEADS.items():
+        tips = [(path.get("class"), path.get("d")) for path in found[name]]
+        if found[name].attrib != {**HEAD, "id": name, "markerWidth": size, "markerHeight": size} or tips != [(kind, TIP)]:
+            return f"a head {found[name].attrib} with {tips}"
+    return None
+
+
+def dark_paints(drawing):
+    """How each class is painted on a dark page: its attributes."""
+    styles = [style.text for style in drawing.picture.iter(SVG + "style")]
+    found, dark = {}, re.fullmatch(r"\n@media \(prefers-color-scheme: dark\) \{\n(.*)\n\}\n", "".join(styles), re.S)
+    for names, paints in re.findall(r"([^{}]*) \{ ([^{}]*) \}", dark[1] if dark else ""):
+        for name in re.findall(r"\.([\w-]+)", names):
+            found.setdefault(name, {}).update(paint.split(": ") for paint in paints.split("; "))
+    return found
+
+
+def contrast(one, other):
+    """The contrast of two colours, as WCAG 2.2 defines it."""
+    def luminance(colour):
+        parts = [int(colour[at:at + 2], 16) / 255 for at in (1, 3, 5)]
+        red, green, blue = (part / 12.92 if part <= 0.04045 else ((part + 0.055) / 1.055) ** 2.4 for part in parts)
+        return 0.2126 * red + 0.7152 * green + 0.0722 * blue
+
+    low, high = sorted((luminance(one), luminance(other)))
+    return (high + 0.05) / (low + 0.05)
+
+
+def darkened_wrongly(drawing):
+    """What is wrong with the colours on a dark page, or None: each part that has a colour has another there, and texts can be read on both."""
+    light = {name: {"fill": fill, "stroke": stroke} for name, (fill, stroke, *_) in PAINTS.items()}
+    light.update({name: {"stroke": stroke} for name, (stroke, *_) in ARROWS.items()})
+    dark = dark_paints(drawing)
+    for name, paints in light.items():
+        wanted = {part for part, colour in paints.items() if colour and colour != "none"}
+        if dark.get(name, {}).keys() != wanted or any(dark[name][part] == paints[part] for part in wanted):
+            return f"{name} on a dark page is painted {dark.get(name)}"
+    for page in light, dark:
+        pale = [(ink, ground) for ink in ("ink", "soft") for ground in GROUNDS if contrast(page[ink]["fill"], page[ground]["fill"]) < CONTRAST]
+        if pale:
+            return f"texts that cannot be read: {pale}"
+    return None
+
+
 def explained_wrongly(drawing):
     """What is wrong with the legend, or None: a sign that does not occur or is missing, or one with another's meaning."""
     found = set()
@@ -234,8 +294,11 @@ def sized_wrongly(drawing):
     wide = [text.text for text in picture.findall(SVG + "text")[1:] if LETTER * len(text.text) > width - 2 * number(text, "x")]
     if wide:
         return f"a line of the heading as wide as the picture, {width}: {wide}"
-    folds = [box.row.find(SVG + "text").text for box in drawing.rows if is_fold(box.row) and LETTER * len(box.row.find(SVG + "text").text) > box.width]
-    return f"folds wider than their frames: {folds}" if folds else legend_placed_wrongly(drawing, height - down)
+    folds = [(box, box.row.find(SVG + "text")) for box in drawing.rows if is_fold(box.row)]
+    if any(text.get("text-anchor") != "middle" or number(text, "x") != (box.left + box.right) // 2 for box, text in folds):
+        return "the words of a fold are not in the middle of its frame"
+    wide = [text.text for box, text in folds if LETTER * len(text.text) > box.width]
+    return f"folds wider than their frames: {wide}" if wide else legend_placed_wrongly(drawing, height - down)
 
 
 def legend_placed_wrongly(drawing, height):
@@ -250,10 +313,15 @@ def legend_placed_wrongly(drawing, height):
     return None if len(set(places)) == len(places) else f"signs of the legend at {places}"
 
 
+def looks_wrongly(drawing):
+    """What is wrong with how the parts of a picture look, on a light page and on a dark one, or None."""
+    return painted_wrongly(drawing) or heads_wrongly(drawing) or darkened_wrongly(drawing) or sized_wrongly(drawing)
+
+
 def shown_wrongly(picture, session, named, circle):
     """What is wrong with the shapes of a picture of a session, or None."""
     drawing = Drawing(picture)
     return (columns_wrongly(drawing, session) or rows_wrongly(drawing) or arrows_wrongly(drawing, named, circle)
-            or painted_wrongly(drawing) or explained_wrongly(drawing) or sized_wrongly(drawing))
+            or explained_wrongly(drawing) or looks_wrongly(drawing))
 
 
