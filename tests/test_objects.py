@@ -67,7 +67,7 @@ def incomplete(session, words):
 
 # The words on a refused text: its line, the column, what was found there, and what is expected.
 WORDS = re.compile(r'[^:]*:(\d+):(\d+): (.*)')
-FOUND = re.compile(r'found "(.*?)"(\.\.)?(?: in ".*"| after ".*")?; expected .*')
+FOUND = re.compile(r'found "(.*?)"(\.\.)?(?: (?:in|after) ".*"(?:\.\.)?)?; expected .*')
 AS_IN = re.compile(r'.*, as in "(.*?)"(?:; .*)?')
 QUOTED = re.compile(r'"([^"]*)"')
 

@@ -2,13 +2,15 @@
 
 The table has what a text may be in the place of the wanted one, what a line may have in the place of a field, and each slip that is
 told; texts that end in the middle of a line; which item of a list is wanted; and what is left out of long quotes. `explain` has to
-tell the same first, and below it the line with a mark under the place.
+tell the same first, and below it the line with a mark under the place; and the object of an audit has the same in its fields.
 """
+import json
 import os
 import subprocess
 
 import pytest
 from cases import count, same
+from test_objects import is_refused
 
 TOP = os.path.dirname(os.path.dirname(os.path.realpath(__file__)))
 
@@ -25,8 +27,8 @@ FATES = "expected FATES, the fates of packets, - or 1 to 4096 letters of d, l, r
 SPACED, MIDDLE = "; words are separated by one space", "the text ends in the middle of a line"
 LONG = 61 * "9"
 
-# A line of so many columns is not cut.
-ROOM = 96
+# A line of so many columns is not cut, and of one that is, so many bytes before the place are shown.
+ROOM, BEFORE = 96, 20
 
 # Of each kind of text: the words for it, the first line of one, and the words of a command that reads one from the input.
 KINDS = {
@@ -102,10 +104,11 @@ TOLD = [
     ("events", EVENT.format("link down delive"), "3:17", f'{MIDDLE}, after "link down delive"; {FATE}'),
     ("events", EVENT.format("link down lost"), "3:11", f'found "lost" in "link down lost"; {FATE}'),
     # words
-    *(("runs", f"postcopy-runs 1\nruns 1\nrun gues{more}", place, f'{found}; expected {words}, as in "run guest N"; two runs in a row take from different logs')
-      for more, place, found, words in (
-          ("\n", "3:5", 'found "gues" in "run gues"', '"guest", "source", "link", "lane" or "pager"'),
-          ("", "3:9", f'{MIDDLE}, after "run gues"', '"guest"'))),
+    *(("runs", f"postcopy-runs 1\nruns 1\nrun {word}", place, f'{found}; expected {words}, as in "run {log} N"; two runs in a row take from different logs')
+      for word, place, found, words, log in (
+          ("lan\n", "3:5", 'found "lan" in "run lan"', '"guest", "source", "link", "lane" or "pager"', "guest"),
+          ("gues", "3:9", f'{MIDDLE}, after "run gues"', '"guest"', "guest"), ("lan", "3:8", f'{MIDDLE}, after "run lan"', '"lane"', "lane"),
+          ("l", "3:6", f'{MIDDLE}, after "run l"', '"link" or "lane"', "link"))),
     # where texts end
     ("session", "", "1:1", 'the text is empty; expected "postcopy-session 1", "postcopy-session 2" or "postcopy-session 3", the header of a session'),
     ("session", "postcopy-session 1\n", "2:1", 'the text ends here; expected "pages N", the number of pages'),
@@ -117,6 +120,8 @@ TOLD = [
     # quotes
     ("session", PAGES.format(LONG), "2:7", f'found "{LONG[1:]}"..; {NUMBER}'),
     ("session", PAGES.format(LONG[1:]), "2:7", f'found "{LONG[1:]}"; {NUMBER}'),
+    ("session", f"postcopy-session 1\npages 1\ncells 8\ninit 1\npage 0 {100 * '0'}g{27 * '0'}\n", "5:108",
+     f'found "g" in "page 0 {53 * "0"}"..; expected HEX, 128 digits for 8 cells, each 0 to 9 or a to f, as in "page N HEX"'),
     ("session", PAGES.format("\x01\x7f\xff\"\\"), "2:7", f'found "\\x01\\x7f\\xff"\\"; {NUMBER}'),
 ]
 
@@ -126,9 +131,9 @@ def given(text):
 
 
 @pytest.mark.quick
-@pytest.mark.cases(2 * len(TOLD))
+@pytest.mark.cases(4 * len(TOLD))
 def test_refusals(program, room):
-    """What is told of each text, by the command that wants one of its kind, and by `explain`."""
+    """What is told of each text, by the command that wants one of its kind, by `explain`, and in an object."""
     for name in ("handover/session", "two-wait-for-a-page/script", "two-wait-for-a-page/events"):
         os.symlink(f"{TOP}/examples/{name}", f"{room}/{os.path.basename(name)}")
     for kind, text, place, told in TOLD:
@@ -141,14 +146,20 @@ def test_refusals(program, room):
             first, _, below = in_full.partition("\n")
             same(f"the line of explain on {text[:80]!r}", first, f"-:{place}: {told}")
             count(marked_at(given(text), place, below), f"the mark below {text[:80]!r}: {below!r}")
+            found = subprocess.run([program, "audit", "--format", "json", "-"], input=given(text), stdout=subprocess.PIPE, stderr=subprocess.PIPE)
+            line = int(place.partition(":")[0])
+            count(is_refused(json.loads(found.stdout), "session-text", line, found.stderr), f"the object of {text[:80]!r}: {found.stdout!r}")
 
 
 def marked_at(text, place, below):
-    """Whether the first two lines below are the line of the text and a mark at this place, where this line is not empty, and not cut."""
+    """Whether the first two lines below are the line of the text, perhaps cut, and a mark at this place, where the line is not empty."""
     line, column = map(int, place.split(":"))
     lines = text.split(b"\n")
     found = lines[line - 1] if line <= len(lines) else b""
     shown = [chr(byte) if 32 <= byte < 127 else f"\\x{byte:02x}" for byte in found]
-    if not found or len("".join(shown)) > ROOM:
+    if not found:
         return True
-    return below.split("\n")[:2] == ["  " + "".join(shown), "  " + " " * len("".join(shown[:column - 1])) + "^"]
+    cut = max(column - 1 - BEFORE, 0) if len("".join(shown)) > ROOM else 0
+    before, behind = ".." * (cut > 0) + "".join(shown[cut:column - 1]), "".join(shown[column - 1:])
+    whole = before + behind
+    return below.split("\n")[:2] == ["  " + (whole if len(whole) <= ROOM else whole[:ROOM] + ".."), "  " + " " * len(before) + "^"]

@@ -154,13 +154,32 @@ def test_greatest_logs(program, room):
 
 
 @pytest.mark.quick
-@pytest.mark.cases(3)
+@pytest.mark.cases(13)
 def test_control_characters(program, room):
-    """No control character of a folder's name is written as it is, of one byte or of two."""
-    for name, shown in (("a\x1bb", "a\\x1bb"), ("a\x7fb", "a\\x7fb"), ("a\x9bb", "a\\x9bb")):
+    """No control character of a folder's name is written as it is, of one byte or of two, and every other character is."""
+    for name, shown in (*((f"a{it}b", f"a\\x{ord(it):02x}b") for it in "\x01\x1b\x1f\x7f\x80\x9b\x9f"), ("a\tb", "a\\tb"), ("a\nb", "a\\nb"),
+                        *((f"a{it}b", f"a{it}b") for it in (" ", "~", "\xa0", "\xc2"))):
         os.mkdir(f"{room}/{name}")
         ran = subprocess.run([program, "session", name], cwd=room, capture_output=True, encoding="utf-8", timeout=60, check=False)
         same("the words on such a folder", (ran.returncode, ran.stderr), (1, f"session: {shown}: there is no file of a recorder, PARTY.PROCESS.N\n"))
+
+
+# What is quoted: texts that are just short enough to be quoted whole, or just too long, and what a quotation escapes.
+QUOTED = (*(length * "x" for length in (56, 57, 58, 59, 60, 61, 120)), *(f"{(length - 2) * 'x'}'\\" for length in (59, 60, 61)),
+          "it's", 'say"no"', "it's\"no\"", "a\\b", "a\tb", "\x1b\x7f")
+CELLS = ("pages 2 513", "pages 2 999", "pages 2 1000", "pages 0 513", "pages 0 1", "pages 2 0")
+
+
+@pytest.mark.quick
+@pytest.mark.cases(2 * len(QUOTED) + len(CELLS))
+def test_quotes(program, room):
+    """What is quoted of a line that is no record, of a word that is no field, and of a wrong number of cells, beside the model."""
+    beside = Beside(room, program, has_script=False)
+    for text in QUOTED:
+        beside.session(beside.recording(guest=text_of_file("guest", [*numbered(["halt"]), text], last="end 2")))
+        beside.session(beside.recording(guest=["halt", f"resume {text}"]))
+    for record in CELLS:
+        beside.session(beside.recording(machine=[record]))
 
 
 # How many errors of the system the command has words for. It tells another one by its number.
