@@ -139,6 +139,7 @@ impl<R: Read + Drop> Gatherer<R> {
     ///
     /// What is wrong with a file, or that two files have a record of one number, or that a number is missing. What came is a front
     /// of the log. After an error, or the end, there is no next record to be asked for.
+    #[inline(always)]
     pub fn next(&mut self) -> Result<Option<u64>, GatherFault>
         ensures taken { IfOk result (λ found. (party : Party) (knowns : List (Option (List ℕ))) (log : List (List ℕ)) → Came party knowns self.old log → MatchOption found (SayLog party knowns self.new.files log) (λ n. (n ≡ length log) × Came party knowns self.new (log ++ text_in self.new.files self.new.given ∷ []))) }
         ensures counted { IfOk result (λ found. IfSome found (λ n. (n ≡ self.old.number) × (self.new.number ≡ n + 1))) }
@@ -164,6 +165,7 @@ impl<R: Read + Drop> Gatherer<R> {
     }
 
     /// The text of the record that came last.
+    #[inline(always)]
     pub fn text(&self) -> &[u8]
         ensures { result.now ≡ text_in self.now.files self.now.given }
     {

@@ -10,6 +10,7 @@ ghost use Rattle.held_sessions.specs.inner.Fitting.{in_form, with_pages};
 ghost use Rattle.held_sessions.specs.inner.Kept.{IsLargest};
 
 use crate::kept::Kept;
+use crate::room::Room;
 use migration_types::{Geometry, Session, Size, Version};
 use recordings::{
     Visitor, WideGuest, WideInit, WideLane, WideLink, WideMachine, WidePager, WideSource,
@@ -22,6 +23,7 @@ use std::alloc::{AllocError, Global};
 #[derive(Drop)]
 pub struct HeldRecording {
     alloc: Global,
+    room: Room,
     kept: Option<Kept>,
 }
 
@@ -38,14 +40,14 @@ fn large(machine: &WideMachine) -> Option<Geometry>
     }
 }
 
-/// Returns the machine, with no pages and no records, if a session has such a machine. Allocates no memory.
-fn begun(alloc: Global, machine: &WideMachine) -> Option<Kept>
-    ensures { IsKeptIn result (nothing_of machine.now.version (extent_of machine.now)) }
+/// Returns the machine, with no pages and no records, if a session has such a machine.
+fn begun(alloc: Global, machine: &WideMachine, room: Room) -> Result<Option<Kept>, AllocError>
+    ensures { IfOk result (λ kept. IsKeptIn kept (nothing_of machine.now.version (extent_of machine.now))) }
 {
     let Some(geometry) = large(machine) else {
-        return None;
+        return Ok(None);
     };
-    Some(Kept::new(alloc, geometry))
+    Ok(Some(Kept::new(alloc, geometry, room)?))
 }
 
 /// Returns what is kept as a session of a version and a size, if it is within their limits. Allocates no memory.
@@ -60,11 +62,16 @@ fn session_in(kept: Option<Kept>, version: Version, size: Size) -> Option<Sessio
 }
 
 impl HeldRecording {
-    /// Returns a visitor that has met nothing. Allocates no memory.
-    pub fn new(alloc: Global) -> Self
+    /// Returns a visitor that has met nothing. Allocates no memory. Once it meets the machine, it takes memory for as many pages and
+    /// records as `room` says, and more where there are more.
+    pub fn new(alloc: Global, room: Room) -> Self
         ensures { IsEmpty result }
     {
-        HeldRecording { alloc, kept: None }
+        HeldRecording {
+            alloc,
+            room,
+            kept: None,
+        }
     }
 
     /// Holds one more initial page, after those so far.
@@ -115,7 +122,7 @@ impl Visitor for HeldRecording {
     ghost Met = { IsHeld };
 
     fn machine(&mut self, machine: &WideMachine) -> Result<(), AllocError> {
-        self.kept = begun(self.alloc, machine);
+        self.kept = begun(self.alloc, machine, self.room)?;
         Ok(())
     }
 

@@ -8,7 +8,8 @@ ghost use Rattle.recordings.specs.Wide.{init_of};
 ghost use Rattle.held_sessions.specs.inner.Kept.{IsInit, IsNoInit};
 
 use crate::records::is_content;
-use migration_types::{Geometry, InitPage, PageNo, Seq};
+use crate::room::room_within;
+use migration_types::{Geometry, InitPage, PageNo, Seq, Size};
 use recordings::WideInit;
 use std::alloc::{AllocError, Global};
 
@@ -38,15 +39,16 @@ fn may_have(machine: Geometry, low: u32, page: &WideInit) -> bool
 }
 
 impl HeldInit {
-    /// Returns no pages. Allocates no memory.
-    pub(crate) fn new(alloc: Global) -> Self
-        ensures pages { result.pages.items ≡ [] }
-        ensures low { result.low ≡ 0 }
+    /// Returns no pages, with room for so many, as far as a session may have them.
+    pub(crate) fn new(alloc: Global, room: u64) -> Result<Self, AllocError>
+        ensures pages { IfOk result (λ init. init.pages.items ≡ []) }
+        ensures low { IfOk result (λ init. init.low ≡ 0) }
     {
-        HeldInit {
-            pages: Vec::new(alloc),
+        let most = Size::Large.limits().pages;
+        Ok(HeldInit {
+            pages: Vec::with_capacity(alloc, room_within(room, most))?,
             low: 0,
-        }
+        })
     }
 
     /// Takes the next page, and returns whether a session of the machine may have it behind those before.

@@ -1,6 +1,6 @@
 //! What is kept of a recording.
 
-ghost use Rattle.std.specs.Prelude.{◌≡◌, ◌↔◌, IsTrue, MatchOption};
+ghost use Rattle.std.specs.Prelude.{◌≡◌, ◌↔◌, IfOk, IsTrue, MatchOption};
 ghost use Rattle.migration_types.specs.Extents.{Extent};
 ghost use Rattle.migration_types.specs.Sessions.{IsSession, Recorded};
 ghost use Rattle.migration_types.specs.declared.size.Size.TheVariants.{Large};
@@ -12,10 +12,11 @@ ghost use Rattle.held_sessions.specs.inner.Kept.{IsKept, IsWithin};
 
 use crate::init::HeldInit;
 use crate::logs::HeldLog;
+use crate::room::Room;
 use migration_types::{
     Geometry, GuestRec, LaneRec, LinkRec, Logs, PagerRec, Session, Size, SourceRec, Version,
 };
-use std::alloc::Global;
+use std::alloc::{AllocError, Global};
 
 /// A recording that a session has room for: its machine, as one of the large size, its initial pages and its logs.
 #[derive(Drop)]
@@ -30,19 +31,19 @@ pub(crate) struct Kept {
 }
 
 impl Kept {
-    /// Returns a machine, with no pages and no records. Allocates no memory.
-    pub(crate) fn new(alloc: Global, machine: Geometry) -> Self
-        ensures { (version : Of) (e : Extent) → machine ≡ sized Large e → IsKept result (nothing_of version e) }
+    /// Returns a machine, with no pages and no records, and with room for so many.
+    pub(crate) fn new(alloc: Global, machine: Geometry, room: Room) -> Result<Self, AllocError>
+        ensures { IfOk result (λ kept. (version : Of) (e : Extent) → machine ≡ sized Large e → IsKept kept (nothing_of version e)) }
     {
-        Kept {
+        Ok(Kept {
             machine,
-            init: HeldInit::new(alloc),
-            guest: HeldLog::new(alloc),
-            source: HeldLog::new(alloc),
-            link: HeldLog::new(alloc),
-            lane: HeldLog::new(alloc),
-            pager: HeldLog::new(alloc),
-        }
+            init: HeldInit::new(alloc, room.init)?,
+            guest: HeldLog::new(alloc, room.guest)?,
+            source: HeldLog::new(alloc, room.source)?,
+            link: HeldLog::new(alloc, room.link)?,
+            lane: HeldLog::new(alloc, room.lane)?,
+            pager: HeldLog::new(alloc, room.pager)?,
+        })
     }
 
     /// Returns whether each log is within the limits of a version and a size.

@@ -7,5 +7,7 @@ mod kept;
 mod logs;
 mod needs;
 mod records;
+mod room;
 
 pub use held::HeldRecording;
+pub use room::Room;

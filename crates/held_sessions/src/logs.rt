@@ -5,6 +5,7 @@ ghost use Rattle.held_sessions.specs.inner.Kept.{IsLog, IsNoLog, IsNoneYet, IsWi
 
 use crate::needs::Needs;
 use crate::records::WideRecord;
+use crate::room::room_within;
 use migration_types::{Geometry, Seq, Size, Version};
 use std::alloc::{AllocError, Global};
 
@@ -16,14 +17,15 @@ pub(crate) struct HeldLog<R> {
 }
 
 impl<R: Drop> HeldLog<R> {
-    /// Returns a log of no records. Allocates no memory.
-    pub(crate) fn new(alloc: Global) -> Self
-        ensures { IsNoneYet result }
+    /// Returns a log of no records, with room for so many, as far as a session may have them.
+    pub(crate) fn new(alloc: Global, room: u64) -> Result<Self, AllocError>
+        ensures { IfOk result IsNoneYet }
     {
-        HeldLog {
-            items: Vec::new(alloc),
+        let most = Size::Large.limits().records;
+        Ok(HeldLog {
+            items: Vec::with_capacity(alloc, room_within(room, most))?,
             needs: Needs::nothing(),
-        }
+        })
     }
 
     /// Takes the next record, and returns whether a session may have it behind those before.

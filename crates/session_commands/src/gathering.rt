@@ -11,9 +11,9 @@ ghost use Rattle.session_commands.specs.Files.{IsTextOf};
 ghost use Rattle.session_commands.specs.Texts.{IsSessionText};
 ghost use Rattle.session_commands.specs.inner.Seen.{IsKnownAndMet};
 
-use crate::making::{Known, know};
+use crate::making::{Known, Taking, know};
 use found_logs::{FoundLogs, find_logs};
-use held_sessions::HeldRecording;
+use held_sessions::{HeldRecording, Room};
 use migration_types::Session;
 use session_facts::FactFinder;
 use session_words::Stop;
@@ -38,7 +38,37 @@ fn session_of(held: HeldRecording, known: Known) -> Result<Option<Session>, Allo
     }
 }
 
+/// Returns the session of the files of logs whose records take these messages.
+fn gather_taking<S: TextSource>(
+    alloc: Global,
+    texts: &S,
+    logs: &FoundLogs,
+    taking: Taking,
+) -> Result<Option<Session>, Stop>
+    ensures { IfOk result (λ found. IfSome found (λ session. (text : List ℕ) × IsTextOf (S.bytes_of texts.now) logs.now Refused text × IsSpelling SpellsSession session text)) }
+{
+    let held = HeldRecording::new(alloc, room_of(logs)?);
+    let mut finder = FactFinder::new(alloc, held);
+    let known = know(&mut finder, alloc, texts, logs, taking)?;
+    Ok(session_of(finder.other, known)?)
+}
+
+/// Returns how many records and pages there are, as the files of logs were surveyed.
+fn room_of(logs: &FoundLogs) -> Result<Room, AllocError> {
+    Ok(Room {
+        init: logs.machine.records()?,
+        guest: logs.guest.records()?,
+        source: logs.source.records()?,
+        link: logs.link.records()?,
+        lane: logs.lane.records()?,
+        pager: logs.pager.records()?,
+    })
+}
+
 /// Returns the session of the files of logs.
+///
+/// Where the link has files, its own log most often tells all messages, and the records of the pager and of the source take none
+/// without it. Then these two logs are not read for messages first. If one is taken after all, all is gone through once more.
 fn gather_files<S: TextSource>(
     alloc: Global,
     texts: &S,
@@ -46,9 +76,14 @@ fn gather_files<S: TextSource>(
 ) -> Result<Option<Session>, Stop>
     ensures { IfOk result (λ found. IfSome found (λ session. (text : List ℕ) × IsTextOf (S.bytes_of texts.now) logs.now Refused text × IsSpelling SpellsSession session text)) }
 {
-    let mut finder = FactFinder::new(alloc, HeldRecording::new(alloc));
-    let known = know(&mut finder, alloc, texts, logs)?;
-    Ok(session_of(finder.other, known)?)
+    if !logs.link.is_empty() {
+        match gather_taking(alloc, texts, logs, Taking::Nothing) {
+            Ok(found) => return Ok(found),
+            Err(Stop::Memory) => return Err(Stop::Memory),
+            Err(_) => {}
+        }
+    }
+    gather_taking(alloc, texts, logs, Taking::Named)
 }
 
 /// Returns the session of the files in folders.

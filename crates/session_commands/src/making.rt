@@ -73,8 +73,39 @@ fn ends_of<S: TextSource>(
     Ok(ends)
 }
 
-/// Notes the messages in the logs.
+/// How the messages in the logs are found. Logs are not gone through with other messages than theirs.
+#[derive(Clone, Copy)]
+pub(crate) enum Taking {
+    /// Each record of the pager and of the source is read for them.
+    Noted,
+    /// Only those records are read that name a sender.
+    Named,
+    /// No record takes one.
+    Nothing,
+}
+
+/// Returns the messages in the logs, given how many records the pager's has.
 fn messages_of<S: TextSource>(
+    alloc: Global,
+    machine: &WideMachine,
+    files: &OpenedLogs<'_, S>,
+    taking: Taking,
+    pager: u64,
+) -> Result<Messages, Stop>
+    requires { IsMachine (extent_of machine.now) }
+{
+    match taking {
+        Taking::Noted => noted(alloc, machine, files),
+        Taking::Named => match Messages::named(alloc, files) {
+            Ok(messages) => Ok(messages),
+            Err(fault) => Err(walk_stop(alloc, files.texts, machine, files.logs, fault)),
+        },
+        Taking::Nothing => Ok(Messages::none(alloc, pager)?),
+    }
+}
+
+/// Notes the messages in the logs.
+fn noted<S: TextSource>(
     alloc: Global,
     machine: &WideMachine,
     files: &OpenedLogs<'_, S>,
@@ -268,13 +299,14 @@ fn see<S: TextSource, V: Visitor>(
     alloc: Global,
     machine: &WideMachine,
     files: &OpenedLogs<'_, S>,
+    taking: Taking,
     expected: Front,
 ) -> Result<Seen, Stop>
     requires new { HasNone finder.old.facts × V.IsNew finder.old.other }
     requires machine { IsMachine (extent_of machine.now) }
     ensures { IfOk result (λ seen. HasSeen (V.Met finder.new.other) machine.now (bytes_in (S.bytes_of files.now.texts.now) files.now.logs.now) files.now.logs.now.lane said.old.items said.new.items seen.form) }
 {
-    let messages = messages_of(alloc, machine, files)?;
+    let messages = messages_of(alloc, machine, files, taking, expected.pager)?;
     let form = see_records(finder, said, alloc, machine, files, &messages, expected)?;
     Ok(Seen { messages, form })
 }
@@ -286,6 +318,7 @@ pub(crate) fn know<S: TextSource, V: Visitor>(
     alloc: Global,
     texts: &S,
     logs: &FoundLogs,
+    taking: Taking,
 ) -> Result<Known, Stop>
     requires { HasNone finder.old.facts × V.IsNew finder.old.other }
     ensures { IfOk result (IsKnownAndMet (V.Met finder.new.other) (S.bytes_of texts.now) logs.now) }
@@ -302,7 +335,7 @@ pub(crate) fn know<S: TextSource, V: Visitor>(
         cells: description.cells,
     };
     let files = OpenedLogs { texts, logs };
-    let seen = see(finder, &mut said, alloc, &machine, &files, expected)?;
+    let seen = see(finder, &mut said, alloc, &machine, &files, taking, expected)?;
     Ok(Known {
         machine: WideMachine {
             version: seen.form.version,
@@ -321,7 +354,7 @@ fn know_facts<S: TextSource>(alloc: Global, texts: &S, logs: &FoundLogs) -> Resu
     ensures { IfOk result (λ known. IsKnown (S.bytes_of texts.now) logs.now known) }
 {
     let mut finder = FactFinder::new(alloc, Nobody);
-    know(&mut finder, alloc, texts, logs)
+    know(&mut finder, alloc, texts, logs, Taking::Noted)
 }
 
 /// Writes the text of a recording as its files are read.

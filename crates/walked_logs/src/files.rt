@@ -67,7 +67,7 @@ impl From<AllocError> for WalkFault {
 }
 
 /// Returns the fault of a log.
-fn fault_of(log: LogName, fault: LogFault) -> WalkFault
+pub(crate) fn fault_of(log: LogName, fault: LogFault) -> WalkFault
     ensures { IsFaultOf log fault result }
 {
     match fault {

@@ -10,7 +10,7 @@ use recordings::{
     Visitor, WideGuest, WideInit, WideLane, WideLink, WideMachine, WidePager, WideSource,
 };
 use std::alloc::{AllocError, Global};
-use walked_logs::{LogFiles, WalkFault, note_messages, walk_logs};
+use walked_logs::{LogFiles, Messages, WalkFault, note_messages, walk_logs};
 
 static MACHINE: WideMachine = WideMachine {
     version: Version::Two,
@@ -167,8 +167,13 @@ impl Visitor for Writing {
     }
 }
 
-/// Whether the files make this recording, once messages were noted of the first files.
-fn makes(alloc: Global, first: &Files, files: &Files, told: &[u8]) -> Result<bool, WalkFault> {
+/// Whether the files make this recording, given the messages.
+fn makes_with(
+    alloc: Global,
+    messages: &Messages,
+    files: &Files,
+    told: &[u8],
+) -> Result<bool, WalkFault> {
     let mut init = Vec::new(alloc);
     let page = WideInit {
         page: 1,
@@ -177,12 +182,17 @@ fn makes(alloc: Global, first: &Files, files: &Files, told: &[u8]) -> Result<boo
     if init.push(page).is_err() {
         return Err(WalkFault::Memory);
     }
-    let messages = note_messages(alloc, &MACHINE, first)?;
     let mut writing = Writing {
         text: Vec::new(alloc),
     };
-    walk_logs(alloc, &MACHINE, init, files, &messages, &mut writing)?;
+    walk_logs(alloc, &MACHINE, init, files, messages, &mut writing)?;
     Ok(writing.text.as_slice() == told)
+}
+
+/// Whether the files make this recording, once messages were noted of the first files.
+fn makes(alloc: Global, first: &Files, files: &Files, told: &[u8]) -> Result<bool, WalkFault> {
+    let messages = note_messages(alloc, &MACHINE, first)?;
+    makes_with(alloc, &messages, files, told)
 }
 
 /// Files of which only the receivers told of messages.
@@ -196,9 +206,8 @@ fn told_files() -> Files {
     }
 }
 
-#[test]
-fn goes_through_the_deliveries_of_messages(rt: HostRuntime) {
-    let told = b"machine 4 
+/// What is met of them.
+static TOLD: &[u8] = b"machine 4 
 page 1 0000000000000005
 guest 0 halt
 guest 1 miss 3 2
@@ -218,7 +227,46 @@ pager 2 pull 0
 pager 3 got 2
 pager 4 place 2 2 00000000000000ab
 ";
-    assert!(rt; makes(rt.alloc(), &told_files(), &told_files(), told) == Ok(true));
+
+#[test]
+fn goes_through_the_deliveries_of_messages(rt: HostRuntime) {
+    assert!(rt; makes(rt.alloc(), &told_files(), &told_files(), TOLD) == Ok(true));
+}
+
+#[test]
+fn goes_through_the_deliveries_of_named_messages(rt: HostRuntime) {
+    let Ok(named) = Messages::named(rt.alloc(), &told_files()) else {
+        assert!(rt; false);
+        return;
+    };
+    assert!(rt; makes_with(rt.alloc(), &named, &told_files(), TOLD) == Ok(true));
+}
+
+#[test]
+fn goes_through_logs_whose_records_take_no_message(rt: HostRuntime) {
+    let files = Files {
+        guest: GUEST,
+        source: b"",
+        link: LINK,
+        lane: b"",
+        pager: NUMBERED,
+    };
+    let told = b"machine 4 
+page 1 0000000000000005
+guest 0 halt
+guest 1 miss 3 2
+link 0 down 7
+link 1 up 6
+pager 0 got 0
+pager 1 want 2
+";
+    let (Ok(none), Ok(none_of_five)) = (Messages::none(rt.alloc(), 2), Messages::none(rt.alloc(), 5)) else {
+        assert!(rt; false);
+        return;
+    };
+    assert!(rt; makes_with(rt.alloc(), &none, &files, told) == Ok(true));
+    let changed = Err(WalkFault::Changed);
+    assert!(rt; makes_with(rt.alloc(), &none_of_five, &told_files(), TOLD) == changed);
 }
 
 #[test]
