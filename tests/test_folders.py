@@ -121,6 +121,17 @@ def test_known_sessions(program, room):
     same("a session of each version, and none", beside.forms.issuperset([*FORMS, (1, "")]), True)
 
 
+@pytest.mark.quick
+@pytest.mark.cases(5)
+def test_messages_beside_a_file_of_the_link(program, room):
+    """Records that name their senders though the link has a file: one with no record, and one beside a lane without a file."""
+    beside = BesideItsText(room, program, [("audit",), ("explain",)])
+    behind = ["place 0 2 0000000000000005"]
+    beside.session(beside.recording(link=[], pager=["got-sent 1", "ready", "got-sent 2", *behind]))
+    beside.session(beside.recording(link=["down 1"], pager=["got 0", "ready", "pull-sent 2", *behind]))
+    same("a session with a lane, and one without", beside.forms, {FORMS[0], FORMS[1]})
+
+
 @pytest.mark.cases(50)
 def test_faults(program, room):
     """Recordings with faults: what keeps them from being a session is told once."""
