@@ -24,12 +24,12 @@ use cert_maker::{MadeEntries, Order, find_order, make_over};
 use faulty_pages::{Faults, FaultyPage, HowMany, many_of_pages_are_many};
 use migration_types::{Entry, PageNo, Run, Seq, Session, line_of};
 use page_facts::{
-    Findings, FirstFault, InThreads, Judges, PageFault, Question, answer_apart, fault_of,
-    first_of_pages_is_first,
+    Findings, FirstFault, InThreads, Judges, OneThread, PageFault, Question, answer_apart,
+    answer_beside, fault_of, first_of_pages_is_first, is_judged_alone,
 };
 use std::alloc::{AllocError, Global};
 use std::marker::Sync;
-use std::thread::Threads;
+use std::thread::{Threads, join};
 
 /// What an audit takes from the findings about pages.
 #[derive(Drop)]
@@ -240,6 +240,35 @@ fn report<J: Judges<FaultAndEntries>>(
     }
 }
 
+/// Returns the report on a session. One thread finds its order, or what stands for the report, and beside it others judge
+/// the pages.
+fn report_beside<R: Threads + Sync>(
+    rt: &R,
+    alloc: Global,
+    session: &Session,
+) -> Result<Report, AllocError>
+    requires limits { IsSession session.now }
+    ensures { IfOk result (IsReport session.now) }
+{
+    let (first, audited) = join(
+        rt,
+        || -> Result<OrderOrReport, AllocError>
+            requires { IsSession session.now }
+            ensures { IfOk result (IsOrderOrReport session.entry.now) }
+        { order_or_report(alloc, session) },
+        || -> Result<AuditFacts, AllocError>
+            requires { IsSync R.row × IsSession session.now }
+            ensures fault { IfOk result (λ audited. IsFirstFaultFrom session.entry.now 0 session.entry.now.geometry.pages audited.fault) }
+            ensures many { IfOk result (λ audited. AreManyFrom session.entry.now 0 session.entry.now.geometry.pages audited.faulty) }
+            ensures entries { IfOk result (λ audited. MatchOption audited.entries (HasBarePage session.entry.now) (λ made. AreMadeFrom session.entry.now 0 session.entry.now.geometry.pages made.items)) }
+        { answer_beside(rt, &FaultAndEntries, alloc, session) },
+    );
+    match first? {
+        OrderOrReport::Report(report) => Ok(report),
+        OrderOrReport::Order(found) => by_pages(alloc, session, found, audited?),
+    }
+}
+
 /// Returns the report on a session of the right shape, over the runs of its found order, with each page that has a
 /// fault.
 fn full_by_pages<J: Judges<QuestionPair<FaultAndEntries, Faults>>>(
@@ -321,7 +350,12 @@ pub fn audit<R: Threads + Sync>(
     ensures exactly { IfOk result (λ report. IsRightShape session.now → HasMerging session.now → (IsSafe session.now ↔ IsClean report)) }
     ensures fits { IfOk result ReportFits }
 {
-    audit_by(&InThreads { rt }, alloc, session)
+    if is_judged_alone(rt, session) {
+        return audit_by(&OneThread, alloc, session);
+    }
+    session.keeps_limits();
+    faults_are_unsafe();
+    report_beside(rt, alloc, session)
 }
 
 /// Returns the report on a session that [`audit`] returns, with each page that has a fault. It promises what `audit`

@@ -6,7 +6,7 @@ ghost use Rattle.migration_types.specs.Limits.{longest_log, most_pages};
 ghost use Rattle.page_facts.specs.Entries.{AreJudged};
 
 use crate::entries::Entries;
-use crate::question::{Question, answer_alone, answer_apart};
+use crate::question::{Question, answer_alone, answer_apart, answer_beside, threads_for};
 use migration_types::{Entry, Session, logs};
 use std::alloc::{AllocError, Global};
 use std::marker::Sync;
@@ -86,6 +86,26 @@ impl<R: Threads + Sync> JudgesEntries for InThreads<'_, R> {
     }
 }
 
+/// Threads as [`InThreads`] has them, but one less, beside something else that the caller does.
+#[derive(Clone, Copy)]
+pub struct ThreadsBeside<'a, R> {
+    /// What starts threads.
+    pub rt: &'a R,
+}
+
+impl<R: Threads + Sync> JudgesEntries for ThreadsBeside<'_, R> {
+    ghost ready = { IsSync R.row };
+
+    fn first_wrong_entry(
+        &self,
+        alloc: Global,
+        session: &Session,
+        entries: &[Entry],
+    ) -> Result<Option<usize>, AllocError> {
+        answer_beside(self.rt, &Entries { entries }, alloc, session)
+    }
+}
+
 /// The least number of pages that are judged at once.
 const PAGES_AT_ONCE: usize = 65_536;
 
@@ -118,6 +138,11 @@ fn work_of(session: &Session) -> usize {
 }
 
 /// Returns whether a session has too little to judge for two threads.
-pub fn is_small(session: &Session) -> bool {
+pub(crate) fn is_small(session: &Session) -> bool {
     work_of(session) < 2 * WORTH_A_THREAD
+}
+
+/// Returns whether one thread judges a session alone: there is one processor, or too little to judge for two threads.
+pub fn is_judged_alone<R: Threads>(rt: &R, session: &Session) -> bool {
+    threads_for(rt, session) < 2
 }
