@@ -98,9 +98,10 @@ fn asked_two<'a, R: Threads + Sync, S: TextSource, I: Read + Send, O: Write, E: 
     ensures told { Ends (IsTextFault (λ n. (n ≡ first.entry.now) ⊎ (n ≡ second.entry.now))) (AreNamed first.entry.now second.entry.now (S.bytes_of console.old.texts.now) (FirstHas task (S.text_in console.old.texts.now)) NoSession (I.remaining console.old.input)) (IsTwoAnswer task) (IsBesideTwo task first.entry.now second.entry.now) (O.contents console.old.output, E.contents console.old.errors) (O.contents console.new.output, E.contents console.new.errors) result }
     ensures gains { BothGain (O.contents console.old.output, E.contents console.old.errors) (O.contents console.new.output, E.contents console.new.errors) }
 {
+    let rt = console.rt;
     match task {
         TwoTexts::Check(checks) => asked_check(console, checks, first, second),
-        TwoTexts::Replay => perform_two(console, &ReplayCommand, first, second),
+        TwoTexts::Replay => perform_two(console, &ReplayCommand { rt }, first, second),
         TwoTexts::Steps => perform_two(console, &StepsCommand, first, second),
         TwoTexts::Explain(explains) => asked_explain(console, explains, first, second),
     }

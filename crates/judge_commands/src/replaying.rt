@@ -1,6 +1,7 @@
 //! The outcome of a replay of a session along runs, as a line and a status.
 
 ghost use Rattle.std.specs.Prelude.{◌≡◌, ◌++◌, ℕ, List, IfOk, OnOk, ⊤, false};
+ghost use Rattle.std.specs.Thread.{IsSync};
 ghost use Rattle.text_lines.specs.Answer.{IsRead};
 ghost use Rattle.session_log.specs.Grammar.{SpellsSession};
 ghost use Rattle.cert_text.specs.Order.{SpellsOrder};
@@ -13,6 +14,7 @@ use command_texts::{Answer, Fault, OnTwo, SessionTaker, Telling, given_alone, st
 use judged_texts::{Outcome, find_outcome};
 use migration_types::{Run, Seq, Session};
 use std::alloc::{AllocError, Global};
+use std::thread::Threads;
 use text_lines::{push_keyed, push_line};
 
 /// Returns the status of an outcome.
@@ -37,14 +39,15 @@ fn push_outcome(out: &mut Vec<u8>, outcome: Outcome) -> Result<(), AllocError>
 }
 
 /// Returns the outcome of the replay of a session along runs, given what was read from their texts.
-fn replay_read(
+fn replay_read<R: Threads + Sync>(
+    rt: &R,
     alloc: Global,
     session: &Result<Session, u32>,
     runs: &Result<Seq<Run>, u32>,
 ) -> Result<Answer, AllocError>
     ensures { (first second : List ℕ) → IsRead SpellsSession first session.now → IsRead SpellsOrder second runs.now → IfOk result (λ answer. IsReplayAnswer first second answer.text.items answer.status) }
 {
-    let outcome = find_outcome(alloc, session, runs)?;
+    let outcome = find_outcome(rt, alloc, session, runs)?;
     let mut text = Vec::new(alloc);
     push_outcome(&mut text, outcome)?;
     Ok(Answer {
@@ -55,14 +58,18 @@ fn replay_read(
 
 /// `replay`: the outcome for a session along runs.
 #[derive(Clone, Copy)]
-pub struct ReplayCommand;
+pub struct ReplayCommand<'a, R> {
+    pub rt: &'a R,
+}
 
-impl OnTwo for ReplayCommand {
+impl<R: Threads + Sync> OnTwo for ReplayCommand<'_, R> {
     type First = SessionTaker;
 
     type Second = OrderReader;
 
     type Said = ();
+
+    ghost ready = { IsSync R.row };
 
     ghost is_answer = { λ _ texts. IsReplayAnswer texts.0 texts.1 };
 
@@ -90,7 +97,7 @@ impl OnTwo for ReplayCommand {
         session: &Result<Session, u32>,
         runs: &Result<Seq<Run>, u32>,
     ) -> Result<(Answer, ()), Fault<'static>> {
-        given_alone(replay_read(alloc, session, runs))
+        given_alone(replay_read(self.rt, alloc, session, runs))
     }
 
     fn push_more(

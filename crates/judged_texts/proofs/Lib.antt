@@ -3,3 +3,4 @@ pub mod Headline
 pub mod Read
 pub mod Outcomes
 pub mod Ordered
+pub mod Holding

@@ -5,5 +5,5 @@ use Rattle.judged_texts.proofs.Outcomes.{along_of}
 use Rattle.judged_texts.proofs.replaying.along_read.Goals as goal
 
 pub returns-in-Ok : goal.returns-in-Ok
-returns-in-Ok c = λ text read.
-    along_of c.args.session.now text c.as_slice.result.now c.in-Ok.runs c.shaped.result c.as_slice.ensures (subst (IsRead SpellsOrder text) c.in-Ok.is read) c.shaped.ensures
+returns-in-Ok g c = λ text read.
+    along_of c.args.session.now text c.as_slice.result.now c.in-Ok.runs c.outcome.result c.as_slice.ensures (subst (IsRead SpellsOrder text) c.in-Ok.is read) c.outcome.ensures
