@@ -24,4 +24,5 @@ pub nothing_found : (words : List Text) → length words ≤ 1 → IsFound words
 nothing_found words le = record {
   asks = subst (λ given. IsFoundIn given nothing) (sym (enters_none words le)) none_in_none;
   bare = λ _. refl;
+  accepted = λ more. absurd (omega (arith, more, le));
 }

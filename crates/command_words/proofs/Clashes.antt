@@ -1,13 +1,14 @@
 -- Words that ask for something do not clash.
-use Rattle.std.proofs.Common.{◌≡◌, ◌≢◌, Bool, true, false, List, None, Option, Some, inl, inr, refl, cond, option_and_then}
+use Rattle.std.proofs.Common.{◌≡◌, ◌≢◌, ◌⊎◌, Bool, true, false, List, [], None, Option, Some, inl, inr, refl, cond, option_and_then}
 use Rattle.std.specs.Option.{option_map_or}
-use Rattle.clap.specs.Words.{Row, Text, subcommand_of}
+use Rattle.clap.specs.Words.{HasKind, Row, Text, kind_of, subcommand_of}
+use Rattle.clap.specs.declared.error.Error.{Error}
 use Rattle.clap.specs.declared.error.kind.ErrorKind.{ErrorKind}
 use Rattle.clap.specs.declared.error.kind.ErrorKind.TheVariants.{ArgumentConflict, OutOfMemory}
 use Rattle.command_words.specs.declared.requests.Request.{Request}
 use Rattle.command_words.specs.declared.requests.Lacking.{Lacking}
 use Rattle.command_words.specs.declared.requests.Lists.{Lists}
-use Rattle.command_words.specs.Words.{IsRefusedFor, asked, asked_in, asked_of, clashes, clashing, folders_asked, folders_given, folders_in, postcopy_words, several_asked, several_given, several_in}
+use Rattle.command_words.specs.Words.{IsKindFor, IsRefusedFor, asked, asked_in, asked_of, clashes, clashing, error_kinds, folders_asked, folders_given, folders_in, postcopy_words, several_asked, several_given, several_in}
 
 -- what is asked for unless something holds, does not hold where it is asked for
 unless : {X : Type 0} (b : Bool) (found : Option X) (x : X) → cond b None found ≡ Some x → b ≡ false
@@ -53,3 +54,19 @@ pub refused_alone : (clash : Bool) (kind : ErrorKind) → kind ≢ OutOfMemory �
 refused_alone true kind other (inl e) = (refl, e)
 refused_alone true kind other (inr e) = absurd (other e)
 refused_alone false kind other e = absurd (other e)
+
+-- an error of the command line is one for the words, or memory ran out
+pub kind_of_line : (words : List Text) (error : Error) → HasKind (error_kinds words) error → (kind_of error ≡ OutOfMemory) ⊎ IsKindFor words (kind_of error)
+kind_of_line words error (inl memory) = inl memory
+kind_of_line words error (inr among) = inr (inl among)
+
+-- so is one for words that the command line accepts
+pub kind_of_clash : (words : List Text) (clash : Bool) (kind : ErrorKind) → clashing words ≡ clash → error_kinds words ≡ [] → IsRefusedFor clash kind → (kind ≡ OutOfMemory) ⊎ IsKindFor words kind
+kind_of_clash words true kind clashes none (inl conflict) = inr (inr (none, clashes, conflict))
+kind_of_clash words true kind clashes none (inr memory) = inl memory
+kind_of_clash words false kind alike none memory = inl memory
+
+-- if memory does not run out, it is one for the words
+pub kind_alone : (words : List Text) (kind : ErrorKind) → kind ≢ OutOfMemory → (kind ≡ OutOfMemory) ⊎ IsKindFor words kind → IsKindFor words kind
+kind_alone words kind other (inl memory) = absurd (other memory)
+kind_alone words kind other (inr is) = is

@@ -2,6 +2,7 @@ pub mod Names
 pub mod Numbers
 pub mod Rows
 pub mod Unplaced
+pub mod Refusals
 pub mod Entered
 pub mod Plain
 pub mod Bare

@@ -49,7 +49,7 @@ any_alike : (ignore_case : Bool) (text : Text) (names : List (Bor Text)) → lis
 any_alike ignore_case text [] = refl
 any_alike ignore_case text (name ∷ names) = ap (λ b. same_text ignore_case name.now text || b) (any_alike ignore_case text names)
 
-accept_alike : (ignore_case : Bool) (p : Option ValueParser) (text : Text) → accepts ignore_case (parser_of_value (option_map unplaced p)) text ≡ accepts ignore_case (parser_of_value p) text
+pub accept_alike : (ignore_case : Bool) (p : Option ValueParser) (text : Text) → accepts ignore_case (parser_of_value (option_map unplaced p)) text ≡ accepts ignore_case (parser_of_value p) text
 accept_alike ignore_case None text = refl
 accept_alike ignore_case (Some parser.String) text = refl
 accept_alike ignore_case (Some parser.NonEmptyString) text = refl
@@ -65,11 +65,11 @@ accept_alike ignore_case (Some (parser.Values values)) text = refl
 
 -- ---- lists of rules
 
-find_map : {X : Type 0} (f : X → X) (test : X → Bool) (xs : List X) → find test (map f xs) ≡ option_map f (find (λ x. test (f x)) xs)
+pub find_map : {X : Type 0} (f : X → X) (test : X → Bool) (xs : List X) → find test (map f xs) ≡ option_map f (find (λ x. test (f x)) xs)
 find_map f test [] = refl
 find_map f test (x ∷ xs) = elim (test (f x)) as (λ b. cond b (Some (f x)) (find test (map f xs)) ≡ option_map f (cond b (Some x) (find (λ x. test (f x)) xs))) [ true ↦ refl | false ↦ find_map f test xs ]
 
-find_alike : (test : Rule → Bool) (c : List Rule) → find test (map set c) ≡ option_map set (find (λ a. test (set a)) c)
+pub find_alike : (test : Rule → Bool) (c : List Rule) → find test (map set c) ≡ option_map set (find (λ a. test (set a)) c)
 find_alike test c = find_map set test c
 
 all_alike : (test other : Rule → Bool) → ((a : Rule) → test (set a) ≡ other a) → (c : List Rule) → list_all test (map set c) ≡ list_all other c
@@ -82,7 +82,7 @@ same_all test other same (t ∷ ts) = ap₂ (λ b d. b && d) (same t) (same_all 
 
 -- ---- one use of an argument
 
-missing_alike : (a : Rule) (values : List Text) → values_or_missing (set a) values ≡ values_or_missing a values
+pub missing_alike : (a : Rule) (values : List Text) → values_or_missing (set a) values ≡ values_or_missing a values
 missing_alike a [] = refl
 missing_alike a (v ∷ vs) = refl
 
@@ -97,10 +97,10 @@ settled_rows_alike : (c : List Rule) (pending : Option (Text × List Text)) (row
 settled_rows_alike c None rows = refl
 settled_rows_alike c (Some p) rows = ap (λ o. used_by_id o p.1 rows) (find_alike (λ a. bytes_eq a.id p.0) c) ∙ used_by_alike (arg_by_id c p.0) p.1 rows
 
-settled_alike : (c : List Rule) (h : Held) → settled (map set c) h ≡ settled c h
+pub settled_alike : (c : List Rule) (h : Held) → settled (map set c) h ≡ settled c h
 settled_alike c h = ap (λ rows. record h { rows = rows; pending = None }) (settled_rows_alike c h.pending h.rows)
 
-reacted_alike : (c : List Rule) (a : Rule) (values : List Text) (h : Held) → reacted (map set c) (set a) values h ≡ reacted c a values h
+pub reacted_alike : (c : List Rule) (a : Rule) (values : List Text) (h : Held) → reacted (map set c) (set a) values h ≡ reacted c a values h
 reacted_alike c a values h = ap (λ rows. record h { rows = rows; pending = None }) (used_alike a values (settled (map set c) h).rows ∙ ap (λ (k : Held). used a values k.rows) (settled_alike c h))
 
 -- ---- the walk
@@ -171,7 +171,7 @@ subcommand_alike : (c : List Rule) (met : Option Text) (waiting : Waiting) (posi
 subcommand_alike c (Some name) waiting position word h = refl
 subcommand_alike c None waiting position word h = ap (cond (bytes_eq word (45 ∷ 45 ∷ [])) (h, trailing position)) (long_or_other_alike c waiting word (long_of word) h)
 
-met_alike : (c : List Rule) (names : Names) (is_trailing : Bool) (waiting : Waiting) (position : ℕ) (word : Text) (h : Held) → word_met (map set c) names is_trailing waiting position word h ≡ word_met c names is_trailing waiting position word h
+pub met_alike : (c : List Rule) (names : Names) (is_trailing : Bool) (waiting : Waiting) (position : ℕ) (word : Text) (h : Held) → word_met (map set c) names is_trailing waiting position word h ≡ word_met c names is_trailing waiting position word h
 met_alike c names is_trailing waiting position word h = ap (cond is_trailing (h, value)) (subcommand_alike c (subcommand_met names waiting word) waiting position word h)
 
 positional_alike : (c : List Rule) (a : Rule) (word : Text) (h : Held) → positional_held (map set c) (set a) word h ≡ positional_held c a word h
@@ -199,22 +199,22 @@ walked_from_alike c names None w word =
     let met = word_met c names w.is_trailing w.waiting w.position word w.held in
     ap (λ (m : Held × Step). after_step (map set c) word w m.0 m.1) (met_alike c names w.is_trailing w.waiting w.position word w.held) ∙ after_step_alike c word w met.0 met.1
 
-walked_alike : (c : List Rule) (names : Names) (w : Walk) (word : Text) → walked (map set c) names w word ≡ walked c names w word
+pub walked_alike : (c : List Rule) (names : Names) (w : Walk) (word : Text) → walked (map set c) names w word ≡ walked c names w word
 unfolding walked
 walked_alike c names w word = walked_from_alike c names w.stopped w word
 
-fold_alike : (c : List Rule) (names : Names) (w : Walk) (words : List Text) → fold (walked (map set c) names) w words ≡ fold (walked c names) w words
+pub fold_alike : (c : List Rule) (names : Names) (w : Walk) (words : List Text) → fold (walked (map set c) names) w words ≡ fold (walked c names) w words
 fold_alike c names w [] = refl
 fold_alike c names w (word ∷ words) = ap (λ k. fold (walked (map set c) names) k words) (walked_alike c names w word) ∙ fold_alike c names (walked c names w word) words
 
-default_alike : (rows : List Row) (a : Rule) → with_default rows (set a) ≡ with_default rows a
+pub default_alike : (rows : List Row) (a : Rule) → with_default rows (set a) ≡ with_default rows a
 default_alike rows a = ap (λ how. cond (has_row a.id rows) rows (default_rows a.id how a.defaults rows)) (read_alike a.parser)
 
 defaults_alike : (c : List Rule) (rows : List Row) → fold with_default rows (map set c) ≡ fold with_default rows c
 defaults_alike [] rows = refl
 defaults_alike (a ∷ c) rows = ap (λ k. fold with_default k (map set c)) (default_alike rows a) ∙ defaults_alike c (with_default rows a)
 
-finished_alike : (c : List Rule) (h : Held) → finished (map set c) h ≡ finished c h
+pub finished_alike : (c : List Rule) (h : Held) → finished (map set c) h ≡ finished c h
 finished_alike c h = ap (λ (k : Held). fold with_default k.rows (map set c)) (settled_alike c h) ∙ defaults_alike c (settled c h).rows
 
 -- the rows of a parse
@@ -368,10 +368,10 @@ level_below_alike None words = refl
 level_below_alike (Some s) words = level_alike s [] nothing_held words false
 
 -- a program with such commands
-abbrev set_below : App → App
+abbrev pub set_below : App → App
 set_below a = record a { subs = map set_in a.subs }
 
-entered_alike : (a : App) (stop : Option (Text × List Text)) → entered (set_below a) stop ≡ entered a stop
+pub entered_alike : (a : App) (stop : Option (Text × List Text)) → entered (set_below a) stop ≡ entered a stop
 entered_alike a None = refl
 entered_alike a (Some p) = ap (option_map (λ (s : Shape). rows_at s p.1)) (find_map set_in (λ s. answers_to p.0 (label_of s)) a.subs) ∙ rows_at_alike _ p.1
 
@@ -382,19 +382,19 @@ entered_passes_alike a (Some p) = ap (λ o. option_map_or (λ s. level_passes s 
 -- ---- the program's command line
 
 -- where the walk over the words of the program stops
-stop_of : List Text → Option (Text × List Text)
+unfoldable pub stop_of : List Text → Option (Text × List Text)
 stop_of words = let a = built postcopy_words in stop_after a.top.rules (names_of a) (argument_words postcopy_words words)
 
 -- parsers of these names
-abbrev parsers : Bor (List (Bor Text)) → Bor (List (Bor Text)) → Choices
+abbrev pub parsers : Bor (List (Bor Text)) → Bor (List (Bor Text)) → Choices
 parsers carriers forms = record { carriers = parser.Names carriers; formats = parser.Names forms }
 
 -- parsers of these texts, which lie at no place
-abbrev parsers_of : List Text → List Text → Choices
+abbrev pub parsers_of : List Text → List Text → Choices
 parsers_of carriers forms = record { carriers = one_of carriers; formats = one_of forms }
 
 -- the names behind references
-abbrev texts : Bor (List (Bor Text)) → List Text
+abbrev pub texts : Bor (List (Bor Text)) → List Text
 texts names = map (λ (name : Bor Text). name.now) names.now
 
 line_entered : (carriers forms : Bor (List (Bor Text))) (words : List Text) → subcommand_of (line_words (parsers_of (texts carriers) (texts forms))) words ≡ subcommand_of (line_words (parsers carriers forms)) words

@@ -1,12 +1,12 @@
 -- What is found in the words of a command line.
-use Rattle.std.specs.Prelude.{◌≡◌, ◌<◌, ◌≤◌, List, Option, None, Result, MatchResult, false, length, option_and_then, true}
+use Rattle.std.specs.Prelude.{◌≡◌, ◌<◌, ◌≤◌, List, [], Option, None, Result, MatchResult, false, length, option_and_then, true}
 use Rattle.clap.specs.Words.{Row, Text, kind_of, subcommand_of, takes}
 use Rattle.clap.specs.declared.error.Error.{Error}
 use Rattle.clap.specs.declared.error.kind.ErrorKind.TheVariants.{ArgumentConflict}
 use Rattle.command_words.specs.declared.requests.Invocation.{Invocation}
 use Rattle.command_words.specs.declared.requests.Targets.{Targets}
 use Rattle.command_words.specs.Table.{folders_of, job_of, several_of}
-use Rattle.command_words.specs.Words.{answer_kind, asked_in, clash_in, clashing, folders_in, postcopy_words, several_in, target_names, targets_in}
+use Rattle.command_words.specs.Words.{IsKindFor, answer_kind, asked_in, clash_in, clashing, error_kinds, folders_in, postcopy_words, several_in, target_names, targets_in}
 
 -- the files are those that a command and its arguments name for what is written, and the kind is that of its answer
 pub record AreTargetsIn (given : Option (Text × List Row)) (targets : Targets) : Type 0 where
@@ -25,16 +25,18 @@ pub record IsFoundIn (given : Option (Text × List Row)) (found : Invocation) : 
 abbrev pub AreTargets : List Text → Targets → Type 0
 AreTargets words = AreTargetsIn (subcommand_of postcopy_words words)
 
--- this is found in the words; fewer than two words ask for nothing
+-- this is found in the words; fewer than two words ask for nothing, and the command line accepts any others
 pub record IsFound (words : List Text) (found : Invocation) : Type 0 where
   pub asks : IsFoundIn (subcommand_of postcopy_words words) found
   pub bare : length words ≤ 1 → found.intent ≡ None
+  pub accepted : 1 < length words → error_kinds words ≡ []
 
 -- The words, two or more, are refused with this error. If the command line accepts them, it is because options clash,
 -- or because memory ran out.
 pub record IsRefused (words : List Text) (error : Error) : Type 0 where
   pub more : 1 < length words
   pub clash : takes postcopy_words words ≡ true → (clashing words ≡ true) × (kind_of error ≡ ArgumentConflict)
+  pub kind : IsKindFor words (kind_of error)
 
 -- the result of reading the words
 abbrev pub IsRead : List Text → Result Invocation Error → Type 0

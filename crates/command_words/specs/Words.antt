@@ -9,7 +9,7 @@ use Rattle.clap.specs.Simple.{on_top}
 use Rattle.clap.specs.declared.error.kind.ErrorKind.{ErrorKind}
 use Rattle.clap.specs.declared.error.kind.ErrorKind.TheVariants.{ArgumentConflict, OutOfMemory}
 use Rattle.clap.specs.ValueTests.{is_unsigned_in}
-use Rattle.clap.specs.Words.{App, Row, Rule, Text, all_of, first_of, new_app, new_rule, subcommand_of, with_rule, with_subcommand}
+use Rattle.clap.specs.Words.{App, IsAmong, Kinds, Row, Rule, Text, all_of, fault_of, first_of, new_app, new_rule, subcommand_of, with_rule, with_subcommand}
 use Rattle.command_words.specs.declared.requests.Request.{Request}
 use Rattle.command_words.specs.declared.requests.Request.TheVariants.{One, Two, Migrate, Draw, Window}
 use Rattle.command_words.specs.declared.requests.Pages.{Pages}
@@ -447,6 +447,15 @@ clashing words = clash_in (subcommand_of postcopy_words words)
 abbrev pub IsRefusedFor : Bool → ErrorKind → Type 0
 IsRefusedFor true kind = (kind ≡ ArgumentConflict) ⊎ (kind ≡ OutOfMemory)
 IsRefusedFor false kind = kind ≡ OutOfMemory
+
+-- the kinds of error that the command line may have for the words: none if it accepts them
+abbrev pub error_kinds : List Text → Kinds
+error_kinds words = fault_of postcopy_words words
+
+-- why words are refused, if memory does not run out: the command line has an error of this kind for them; or it accepts
+-- them, and options clash
+abbrev pub IsKindFor : List Text → ErrorKind → Type 0
+IsKindFor words kind = IsAmong kind (error_kinds words) ⊎ ((error_kinds words ≡ []) × (clashing words ≡ true) × (kind ≡ ArgumentConflict))
 
 -- the file that the arguments name for the answer
 abbrev pub output_in : Option (Text × List Row) → Option Text
