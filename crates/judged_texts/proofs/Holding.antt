@@ -43,9 +43,9 @@ apart p q n lt le = ne_eqb p q (λ h. absurd (omega (arith, h, lt, le)))
 
 cell_within : (e : Extent) (p c x : ℕ) (m : Memory) → p < e.pages → c < e.cells → IsWithin e m → IsWithin e (with_cell p c x m)
 cell_within e p c x m lp lc was = record {
-    page = λ q d le. ap (λ b. cond b x (m q d)) (and_left (p == q) (c == d) (apart p q e.pages lp le)) ∙ was.page q d le;
-    cell = λ q d le. ap (λ b. cond b x (m q d)) (and_right (p == q) (c == d) (apart c d e.cells lc le)) ∙ was.cell q d le;
-  }
+  page = λ q d le. ap (λ b. cond b x (m q d)) (and_left (p == q) (c == d) (apart p q e.pages lp le)) ∙ was.page q d le;
+  cell = λ q d le. ap (λ b. cond b x (m q d)) (and_right (p == q) (c == d) (apart c d e.cells lc le)) ∙ was.cell q d le;
+}
 
 none : (b : Bool) (k : ℕ) → k ≡ 0 → cond b 0 k ≡ 0
 none true k e = refl
@@ -53,9 +53,9 @@ none false k e = e
 
 freed_within : (e : Extent) (p : ℕ) (m : Memory) → IsWithin e m → IsWithin e (with_zeros p m)
 freed_within e p m was = record {
-    page = λ q d le. none (p == q) (m q d) (was.page q d le);
-    cell = λ q d le. none (p == q) (m q d) (was.cell q d le);
-  }
+  page = λ q d le. none (p == q) (m q d) (was.page q d le);
+  cell = λ q d le. none (p == q) (m q d) (was.cell q d le);
+}
 
 either : (b : Bool) (j k : ℕ) → j ≡ 0 → k ≡ 0 → cond b j k ≡ 0
 either true j k f e = f
@@ -63,9 +63,9 @@ either false j k f e = e
 
 content_within : (e : Extent) (p : ℕ) (xs : List ℕ) (m : Memory) → p < e.pages → length xs ≡ e.cells → IsWithin e m → IsWithin e (with_content p xs m)
 content_within e p xs m lp long was = record {
-    page = λ q d le. ap (λ b. cond b (get_or xs d 0) (m q d)) (apart p q e.pages lp le) ∙ was.page q d le;
-    cell = λ q d le. either (p == q) (get_or xs d 0) (m q d) (get_or_past xs d 0 (omega (arith, long, le))) (was.cell q d le);
-  }
+  page = λ q d le. ap (λ b. cond b (get_or xs d 0) (m q d)) (apart p q e.pages lp le) ∙ was.page q d le;
+  cell = λ q d le. either (p == q) (get_or xs d 0) (m q d) (get_or_past xs d 0 (omega (arith, long, le))) (was.cell q d le);
+}
 
 initial_within : (e : Extent) (init : List InitPage) → AllByRecursion (InitPageFits e) init → IsWithin e (initial init)
 initial_within e [] all = zeros_within e
@@ -162,7 +162,8 @@ frames_hold e m was = memory_by e.size e.pages e.cells _ m within (λ q d le. sy
 -- it finds no record whose demand fails
 pub replays_safely : (s : Recorded) (runs : List Run) → IsSession s → IsMerging s (spelled runs) → IsSafeOrder s (spelled runs) → Replays s runs None
 replays_safely s runs is merging safe =
-    let memory = final_memory (world_after s (spelled runs)) in
-    (record { first_broken = None; memory = frames_with s.geometry memory },
-     record { is_merging = merging; first_broken = safe; memory = frames_hold s.geometry memory (after_within s is (spelled runs)); geometry = refl },
-     refl)
+    let memory = final_memory (world_after s (spelled runs)) in (
+      record { first_broken = None; memory = frames_with s.geometry memory },
+      record { is_merging = merging; first_broken = safe; memory = frames_hold s.geometry memory (after_within s is (spelled runs)); geometry = refl },
+      refl,
+    )

@@ -112,7 +112,12 @@ trait Replayers {
 }
 
 impl Replayers for OneThread {
-    fn outcome(&self, alloc: Global, session: &Session, runs: &[Run]) -> Result<Outcome, AllocError> {
+    fn outcome(
+        &self,
+        alloc: Global,
+        session: &Session,
+        runs: &[Run],
+    ) -> Result<Outcome, AllocError> {
         match by_shape_and_runs(alloc, session, runs)? {
             Some(outcome) => Ok(outcome),
             None => {
@@ -126,7 +131,12 @@ impl Replayers for OneThread {
 impl<R: Threads + Sync> Replayers for InThreads<'_, R> {
     ghost ready = { IsSync R.row };
 
-    fn outcome(&self, alloc: Global, session: &Session, runs: &[Run]) -> Result<Outcome, AllocError> {
+    fn outcome(
+        &self,
+        alloc: Global,
+        session: &Session,
+        runs: &[Run],
+    ) -> Result<Outcome, AllocError> {
         let rt = self.rt;
         if is_judged_alone(rt, session) {
             return OneThread.outcome(alloc, session, runs);
