@@ -64,7 +64,7 @@ def run_commands(page, program):
             if file:
                 with open(f"{work}/{file[1]}", "w", encoding="utf-8") as opened:
                     opened.write(script)
-            env = {name: os.environ[name] for name in ("PATH", "HOME") if name in os.environ}
+            env = {"POSTCOPY": program, **{name: os.environ[name] for name in ("PATH", "HOME") if name in os.environ}}
             done = subprocess.run(["bash", "-c", command], cwd=work, env=env, text=True,
                                   stdin=subprocess.DEVNULL, stdout=subprocess.PIPE, stderr=subprocess.STDOUT, timeout=60)
             is_right = is_shown(shown, done.stdout.splitlines())

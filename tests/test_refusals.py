@@ -1,8 +1,9 @@
-"""Compares what is told of a text that is refused, word for word, with a table that was written by hand.
+"""Compares what is told of a text that is refused, word for word, with a table of what was told, and read, when it was made.
 
-The table has what a text may be in the place of the wanted one, what a line may have in the place of a field, and each slip that is
-told; texts that end in the middle of a line; which item of a list is wanted; and what is left out of long quotes. `explain` has to
-tell the same first, and below it the line with a mark under the place; and the object of an audit has the same in its fields.
+So words do not change unseen. The table has what a text may be in the place of the wanted one, what a line may have in the place of a
+field, and each slip that is told; texts that end in the middle of a line; which item of a list is wanted; and what is left out of long
+quotes. `explain` has to tell the same first, and below it the line with a mark under the place; and the object of an audit has the same
+in its fields.
 """
 import json
 import os
