@@ -56,13 +56,13 @@ def begun(program, counting, words, given, processors):
 
 
 def counted(program, counting):
-    """Each processor judges a range of the pages, one of them with the thread that there is. A certificate's shape and runs are
-    judged by one more."""
+    """No processor is without work, and one of them has the thread that there is. Each judges a range of the pages, or, in an audit, a
+    certify and a check, one judges the shape and the runs or the order, and the others the pages."""
     pair = MANY_PAGES + run(program, ("certify", "-"), MANY_PAGES)[1]
     for processors in range(1, min(4, len(os.sched_getaffinity(0))) + 1):
-        for words in (("audit", "-"), ("certify", "-"), ("explain", "-"), ("audit", "--all", "-")):
-            yield f"threads begun by {words} on {processors} processors", begun(program, counting, words, MANY_PAGES, processors), processors - 1
-        yield f"threads begun by a check on {processors} processors", begun(program, counting, ("check", "-", "-"), pair, processors), processors
+        for words, given in ((("audit", "-"), MANY_PAGES), (("certify", "-"), MANY_PAGES), (("explain", "-"), MANY_PAGES),
+                             (("audit", "--all", "-"), MANY_PAGES), (("check", "-", "-"), pair)):
+            yield f"threads begun by {words} on {processors} processors", begun(program, counting, words, given, processors), processors - 1
     few = MANY_PAGES.replace(b"65536", b"8")
     yield "threads begun by an audit of few pages", begun(program, counting, ("audit", "-"), few, 4), 0
 
