@@ -271,7 +271,7 @@ knot line 9
 ];
 
 /// Lines of other bytes, and with spaces at an end.
-pub static BYTES: [Case; 16] = [
+pub static BYTES: [Case; 18] = [
     Case(
         At::ThirdOfGuest,
         9,
