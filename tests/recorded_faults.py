@@ -336,6 +336,7 @@ class Faults:
             else:
                 self.tests.same("a late call of a child", self.waited(child), 0)
             self.tests.same("what its file tells then", (self.ends_of(log), log.see(1), self.ends_of(log)), (["halt", "lost"], LOST, ["halt", "lost"]))
+        self.of_late_children()
         made = self.folder()
         log = Log(made, "guest")
         log.close()
@@ -343,6 +344,37 @@ class Faults:
         other = Log(made, "guest")
         other.close()
         self.tests.same("a late call whose recording is gone", (log.see(1), self.ends_of(other)), (LOST, ["end"]))
+
+    def of_late_children(self):
+        """A child that was forked off in front of the close, and calls behind it: the log says that a record was not written."""
+        folder = self.folder()
+        ran = subprocess.run([self.program, "late", folder], stdout=subprocess.PIPE, timeout=120)
+        self.tests.same("bindings/c/tests/recording.c late", (ran.returncode, ran.stdout), (0, b""))
+        ends = {}
+        for name in os.listdir(folder):
+            if name.startswith("guest."):
+                first, *_, last = self.has(f"{folder}/{name}").split("\n", 2)[2].splitlines()
+                ends[first.split()[2]] = last
+        self.tests.same("the last lines in C", ends, {"0": f"lost {errno.EPERM}", "2": f"lost {errno.EPERM}", "4": "end 6"})
+        for how in ("that may open nothing", "that has nothing open", "that does not call"):
+            log, (told, tell) = Log(self.folder(), "guest"), os.pipe()
+            log.halt()
+            child = os.fork()
+            if child == 0:
+                is_told = os.read(told, 1) == b"."
+                if how == "that may open nothing" and os.getuid() == 0:
+                    os.setgid(65534)
+                    os.setuid(65534)
+                elif how == "that has nothing open":
+                    os.dup2(told, log._file)
+                answer = LOST if how == "that does not call" else log.see(1) if is_told else None
+                os._exit(0 if answer == LOST else 1)
+            number = log.hand_over()
+            os.write(tell, b".")
+            self.tests.same(f"a child {how}, behind the close", (number, self.waited(child)), (1, 0))
+            self.tests.same(f"what its file tells of a child {how}", self.ends_of(log), ["halt", "next" if how == "that does not call" else "lost"])
+            os.close(told)
+            os.close(tell)
 
     @staticmethod
     def ends_of(log):

@@ -38,6 +38,9 @@
 #define CELLS_MAX 512
 #define WORDS_MAX 160 /* a head, or a line but for its contents, is so much shorter that a last line has room behind it */
 
+/* Whether a forked child has made a call, which it cannot record, and whether the log was closed. */
+enum { STRAYED = 1, CLOSED = 2 };
+
 enum party { MACHINE, GUEST, SOURCE, LINK, LANE, PAGER, PARTIES };
 static const char *const names[PARTIES] = {"machine", "guest", "source", "link", "lane", "pager"};
 
@@ -59,8 +62,9 @@ struct postcopy_log {
     unsigned forks;               /* how often this process had been forked off when the log was opened */
     _Atomic uint64_t next;        /* the next record's number */
     atomic_int error;             /* why the log has ended, or 0 */
-    atomic_int *stray;            /* whether a forked child has made a call, which it cannot record: it shares this with its parent */
+    atomic_int *stray;            /* STRAYED and CLOSED, which a forked child shares with its parent */
     atomic_uint files;            /* how many names of files were tried */
+    unsigned opening;             /* the N of its first file */
     _Atomic(struct part *) parts; /* of all threads */
     struct part *first;
     pthread_key_t mine; /* the calling thread's part */
@@ -270,8 +274,10 @@ static struct part *begin_part(postcopy_log *log)
         errno = error;
         return NULL;
     }
-    if (part->is_first)
+    if (part->is_first) {
+        log->opening = number;
         sprintf(log->head, "postcopy-records 1\nrecording %s\nlog %s %" PRIu64 " %u\n", log->name, names[log->party], log->next, number);
+    }
     part->at = stpcpy(part->at, log->head);
     part->next = atomic_load(&log->parts);
     while (!atomic_compare_exchange_weak(&log->parts, &part->next, part)) {
@@ -338,6 +344,41 @@ static void put_last(struct part *part, const char *word, uint64_t number)
     part->at = at + 1;
 }
 
+/* Puts into the file of a log that was closed that a record was not written, in the place of its last line. Answers whether this is the
+   file: another may have its number or its name by now. */
+static int amend_file(int file, const char *head)
+{
+    struct stat found;
+    char text[WORDS_MAX + 1], lost[24];
+    size_t length = strlen(head), count = sprintf(lost, "lost %d\n", EPERM);
+    if (file < 0 || pread(file, text, length, 0) != (ssize_t)length || memcmp(text, head, length) || fstat(file, &found))
+        return 0;
+    off_t start = found.st_size > WORDS_MAX ? found.st_size - WORDS_MAX : 0;
+    ssize_t end = pread(file, text, WORDS_MAX, start);
+    text[end > 0 ? end - 1 : 0] = 0; /* the end of the last line */
+    char *last = strrchr(text, '\n');
+    if (!last || (strncmp(last, "\nend ", 5) && strncmp(last, "\nnext ", 6)))
+        return 1;
+    off_t at = start + (last + 1 - text);
+    if (is_allowed(at + count) && pwrite(file, lost, count, at) == (ssize_t)count)
+        (void)!ftruncate(file, at + count);
+    return 1;
+}
+
+static void amend(const postcopy_log *log, int file)
+{
+    int error = errno;
+    char path[strlen(log->stem) + 16];
+    if (!amend_file(file, log->head)) {
+        sprintf(path, "%s.%u", log->stem, log->opening);
+        if ((file = open(path, O_RDWR | O_CLOEXEC)) >= 0) {
+            amend_file(file, log->head);
+            close(file);
+        }
+    }
+    errno = error;
+}
+
 /* Logs. */
 
 /* Ends a log at the record that is not written: its number is taken, so nothing stands in its place. */
@@ -354,7 +395,8 @@ static uint32_t append(postcopy_log *log, unsigned parties, struct record record
     if (!log || atomic_load(&log->error))
         return POSTCOPY_LOST;
     if (log->forks != atomic_load(&forks)) {
-        atomic_store(log->stray, 1);
+        if (atomic_fetch_or(log->stray, STRAYED) == CLOSED)
+            amend(log, atomic_load(&log->first->file));
         return POSTCOPY_LOST;
     }
     if (!(parties >> log->party & 1) || (record.is_of_page && !(record.contents && record.cells && record.cells <= CELLS_MAX)))
@@ -426,7 +468,7 @@ const char *postcopy_log_recording(const postcopy_log *log)
 int postcopy_log_error(const postcopy_log *log)
 {
     int error = log ? atomic_load(&log->error) : 0;
-    return !error && log && atomic_load(log->stray) ? EPERM : error;
+    return !error && log && atomic_load(log->stray) & STRAYED ? EPERM : error;
 }
 
 /* Closes a log. Answers the number behind its last record, or POSTCOPY_LOST where one was lost, or where it is the parent's. (A child's call
@@ -449,6 +491,8 @@ static uint32_t close_log(postcopy_log *log, const char *word)
     }
     if (mine)
         disown_part(mine);
+    if (is_own && atomic_fetch_or(log->stray, CLOSED) & STRAYED && !error)
+        amend(log, -1);
     munmap(log->stray, sizeof *log->stray);
     free(log);
     return count;

@@ -14,8 +14,9 @@
    threads, and postcopy_log_error says why. EFBIG means that the process has reached its limit on files; it raises no SIGXFSZ.
    (Others can end a process: if somebody truncates a file, or a disk does not keep space that it gave, the next write there
    raises SIGBUS.) A log that is NULL records nothing, and all its calls return POSTCOPY_LOST. So do calls on a log in a forked
-   child: a child opens its own logs. The log's last line then tells that a record was not written (EPERM), so that the recording
-   counts as one that is not whole. A signal handler may not call where it may interrupt another call of its thread on the log.
+   child: a child opens its own logs. The log's last line then tells that a record was not written (EPERM), also if the parent has
+   closed it, so that the recording counts as one that is not whole. A signal handler may not call where it may interrupt another
+   call of its thread on the log.
 
    These files are for C. A program in C++ includes the header, and links what a compiler for C makes of postcopy_record.c. */
 #ifndef POSTCOPY_RECORD_H

@@ -8,6 +8,7 @@
        recording refused FOLDER                   calls that record nothing
        recording forked FOLDER                    records on, where forked children end in each way that they have
        recording stray FOLDER                     has a forked child call on its parent's log
+       recording late FOLDER                      has forked children call on logs that their parent has closed meanwhile
        recording elsewhere FOLDER                 has a thread append once the process has another working folder
        recording leaving FOLDER                   closes logs while threads end that appended to them
        recording named FOLDER                     names of recordings
@@ -319,6 +320,41 @@ static void stray(const char *folder)
     want(postcopy_log_hand_over(guest) == 2, "another process may go on");
 }
 
+/* Forked children that call on a log when their parent has closed it: one that may open no file of its parent's, one that has closed what it was
+   given and opened something else, and one that does not call. */
+static void late(const char *folder)
+{
+    for (int how = 0; how < 3; how++) {
+        int go[2], status;
+        want(pipe(go) == 0, "a pipe");
+        guest = postcopy_log_open(folder, "guest", 2 * how);
+        want(postcopy_record_halt(guest) == 2 * (uint32_t)how, "a record in front of a fork");
+        fflush(stdout);
+        if (fork() == 0) {
+            char byte;
+            int is_so = read(go[0], &byte, 1) == 1;
+            if (how == 0)
+                is_so &= getuid() != 0 || (setgid(65534) == 0 && setuid(65534) == 0);
+            for (int file = 3; how == 1 && file < 64; file++)
+                dup2(1, file);
+            errno = ERANGE;
+            if (how < 2)
+                is_so &= postcopy_record_see(guest, 1) == POSTCOPY_LOST && postcopy_record_see(guest, 1) == POSTCOPY_LOST && errno == ERANGE;
+            _exit(!is_so);
+        }
+        want(postcopy_record_resume(guest, 1) == 2 * (uint32_t)how + 1, "the parent goes on");
+        if (how)
+            postcopy_log_close(guest);
+        else
+            want(postcopy_log_hand_over(guest) == 2, "another process may go on");
+        want(write(go[1], "", 1) == 1, "a word to the child");
+        wait(&status);
+        want(WIFEXITED(status) && WEXITSTATUS(status) == 0, "a child's late call");
+        close(go[0]);
+        close(go[1]);
+    }
+}
+
 /* A process that changes its working folder, and a thread that appends for the first time then. */
 
 static void *append_one(void *log)
@@ -464,6 +500,8 @@ int main(int count, char **words)
         fork_children(folder);
     else if (!strcmp(what, "stray"))
         stray(folder);
+    else if (!strcmp(what, "late"))
+        late(folder);
     else if (!strcmp(what, "elsewhere"))
         elsewhere(folder);
     else if (!strcmp(what, "leaving"))

@@ -29,7 +29,7 @@ import os
 import re
 import secrets
 import threading
-from typing import Iterable, Optional, Tuple, Union
+from typing import Iterable, Optional, Union
 
 from .records import LOGS, LOST
 
@@ -90,13 +90,13 @@ class Log:
         self._party, self._next, self._lock = party, first, threading.Lock()
         self._process, self._file = os.getpid(), -1
         self._path, self._head = "", b""  # of the file, and how it begins
-        self._last: Optional[Tuple[int, bytes]] = None  # where the last line of the closed log is, and what it is
-        self._stray: Optional[mmap.mmap] = None  # whether a forked child has made a call, which shares this with its parent
+        self._stray: Optional[mmap.mmap] = None  # whether a forked child has made a call, and whether the log was closed: both share this
+        self._is_late = False  # whether a call on the log that was closed was told
         if first >= LOST:
             self.error = OSError(errno.EINVAL, "the log was not handed over, as a record was lost")
         elif folder is not None:
             self.recording = _name_recording(folder)
-            self._stray = mmap.mmap(-1, 1)
+            self._stray = mmap.mmap(-1, 2)
             self._begin(os.path.join(os.path.abspath(folder), f"{party}.{self._process}"))
 
     def _begin(self, stem: str) -> None:
@@ -105,7 +105,7 @@ class Log:
             number += 1
             path = f"{stem}.{number}"
             with contextlib.suppress(FileExistsError):
-                self._file = _above_standard(os.open(path, os.O_WRONLY | os.O_APPEND | os.O_CREAT | os.O_EXCL | os.O_CLOEXEC, 0o666))
+                self._file = _above_standard(os.open(path, os.O_RDWR | os.O_APPEND | os.O_CREAT | os.O_EXCL | os.O_CLOEXEC, 0o666))
         head = f"postcopy-records 1\nrecording {self.recording}\nlog {self._party} {self._next} {number}\n"
         try:
             self._put(head)
@@ -152,27 +152,29 @@ class Log:
                 self.error = OSError(errno.EPERM, "a forked child made a call on its parent's log")
             try:
                 if word is not None:
-                    length, last = os.fstat(self._file).st_size, f"{word} {number}\n"
-                    self._put(last if self.error is None else f"lost {self.error.errno}\n")
-                    self._last = (length, last.encode("ascii")) if self.error is None else None
+                    self._put(f"{word} {number}\n" if self.error is None else f"lost {self.error.errno}\n")
             except OSError as error:
                 self.error = self.error or error
             os.close(self._file)
             self._file = -1
+            if self._stray is not None:
+                self._stray[1] = 1
+                if self._stray[0]:  # (a child made its call just then)
+                    self._end_late(errno.EPERM)
             return number
 
-    def _end_late(self) -> None:
-        """What becomes of a call on a log that was closed, as by a thread that ends late: its last line tells that a record was lost."""
-        if self._last is None:
+    def _end_late(self, why: int) -> None:
+        """What becomes of a call on a log that was closed, by a thread that ends late or in a child: the last line tells that a record was lost."""
+        if self._is_late or not self._path:
             return
-        self.error = OSError(errno.EBADF, "a call on a log that was closed")
-        (length, last), self._last = self._last, None
-        with contextlib.suppress(OSError), open(self._path, "r+b") as file:
-            # (another recording may have a file of this name by now)
-            if file.read(len(self._head)) == self._head and file.seek(length) and file.read() == last:
-                file.truncate(length)
-                file.seek(length)
-                file.write(b"lost %d\n" % errno.EBADF)
+        self._is_late = True
+        self.error = self.error or OSError(why, "a call on a log that was closed")
+        # (a child may have the file open, and no right to open it. Another may have its number or its name by now)
+        if not _amend(self._file, self._head, why):
+            with contextlib.suppress(OSError):
+                file = os.open(self._path, os.O_RDWR | os.O_CLOEXEC)
+                _amend(file, self._head, why)
+                os.close(file)
 
     def __enter__(self) -> "Log":
         return self
@@ -186,11 +188,12 @@ class Log:
         if self._process != os.getpid():
             if self._stray is not None:
                 self._stray[0] = 1
-            self._end_late()
+                if self._stray[1]:
+                    self._end_late(errno.EPERM)
             return LOST
         with self._lock:
             if self._file < 0:
-                self._end_late()
+                self._end_late(errno.EBADF)
             if self._file < 0 or self.error is not None:
                 return LOST
             number = self._next
@@ -312,6 +315,21 @@ class Log:
 
     def all(self) -> int:
         return self._append("pager", "all")
+
+
+def _amend(file: int, head: bytes, why: int) -> bool:
+    """Puts into the file of a log that was closed that a record was not written, in the place of its last line. Returns whether this is the
+    file."""
+    with contextlib.suppress(OSError):
+        if file >= 0 and os.pread(file, len(head), 0) == head:
+            length = os.fstat(file).st_size
+            text = os.pread(file, 160, max(0, length - 160))
+            start = text.rfind(b"\n", 0, -1) + 1
+            if text[start:].startswith((b"end ", b"next ")):
+                os.ftruncate(file, length - len(text) + start)
+                os.pwrite(file, b"lost %d\n" % why, length - len(text) + start)
+            return True
+    return False
 
 
 def _above_standard(file: int) -> int:
