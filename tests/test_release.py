@@ -11,6 +11,7 @@ import glob
 import hashlib
 import os
 import re
+import shlex
 import shutil
 import subprocess
 import sys
@@ -122,7 +123,7 @@ def test_version(prefix):
 # What is installed, and removed.
 
 
-@pytest.mark.cases(20)
+@pytest.mark.cases(26)
 def test_installation(prefix, room):
     """What stands under a prefix, and that nothing of it stays."""
     wanted = sorted(INSTALLED.replace("1.2.3", read("VERSION").strip()).split())
@@ -183,8 +184,25 @@ def removed(prefix):
     said, status = ran(*remove, f"{prefix}/new")
     same("a removal around a file that somebody put there", (said, status, files_below(f"{prefix}/new")),
          ("".join(f"tools/install: kept {it}, which has other files\n" for it in (f"{prefix}/new/share", f"{prefix}/new")), 0, ["share/mine"]))
-    for words in (("relative",), ("/a", "/b"), ("--uninstall", "/a", "/b"), ("--remove",)):
+    for words in (("relative",), ("/a", "/b"), ("--uninstall", "/a", "/b"), ("--remove",), ("/a\nb",), ("/a\\b",), ('/a"b',), ("/a$b",), ("/a#b",)):
         same(f"tools/install {words}", ran(f"{TOP}/tools/install", *words)[1], 2)
+    same("a relative LIBDIR", ran(f"{TOP}/tools/install", "/a", env={**os.environ, "LIBDIR": "lib"})[1], 2)
+
+
+@pytest.mark.quick
+@pytest.mark.cases(4)
+def test_odd_prefix(room):
+    """An installation whose folder has a name that scripts get wrong, and several at once in it: pkg-config tells the folder, and nothing stays."""
+    prefix = f"{room}/a b|c&d 'e'"
+    runs = [subprocess.Popen([f"{TOP}/tools/install", prefix], stdin=subprocess.DEVNULL, stdout=subprocess.PIPE, stderr=subprocess.STDOUT) for _ in range(3)]
+    same("installations at once", [(it.communicate()[0], it.returncode) for it in runs], [(b"", 0)] * 3)
+    same("the files", files_below(prefix), sorted([*INSTALLED.replace("1.2.3", read("VERSION").strip()).split(), "share/postcopy/installed"]))
+    if shutil.which("pkg-config"):
+        flags = run("pkg-config", "--cflags", "--libs", "postcopy", env={**os.environ, "PKG_CONFIG_PATH": f"{prefix}/lib/pkgconfig"})
+        same("what pkg-config tells", shlex.split(flags), [f"-I{prefix}/include", f"-L{prefix}/lib", "-lpostcopy"])
+    else:
+        leave_out("what pkg-config tells (there is none)")
+    same("a removal", (ran(f"{TOP}/tools/install", "--uninstall", prefix), os.path.exists(prefix)), (("", 0), False))
 
 
 # Man pages and completions.
@@ -324,8 +342,8 @@ def test_release(tree, release, room):
 def refusals(tree):
     """Trees of which no release is made."""
     def says(why):
-        said, status = ran(f"{tree}/tools/release", f"{tree}/none")
-        same(f"a release where {why}", (why in said, status, os.path.exists(f"{tree}/none")), (True, 1, False))
+        said, status = ran(f"{tree}/tools/release", f"{tree}/2030")
+        same(f"a release where {why}", (why in said, status, os.path.exists(f"{tree}/2030")), (True, 1, False))
 
     with open(f"{tree}/more", "w") as file:
         file.write("more\n")
