@@ -50,7 +50,7 @@ static const char *const names[PARTIES] = {"machine", "guest", "source", "link",
 struct part {
     struct part *next;
     atomic_int owners;
-    unsigned forks; /* as the log's */
+    unsigned owner; /* as the log's */
     int is_first;   /* whether it is the log's first, which is open as long as the log is */
     atomic_int file;
     off_t start;
@@ -59,7 +59,7 @@ struct part {
 
 struct postcopy_log {
     enum party party;
-    unsigned forks;               /* how often this process had been forked off when the log was opened */
+    unsigned owner;               /* the process that opened it, by this_process */
     _Atomic uint64_t next;        /* the next record's number */
     atomic_int error;             /* why the log has ended, or 0 */
     atomic_int *stray;            /* STRAYED and CLOSED, which a forked child shares with its parent */
@@ -73,18 +73,36 @@ struct postcopy_log {
     char stem[];          /* .. and their names */
 };
 
-/* A forked child has its parent's mappings, and would write over what the parent writes. */
-static atomic_uint forks;
+/* The number of this process among its parents and children. A child has its parent's mappings, and would write over what the parent writes.
+   The system puts 0 into this page for a child, also for one that was made by `clone`, of which nobody is told. (Before Linux 4.14 it does not:
+   then only a child of `fork` gets a number of its own.) */
+static atomic_uint numbers, without_page, *process = &without_page;
 static pthread_once_t watched = PTHREAD_ONCE_INIT;
 
-static void count_fork(void)
+static unsigned this_process(void)
 {
-    atomic_fetch_add(&forks, 1);
+    unsigned found = 0, next = atomic_load(process) ? 0 : atomic_fetch_add(&numbers, 1) + 1;
+    if (next)
+        atomic_compare_exchange_strong(process, &found, next);
+    return atomic_load(process);
+}
+
+static void note_fork(void)
+{
+    atomic_store(process, 0);
 }
 
 static void watch_forks(void)
 {
-    pthread_atfork(NULL, NULL, count_fork);
+#ifdef MADV_WIPEONFORK
+    size_t length = sysconf(_SC_PAGESIZE);
+    void *page = mmap(NULL, length, PROT_READ | PROT_WRITE, MAP_PRIVATE | MAP_ANONYMOUS, -1, 0);
+    if (page != MAP_FAILED && madvise(page, length, MADV_WIPEONFORK) == 0)
+        process = page;
+    else if (page != MAP_FAILED)
+        munmap(page, length);
+#endif
+    pthread_atfork(NULL, NULL, note_fork);
 }
 
 /* Whether a file may have so many bytes. (One that grows past the process's limit is told by a signal, which would end it.) */
@@ -204,7 +222,7 @@ static void disown_part(struct part *part)
 static void leave_part(void *what)
 {
     struct part *part = what;
-    if (part->forks != atomic_load(&forks))
+    if (part->owner != atomic_load(process))
         return;
     if (!part->is_first)
         end_part(part);
@@ -258,7 +276,7 @@ static struct part *begin_part(postcopy_log *log)
     if (!part)
         return NULL;
     part->owners = 2;
-    part->forks = log->forks;
+    part->owner = log->owner;
     part->is_first = !log->first;
     do {
         number = atomic_fetch_add(&log->files, 1);
@@ -394,7 +412,7 @@ static uint32_t append(postcopy_log *log, unsigned parties, struct record record
 {
     if (!log || atomic_load(&log->error))
         return POSTCOPY_LOST;
-    if (log->forks != atomic_load(&forks)) {
+    if (log->owner != atomic_load(process)) {
         if (atomic_fetch_or(log->stray, STRAYED) == CLOSED)
             amend(log, atomic_load(&log->first->file));
         return POSTCOPY_LOST;
@@ -440,7 +458,7 @@ postcopy_log *postcopy_log_open(const char *folder, const char *party, uint32_t 
         return NULL;
     }
     log->party = which;
-    log->forks = atomic_load(&forks);
+    log->owner = this_process();
     atomic_store(&log->next, first);
     strcpy(log->name, name);
     snprintf(log->stem, length, "%s/%s.%ld", path, party, (long)getpid());
@@ -477,7 +495,7 @@ static uint32_t close_log(postcopy_log *log, const char *word)
 {
     if (!log)
         return POSTCOPY_LOST;
-    int is_own = log->forks == atomic_load(&forks), error = postcopy_log_error(log);
+    int is_own = log->owner == atomic_load(process), error = postcopy_log_error(log);
     uint32_t count = is_own && !atomic_load(&log->error) ? atomic_load(&log->next) : POSTCOPY_LOST;
     struct part *mine = pthread_getspecific(log->mine);
     pthread_key_delete(log->mine);

@@ -20,11 +20,13 @@
 #include <fcntl.h>
 #include <inttypes.h>
 #include <pthread.h>
+#include <signal.h>
 #include <stdatomic.h>
 #include <stdio.h>
 #include <stdlib.h>
 #include <string.h>
 #include <sys/mman.h>
+#include <sys/syscall.h>
 #include <sys/wait.h>
 #include <time.h>
 #include <unistd.h>
@@ -321,29 +323,30 @@ static void stray(const char *folder)
 }
 
 /* Forked children that call on a log when their parent has closed it: one that may open no file of its parent's, one that has closed what it was
-   given and opened something else, and one that does not call. */
+   given and opened something else, one that the C library does not know of, and one that does not call. */
 static void late(const char *folder)
 {
-    for (int how = 0; how < 3; how++) {
+    enum { NO_RIGHT, NOTHING_OPEN, UNKNOWN, SILENT };
+    for (int how = NO_RIGHT; how <= SILENT; how++) {
         int go[2], status;
         want(pipe(go) == 0, "a pipe");
         guest = postcopy_log_open(folder, "guest", 2 * how);
         want(postcopy_record_halt(guest) == 2 * (uint32_t)how, "a record in front of a fork");
         fflush(stdout);
-        if (fork() == 0) {
+        if ((how == UNKNOWN ? syscall(SYS_clone, SIGCHLD, 0, 0, 0, 0) : fork()) == 0) {
             char byte;
             int is_so = read(go[0], &byte, 1) == 1;
-            if (how == 0)
+            if (how == NO_RIGHT)
                 is_so &= getuid() != 0 || (setgid(65534) == 0 && setuid(65534) == 0);
-            for (int file = 3; how == 1 && file < 64; file++)
+            for (int file = 3; how == NOTHING_OPEN && file < 64; file++)
                 dup2(1, file);
             errno = ERANGE;
-            if (how < 2)
+            if (how != SILENT)
                 is_so &= postcopy_record_see(guest, 1) == POSTCOPY_LOST && postcopy_record_see(guest, 1) == POSTCOPY_LOST && errno == ERANGE;
             _exit(!is_so);
         }
         want(postcopy_record_resume(guest, 1) == 2 * (uint32_t)how + 1, "the parent goes on");
-        if (how)
+        if (how != NO_RIGHT)
             postcopy_log_close(guest);
         else
             want(postcopy_log_hand_over(guest) == 2, "another process may go on");
