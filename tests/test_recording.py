@@ -254,6 +254,13 @@ def test_skeleton(program, cc, room):
         shutil.rmtree(f"{room}/recording", ignore_errors=True)
         ran = subprocess.run(["bash", "-c", f"{strict} && {judging}"], cwd=room, stdout=subprocess.PIPE, encoding="ascii")
         assert ran.stdout.splitlines() == lines
+    assert no_folder(room) == (1, "/dev/null: Not a directory\n")
+
+
+def no_folder(room):
+    """The status of a skeleton that can open no log, and what it tells: an audit would judge the files of an earlier run."""
+    ran = subprocess.run([f"{room}/smallest", "/dev/null"], stdout=subprocess.PIPE, stderr=subprocess.STDOUT, encoding="utf-8")
+    return ran.returncode, ran.stdout
 
 
 def test_skeletons_of_other_languages(program, room, cc):
@@ -277,6 +284,8 @@ def test_skeletons_of_other_languages(program, room, cc):
         shutil.rmtree(f"{room}/recording", ignore_errors=True)
         ran = subprocess.run(["bash", "-c", f"{object_file} && {linking} && {judging}"], cwd=room, stdout=subprocess.PIPE, stderr=subprocess.STDOUT, encoding="utf-8")
         assert ran.stdout.splitlines() == shown
+        status, told = no_folder(room)
+        assert (status != 0, "Not a directory" in told) == (True, True)
 
 
 def record(folder, placed=lambda page: page + 1, is_closed=True):
