@@ -1,4 +1,5 @@
 """What the package for Python says of sessions that lack something: `missing`, `missing_pages` and `testing.assert_clean`."""
+import contextlib
 import glob
 import os
 import warnings
@@ -25,6 +26,21 @@ def without_done():
 
 
 WITHOUT_DONE = without_done()
+
+
+@contextlib.contextmanager
+def by_pipe(session):
+    """The name of a pipe by which a session comes: its bytes, or those of a file."""
+    if isinstance(session, str):
+        with open(session, "rb") as file:
+            session = file.read()
+    ours, theirs = os.pipe()
+    try:
+        os.write(theirs, session)
+        os.close(theirs)
+        yield f"/dev/fd/{ours}"
+    finally:
+        os.close(ours)
 
 
 def said(act):
@@ -84,6 +100,10 @@ def of_assertions(postcopy, same):
                 warnings.simplefilter("always")
                 assert_clean(text, **how)
             same(f"what is noted of a whole migration {what}, {how}", [str(it.message) for it in caught], notes)
+    for session in (WITHOUT_DONE, WHOLE):
+        with by_pipe(session) as name:
+            found = said(lambda: assert_clean(name, complete="whole"))
+        same("a session that comes by a pipe, and is read once", found and found[1].splitlines()[0], "incomplete done" if session is WITHOUT_DONE else None)
     for word in ("page", "", "all", True, 1, ()):
         kind, told = said(lambda: assert_clean(WHOLE, complete=word)) or ("nothing", "")
         same(f"{word!r} as what is asked", (kind, '"pages", "whole" or None' in told, repr(word) in told), ("ValueError", True, True))

@@ -21,7 +21,7 @@ import zipfile
 
 import pytest
 from cases import count, leave_out, same
-from library_assertions import tests_of_assertions
+from library_assertions import by_pipe, tests_of_assertions
 from library_claims import tests_of_claims
 from session_topics import topics_of
 
@@ -243,7 +243,8 @@ def compare_several(postcopy, program, found, from_c):
             same(f"{name}, all questions from C", of_c, (told[0].kind, told[0].line or 0, told[0].reason or 0, texts))
             same(f"{name}, one that is none from C", unknown_of_c, (postcopy.Kind.NO_QUESTION, 0, 0, b""))
     same("no question", postcopy.answers(name), [])
-    for question in (0, 14, (postcopy.Asks.DRAW_PAGE, -1), (postcopy.Asks.EXPLAIN_LINE, 1 << 32)):
+    for question in (0, 14, (postcopy.Asks.DRAW_PAGE, -1), (postcopy.Asks.EXPLAIN_LINE, 1 << 32), postcopy.Asks.DRAW_PAGE, (postcopy.Asks.EXPLAIN_LINE,),
+                     (postcopy.Asks.AUDIT, 5), (postcopy.Asks.EXPLAIN_OBJECT, 0), (postcopy.Asks.EXPLAIN_PAGE, 1, 2), ()):
         try:
             postcopy.answers(name, question)
             count(False, f"{question} is a question")
@@ -367,6 +368,14 @@ def compare_texts(postcopy):
     for text in (bytearray(session), memoryview(session), memoryview(bytearray(session)), memoryview(session + b"more")[:-4]):
         report = postcopy.audit(text)
         same(f"a session as {type(text).__name__}", (report, report.page, report.explain()), (wanted, wanted.page, wanted.explain()))
+    with by_pipe(session) as name:
+        report = postcopy.audit(name)
+        same("a session that comes by a pipe", (report, report.page, report.explain()), (wanted, wanted.page, wanted.explain()))
+    for answer in (wanted, postcopy.check(session, session), postcopy.audit(read("examples/handover/session", "rb"))):
+        try:
+            count(False, f"an answer is {bool(answer)}")
+        except TypeError as fault:
+            count(f"this one is '{answer}'" in str(fault), f"the words on an answer's truth: {fault}")
     for text in (b"", bytearray(), memoryview(b""), os.devnull):
         same(f"an empty text as {text!r}", str(postcopy.check(text, text)), "session-text line 1")
     for text, error, words in ((7, TypeError, "bytes or a path"), (f"{TOP}/no-such-file", FileNotFoundError, "no-such-file"),
@@ -664,7 +673,7 @@ def test_reports(postcopy, program, found):
     compare_reports(postcopy, program, found)
 
 
-@pytest.mark.cases(13)
+@pytest.mark.cases(17)
 def test_texts(postcopy):
     compare_texts(postcopy)
 
@@ -684,7 +693,7 @@ def test_refused_lines(postcopy):
     compare_refused_lines(postcopy)
 
 
-@pytest.mark.cases(294)
+@pytest.mark.cases(296)
 def test_assertions(postcopy):
     tests_of_assertions(postcopy, same)
 

@@ -16,6 +16,7 @@ what happened.
 """
 from __future__ import annotations
 
+import contextlib
 import ctypes
 import ctypes.util
 import enum
@@ -26,6 +27,7 @@ import itertools
 import mmap
 import operator
 import os
+import stat
 import subprocess
 import warnings
 from dataclasses import dataclass, field, replace
@@ -154,6 +156,9 @@ class Asks(enum.IntEnum):
     EXPLAIN_OBJECT = 13
 
 
+#: What a question is about that comes with a number.
+_TOPICS = {Asks.EXPLAIN_PAGE: "page", Asks.EXPLAIN_LINE: "line", Asks.DRAW_PAGE: "page"}
+
 #: What is asked, with the number of the page or of the line if the question is about one.
 Question = Union[Asks, Tuple[Asks, int]]
 
@@ -202,6 +207,10 @@ class Answer:
         if self.kind in _REFUSED:
             raise Refused(self.kind, self.line or 0, self.column or 0, self.why or "")
 
+    def __bool__(self) -> bool:
+        """Raises TypeError: each answer would be true, also one that is bad, as in `assert audit(session)`."""
+        raise TypeError(f"an answer is neither true nor false, and this one is '{self}': ask for its is_safe or its kind")
+
     def __str__(self) -> str:
         """The first line of what the program writes."""
         if self.kind is Kind.INCOMPLETE:
@@ -223,7 +232,7 @@ class Report(Answer):
     A notebook shows a report as the picture of its session.
     """
 
-    session: Text = field(default=b"", repr=False, compare=False)
+    session: Text = field(default=b"", repr=False, compare=False)  # (the bytes, where it came by a pipe)
 
     @property
     def certificate(self) -> Optional[bytes]:
@@ -439,6 +448,16 @@ def _on_two(call: "ctypes._FuncPointer", session: Text, other: Text) -> Answer:
         return _told(call(first.at, first.length, second.at, second.length), b"", first, second)
 
 
+def _kept(text: Text) -> Text:
+    """The bytes of a file that can be read only once, such as a pipe. Any other text as it is."""
+    if isinstance(text, (str, os.PathLike)):
+        with contextlib.suppress(OSError, ValueError):
+            if stat.S_ISFIFO(os.stat(text).st_mode):
+                with open(text, "rb") as file:
+                    return file.read()
+    return text
+
+
 def _why(given: _Bytes, kind: Kind) -> Optional[Refused]:
     """Why bytes are refused as a text of a kind, or None if they are not."""
     call = _library().postcopy_why
@@ -465,6 +484,7 @@ def certify(session: Text) -> Answer:
 
 def audit(session: Text) -> Report:
     """Returns the report on a session, as the command `audit` writes it. Raises OutOfMemory if memory runs out."""
+    session = _kept(session)
     answer = _with_text(_library().postcopy_audit, session)
     return Report(answer.kind, answer.line, answer.reason, answer.text, answer.column, answer.why, session)
 
@@ -511,9 +531,11 @@ def draw(session: Text, page: Optional[int] = None) -> Answer:
 
 
 def _asked(question: Question) -> Tuple[Asks, int]:
-    asks, about = question if isinstance(question, tuple) else (question, 0)
-    asks = Asks(asks)
-    return asks, _topic("line" if asks is Asks.EXPLAIN_LINE else "page", about)
+    asks, *about = question if isinstance(question, tuple) else (question,)
+    asks, topic = Asks(asks), _TOPICS.get(Asks(asks))
+    if len(about) != (topic is not None):
+        raise ValueError(f"{asks.name} needs the number of a {topic}, as in (Asks.{asks.name}, 7)" if topic else f"{asks.name} is about no page and no line")
+    return asks, _topic(topic, about[0]) if topic else 0
 
 
 def _answer_to(asks: Asks, told: Answer, text: bytes, session: Text) -> Answer:
@@ -527,8 +549,8 @@ def _answer_to(asks: Asks, told: Answer, text: bytes, session: Text) -> Answer:
 def answers(session: Text, *questions: Question) -> List[Answer]:
     """Returns the answers to several questions about one session, which is read once and judged once. Each answer is that of the
     function with the question's name. A question about a page or a line comes with its number, as in (Asks.DRAW_PAGE, 7). Raises
-    ValueError if a question is unknown, and OutOfMemory if memory runs out."""
-    asked = [_asked(it) for it in questions]
+    ValueError if a question is unknown, or its number is missing or means nothing, and OutOfMemory if memory runs out."""
+    asked, session = [_asked(it) for it in questions], _kept(session)
     taken, ends = (_Question * len(asked))(*asked), (ctypes.c_size_t * len(asked))()
     call = _library().postcopy_answers
     with _Bytes(session) as given:

@@ -10,14 +10,14 @@ from __future__ import annotations
 import warnings
 from typing import Optional
 
-from . import Answer, Kind, Report, Text, _lines, audit, missing, missing_pages
+from . import Answer, Asks, Kind, Report, Text, _lines, answers
 
 __all__ = ["assert_clean"]
 
 #: What a test can require of a session besides that it is clean, and how to require less.
 _ASKED = {
-    "pages": (missing_pages, "Where that is meant, as of a migration that failed, complete=None asks for a clean session alone."),
-    "whole": (missing, 'complete="pages" asks for the halt, the resume and each owed page alone, and complete=None for a clean session.'),
+    "pages": (Asks.MISSING_PAGES, "Where that is meant, as of a migration that failed, complete=None asks for a clean session alone."),
+    "whole": (Asks.MISSING, 'complete="pages" asks for the halt, the resume and each owed page alone, and complete=None for a clean session.'),
 }
 
 #: What is missing, by the word after `incomplete` and the number after that.
@@ -44,15 +44,14 @@ def assert_clean(session: Text, complete: Optional[str] = "pages") -> Report:
     __tracebackhide__ = True  # (pytest shows the line of the test)
     if complete is not None and complete not in _ASKED:
         raise ValueError(f'complete is "pages", "whole" or None, and not {complete!r}')
-    report = audit(session)
+    asks, less = _ASKED["pages" if complete is None else complete]
+    report, lacks = answers(session, Asks.AUDIT, asks)  # (read once: the file may change meanwhile)
+    assert isinstance(report, Report)
     if not report.is_safe:
         raise AssertionError(_what_happened(report))
-    if complete is not None:
-        call, less = _ASKED[complete]
-        lacks = call(session)
-        if lacks.kind is not Kind.CLEAN:
-            raise AssertionError(f"{lacks}\n{_what_is_missing(lacks)}\n{less}")
-    if not _tells_use(session):
+    if complete is not None and lacks.kind is not Kind.CLEAN:
+        raise AssertionError(f"{lacks}\n{_what_is_missing(lacks)}\n{less}")
+    if not _tells_use(report.session):
         warnings.warn("the guest neither reads nor writes a page after a resume, so no use of one was judged", stacklevel=2)
     return report
 
