@@ -55,7 +55,7 @@ CHANGES = (
 # The packets of the right traces that the lane may bring as well, which are those of the pages that were pushed: what the link's
 # trace and the pager's have of them, their places in the link's log, and the lane's trace.
 BY_THE_LANE = {
-    "link": [("09:31:03.002 t5 down source=a6\n", ""), ("09:31:03.034 t9 down source=a9\n", "")],
+    "link": [("t5 down source=a6", "t5 hold source=a6"), ("t9 down source=a9", "t9 hold source=a9")],
     "pager": [("p10 packet link=t5", "p10 pushed lane=l1"), ("p21 packet link=t9", "p21 pushed lane=l2")],
 }
 CARRIED = (2, 6)
@@ -186,6 +186,12 @@ class Tests:
         self.wants("a later packet", self.written(later), ("", "session_from_traces.py: pager.trace: p20 tells of p21, which pager.trace has not before it\n", 1))
         twice = changed(traces, {"pager": [(" p19 packet", " p16 packet")]})
         self.wants("a name that comes twice", self.written(twice), ("", "session_from_traces.py: pager.trace: line 20 names a second p16\n", 1))
+        for log, name, behind, left in (("guest", "g8", "g9", 16), ("source", "a4", "a5", 7), ("link", "t4", "t5", 6), ("pager", "p8", "p9", 15)):
+            lost = {**traces, log: re.sub(f"^[^ \n]+ {name} .*\n", "", traces[log], flags=re.MULTILINE)}
+            said = f"session_from_traces.py: {log}.trace: there is no {name} before {behind}: an event was lost"
+            self.wants(f"{name} is lost", self.written(lost), ("", f"{said}\n", 1))
+            text, told, status = self.written(lost, "--cut")
+            self.wants(f"{name} is lost, cut", (told.splitlines()[0], status, self.answer("audit", text)[0].split("\n", 1)[0]), (f"{said}: {left} events left out", 0, "clean"))
         half = {**traces, "pager": traces["pager"] + "81354"}
         said = "session_from_traces.py: pager.trace: the last line was not written to its end"
         self.wants("a line that ends early", self.written(half), ("", f"{said}\n", 1))
@@ -222,7 +228,7 @@ class Tests:
 
 
 @pytest.mark.quick
-@pytest.mark.cases(55)
+@pytest.mark.cases(63)
 def test_recording(program, room):
     tests = Tests(program, room)
     tests.of_folders()

@@ -13,7 +13,8 @@ A page has one cell: the sum, which is a hash of 64 bits of the whole page, and 
 
 Where an event tells of one that no trace has, there is a hole, and no session is written. With --cut that event is left out
 with all that follow it in its trace, until there is no hole, and standard error says so. A last line that was not written to
-its end is a hole too. An event that is in no table here is refused, and so is one that lacks a key, or has one twice.
+its end is a hole too, and so is a number that no event of a trace has, as a lost one leaves it: names are a letter and a number,
+and each trace numbers its events. An event that is in no table here is refused, and so is one that lacks a key, or has one twice.
 """
 import argparse
 import os
@@ -117,6 +118,17 @@ def trace(folder, log, cut):
     return events, said
 
 
+def missing(events):
+    """The first number that is missing among the names of a trace, as a name, and the first event behind it; None where none is."""
+    names = [(it[1], int(it[2]), it[0]) for it in map(re.compile("([^0-9]*)([0-9]+)").fullmatch, events) if it]
+    numbers = {number for _, number, _ in names}
+    lost = next((number for number in range(min(numbers, default=0), max(numbers, default=0)) if number not in numbers), None)
+    if lost is None:
+        return None
+    letter, _, behind = next(it for it in names if it[1] > lost)
+    return f"{letter}{lost}", behind
+
+
 class Recording:
     """The traces, and what of them becomes a record."""
 
@@ -142,8 +154,7 @@ class Recording:
     def cut_at_holes(self, cut):
         """Refuses traces with a hole, or cuts each in front of its first one."""
         while hole := next(self.holes(), None):
-            log, name, told = hole
-            said = f"{log}.trace: {name} tells of {told[1]}, which {told[0]}.trace has not" + (" before it" if told[0] == log else "")
+            log, name, said = hole
             if not cut:
                 raise Hole(said)
             names = list(self.traces[log])
@@ -153,13 +164,17 @@ class Recording:
                 del self.traces[log][name]
 
     def holes(self):
-        """The events that tell of one that no trace has: the log, the name, and the log and name of what is told."""
+        """The events in front of which a trace has a hole, or that tell of one that no trace has: the log, the name, and what is to be said."""
         for log in LOGS:
+            lost = missing(self.traces[log])
+            if lost:
+                yield log, lost[1], f"{log}.trace: there is no {lost[0]} before {lost[1]}: an event was lost"
             earlier = set()
             for name, event in self.traces[log].items():
                 for told in event.told().values():
                     if told[1] not in (earlier if told[0] == log else self.traces[told[0]]):
-                        yield log, name, told
+                        before = " before it" if told[0] == log else ""
+                        yield log, name, f"{log}.trace: {name} tells of {told[1]}, which {told[0]}.trace has not{before}"
                 earlier.add(name)
 
     def is_in_window(self, event):
