@@ -337,6 +337,7 @@ class Faults:
                 self.tests.same("a late call of a child", self.waited(child), 0)
             self.tests.same("what its file tells then", (self.ends_of(log), log.see(1), self.ends_of(log)), (["halt", "lost"], LOST, ["halt", "lost"]))
         self.of_late_children()
+        self.of_handlers()
         made = self.folder()
         log = Log(made, "guest")
         log.close()
@@ -344,6 +345,45 @@ class Faults:
         other = Log(made, "guest")
         other.close()
         self.tests.same("a late call whose recording is gone", (log.see(1), self.ends_of(other)), (LOST, ["end"]))
+
+    def of_handlers(self):
+        """A signal handler that calls while its thread is in a call on the log, or closes it: nothing waits for ever, and the log tells of it."""
+        script = """if True:
+            import signal, sys
+            from postcopy.recorder import LOST, Log
+            class Within(int):  # (what is written is asked for in the middle of a call, where a handler may come in)
+                def __str__(self):
+                    answers.append(self.call())
+                    return "7"
+            for call in ("see", "close", "hand_over"):
+                log, answers = Log(f"{sys.argv[1]}.{call}", "guest"), []
+                value = Within()
+                value.call = {"see": lambda: log.see(1), "close": log.close, "hand_over": log.hand_over}[call]
+                log.halt()
+                log.read(0, 0, 0, value)
+                log.close()
+                print(call, answers, log.error.errno, log.see(1) == LOST)
+            log, calls = Log(f"{sys.argv[1]}.often", "guest"), []
+            signal.signal(signal.SIGALRM, lambda *_: calls.append(log.halt()))
+            signal.setitimer(signal.ITIMER_REAL, 0.001, 0.001)
+            while log.error is None and len(calls) < 300:
+                log.read(0, 0, 0, 1)
+            signal.setitimer(signal.ITIMER_REAL, 0)
+            lost = calls.count(LOST)
+            log.close()
+            print(lost > 0, log.error is not None)
+        """
+        place = self.folder()
+        env = {**os.environ, "PYTHONPATH": f"{TOP}/bindings/python"}
+        ran = subprocess.run([sys.executable, "-B", "-c", script, place], env=env, capture_output=True, encoding="ascii", timeout=60)
+        *told, often = ran.stdout.splitlines() or [""]
+        busy = errno.EBUSY
+        self.tests.same("handlers' calls", told, [f"see [{LOST}] {busy} True", f"close [None] {busy} True", f"hand_over [{LOST}] {busy} True"])
+        self.tests.same("a handler that comes often", often in ("True True", "False False"), True)
+        for call in ("see", "close", "hand_over"):
+            folder = f"{place}.{call}"
+            last = self.has(f"{folder}/{self.only(folder, 'guest')}").splitlines()[-1]
+            self.tests.same(f"the last line where a handler makes the call {call}", last, f"lost {busy}")
 
     def of_late_children(self):
         """A child that was forked off in front of the close, and calls behind it: the log says that a record was not written."""

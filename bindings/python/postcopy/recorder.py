@@ -16,8 +16,9 @@ A folder holds one recording: give each run a folder of its own. `postcopy-sessi
 whether this module or the C recorder wrote them, and says what is missing. So close each log when its party has finished.
 
 If a record cannot be written, the call returns LOST, the log ends there, and `error` says why. Calls on a log that was closed, and in a
-forked child on the logs that its parent opened, also return LOST. The log's last line then tells that a record was not written, so that
-the recording counts as one that is not whole. Nothing here needs the library.
+forked child on the logs that its parent opened, also return LOST, and so does that of a signal handler that interrupts a call of its
+thread on the log. The log's last line then tells that a record was not written, so that the recording counts as one that is not whole.
+Nothing here needs the library.
 """
 from __future__ import annotations
 
@@ -87,11 +88,12 @@ class Log:
             raise ValueError(f"there is no party {party}")
         self.error: Optional[OSError] = None
         self.recording: Optional[str] = None
-        self._party, self._next, self._lock = party, first, threading.Lock()
+        self._party, self._next, self._lock = party, first, threading.RLock()
         self._process, self._file = os.getpid(), -1
         self._path, self._head = "", b""  # of the file, and how it begins
         self._stray: Optional[mmap.mmap] = None  # whether a forked child has made a call, and whether the log was closed: both share this
         self._is_late = False  # whether a call on the log that was closed was told
+        self._is_writing, self._is_ending = False, False  # whether the thread with the lock is in a call, which a signal handler may interrupt
         if first >= LOST:
             self.error = OSError(errno.EINVAL, "the log was not handed over, as a record was lost")
         elif folder is not None:
@@ -144,24 +146,34 @@ class Log:
         if not self._is_open():
             return LOST
         with self._lock:
-            if self._file < 0:
+            if self._file < 0 or self._is_ending:
                 return LOST
-            number = self._next if self.error is None else LOST
-            if self.error is None and self._stray is not None and self._stray[0]:
-                # (it took no number, so that another process can go on)
-                self.error = OSError(errno.EPERM, "a forked child made a call on its parent's log")
+            self._look_for_interrupted()
+            self._is_ending = True
             try:
-                if word is not None:
-                    self._put(f"{word} {number}\n" if self.error is None else f"lost {self.error.errno}\n")
-            except OSError as error:
-                self.error = self.error or error
-            os.close(self._file)
-            self._file = -1
-            if self._stray is not None:
-                self._stray[1] = 1
-                if self._stray[0]:  # (a child made its call just then)
-                    self._end_late(errno.EPERM)
-            return number
+                return self._end_open(word)
+            finally:
+                self._is_ending = False
+
+    def _end_open(self, word: Optional[str]) -> int:
+        number = self._next if self.error is None else LOST
+        if self.error is None and self._stray is not None and self._stray[0]:
+            # (it took no number, so that another process can go on)
+            self.error = OSError(errno.EPERM, "a forked child made a call on its parent's log")
+        try:
+            if word is not None:
+                self._put(f"{word} {number}\n" if self.error is None else f"lost {self.error.errno}\n")
+        except OSError as error:
+            self.error = self.error or error
+        os.close(self._file)
+        self._file = -1
+        if self._stray is not None:
+            self._stray[1] = 1
+            if self._stray[0]:  # (a child made its call just then)
+                self._end_late(errno.EPERM)
+        if self.error is not None:  # (or a signal handler)
+            self._end_late(self.error.errno or errno.EIO)
+        return number
 
     def _end_late(self, why: int) -> None:
         """What becomes of a call on a log that was closed, by a thread that ends late or in a child: the last line tells that a record was lost."""
@@ -194,8 +206,10 @@ class Log:
         with self._lock:
             if self._file < 0:
                 self._end_late(errno.EBADF)
+            self._look_for_interrupted()
             if self._file < 0 or self.error is not None:
                 return LOST
+            self._is_writing = True
             number = self._next
             self._next += 1
             try:
@@ -203,9 +217,16 @@ class Log:
                     raise OSError(errno.EOVERFLOW, os.strerror(errno.EOVERFLOW))
                 self._put(" ".join(map(str, (number, *record))) + "\n")
             except OSError as error:
-                self.error = error
+                self.error = self.error or error
                 return LOST
+            finally:
+                self._is_writing = False
             return number
+
+    def _look_for_interrupted(self) -> None:
+        """Loses the record of a signal handler that has interrupted a call of its thread: it would stand before one of a lesser number."""
+        if self._is_writing or self._is_ending:
+            self.error = self.error or OSError(errno.EBUSY, "a signal handler made a call while its thread made one")
 
     # The machine.
 
