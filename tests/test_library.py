@@ -12,6 +12,7 @@ import json
 import os
 import re
 import runpy
+import shlex
 import shutil
 import subprocess
 import sys
@@ -479,7 +480,7 @@ def pkg_config(prefix, *fields):
     while "${" in said:
         for name, value in re.findall(r"^(\w+)=(.*)$", said, re.M):
             said = said.replace(f"${{{name}}}", value)
-    return " ".join(re.search(rf"^{it}: (.*)$", said, re.M)[1] for it in fields).split()
+    return shlex.split(" ".join(re.search(rf"^{it}: (.*)$", said, re.M)[1] for it in fields))
 
 
 def tests_of_program(prefix):
