@@ -531,6 +531,10 @@ def tests_of_examples(postcopy, prefix, room):
             with open("/dev/full", "wb") as full:
                 ran = subprocess.run([f"{room}/{name}-{how}", *words], input=given, stdout=full)
             same(f"the {name} in C, {how}, whose answer cannot be written", ran.returncode, 3)
+        folder = os.open(room, os.O_RDONLY)
+        same(f"the audit in C, {how}, of what cannot be read", subprocess.run([f"{room}/audit-{how}"], stdin=folder, stdout=subprocess.PIPE).returncode, 3)
+        os.close(folder)
+        same(f"the check in C, {how}, of what cannot be mapped", subprocess.run([f"{room}/check-{how}", texts[0], os.devnull], stdout=subprocess.PIPE).returncode, 3)
     if shutil.which("c++"):
         headers = [f"{prefix}/include/{it}.h" for it in ("postcopy", "postcopy_record")]
         ran = subprocess.run(["c++", "-Wall", "-Wextra", "-Werror", "-fsyntax-only", "-x", "c++", *headers])
@@ -546,6 +550,10 @@ def tests_of_examples(postcopy, prefix, room):
         ran = subprocess.run(["cargo", "build", "--release"], cwd=f"{room}/rust", env={**os.environ, **how}, stderr=subprocess.PIPE)
         same("a program in Rust whose library is newer is linked again", (ran.returncode, b"Compiling postcopy-example" in ran.stderr), (0, True))
         programs["Rust"] = f"{room}/cargo/release/postcopy-example"
+        for words in (texts[:1], texts):
+            with open("/dev/full", "wb") as full:
+                ran = subprocess.run([programs["Rust"], *words], stdout=full)
+            same(f"the example for Rust with {len(words)} texts, whose answer cannot be written", ran.returncode, 3)
     else:
         leave_out("the example for Rust (there is no cargo)")
     for folder in ("handover", "circle-of-receipts", "leading-zero", "wrong-shape"):
@@ -713,7 +721,7 @@ def test_installed(prefix):
 
 
 @pytest.mark.slow
-@pytest.mark.cases(26)
+@pytest.mark.cases(32)
 def test_examples(postcopy, prefix, room):
     tests_of_examples(postcopy, prefix, room)
 

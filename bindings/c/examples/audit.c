@@ -6,7 +6,7 @@
 int main(void) {
     static uint8_t session[1 << 20];
     size_t session_len = fread(session, 1, sizeof session, stdin), room_len = 0;
-    if (session_len == sizeof session) return 3;
+    if (session_len == sizeof session || ferror(stdin)) return 3;
     uint8_t *room = session + session_len; /* a room of no bytes, to learn how many are wanted */
     postcopy_answer answer = postcopy_audit(session, session_len, room, room_len);
     if (answer.text_len) {

@@ -8,7 +8,7 @@
 static const uint8_t *text(const char *name, size_t *len) {
     struct stat file;
     int fd = open(name, O_RDONLY);
-    if (fd < 0 || fstat(fd, &file)) return NULL;
+    if (fd < 0 || fstat(fd, &file) || !S_ISREG(file.st_mode)) return NULL; /* a pipe cannot be mapped */
     *len = (size_t)file.st_size;
     void *at = *len ? mmap(NULL, *len, PROT_READ, MAP_PRIVATE, fd, 0) : "";
     return at == MAP_FAILED ? NULL : at;

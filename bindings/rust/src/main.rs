@@ -16,6 +16,8 @@ const YES: u32 = 1;
 
 const CLEAN: u32 = 2;
 
+const NO_MEMORY: u32 = 11;
+
 extern "C" {
     fn postcopy_check(session: *const u8, session_len: usize, cert: *const u8, cert_len: usize) -> Answer;
     fn postcopy_explain(session: *const u8, session_len: usize, room: *mut u8, room_len: usize) -> Answer;
@@ -41,18 +43,27 @@ fn explain(session: &[u8]) -> (Answer, Vec<u8>) {
     }
 }
 
+/// Writes a text, and returns the status: 0 for the kind that is wanted, 1 for another, 3 if the text was not written, 4 without memory.
+fn tell(text: &[u8], kind: u32, wanted: u32) -> ExitCode {
+    let mut output = std::io::stdout();
+    match kind {
+        NO_MEMORY => ExitCode::from(4),
+        _ if output.write_all(text).and_then(|()| output.flush()).is_err() => ExitCode::from(3),
+        _ => ExitCode::from(u8::from(kind != wanted)),
+    }
+}
+
 fn main() -> ExitCode {
     let texts: Option<Vec<Vec<u8>>> = std::env::args_os().skip(1).map(|name| std::fs::read(name).ok()).collect();
     match texts.as_deref() {
         Some([session, cert]) => {
             let answer = check(session, cert);
-            println!("kind {} line {} reason {}", answer.kind, answer.line, answer.reason);
-            ExitCode::from(u8::from(answer.kind != YES || answer.text_len != 0))
+            let words = format!("kind {} line {} reason {}\n", answer.kind, answer.line, answer.reason);
+            tell(words.as_bytes(), answer.kind, YES)
         }
         Some([session]) => {
             let (answer, words) = explain(session);
-            let is_told = std::io::stdout().write_all(&words).is_ok();
-            ExitCode::from(u8::from(answer.kind != CLEAN || !is_told))
+            tell(&words, answer.kind, CLEAN)
         }
         _ => ExitCode::from(3),
     }
