@@ -347,7 +347,7 @@ class Faults:
         self.tests.same("a late call whose recording is gone", (log.see(1), self.ends_of(other)), (LOST, ["end"]))
 
     def of_handlers(self):
-        """A signal handler that calls while its thread is in a call on the log, or closes it: nothing waits for ever, and the log tells of it."""
+        """A signal handler that calls while its thread is in a call on the log, or closes it: nothing waits forever, and the log tells of it."""
         script = """if True:
             import signal, sys
             from postcopy.recorder import LOST, Log
