@@ -76,6 +76,7 @@ def of_words(tests, room):
                          (["live", f"{room}/x", "--plain", "--fault", "early"], "--plain leaves out"), (["none", f"{room}/x"], "invalid choice")):
         status, out, line = said("migrate", *words)
         tests.wants(f"migrate {' '.join(words)}", (status, out, wrong in line), (2, "", True))
+    tests.wants("versions none", said("versions", "none"), (2, "", "versions: error: 'none' is none of the suites: trixie, sid"))
     if os.geteuid() != 0:
         tests.leave_out("what the recorder of CRIU says to root")
         return
