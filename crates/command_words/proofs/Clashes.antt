@@ -1,14 +1,14 @@
--- Words that ask for something do not clash.
-use Rattle.std.proofs.Common.{◌≡◌, ◌≢◌, ◌⊎◌, Bool, true, false, List, [], None, Option, Some, inl, inr, refl, cond, option_and_then}
+-- Words that ask for something do not clash; and which error words have that are refused.
+use Rattle.std.proofs.Common.{◌≡◌, ◌≢◌, ◌∙◌, ◌<◌, ◌⊎◌, Bool, true, false, List, [], None, Option, Some, inl, inr, refl, sym, subst, cond, length, option_and_then}
 use Rattle.std.specs.Option.{option_map_or}
-use Rattle.clap.specs.Words.{HasKind, Row, Text, kind_of, subcommand_of}
+use Rattle.clap.specs.Words.{HasKind, IsAmong, Row, Text, kind_of, subcommand_of}
 use Rattle.clap.specs.declared.error.Error.{Error}
 use Rattle.clap.specs.declared.error.kind.ErrorKind.{ErrorKind}
 use Rattle.clap.specs.declared.error.kind.ErrorKind.TheVariants.{ArgumentConflict, OutOfMemory}
 use Rattle.command_words.specs.declared.requests.Request.{Request}
 use Rattle.command_words.specs.declared.requests.Lacking.{Lacking}
 use Rattle.command_words.specs.declared.requests.Lists.{Lists}
-use Rattle.command_words.specs.Words.{IsKindFor, IsRefusedFor, asked, asked_in, asked_of, clashes, clashing, error_kinds, folders_asked, folders_given, folders_in, postcopy_words, several_asked, several_given, several_in}
+use Rattle.command_words.specs.Words.{AreAccepted, AreRefused, IsKindFor, IsRefusedFor, asked, asked_in, asked_of, clashes, clashing, error_kinds, folders_asked, folders_given, folders_in, postcopy_words, several_asked, several_given, several_in}
 
 -- what is asked for unless something holds, does not hold where it is asked for
 unless : {X : Type 0} (b : Bool) (found : Option X) (x : X) → cond b None found ≡ Some x → b ≡ false
@@ -39,22 +39,6 @@ several_asked_alike words several e = several_alike (subcommand_of postcopy_word
 pub folders_asked_alike : (words : List Text) (folders : Lacking × List Text) → folders_asked words ≡ Some folders → clashing words ≡ false
 folders_asked_alike words folders e = folders_alike (subcommand_of postcopy_words words) folders e
 
--- want of memory refuses words, whether or not they clash
-pub refused_for_memory : (clash : Bool) (kind : ErrorKind) → kind ≡ OutOfMemory → IsRefusedFor clash kind
-refused_for_memory true kind e = inr e
-refused_for_memory false kind e = e
-
--- words that do not clash, and that the command line takes, are refused for want of memory alone
-pub starved_alone : (clash : Bool) (kind : ErrorKind) → clash ≡ false → IsRefusedFor clash kind → kind ≡ OutOfMemory
-starved_alone true kind e h = absurd cc
-starved_alone false kind e h = h
-
--- words that the command line takes, and that are refused for something other than memory, clash
-pub refused_alone : (clash : Bool) (kind : ErrorKind) → kind ≢ OutOfMemory → IsRefusedFor clash kind → (clash ≡ true) × (kind ≡ ArgumentConflict)
-refused_alone true kind other (inl e) = (refl, e)
-refused_alone true kind other (inr e) = absurd (other e)
-refused_alone false kind other e = absurd (other e)
-
 -- an error of the command line is one for the words, or memory ran out
 pub kind_of_line : (words : List Text) (error : Error) → HasKind (error_kinds words) error → (kind_of error ≡ OutOfMemory) ⊎ IsKindFor words (kind_of error)
 kind_of_line words error (inl memory) = inl memory
@@ -70,3 +54,18 @@ kind_of_clash words false kind alike none memory = inl memory
 pub kind_alone : (words : List Text) (kind : ErrorKind) → kind ≢ OutOfMemory → (kind ≡ OutOfMemory) ⊎ IsKindFor words kind → IsKindFor words kind
 kind_alone words kind other (inl memory) = absurd (other memory)
 kind_alone words kind other (inr is) = is
+
+-- words that are accepted have no error
+pub no_kind : (words : List Text) (kind : ErrorKind) → AreAccepted words → IsKindFor words kind → ⊥
+no_kind words kind accepted (inl among) = absurd (subst (IsAmong kind) accepted.0 among)
+no_kind words kind accepted (inr (none, clashes, why)) = let both : true ≡ false = sym clashes ∙ accepted.1 in absurd cc
+
+-- words that the command line accepts have only that of options that clash
+pub clash_kind : (words : List Text) (kind : ErrorKind) → error_kinds words ≡ [] → IsKindFor words kind → kind ≡ ArgumentConflict
+clash_kind words kind none (inl among) = absurd (subst (IsAmong kind) none among)
+clash_kind words kind none (inr (accepted, clashes, why)) = why
+
+-- words that are accepted are not refused
+pub not_refused : (words : List Text) (P : Type 0) → (1 < length words → error_kinds words ≡ []) → clashing words ≡ false → AreRefused words → P
+not_refused words P accepted alike (more, inl fault) = absurd (fault (accepted more))
+not_refused words P accepted alike (more, inr clash) = let clashes : true ≡ false = sym clash ∙ alike in absurd cc

@@ -1,10 +1,10 @@
 -- What a command line takes, and finds, where its first word names a command and the others are plain names.
-use Rattle.std.proofs.Common.{◌≡◌, ◌∙◌, ℕ, Bool, true, false, List, [], ◌∷◌, Option, Some, refl, ap, ap₂, find, is_some, option_map, ◌&&◌}
+use Rattle.std.proofs.Common.{◌≡◌, ◌∙◌, ℕ, Bool, true, false, List, [], ◌∷◌, Some, ap, ap₂, find, is_some, option_map, ◌&&◌}
 use Rattle.std.specs.List.{list_all}
 use Rattle.std.specs.Option.{option_map_or}
 use Rattle.clap.specs.Simple.{App, Shape, argument_words, built, entered, is_simple, label_of, names_of, rows_at}
 use Rattle.clap.specs.Takes.{default_passes, entered_passes, is_valid, level_passes, settle_passes, step_passes, takes, turn_passes, walk_passes}
-use Rattle.clap.specs.Walk.{Held, Row, Text, Walk, answers_to, arg_by_index, finished, nothing_held, stop_after, to_positional, value, walk, walk_from, walked}
+use Rattle.clap.specs.Walk.{Held, Text, Walk, answers_to, arg_by_index, finished, nothing_held, stop_after, to_positional, value, walk, walk_from, walked}
 use Rattle.clap.specs.Words.{subcommand_of}
 use Rattle.command_words.proofs.Names.{IsName, at, turn_name, walked_name}
 

@@ -4,6 +4,7 @@ pub mod Rows
 pub mod Unplaced
 pub mod Refusals
 pub mod Entered
+pub mod Accepted
 pub mod Plain
 pub mod Bare
 pub mod Clashes

@@ -1,11 +1,11 @@
 -- What the command line takes of plain names.
-use Rattle.std.proofs.Common.{◌≡◌, ◌∙◌, ◌≤◌, Bool, true, false, List, [], ◌∷◌, map, length, Some, None, refl, sym, ap, subst, arith, codes, cond, option_and_then}
+use Rattle.std.proofs.Common.{◌≡◌, ◌∙◌, Bool, true, false, List, [], ◌∷◌, map, Some, None, refl, sym, ap, subst, codes, cond, option_and_then}
 use Rattle.std.specs.List.{AllByRecursion}
 use Rattle.std.specs.Str.{bytes_eq}
 use Rattle.std.proofs.lemmas.Slice.Eq.{bytes_eq-Decides}
 use Rattle.clap.specs.Simple.{Shape, built, is_simple, new_shape}
 use Rattle.clap.specs.Walk.{Held, finished, nothing_held}
-use Rattle.clap.specs.Words.{Text, takes}
+use Rattle.clap.specs.Words.{Text}
 use Rattle.clap.proofs.OnLiterals.{clap_on_literals}
 use Rattle.command_words.specs.declared.building.Choices.{Choices}
 use Rattle.command_words.specs.declared.requests.Request.{Request}
@@ -19,13 +19,14 @@ use Rattle.command_words.specs.declared.requests.Takes.{Takes}
 use Rattle.command_words.specs.declared.requests.Takes.TheVariants as by
 use Rattle.migration_types.specs.declared.topic.Topic.TheVariants.{Report}
 use Rattle.command_words.specs.Table.{carriers, carrier_name, format_name, formats, plain as asked_plainly, plain_audit, plain_explanation, no_pages}
-use Rattle.command_words.specs.Words.{IsPlain, IsPlainName, asked, asked_by, asked_in, one_of, postcopy_words, program_words, with_command, with_names, with_texts}
+use Rattle.command_words.specs.Words.{IsPlain, IsPlainName, asked, asked_by, asked_in, error_kinds, one_of, postcopy_words, program_words, with_command, with_names, with_texts}
+use Rattle.command_words.proofs.Accepted.{taken_accepted}
 use Rattle.command_words.proofs.Names.{Form, form_of, is_name}
 use Rattle.command_words.proofs.Entered.{Enters, Holds, found_plainly, taken_plainly, takes_one, takes_two, took}
 
--- the words are taken, and ask for this
+-- the command line accepts the words, and they ask for this
 pub record IsTaken (words : List Text) (job : Request Text) : Type 0 where
-  pub taken : takes postcopy_words words ≡ true
+  pub accepted : error_kinds words ≡ []
   pub given : asked words ≡ Some job
 
 -- the parsers of the values of options, which lie at no place
@@ -46,7 +47,7 @@ is_simple_line = refl
 -- words are taken, and ask for this, where a command takes the names
 taken_by : (program command : Text) (names : List Text) (s : Shape) (h : Held) (job : Request Text) → Enters postcopy_words program command names s → Holds s names h → asked_in (s.name, finished s.rules h) ≡ Some job → IsTaken (program ∷ command ∷ names) job
 taken_by program command names s h job enters holds asks = record {
-  taken = taken_plainly postcopy_words program command names s h enters holds;
+  accepted = taken_accepted (program ∷ command ∷ names) (taken_plainly postcopy_words program command names s h enters holds);
   given = ap (option_and_then asked_in) (found_plainly postcopy_words program command names s h enters holds) ∙ asks;
 }
 
@@ -220,10 +221,3 @@ same_text a b e = (bytes_eq-Decides a b).0 e
 -- plain words of a command are taken, and ask for it
 pub taken_plain : (words : List Text) (name : Text) (names : List Text) (job : Request Text) → IsPlain words name names → asked_by name names ≡ Some job → IsTaken words job
 taken_plain words name names job h e = rw h.words_are (row_taken h.program name names job h.plain _ _ _ _ _ _ _ _ _ _ (same_text (codes "check") name) (same_text (codes "certify") name) (same_text (codes "audit") name) (same_text (codes "explain") name) (same_text (codes "replay") name) (same_text (codes "steps") name) (same_text (codes "migrate") name) (same_text (codes "draw") name) e)
-
--- a word or none is not taken, as a command has to be there
-pub bare_not_taken : (words : List Text) → length words ≤ 1 → takes postcopy_words words ≡ false
-unfolding clap_on_literals
-bare_not_taken [] le = refl
-bare_not_taken (word ∷ []) le = refl
-bare_not_taken (word ∷ other ∷ rest) le = absurd (omega arith)

@@ -1,5 +1,5 @@
 -- Which kinds of error words have depends on the names of a parser, and not on where they lie in memory.
-use Rattle.std.proofs.Common.{◌≡◌, ◌∙◌, ℕ, Bool, true, false, zero, suc, ◌&&◌, ◌||◌, List, [], ◌∷◌, map, find, drop, length, None, Option, Some, is_some, not, refl, sym, ap, ap₂, cond, option_map, encode_utf8, slice_get}
+use Rattle.std.proofs.Common.{◌≡◌, ◌∙◌, ℕ, Bool, false, zero, suc, ◌&&◌, ◌||◌, List, [], ◌∷◌, map, drop, length, None, Option, Some, is_some, not, refl, sym, ap, ap₂, cond, option_map, encode_utf8, slice_get}
 use Rattle.std.specs.Borrow.{Bor}
 use Rattle.std.specs.List.{list_any}
 use Rattle.std.specs.Option.{option_map_or}

@@ -1,19 +1,14 @@
 -- A parse reads the names of a parser, and not where they lie in memory.
-use Rattle.std.proofs.Common.{◌≡◌, ◌∙◌, ℕ, Bool, true, false, zero, suc, ◌&&◌, ◌||◌, List, [], ◌∷◌, map, find, fold, drop, length, None, Option, Some, is_some, not, refl, sym, ap, ap₂, cond, option_map, encode_utf8, slice_get, nat_le}
+use Rattle.std.proofs.Common.{◌≡◌, ◌∙◌, ℕ, Bool, true, false, zero, suc, ◌&&◌, ◌||◌, List, [], ◌∷◌, map, find, fold, drop, length, None, Option, Some, refl, sym, ap, ap₂, cond, option_map, encode_utf8, slice_get}
 use Rattle.std.specs.Borrow.{Bor}
-use Rattle.std.specs.List.{list_all, list_any}
-use Rattle.std.specs.Option.{option_map_or}
+use Rattle.std.specs.List.{list_any}
 use Rattle.std.specs.Str.{bytes_eq, chars}
 use Rattle.clap.specs.Lexer.{short_of, long_of}
-use Rattle.clap.specs.Facts.{explicit_source, parser_of_value, unwrap_or_range}
+use Rattle.clap.specs.Facts.{parser_of_value}
 use Rattle.clap.specs.Simple.{App, Shape, argument_words, built, entered, label_of, names_of, rows_at, subcommand_of}
-use Rattle.clap.specs.Takes.{action_passes, bundle_passes, bundle_step_passes, default_passes, flag_word_passes, flags_pass, is_valid, level_passes, long_passes, option_passes, other_passes, positional_passes, react_passes, set_passes, settle_passes, short_passes, step_passes, turn_passes, use_passes, value_passes, values_pass, walk_passes, word_passes, count_passes, is_given, entered_passes, takes}
-use Rattle.clap.specs.Values.{is_request, reading_of, same_text}
+use Rattle.clap.specs.Values.{reading_of, same_text}
 use Rattle.clap.specs.ValueTests.{accepts}
-use Rattle.clap.specs.Walk.{Held, Names, Outcome, Row, Rule, Step, Text, Waiting, Walk, action_of, after_flag, after_step, answers_to, arg_by_id, arg_by_index, arg_by_long, arg_by_short, attached_value, bundle, bundle_met, bundle_step, default_rows, done, finished, flag_met, has_row, idle, is_empty, is_multiple, is_pending, long_met, long_or_other, long_word, most_values, next, next_position, nothing_held, option, option_met, option_word, plain, plain_word, positional, positional_held, pushed, reacted, refused, rows_after, settled, settled_rows, stop_after, short_met, short_or_plain, short_word, subcommand, subcommand_met, subcommand_or_other, takes_several, takes_values, to_positional, trailing, used, used_as, used_by_id, value, values_or_missing, waits, walk, walk_from, walked, walked_from, with_default, word_met}
-use Rattle.clap.specs.declared.builder.action.ArgAction.{ArgAction}
-use Rattle.clap.specs.declared.builder.action.ArgAction.TheVariants.{Set, Append, SetTrue, SetFalse, Count}
-use Rattle.clap.specs.declared.builder.action.ArgAction.TheVariants as action
+use Rattle.clap.specs.Walk.{Held, Names, Outcome, Row, Rule, Step, Text, Waiting, Walk, action_of, after_flag, after_step, answers_to, arg_by_id, arg_by_index, arg_by_long, arg_by_short, attached_value, bundle, bundle_met, bundle_step, default_rows, done, finished, flag_met, has_row, idle, is_multiple, is_pending, long_met, long_or_other, long_word, next, next_position, nothing_held, option, option_met, option_word, plain, plain_word, positional, positional_held, pushed, reacted, refused, rows_after, settled, settled_rows, stop_after, short_met, short_or_plain, short_word, subcommand, subcommand_met, subcommand_or_other, takes_several, takes_values, to_positional, trailing, used, used_as, used_by_id, value, values_or_missing, waits, walk, walk_from, walked, walked_from, with_default, word_met}
 use Rattle.clap.specs.declared.builder.value_parser.ValueParser.{ValueParser}
 use Rattle.clap.specs.declared.builder.value_parser.ValueParser.TheVariants as parser
 use Rattle.command_words.specs.declared.building.Choices.{Choices}
@@ -71,14 +66,6 @@ find_map f test (x ∷ xs) = elim (test (f x)) as (λ b. cond b (Some (f x)) (fi
 
 pub find_alike : (test : Rule → Bool) (c : List Rule) → find test (map set c) ≡ option_map set (find (λ a. test (set a)) c)
 find_alike test c = find_map set test c
-
-all_alike : (test other : Rule → Bool) → ((a : Rule) → test (set a) ≡ other a) → (c : List Rule) → list_all test (map set c) ≡ list_all other c
-all_alike test other same [] = refl
-all_alike test other same (a ∷ c) = ap₂ (λ b d. b && d) (same a) (all_alike test other same c)
-
-same_all : (test other : Text → Bool) → ((t : Text) → test t ≡ other t) → (ts : List Text) → list_all test ts ≡ list_all other ts
-same_all test other same [] = refl
-same_all test other same (t ∷ ts) = ap₂ (λ b d. b && d) (same t) (same_all test other same ts)
 
 -- ---- one use of an argument
 
@@ -221,151 +208,15 @@ finished_alike c h = ap (λ (k : Held). fold with_default k.rows (map set c)) (s
 pub rows_alike : (c : List Rule) (names : Names) (words : List Text) → rows_after (map set c) names words ≡ rows_after c names words
 rows_alike c names words = ap (λ (w : Walk). finished (map set c) w.held) (fold_alike c names (walk_from nothing_held) words) ∙ finished_alike c (walk c names nothing_held words).held
 
--- ---- whether the words are taken
-
-value_alike : (a : Rule) (text : Text) → value_passes (set a) text ≡ value_passes a text
-value_alike a text = accept_alike a.ignore_case a.parser text
-
-values_alike : (a : Rule) (values : List Text) → values_pass (set a) values ≡ values_pass a values
-values_alike a values = same_all (value_passes (set a)) (value_passes a) (value_alike a) values
-
-count_alike : (a : Rule) (values : List Text) (rows : List Row) → count_passes (set a) values rows ≡ count_passes a values rows
-count_alike a [] rows = value_alike a _
-count_alike a (v ∷ vs) rows = values_alike a (v ∷ vs)
-
-set_alike : (again : Bool) (a : Rule) (values : List Text) (rows : List Row) → set_passes again (set a) values rows ≡ set_passes again a values rows
-set_alike again a values rows = ap (λ b. (not (has_row a.id rows) || again) && b) (values_alike a values)
-
-action_alike : (act : ArgAction) (again : Bool) (a : Rule) (values : List Text) (rows : List Row) → action_passes act again (set a) values rows ≡ action_passes act again a values rows
-action_alike Set again a values rows = set_alike again a values rows
-action_alike SetTrue again a values rows = set_alike again a values rows
-action_alike SetFalse again a values rows = set_alike again a values rows
-action_alike Append again a values rows = values_alike a values
-action_alike Count again a values rows = count_alike a values rows
-action_alike action.Help again a values rows = refl
-action_alike action.HelpShort again a values rows = refl
-action_alike action.HelpLong again a values rows = refl
-action_alike action.Version again a values rows = refl
-
-use_alike : (again : Bool) (a : Rule) (values : List Text) (rows : List Row) → use_passes again (set a) values rows ≡ use_passes again a values rows
-use_alike again a values rows =
-    ap (λ b. nat_le (unwrap_or_range a.range).start_inclusive (length values) && (nat_le (length values) (most_values a) && b))
-    (ap (λ vs. action_passes (action_of a) again (set a) vs rows) (missing_alike a values) ∙ action_alike (action_of a) again a (values_or_missing a values) rows)
-
-use_by_alike : (again : Bool) (o : Option Rule) (values : List Text) (rows : List Row) → option_map_or (λ a. use_passes again a values rows) (option_map set o) true ≡ option_map_or (λ a. use_passes again a values rows) o true
-use_by_alike again None values rows = refl
-use_by_alike again (Some a) values rows = use_alike again a values rows
-
-pending_alike : (c : List Rule) (again : Bool) (pending : Option (Text × List Text)) (rows : List Row)
-    → option_map_or (λ (p : Text × List Text). option_map_or (λ a. use_passes again a p.1 rows) (arg_by_id (map set c) p.0) true) pending true
-    ≡ option_map_or (λ (p : Text × List Text). option_map_or (λ a. use_passes again a p.1 rows) (arg_by_id c p.0) true) pending true
-pending_alike c again None rows = refl
-pending_alike c again (Some p) rows = ap (λ o. option_map_or (λ a. use_passes again a p.1 rows) o true) (find_alike (λ a. bytes_eq a.id p.0) c) ∙ use_by_alike again (arg_by_id c p.0) p.1 rows
-
-settle_alike : (c : List Rule) (again : Bool) (h : Held) → settle_passes (map set c) again h ≡ settle_passes c again h
-settle_alike c again h = pending_alike c again h.pending h.rows
-
-react_alike : (c : List Rule) (again : Bool) (a : Rule) (values : List Text) (h : Held) → react_passes (map set c) again (set a) values h ≡ react_passes c again a values h
-react_alike c again a values h = ap₂ (λ b d. b && d) (settle_alike c again h) (ap (λ (k : Held). use_passes again (set a) values k.rows) (settled_alike c h) ∙ use_alike again a values (settled c h).rows)
-
-option_passes_alike : (c : List Rule) (again : Bool) (a : Rule) (v : Option Text) (h : Held) → option_passes (map set c) again (set a) v h ≡ option_passes c again a v h
-option_passes_alike c again a (Some v) h = react_alike c again a (v ∷ []) h
-option_passes_alike c again a None h = settle_alike c again h
-
-long_passes_alike : (c : List Rule) (again : Bool) (o : Option Rule) (v : Option Text) (h : Held) → long_passes (map set c) again (option_map set o) v h ≡ long_passes c again o v h
-long_passes_alike c again None v h = refl
-long_passes_alike c again (Some a) v h = ap₂ (cond (takes_values a)) (option_passes_alike c again a v h) (ap (λ b. not (is_some v) && b) (react_alike c again a [] h))
-
-short_passes_alike : (c : List Rule) (again : Bool) (o : Option Rule) (rest : Text) (h : Held) (go other : Held → Bool) → ((k : Held) → go k ≡ other k) → short_passes (map set c) again (option_map set o) rest h go ≡ short_passes c again o rest h other
-short_passes_alike c again None rest h go other same = refl
-short_passes_alike c again (Some a) rest h go other same =
-    ap₂ (cond (takes_values a)) (option_passes_alike c again a (attached_value rest) h)
-    (ap₂ (λ b d. b && d) (react_alike c again a [] h) (same (reacted (map set c) (set a) [] h) ∙ ap other (reacted_alike c a [] h)))
-
-bundle_step_passes_alike : (c : List Rule) (again : Bool) (x : Option ℕ) (flags : Text) (skip : ℕ) (h : Held) (go other : Text → ℕ → Held → Bool)
-    → ((t : Text) (n : ℕ) (k : Held) → go t n k ≡ other t n k) → bundle_step_passes (map set c) again x flags skip h go ≡ bundle_step_passes c again x flags skip h other
-bundle_step_passes_alike c again None flags skip h go other same = refl
-bundle_step_passes_alike c again (Some x) flags zero h go other same =
-    let rest = drop (length (encode_utf8 x)) flags in
-    ap (λ o. short_passes (map set c) again o rest h (go rest 0)) (find_alike _ c) ∙ short_passes_alike c again (arg_by_short c x) rest h (go rest 0) (other rest 0) (same rest 0)
-bundle_step_passes_alike c again (Some x) flags (suc skip) h go other same = same (drop (length (encode_utf8 x)) flags) skip h
-
-flags_alike : (c : List Rule) (again : Bool) (k : ℕ) (flags : Text) (skip : ℕ) (h : Held) → flags_pass (map set c) again k flags skip h ≡ flags_pass c again k flags skip h
-unfolding flags_pass
-flags_alike c again zero flags skip h = refl
-flags_alike c again (suc k) flags skip h = bundle_step_passes_alike c again (slice_get (chars flags) 0) flags skip h (flags_pass (map set c) again k) (flags_pass c again k) (flags_alike c again k)
-
-short_word_passes_alike : (c : List Rule) (again : Bool) (o : Option Text) (h : Held) → option_map_or (λ flags. bundle_passes (map set c) again flags h) o true ≡ option_map_or (λ flags. bundle_passes c again flags h) o true
-short_word_passes_alike c again None h = refl
-short_word_passes_alike c again (Some flags) h = flags_alike c again (length flags) flags h.skip (record h { skip = 0 })
-
-flag_word_alike : (c : List Rule) (again : Bool) (long : Option (Text × Option Text)) (word : Text) (h : Held) → flag_word_passes (map set c) again long word h ≡ flag_word_passes c again long word h
-flag_word_alike c again (Some p) word h = ap (λ o. long_passes (map set c) again o p.1 h) (find_alike _ c) ∙ long_passes_alike c again (arg_by_long c p.0) p.1 h
-flag_word_alike c again None word h = short_word_passes_alike c again (short_of word) h
-
 -- a command with such rules
 abbrev pub set_in : Shape → Shape
 set_in s = record s { rules = map set s.rules }
-
-other_alike : (s : Shape) (met : Option Text) (word : Text) (h : Held) → other_passes (set_in s) met word h ≡ other_passes s met word h
-other_alike s (Some name) word h = refl
-other_alike s None word h = ap (λ b. bytes_eq word (45 ∷ 45 ∷ []) || b) (flag_word_alike s.rules s.args_override_self (long_of word) word h)
-
-word_alike : (s : Shape) (names : Names) (is_trailing : Bool) (waiting : Waiting) (word : Text) (h : Held) → word_passes (set_in s) names is_trailing waiting word h ≡ word_passes s names is_trailing waiting word h
-word_alike s names is_trailing waiting word h = ap (λ b. is_trailing || b) (other_alike s (subcommand_met names waiting word) word h)
-
-positional_passes_alike : (s : Shape) (o : Option Rule) (h : Held)
-    → option_map_or (λ a. positional_passes (map set s.rules) s.args_override_self a h) (option_map set o) false ≡ option_map_or (λ a. positional_passes s.rules s.args_override_self a h) o false
-positional_passes_alike s None h = refl
-positional_passes_alike s (Some a) h = ap (λ b. (is_pending a h.pending && takes_several a) || b) (settle_alike s.rules s.args_override_self h)
-
-step_alike : (s : Shape) (position : ℕ) (h : Held) (step : Step) → step_passes (set_in s) position h step ≡ step_passes s position h step
-step_alike s position h value = ap (λ o. option_map_or (λ a. positional_passes (map set s.rules) s.args_override_self a h) o false) (find_alike _ s.rules) ∙ positional_passes_alike s (arg_by_index s.rules position) h
-step_alike s position h (next waiting) = refl
-step_alike s position h (trailing p) = refl
-step_alike s position h (subcommand name) = refl
-
-turn_alike : (s : Shape) (names : Names) (w : Walk) (word : Text) → turn_passes (set_in s) names w word ≡ turn_passes s names w word
-turn_alike s names w word =
-    let met = word_met s.rules names w.is_trailing w.waiting w.position word w.held in
-    ap (λ b. is_some w.stopped || b) (ap₂ (λ b d. b && d) (word_alike s names w.is_trailing w.waiting word w.held)
-    (ap (λ (m : Held × Step). step_passes (set_in s) w.position m.0 m.1) (met_alike s.rules names w.is_trailing w.waiting w.position word w.held) ∙ step_alike s w.position met.0 met.1))
-
-walk_passes_alike : (s : Shape) (names : Names) (w : Walk) (words : List Text) → walk_passes (set_in s) names w words ≡ walk_passes s names w words
-unfolding walk_passes
-walk_passes_alike s names w [] = refl
-walk_passes_alike s names w (word ∷ words) = ap₂ (λ b d. b && d) (turn_alike s names w word) (ap (λ k. walk_passes (set_in s) names k words) (walked_alike s.rules names w word) ∙ walk_passes_alike s names (walked s.rules names w word) words)
-
-default_passes_alike : (a : Rule) → default_passes (set a) ≡ default_passes a
-default_passes_alike a = ap (λ b. is_empty a.defaults || (not (is_request (action_of a)) && b)) (values_alike a a.defaults)
-
-is_valid_alike : (s : Shape) (rows : List Row) (has_subcommand : Bool) → is_valid (set_in s) rows has_subcommand ≡ is_valid s rows has_subcommand
-is_valid_alike s rows has_subcommand =
-    ap₂ (λ b d. (not s.arg_required_else_help || (has_subcommand || list_any (λ (r : Row). explicit_source r.source) rows)) && ((not s.subcommand_required || has_subcommand) && (b && ((s.subcommand_negates_reqs && has_subcommand) || d))))
-    (all_alike (λ a. a.is_free) (λ a. a.is_free) (λ a. refl) s.rules)
-    (all_alike (λ a. not a.required || is_given a.id rows) (λ a. not a.required || is_given a.id rows) (λ a. refl) s.rules)
-
--- whether a level of the parse passes
-pub level_alike : (s : Shape) (names : Names) (h : Held) (words : List Text) (has_subcommand : Bool) → level_passes (set_in s) names h words has_subcommand ≡ level_passes s names h words has_subcommand
-level_alike s names h words has_subcommand =
-    let end = (walk s.rules names h words).held in
-    let same = fold_alike s.rules names (walk_from h) words in
-    ap₂ (λ b d. b && d) (walk_passes_alike s names (walk_from h) words)
-    (ap₂ (λ b d. b && d) (ap (λ (w : Walk). settle_passes (map set s.rules) s.args_override_self w.held) same ∙ settle_alike s.rules s.args_override_self end)
-    (ap₂ (λ b d. b && d) (all_alike default_passes default_passes default_passes_alike s.rules)
-    (ap (λ (w : Walk). is_valid (set_in s) (finished (map set s.rules) w.held) has_subcommand) same
-    ∙ ap (λ rows. is_valid (set_in s) rows has_subcommand) (finished_alike s.rules end)
-    ∙ is_valid_alike s (finished s.rules end) has_subcommand)))
 
 -- ---- the level below
 
 rows_at_alike : (o : Option Shape) (words : List Text) → option_map (λ (s : Shape). rows_at s words) (option_map set_in o) ≡ option_map (λ (s : Shape). rows_at s words) o
 rows_at_alike None words = refl
 rows_at_alike (Some s) words = ap (λ rows. Some (s.name, rows)) (rows_alike s.rules [] words)
-
-level_below_alike : (o : Option Shape) (words : List Text) → option_map_or (λ s. level_passes s [] nothing_held words false) (option_map set_in o) true ≡ option_map_or (λ s. level_passes s [] nothing_held words false) o true
-level_below_alike None words = refl
-level_below_alike (Some s) words = level_alike s [] nothing_held words false
 
 -- a program with such commands
 abbrev pub set_below : App → App
@@ -374,10 +225,6 @@ set_below a = record a { subs = map set_in a.subs }
 pub entered_alike : (a : App) (stop : Option (Text × List Text)) → entered (set_below a) stop ≡ entered a stop
 entered_alike a None = refl
 entered_alike a (Some p) = ap (option_map (λ (s : Shape). rows_at s p.1)) (find_map set_in (λ s. answers_to p.0 (label_of s)) a.subs) ∙ rows_at_alike _ p.1
-
-entered_passes_alike : (a : App) (stop : Option (Text × List Text)) → entered_passes (set_below a) stop ≡ entered_passes a stop
-entered_passes_alike a None = refl
-entered_passes_alike a (Some p) = ap (λ o. option_map_or (λ s. level_passes s [] nothing_held p.1 false) o true) (find_map set_in (λ s. answers_to p.0 (label_of s)) a.subs) ∙ level_below_alike _ p.1
 
 -- ---- the program's command line
 
@@ -401,18 +248,7 @@ line_entered : (carriers forms : Bor (List (Bor Text))) (words : List Text) → 
 unfolding stop_of
 line_entered carriers forms words = entered_alike (built (line_words (parsers carriers forms))) (stop_of words)
 
-line_takes : (carriers forms : Bor (List (Bor Text))) (words : List Text) → takes (line_words (parsers_of (texts carriers) (texts forms))) words ≡ takes (line_words (parsers carriers forms)) words
-unfolding stop_of
-line_takes carriers forms words =
-    let a = built (line_words (parsers carriers forms)) in
-    ap₂ (λ b d. b && d) (entered_passes_alike a (stop_of words))
-    (ap (λ found. level_passes a.top (names_of a) nothing_held (argument_words postcopy_words words) (is_some found)) (entered_alike a (stop_of words)))
-
--- the program takes these words, and finds this in them, wherever the names of the carriers and of the forms lie
-pub takes_anywhere : (carriers forms : Bor (List (Bor Text))) (words : List Text) → texts carriers ≡ map carrier_name all_carriers → texts forms ≡ map format_name all_formats
-    → takes postcopy_words words ≡ takes (line_words (record { carriers = parser.Names carriers; formats = parser.Names forms })) words
-takes_anywhere carriers forms words e d = ap₂ (λ c f. takes (line_words (parsers_of c f)) words) (sym e) (sym d) ∙ line_takes carriers forms words
-
+-- the program finds this in the words, wherever the names of the carriers and of the forms lie
 pub found_anywhere : (carriers forms : Bor (List (Bor Text))) (words : List Text) → texts carriers ≡ map carrier_name all_carriers → texts forms ≡ map format_name all_formats
     → subcommand_of postcopy_words words ≡ subcommand_of (line_words (record { carriers = parser.Names carriers; formats = parser.Names forms })) words
 found_anywhere carriers forms words e d = ap₂ (λ c f. subcommand_of (line_words (parsers_of c f)) words) (sym e) (sym d) ∙ line_entered carriers forms words

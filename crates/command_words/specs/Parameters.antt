@@ -1,5 +1,5 @@
 -- The words and the options of a command, one by one.
-use Rattle.std.specs.Prelude.{[], ◌∷◌, Option, Some, None, codes}
+use Rattle.std.specs.Prelude.{Option, Some, None, codes}
 use Rattle.clap.specs.Words.{App, Rule, Text, new_rule, with_rule}
 use Rattle.command_words.specs.declared.building.Choices.{Choices}
 use Rattle.command_words.specs.declared.parameters.Parameter.{Parameter}

@@ -1,12 +1,11 @@
 -- What is found in the words of a command line.
-use Rattle.std.specs.Prelude.{◌≡◌, ◌<◌, ◌≤◌, List, [], Option, None, Result, MatchResult, false, length, option_and_then, true}
-use Rattle.clap.specs.Words.{Row, Text, kind_of, subcommand_of, takes}
+use Rattle.std.specs.Prelude.{◌≡◌, ◌<◌, ◌≤◌, List, [], Option, None, Result, MatchResult, false, length, option_and_then}
+use Rattle.clap.specs.Words.{Row, Text, kind_of, subcommand_of}
 use Rattle.clap.specs.declared.error.Error.{Error}
-use Rattle.clap.specs.declared.error.kind.ErrorKind.TheVariants.{ArgumentConflict}
 use Rattle.command_words.specs.declared.requests.Invocation.{Invocation}
 use Rattle.command_words.specs.declared.requests.Targets.{Targets}
 use Rattle.command_words.specs.Table.{folders_of, job_of, several_of}
-use Rattle.command_words.specs.Words.{IsKindFor, answer_kind, asked_in, clash_in, clashing, error_kinds, folders_in, postcopy_words, several_in, target_names, targets_in}
+use Rattle.command_words.specs.Words.{IsKindFor, answer_kind, asked_in, clash_in, error_kinds, folders_in, postcopy_words, several_in, target_names, targets_in}
 
 -- the files are those that a command and its arguments name for what is written, and the kind is that of its answer
 pub record AreTargetsIn (given : Option (Text × List Row)) (targets : Targets) : Type 0 where
@@ -31,11 +30,9 @@ pub record IsFound (words : List Text) (found : Invocation) : Type 0 where
   pub bare : length words ≤ 1 → found.intent ≡ None
   pub accepted : 1 < length words → error_kinds words ≡ []
 
--- The words, two or more, are refused with this error. If the command line accepts them, it is because options clash,
--- or because memory ran out.
+-- the words, two or more, are refused with this error
 pub record IsRefused (words : List Text) (error : Error) : Type 0 where
   pub more : 1 < length words
-  pub clash : takes postcopy_words words ≡ true → (clashing words ≡ true) × (kind_of error ≡ ArgumentConflict)
   pub kind : IsKindFor words (kind_of error)
 
 -- the result of reading the words

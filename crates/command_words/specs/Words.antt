@@ -1,5 +1,5 @@
 -- The words of the command line.
-use Rattle.std.specs.Prelude.{◌≡◌, ◌≢◌, ℕ, [], ◌∷◌, ◌++◌, ◌⊎◌, Bool, List, Option, Some, None, true, codes, fold, find, map, option_and_then, option_map, unwrap_or, if◌then◌else◌, false, is_some, not, ◌&&◌, ◌||◌, ◌==◌}
+use Rattle.std.specs.Prelude.{◌≡◌, ◌≢◌, ◌<◌, ℕ, [], ◌∷◌, ◌++◌, ◌⊎◌, Bool, List, length, Option, Some, None, true, codes, fold, find, map, option_and_then, option_map, unwrap_or, if◌then◌else◌, false, is_some, not, ◌&&◌, ◌||◌, ◌==◌}
 use Rattle.std.specs.List.{AllByRecursion}
 use Rattle.std.specs.Option.{option_map_or}
 use Rattle.std.specs.Str.{bytes_eq}
@@ -456,6 +456,14 @@ error_kinds words = fault_of postcopy_words words
 -- them, and options clash
 abbrev pub IsKindFor : List Text → ErrorKind → Type 0
 IsKindFor words kind = IsAmong kind (error_kinds words) ⊎ ((error_kinds words ≡ []) × (clashing words ≡ true) × (kind ≡ ArgumentConflict))
+
+-- the command line accepts the words, and no options clash
+abbrev pub AreAccepted : List Text → Type 0
+AreAccepted words = (error_kinds words ≡ []) × (clashing words ≡ false)
+
+-- the words, two or more, are refused: the command line has an error for them, or options clash
+abbrev pub AreRefused : List Text → Type 0
+AreRefused words = (1 < length words) × ((error_kinds words ≢ []) ⊎ (clashing words ≡ true))
 
 -- the file that the arguments name for the answer
 abbrev pub output_in : Option (Text × List Row) → Option Text

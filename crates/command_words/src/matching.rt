@@ -1,10 +1,10 @@
 //! What words ask for.
 
-ghost use Rattle.std.specs.Prelude.{◌≡◌, ◌⊎◌, [], IfOk, IfErr, OnOk, None, Some, is_some, option_and_then, option_map, true};
+ghost use Rattle.std.specs.Prelude.{◌≡◌, ◌⊎◌, [], IfOk, IfErr, OnOk, None, Some, is_some, option_and_then, option_map};
 ghost use Rattle.command_words.specs.Table.{asked_names, folders_names, folders_of, job_of, several_names, several_of};
 ghost use Rattle.command_words.specs.Readings.{IsFoundIn};
-ghost use Rattle.command_words.specs.Words.{IsKindFor, IsRefusedFor, answer_kind, answer_of, asked_of, clash_in, clashes, clashing, error_kinds, faults_clash, folders_among, folders_given, folders_named, has, lines_file, postcopy_words, sessions_in, several_among, several_given, several_named, topics_clash, wants_object, word_texts};
-ghost use Rattle.clap.specs.Words.{HasKind, found_of, kind_of, rows_of, subcommand_of, subcommand_rows_of, takes};
+ghost use Rattle.command_words.specs.Words.{IsKindFor, IsRefusedFor, answer_kind, answer_of, asked_of, clash_in, clashes, error_kinds, faults_clash, folders_among, folders_given, folders_named, has, lines_file, postcopy_words, sessions_in, several_among, several_given, several_named, topics_clash, wants_object, word_texts};
+ghost use Rattle.clap.specs.Words.{HasKind, found_of, kind_of, rows_of, subcommand_of, subcommand_rows_of};
 
 use crate::building::{Choices, command_line, refused_for};
 use crate::giving::{
@@ -84,7 +84,6 @@ fn clash_of(matches: &ArgMatches<'_>) -> Option<&'static str>
 // Returns what the command line finds in the words.
 fn matches_in<'a>(alloc: Global, words: &'a [&'a str]) -> Result<ArgMatches<'a>, clap::Error>
     ensures ok { IfOk result (λ m. subcommand_rows_of m ≡ subcommand_of postcopy_words (word_texts words.entry.now)) }
-    ensures err { IfErr result (λ e. takes postcopy_words (word_texts words.entry.now) ≡ true → kind_of e ≡ ErrorKind.OutOfMemory) }
     ensures accepted { OnOk result (error_kinds (word_texts words.entry.now) ≡ []) }
     ensures kinds { IfErr result (HasKind (error_kinds (word_texts words.entry.now))) }
 {
@@ -266,7 +265,6 @@ pub(crate) fn find_in<'a>(
     words: &'a [&'a str],
 ) -> Result<Invocation<'a>, clap::Error>
     ensures ok { IfOk result (IsFoundIn (subcommand_of postcopy_words (word_texts words.entry.now))) }
-    ensures err { IfErr result (λ e. takes postcopy_words (word_texts words.entry.now) ≡ true → IsRefusedFor (clashing (word_texts words.entry.now)) (kind_of e)) }
     ensures accepted { OnOk result (error_kinds (word_texts words.entry.now) ≡ []) }
     ensures kinds { IfErr result (λ e. (kind_of e ≡ ErrorKind.OutOfMemory) ⊎ IsKindFor (word_texts words.entry.now) (kind_of e)) }
 {

@@ -56,12 +56,11 @@ pub fn read_words<'a>(alloc: Global, words: &'a [&'a str]) -> Result<Reading<'a>
 }
 
 impl<'a> Reading<'a> {
-    ghost use Rattle.std.specs.Prelude.{◌≡◌, ◌<◌, ◌≤◌, ◌⊎◌, IfErr, IfOk, None, Ok, OnOk, [], false, length, option_and_then, true};
-    ghost use Rattle.clap.specs.Words.{kind_of, takes};
-    ghost use Rattle.clap.specs.declared.error.kind.ErrorKind.TheVariants.{ArgumentConflict};
+    ghost use Rattle.std.specs.Prelude.{◌≡◌, ◌<◌, ◌≤◌, IfErr, IfOk, None, Ok, OnOk, [], false, length, option_and_then};
+    ghost use Rattle.clap.specs.Words.{kind_of};
     ghost use Rattle.command_words.specs.Table.{folders_of, job_of, several_of};
     ghost use Rattle.command_words.specs.Readings.{AreTargets};
-    ghost use Rattle.command_words.specs.Words.{IsKindFor, asked, clashing, error_kinds, folders_asked, postcopy_words, several_asked, target_names};
+    ghost use Rattle.command_words.specs.Words.{AreAccepted, AreRefused, IsKindFor, asked, clashing, error_kinds, folders_asked, several_asked, target_names};
 
     /// Returns what the words ask for, or `None` if they are the program's own name alone, or not even that. The error
     /// is clap's: the words are no command, they have options that clash, or they ask for the help or the version.
@@ -71,7 +70,6 @@ impl<'a> Reading<'a> {
         ensures several { IfOk result (λ r. option_and_then several_of r ≡ several_asked self.entry) }
         ensures folders { IfOk result (λ r. option_and_then folders_of r ≡ folders_asked self.entry) }
         ensures alike { IfOk result (λ _. clashing self.entry ≡ false) }
-        ensures err { IfErr result (λ e. takes postcopy_words self.entry ≡ true → (clashing self.entry ≡ true) × (kind_of e ≡ ArgumentConflict)) }
         ensures accepted { OnOk result (1 < length self.entry → error_kinds self.entry ≡ []) }
         ensures kind { IfErr result (λ e. IsKindFor self.entry (kind_of e)) }
     {
@@ -82,10 +80,11 @@ impl<'a> Reading<'a> {
     }
 
     /// Returns the files that the words name for what is written, as in `-o FILE` and `--lines FILE`. Words that are
-    /// refused name no file.
+    /// refused name no file, nor does the program's own name alone.
     pub fn targets(&self) -> Targets<'a>
-        ensures taken { takes postcopy_words self.now ≡ true → clashing self.now ≡ false → AreTargets self.now result }
-        ensures other { AreTargets self.now result ⊎ (target_names result ≡ (None, None)) }
+        ensures accepted { AreAccepted self.now → AreTargets self.now result }
+        ensures bare { length self.now ≤ 1 → target_names result ≡ (None, None) }
+        ensures refused { AreRefused self.now → target_names result ≡ (None, None) }
     {
         match &self.found {
             Ok(found) => found.targets,

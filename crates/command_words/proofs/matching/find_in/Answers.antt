@@ -1,12 +1,7 @@
 use Rattle.std.proofs.lemmas.Result.{err_from_is_err_and}
 use Rattle.command_words.specs.Words.{word_texts}
-use Rattle.command_words.proofs.Clashes.{kind_of_line, refused_for_memory}
+use Rattle.command_words.proofs.Clashes.{kind_of_line}
 use Rattle.command_words.proofs.matching.find_in.Goals as goal
-
-pub returns-in_err-matches-clause-err : goal.returns-in_err-matches-clause-err
-returns-in_err-matches-clause-err c =
-    let p = err_from_is_err_and c.from_residual.result c.from_residual.ensures.1 in
-    rw (p.1, p.2) (λ taken. refused_for_memory _ _ (c.in_err-matches.ensures.err taken))
 
 pub returns-in_err-matches-clause-kinds : goal.returns-in_err-matches-clause-kinds
 returns-in_err-matches-clause-kinds c =

@@ -1,8 +1,8 @@
-use Rattle.std.proofs.Common.{◌≡◌, ◌∙◌, ap, subst, sym}
-use Rattle.clap.specs.Words.{App, HasKind, Kinds, Text, fault_of, is_simple, is_simple_and_free, subcommand_of, takes}
-use Rattle.command_words.specs.Words.{error_kinds, word_texts}
+use Rattle.std.proofs.Common.{◌∙◌, ap, subst, sym}
+use Rattle.clap.specs.Words.{App, HasKind, Kinds, fault_of, is_simple, is_simple_and_free, subcommand_of}
+use Rattle.command_words.specs.Words.{word_texts}
 use Rattle.command_words.proofs.Refusals.{fault_anywhere}
-use Rattle.command_words.proofs.Unplaced.{found_anywhere, takes_anywhere}
+use Rattle.command_words.proofs.Unplaced.{found_anywhere}
 use Rattle.command_words.proofs.matching.matches_in.Goals as goal
 
 pub returns-in-Ok-clause-ok : goal.returns-in-Ok-clause-ok
@@ -10,9 +10,6 @@ returns-in-Ok-clause-ok c =
     let words = word_texts c.args.words.now in
     let found = (c.in-Ok.ensures.matches (ap is_simple c.in_ok-line.ensures)).1 in
     found ∙ ap (λ (a : App). subcommand_of a words) c.in_ok-line.ensures ∙ sym (found_anywhere c.carrier_names.result c.format_names.result words c.carrier_names.ensures c.format_names.ensures)
-
-pub returns-in-Err-clause-err : goal.returns-in-Err-clause-err
-returns-in-Err-clause-err c = λ t. c.in-Err.ensures.passes (ap (λ (a : App). takes a (word_texts c.args.words.now)) c.in_ok-line.ensures ∙ (sym (takes_anywhere c.carrier_names.result c.format_names.result (word_texts c.args.words.now) c.carrier_names.ensures c.format_names.ensures) ∙ t))
 
 pub returns-in-Ok-clause-accepted : goal.returns-in-Ok-clause-accepted
 returns-in-Ok-clause-accepted c =
