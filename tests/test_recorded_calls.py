@@ -284,6 +284,9 @@ class Recorders:
         self.of_closed_outputs()
         ran = subprocess.run(["cc", "-fsyntax-only", "-D__cplusplus=201703L", f"{TOP}/bindings/c/postcopy_record.c"], stderr=subprocess.PIPE, encoding="utf-8", errors="replace")
         self.tests.same("a compiler for C++ is told what to do, in one error", (ran.returncode, "compile it by a compiler for C" in ran.stderr, ran.stderr.count("error:")), (1, True, 1))
+        strict = ["-D_GNU_SOURCE", "-std=gnu11", *STRICT[1:], "-Wvla", "-Wshadow", "-Wundef", "-Wmissing-prototypes", "-Wstrict-prototypes"]
+        ran = subprocess.run(["cc", *strict, "-c", "-o", os.devnull, f"{TOP}/bindings/c/postcopy_record.c"], stderr=subprocess.STDOUT, stdout=subprocess.PIPE, encoding="utf-8", errors="replace")
+        self.tests.same("a build with the options of QEMU's own", (ran.returncode, ran.stdout), (0, ""))
         words = "import postcopy.recorder, postcopy.records, postcopy.sessions"
         env = {**os.environ, "PYTHONPATH": f"{TOP}/bindings/python", "POSTCOPY_LIBRARY": "/none"}
         self.tests.same("the recorder with no library", subprocess.run([sys.executable, "-B", "-c", words], env=env).returncode, 0)
@@ -369,7 +372,7 @@ class Migrations:
 
     def of_words(self):
         """Words that are not known are refused, and not left out: without its mistake, a migration is clean."""
-        for words in (["--wake-frist", "other"], ["other", "--seed"], ["other", "more"], []):
+        for words in (["--wake-frist", "other"], ["other", "--seed"], ["other", "more"], [], ["other", "--old-page", "--place-twice"], ["other", "--operations", "10k"], ["other", "--seed", "-1"]):
             ran = subprocess.run([self.program, *words], cwd=self.room, capture_output=True, encoding="ascii")
             found = ran.returncode, ran.stdout, ran.stderr.startswith("usage: "), os.path.exists(f"{self.room}/other")
             self.tests.same(f"the words {words}", found, (2, "", True, False))
@@ -424,7 +427,7 @@ def test_made_sessions(program, room):
 
 
 @pytest.mark.slow
-@pytest.mark.cases(409)
+@pytest.mark.cases(410)
 def test_recorders(program, room, cc):
     tests = Tests(program)
     Recorders(tests, room).run(MadeSessions(tests, room).known)
@@ -438,6 +441,6 @@ def test_faults(program, room, cc):
 
 
 @pytest.mark.slow
-@pytest.mark.cases(150)
+@pytest.mark.cases(153)
 def test_migrations(program, room, cc):
     Migrations(Tests(program), room).run()

@@ -17,12 +17,15 @@
 #error "this file is C, also for a program in C++: compile it by a compiler for C, cc -c postcopy_record.c, and link its object"
 #else
 
+#ifndef _GNU_SOURCE
 #define _GNU_SOURCE
+#endif
 #include "postcopy_record.h"
 
 #include <errno.h>
 #include <fcntl.h>
 #include <inttypes.h>
+#include <limits.h>
 #include <pthread.h>
 #include <stdatomic.h>
 #include <stdio.h>
@@ -36,6 +39,7 @@
 
 #define CHUNK ((off_t)1 << 18)
 #define CELLS_MAX 512
+#define PATH_ROOM (PATH_MAX + 256) /* for a path of a folder, and what comes behind it */
 #define WORDS_MAX 160 /* a head, or a line but for its contents, is so much shorter that a last line has room behind it */
 
 /* Whether a forked child has made a call, which it cannot record, and whether the log was closed. */
@@ -153,7 +157,7 @@ static int read_name(const char *path, char name[POSTCOPY_NAME_SIZE])
 /* Makes the file with the name, whole at once, by way of another file. It fails where the file is there. */
 static int write_name(const char *path, const char *name, const char *other)
 {
-    char own[strlen(path) + POSTCOPY_NAME_SIZE];
+    char own[PATH_ROOM + POSTCOPY_NAME_SIZE];
     sprintf(own, "%s.%s", path, other);
     int file = is_allowed(POSTCOPY_NAME_SIZE) ? open(own, O_WRONLY | O_CREAT | O_EXCL | O_CLOEXEC, 0666) : -1;
     if (file < 0)
@@ -169,7 +173,11 @@ static int write_name(const char *path, const char *name, const char *other)
 /* The name of a folder's recording: the one that it has, or else the one that is given, or a new one. */
 static int name_recording(const char *folder, const char *given, char name[POSTCOPY_NAME_SIZE])
 {
-    char path[strlen(folder) + 32], made[POSTCOPY_NAME_SIZE];
+    char path[PATH_ROOM], made[POSTCOPY_NAME_SIZE];
+    if (strlen(folder) >= PATH_MAX) {
+        errno = ENAMETOOLONG;
+        return -1;
+    }
     sprintf(path, "%s/recording-name", folder);
     if (mkdir(folder, 0777) && errno != EEXIST)
         return -1;
@@ -270,7 +278,7 @@ static int open_new(const char *path)
 /* Begins a part of the calling thread: NULL, with errno, where that cannot be done. */
 static struct part *begin_part(postcopy_log *log)
 {
-    char path[strlen(log->stem) + 16];
+    char path[PATH_ROOM];
     unsigned number;
     struct part *part = calloc(1, sizeof *part);
     if (!part)
@@ -386,7 +394,7 @@ static int amend_file(int file, const char *head)
 static void amend(const postcopy_log *log, int file)
 {
     int error = errno;
-    char path[strlen(log->stem) + 16];
+    char path[PATH_ROOM];
     if (!amend_file(file, log->head)) {
         sprintf(path, "%s.%u", log->stem, log->opening);
         if ((file = open(path, O_RDWR | O_CLOEXEC)) >= 0) {

@@ -11,7 +11,9 @@
        --place-twice   places the page once more, over a write
 
    The status is 0 where the migration went through, 1 where one side was left alone, and 3 where there is no userfaultfd. */
+#ifndef _GNU_SOURCE
 #define _GNU_SOURCE
+#endif
 #include <errno.h>
 #include <fcntl.h>
 #include <linux/userfaultfd.h>
@@ -381,27 +383,35 @@ static void be_target(void)
     postcopy_log_close(pager);
 }
 
+/* A number of at most nine digits; of any other word 0, and `is_known` is 0 then. */
+static long number(const char *word, int *is_known)
+{
+    size_t length = strspn(word, "0123456789");
+    *is_known &= length > 0 && length < 10 && !word[length];
+    return *is_known ? strtol(word, NULL, 10) : 0;
+}
+
 static uint64_t asked(int count, char **words)
 {
     uint64_t seed = 1;
-    int is_known = 1;
+    int is_known = 1, mistakes = 0;
     for (int n = 1; n < count; n++) {
         if (!strcmp(words[n], "--wake-first"))
-            mistake = WAKE_FIRST;
+            mistake = WAKE_FIRST, mistakes++;
         else if (!strcmp(words[n], "--old-page"))
-            mistake = OLD_PAGE;
+            mistake = OLD_PAGE, mistakes++;
         else if (!strcmp(words[n], "--place-twice"))
-            mistake = PLACE_TWICE;
+            mistake = PLACE_TWICE, mistakes++;
         else if (!strcmp(words[n], "--seed") && n + 1 < count)
-            seed = strtoull(words[++n], NULL, 10);
+            seed = number(words[++n], &is_known);
         else if (!strcmp(words[n], "--operations") && n + 1 < count)
-            operations = strtol(words[++n], NULL, 10);
+            operations = number(words[++n], &is_known);
         else if (*words[n] != '-' && !folder)
             folder = words[n];
         else
             is_known = 0;
     }
-    if (!folder || !is_known) {
+    if (!folder || !is_known || mistakes > 1) {
         fprintf(stderr, "usage: uffd FOLDER [--wake-first | --old-page | --place-twice] [--seed N] [--operations N]\n");
         _exit(2);
     }

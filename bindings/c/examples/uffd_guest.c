@@ -1,5 +1,7 @@
 /* The guest of the example uffd.c: threads that read and write at random, and record what they do. */
+#ifndef _GNU_SOURCE
 #define _GNU_SOURCE
+#endif
 #include <string.h>
 #include <unistd.h>
 
