@@ -466,6 +466,16 @@ class Faults:
             self.tests.same("half a record is taken back", (error, text.endswith(last), text.count(b"\n") - text.count(b"lost")), (27, True, 4 + 64 - lost))
             self.tests.same("what is said of it", any(it.startswith("machine: ") for it in session_of([folder])[1]), True)
 
+    def of_last_window(self, folder, place):
+        """Where the last window cannot be cut, the others have no name either: a judge of what stands there would find all of it clean."""
+        program = f"{place}/program"
+        self.put(program, f'#!/bin/sh\nif [ "$1 $3" = "window 1" ]; then sleep 1; echo "x: gone" >&2; exit 3; fi\nexec "{self.command}" "$@"\n')
+        os.chmod(program, 0o755)
+        for words, wanted in ((("1",), (2, "session: x: gone\n", [])), (("2",), (0, "", ["0-1"]))):
+            ran = subprocess.run([sys.executable, f"{TOP}/recorders/session", folder, "-o", f"{place}/last", "--windows", *words],
+                                 capture_output=True, encoding="utf-8", env={**os.environ, "POSTCOPY": program})
+            self.tests.same(f"windows of {words[0]} pages", (ran.returncode, ran.stderr, os.listdir(f"{place}/last")), wanted)
+
     def of_output(self):
         """-o: the file is whole, or as it was; it keeps its mode, and what somebody planted beside it stays."""
         folder, place = self.recording(), self.folder()
@@ -506,7 +516,8 @@ class Faults:
         os.makedirs(f"{place}/by/0-0")
         ran = self.session(folder, "--windows", "1", "-o", f"{place}/by")
         self.tests.same("a window whose file cannot be", (ran.returncode, ran.stderr), (2, f"session: {place}/by/0-0: Is a directory\n"))
-        self.tests.same("it leaves nothing but windows", set(os.listdir(f"{place}/by")) <= {"0-0", "1-1"}, True)
+        self.tests.same("it leaves no window", os.listdir(f"{place}/by"), ["0-0"])
+        self.of_last_window(folder, place)
         cut = self.recording(pager=None)
         ran = self.session(cut, "-o", f"{place}/kept")
         self.tests.same("a part", (ran.returncode, self.has(f"{place}/kept")), (1, "as it was\n"))

@@ -434,7 +434,7 @@ def test_recorders(program, room, cc):
 
 
 @pytest.mark.slow
-@pytest.mark.cases(316)
+@pytest.mark.cases(318)
 def test_faults(program, room, cc):
     tests = Tests(program)
     Faults(tests, room, program, Recorders(tests, room).program).run()
