@@ -272,12 +272,14 @@ class Recorders:
             os._exit(0 if log.halt() == LOST else 1)
         self.tests.same("a forked child, in Python", os.waitpid(child, 0)[1], 0)
         self.tests.same("the parent goes on", log.resume(1), 8)
-        for wrong in (lambda: log.done(), lambda: Log(folder, "guests")):
+        for wrong, kind in ((lambda: log.done(), ValueError), (lambda: Log(folder, "guests"), ValueError), (lambda: Log(folder, "guest", -1), ValueError),
+                            (lambda: Log(folder, "guest", 1.0), TypeError)):
+            files = len(os.listdir(folder))
             try:
                 wrong()
                 self.tests.same("no refusal", True, False)
-            except ValueError:
-                count(True, "")
+            except kind:
+                self.tests.same("a refused call makes no file", len(os.listdir(folder)), files)
         log.close()
         self.tests.same("a closed log", log.halt(), LOST)
         self.of_greatest_numbers()
@@ -427,7 +429,7 @@ def test_made_sessions(program, room):
 
 
 @pytest.mark.slow
-@pytest.mark.cases(410)
+@pytest.mark.cases(412)
 def test_recorders(program, room, cc):
     tests = Tests(program)
     Recorders(tests, room).run(MadeSessions(tests, room).known)

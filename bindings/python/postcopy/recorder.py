@@ -26,6 +26,7 @@ import contextlib
 import errno
 import fcntl
 import mmap
+import operator
 import os
 import re
 import secrets
@@ -86,6 +87,9 @@ class Log:
     def __init__(self, folder: Optional[Folder], party: str, first: int = 0) -> None:
         if party not in LOGS and party != "machine":
             raise ValueError(f"there is no party {party}")
+        first = operator.index(first)
+        if first < 0:
+            raise ValueError(f"no record has the number {first}")
         self.error: Optional[OSError] = None
         self.recording: Optional[str] = None
         self._party, self._next, self._lock = party, first, threading.RLock()
