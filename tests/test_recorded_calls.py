@@ -20,7 +20,7 @@ import tempfile
 import time
 
 import pytest
-from cases import count, leave_out, same
+from cases import leave_out, same
 from made_sessions import TOP, MadeSessions, called
 from recorded_faults import Faults
 from recorded_model import session_of
