@@ -143,7 +143,7 @@ fn take_file<S: TextSource>(
 fn take_files<S: TextSource>(alloc: Global, texts: &S, log: &FoundLog) -> Result<MachineLog, Stop>
     ensures { IfOk result (λ taken. TellMachine (known_in (S.bytes_of texts.now) log.now) taken) }
 {
-    let mut taken = MachineLog::new(alloc);
+    let mut taken = MachineLog::new(alloc, log.records()? as usize)?;
     let paths = log.paths.as_slice();
     for place in 0..paths.len() {
         take_file(alloc, texts, log, paths[place].as_str(), &mut taken)?;

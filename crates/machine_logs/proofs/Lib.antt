@@ -5,3 +5,4 @@ pub mod Sizes
 pub mod Ties
 pub mod Toldpages
 pub mod Yielding
+pub mod Bypage

@@ -1,6 +1,6 @@
 //! The machine's log, taken from its files.
 
-ghost use Rattle.std.specs.Prelude.{◌≡◌, [], ◌∷◌, ◌++◌, ℕ, List, Option, IfErr, OnOk};
+ghost use Rattle.std.specs.Prelude.{◌≡◌, [], ◌∷◌, ◌++◌, ℕ, List, Option, IfErr, IfOk, OnOk};
 ghost use Rattle.recorded_files.specs.Said.{CameTo};
 ghost use Rattle.recorded_files.specs.declared.lines.Party.TheVariants.{Machine as OfMachine};
 ghost use Rattle.machine_logs.specs.Machine.{numbered_line, AreMachineRecs, FileTells, IsMachineLogFault, IsMachineRec};
@@ -9,7 +9,7 @@ ghost use Rattle.machine_logs.specs.inner.Described.{IsTextFault};
 
 use crate::machine_lines::MachineRec;
 use recorded_files::{FileFault, FileReader};
-use std::alloc::Global;
+use std::alloc::{AllocError, Global};
 use std::io::Read;
 use std::marker::Model;
 use text_lines::FaultKind;
@@ -82,13 +82,13 @@ fn push_entry(
 }
 
 impl MachineLog {
-    /// Returns a log of no records.
-    pub fn new(alloc: Global) -> Self
-        ensures { result ≡ [] }
+    /// Returns a log of no records, with room for so many. It may take more.
+    pub fn new(alloc: Global, room: usize) -> Result<Self, AllocError>
+        ensures { IfOk result (λ log. log ≡ []) }
     {
-        MachineLog {
-            entries: Vec::new(alloc),
-        }
+        Ok(MachineLog {
+            entries: Vec::with_capacity(alloc, room)?,
+        })
     }
 
     /// Takes the records of a file of the machine's log, none of which were read.

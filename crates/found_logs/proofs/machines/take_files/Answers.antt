@@ -4,7 +4,7 @@ use Rattle.found_logs.proofs.Told.{all_told, next_told, none_told}
 use Rattle.found_logs.proofs.machines.take_files.Goals as goal
 
 pub loop-place-init : goal.loop-place-init
-loop-place-init g c = none_told _ _ c.new-taken.ensures
+loop-place-init g c = none_told _ _ c.in_ok-taken.ensures
 
 pub loop-place-preserved : goal.loop-place-preserved
 loop-place-preserved g c =
