@@ -39,6 +39,14 @@ init_push machine init new pages page p h may same items low = record {
   rising = subst (λ (n : ℕ). Rise 0 (pages ++ p ∷ []) n) (sym low) (rise_push 0 init.low pages p h.rising may.0);
 }
 
+-- memory for more pages changes none of them
+pub init_roomy : (machine : Extent) (old new : HeldInit) (pages : List InitPage) → IsInit machine old pages → new.pages.items ≡ old.pages.items → new.low ≡ old.low → IsInit machine new pages
+init_roomy machine old new pages h items low = record {
+  items = items ∙ h.items;
+  each = h.each;
+  rising = subst (λ (n : ℕ). Rise 0 pages n) (sym low) h.rising;
+}
+
 -- a page that the machine may not have makes them the initial pages of none
 pub init_never : (machine : Extent) (init : HeldInit) (pages : List InitPage) (p : InitPage) → IsInit machine init pages → (MayHave machine init.low p → ⊥) → IsNoInit machine (pages ++ p ∷ [])
 init_never machine init pages p h not size fits =

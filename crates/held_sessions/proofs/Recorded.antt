@@ -12,7 +12,9 @@ use Rattle.recordings.specs.Seen.{with_init}
 use Rattle.recordings.specs.Wide.{init_of}
 use Rattle.held_sessions.specs.Made.{sized}
 use Rattle.held_sessions.specs.inner.Fitting.{Fits, with_pages}
-use Rattle.held_sessions.specs.inner.Kept.{IsNoInit}
+use Rattle.held_sessions.specs.declared.init.HeldInit.{HeldInit}
+use Rattle.held_sessions.specs.declared.kept.Kept.{Kept}
+use Rattle.held_sessions.specs.inner.Kept.{IsInit, IsKept, IsNoInit}
 use Rattle.held_sessions.specs.inner.Needs.{IsNever}
 use Rattle.held_sessions.proofs.Pages.{init_front}
 
@@ -49,3 +51,15 @@ mapped (x ∷ xs) ps p = ap (λ (ys : List InitPage). x ∷ ys) (mapped xs ps p)
 
 pub one_more : (d : Recorded) (ps : List WideInit) (p : WideInit) → with_init (with_pages (map init_of ps) d) (init_of p) ≡ with_pages (map init_of (ps ++ p ∷ [])) d
 one_more d ps p = ap (λ (init : List InitPage). record { version = d.version; geometry = d.geometry; init = init; guest = d.guest; source = d.source; link = d.link; lane = d.lane; pager = d.pager }) (mapped d.init ps p)
+
+-- memory for more initial pages changes nothing that is kept
+pub roomy : (kept : Kept) (init : HeldInit) (d : Recorded) → IsKept kept d → IsInit kept.machine init d.init → IsKept (record { machine = kept.machine; init = init; guest = kept.guest; source = kept.source; link = kept.link; lane = kept.lane; pager = kept.pager }) d
+roomy kept init d before stays = record {
+  machine = before.machine;
+  init = stays;
+  guest = before.guest;
+  source = before.source;
+  link = before.link;
+  lane = before.lane;
+  pager = before.pager;
+}

@@ -62,8 +62,8 @@ fn session_in(kept: Option<Kept>, version: Version, size: Size) -> Option<Sessio
 }
 
 impl HeldRecording {
-    /// Returns a visitor that has met nothing. Allocates no memory. Once it meets the machine, it takes memory for as many pages and
-    /// records as `room` says, and more where there are more.
+    /// Returns a visitor that has met nothing. Allocates no memory. Once it meets the machine, it takes memory for as many records as
+    /// `room` says, and more where there are more.
     pub fn new(alloc: Global, room: Room) -> Self
         ensures { IsEmpty result }
     {
@@ -84,6 +84,17 @@ impl HeldRecording {
         if !kept.init.take(kept.machine, page)? {
             self.kept = None;
         }
+        Ok(())
+    }
+
+    /// Takes memory for so many initial pages more, where it holds something.
+    fn make_room(&mut self, pages: usize) -> Result<(), AllocError>
+        ensures { (d : Recorded) → IsHeld self.old d → OnOk result (IsHeld self.new d) }
+    {
+        let Some(kept) = &mut self.kept else {
+            return Ok(());
+        };
+        kept.make_room(pages)?;
         Ok(())
     }
 
@@ -109,6 +120,7 @@ impl HeldRecording {
         ensures { IfOk result (λ made. (d : Recorded) → IsHeld self d → MatchOption made (IsSession (session_of version size (map init_of init.items) d) → ⊥) (λ session. session ≡ session_of version size (map init_of init.items) d)) }
     {
         let mut held = self;
+        held.make_room(init.len())?;
         held.hold_pages(init)?;
         Ok(session_in(held.kept, version, size))
     }

@@ -1,15 +1,15 @@
 //! The initial pages that are held, page by page.
 
-ghost use Rattle.std.specs.Prelude.{◌≡◌, ◌≤◌, ◌<◌, ◌++◌, ◌∷◌, [], ◌↔◌, IsTrue, IfOk, List, MatchBool};
+ghost use Rattle.std.specs.Prelude.{◌≡◌, ◌≤◌, ◌<◌, ◌++◌, ◌∷◌, [], ◌↔◌, IsTrue, IfOk, List, MatchBool, OnOk};
 ghost use Rattle.migration_types.specs.Contents.{IsContent};
+ghost use Rattle.migration_types.specs.Extents.{Extent};
 ghost use Rattle.migration_types.specs.Pages.{AreZeros};
 ghost use Rattle.migration_types.specs.declared.pages.InitPage.{InitPage as Page};
 ghost use Rattle.recordings.specs.Wide.{init_of};
 ghost use Rattle.held_sessions.specs.inner.Kept.{IsInit, IsNoInit};
 
 use crate::records::is_content;
-use crate::room::room_within;
-use migration_types::{Geometry, InitPage, PageNo, Seq, Size};
+use migration_types::{Geometry, InitPage, PageNo, Seq};
 use recordings::WideInit;
 use std::alloc::{AllocError, Global};
 
@@ -39,16 +39,23 @@ fn may_have(machine: Geometry, low: u32, page: &WideInit) -> bool
 }
 
 impl HeldInit {
-    /// Returns no pages, with room for so many, as far as a session may have them.
-    pub(crate) fn new(alloc: Global, room: u64) -> Result<Self, AllocError>
-        ensures pages { IfOk result (λ init. init.pages.items ≡ []) }
-        ensures low { IfOk result (λ init. init.low ≡ 0) }
+    /// Returns no pages.
+    pub(crate) fn new(alloc: Global) -> Self
+        ensures pages { result.pages.items ≡ [] }
+        ensures low { result.low ≡ 0 }
     {
-        let most = Size::Large.limits().pages;
-        Ok(HeldInit {
-            pages: Vec::with_capacity(alloc, room_within(room, most))?,
+        HeldInit {
+            pages: Vec::new(alloc),
             low: 0,
-        })
+        }
+    }
+
+    /// Takes memory for so many pages more.
+    pub(crate) fn make_room(&mut self, pages: usize) -> Result<(), AllocError>
+        ensures { (machine : Extent) (held : List Page) → IsInit machine self.old held → OnOk result (IsInit machine self.new held) }
+    {
+        self.pages.reserve(pages)?;
+        Ok(())
     }
 
     /// Takes the next page, and returns whether a session of the machine may have it behind those before.

@@ -1,6 +1,6 @@
 //! What is kept of a recording.
 
-ghost use Rattle.std.specs.Prelude.{◌≡◌, ◌↔◌, IfOk, IsTrue, MatchOption};
+ghost use Rattle.std.specs.Prelude.{◌≡◌, ◌↔◌, IfOk, IsTrue, MatchOption, OnOk};
 ghost use Rattle.migration_types.specs.Extents.{Extent};
 ghost use Rattle.migration_types.specs.Sessions.{IsSession, Recorded};
 ghost use Rattle.migration_types.specs.declared.size.Size.TheVariants.{Large};
@@ -31,19 +31,27 @@ pub(crate) struct Kept {
 }
 
 impl Kept {
-    /// Returns a machine, with no pages and no records, and with room for so many.
+    /// Returns a machine, with no pages and no records, and with room for so many records.
     pub(crate) fn new(alloc: Global, machine: Geometry, room: Room) -> Result<Self, AllocError>
         ensures { IfOk result (λ kept. (version : Of) (e : Extent) → machine ≡ sized Large e → IsKept kept (nothing_of version e)) }
     {
         Ok(Kept {
             machine,
-            init: HeldInit::new(alloc, room.init)?,
+            init: HeldInit::new(alloc),
             guest: HeldLog::new(alloc, room.guest)?,
             source: HeldLog::new(alloc, room.source)?,
             link: HeldLog::new(alloc, room.link)?,
             lane: HeldLog::new(alloc, room.lane)?,
             pager: HeldLog::new(alloc, room.pager)?,
         })
+    }
+
+    /// Takes memory for so many initial pages more.
+    pub(crate) fn make_room(&mut self, pages: usize) -> Result<(), AllocError>
+        ensures { (d : Recorded) → IsKept self.old d → OnOk result (IsKept self.new d) }
+    {
+        self.init.make_room(pages)?;
+        Ok(())
     }
 
     /// Returns whether each log is within the limits of a version and a size.

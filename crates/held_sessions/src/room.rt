@@ -2,11 +2,9 @@
 
 ghost use Rattle.std.specs.Prelude.{◌≤◌};
 
-/// How many initial pages and records of each log a recording is likely to have. Memory for so many is taken at once; it may have fewer
-/// or more.
+/// How many records of each log a recording is likely to have. Memory for so many is taken at once; it may have fewer or more.
 #[derive(Clone, Copy)]
 pub struct Room {
-    pub init: u64,
     pub guest: u64,
     pub source: u64,
     pub link: u64,

@@ -28,7 +28,13 @@ fn session_of(held: HeldRecording, known: Known) -> Result<Option<Session>, Allo
     if !known.said.is_empty() {
         return Ok(None);
     }
-    let Known { machine, init, .. } = known;
+    let Known {
+        machine,
+        init,
+        messages,
+        ..
+    } = known;
+    drop(messages);
     match held.into_session(machine.version, machine.size, init)? {
         Some(session) => {
             session.keeps_limits();
@@ -50,13 +56,14 @@ fn gather_taking<S: TextSource>(
     let held = HeldRecording::new(alloc, room_of(logs)?);
     let mut finder = FactFinder::new(alloc, held);
     let known = know(&mut finder, alloc, texts, logs, taking)?;
-    Ok(session_of(finder.other, known)?)
+    let FactFinder { facts, other } = finder;
+    drop(facts);
+    Ok(session_of(other, known)?)
 }
 
-/// Returns how many records and pages there are, as the files of logs were surveyed.
+/// Returns how many records there are, as the files of logs were surveyed. The pages come last, and take memory that is free then.
 fn room_of(logs: &FoundLogs) -> Result<Room, AllocError> {
     Ok(Room {
-        init: logs.machine.records()?,
         guest: logs.guest.records()?,
         source: logs.source.records()?,
         link: logs.link.records()?,

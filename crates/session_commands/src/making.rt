@@ -215,7 +215,7 @@ fn tell_facts<S: TextSource>(
 pub(crate) struct Known {
     pub(crate) machine: WideMachine,
     pub(crate) init: Vec<WideInit>,
-    messages: Messages,
+    pub(crate) messages: Messages,
     /// How many records of each log are written.
     front: Front,
     /// What is lacking, in lines.
