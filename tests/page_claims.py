@@ -26,7 +26,7 @@ UNTRUE = (
     (REFERENCE, r"agrees with the plan; which records are folded", "nothing tests which records are folded"),
     (REFERENCE, r"only constructors, `released_list` and `FaultQueue::fault` take", "FaultQueue::left_without takes memory too"),
     (REFERENCE, r"wait for the threads that they start, and return", "they return once their threads have ended"),
-    (REFERENCE, r"^\| where the status is 0 or 1, the output gained", "only where the command line takes the words"),
+    (REFERENCE, r"^\| where the status is 0 or 1, the output gained", "only where the command line accepts the words"),
 )
 
 # Definitions of the right shape that no law uses, and that nothing else on the page names.
@@ -36,7 +36,7 @@ UNUSED = ("is_miss", "goes_down", "link_named", "lane_named")
 ALSO = (
     (HOSTING, r"a page is covered if", r"released", "pages that the guest released at the target are covered too"),
     (REFERENCE, r"a record's receipt is", r"LaneRec::named", "the lane's records have receipts"),
-    (REFERENCE, r"clause `told`: \*EndsAsked\*", r"\*takes\*.*version", "told is asked only where the command line takes the words"),
+    (REFERENCE, r"clause `told`: \*EndsAsked\*", r"\*error_kinds\*.*version", "told is asked only where the command line accepts the words"),
     *((REFERENCE, r"used by none of these laws", rf"\*{it}\*", "this rule is used by no law, too") for it in UNUSED),
     (GUARANTEES, r"^\| Every function returns", r"once their threads have ended", "those that start threads wait for them"),
     (GUARANTEES, r"A released page comes back as zeros' stands for", r"not sent", "the headline's last claim has an exact clause"),

@@ -5,6 +5,10 @@ use Rattle.std.specs.Borrow.{Bor}
 use Rattle.std.specs.Io.KnownBytes.{Keeps}
 use Rattle.clap.specs.declared.error.kind.ErrorKind.{ErrorKind}
 use Rattle.clap.specs.declared.error.kind.ErrorKind.TheVariants.{ArgumentConflict}
+use Rattle.command_words.specs.declared.requests.Intent.{Intent}
+use Rattle.command_words.specs.declared.requests.Intent.TheVariants.{Job}
+use Rattle.command_words.specs.declared.requests.Intent.TheVariants as asks
+use Rattle.command_words.specs.Table.{folders_of, job_of, several_of}
 use Rattle.command_texts.specs.declared.answer.Fault.{Fault}
 use Rattle.command_texts.specs.declared.answer.Fault.TheVariants.{File, Link, Threads, Output, Memory}
 use Rattle.command_texts.specs.Answers.{IsOutputFault, fault_line, fault_status}
@@ -151,7 +155,7 @@ module _ (kind : ErrorKind) (old new : Streams) (status : ℕ) where
 
   pub refusal_gains : IsRefusalOf kind old new status → BothGain old new
   refusal_gains (inl h) = (kept_gains old.0 new.0 h.output, h.errors)
-  refusal_gains (inr (inl h)) = (h.output, kept_gains old.1 new.1 h.errors)
+  refusal_gains (inr (inl h)) = ((h.text, h.output), kept_gains old.1 new.1 h.errors)
   refusal_gains (inr (inr (inl h))) = (h.output, front_gains old.1 new.1 _ h.errors)
   refusal_gains (inr (inr (inr h))) = (kept_gains old.0 new.0 h.output, front_gains old.1 new.1 _ h.errors)
 
@@ -186,3 +190,9 @@ some_told found asked P e h = subst (λ (o : Option _). IfSome o P) e h
 pub if_some : {X : Type 0} (found : Option X) (P : X → Type 0) → ((x : X) → found ≡ Some x → P x) → IfSome found P
 if_some None P h = tt
 if_some (Some x) P h = h x refl
+
+-- an intent asks for something
+pub some_asked : (intent : Intent) (P : Type 0) → job_of intent ≡ None → several_of intent ≡ None → folders_of intent ≡ None → P
+some_asked (Job job) P none other third = absurd cc
+some_asked (asks.Several several) P none other third = absurd cc
+some_asked (asks.Folders folders) P none other third = absurd cc

@@ -82,5 +82,5 @@ shown checks IsFault AreTexts IsBeside old new status law (inr h) zero = absurd 
 pub taken_check : (words : List Text) (first second : Text) → AsksCheck words first second → IsTakenAsCheck words first second
 taken_check words first second (inl is) =
     let taken = taken_plain words (codes "check") (first ∷ second ∷ []) (Two (Check plain) first second) is refl in
-    record { checks = plain; taken = taken.taken; asks = taken.given }
+    record { checks = plain; accepted = taken.accepted; asks = taken.given }
 taken_check words first second (inr is) = is

@@ -1,16 +1,16 @@
 -- What a `check` shows if it ends with status 0.
-use Rattle.std.specs.Prelude.{◌≡◌, ◌⊎◌, List, [], ◌∷◌, Some, true, codes, ℕ}
-use Rattle.clap.specs.Words.{Text, takes}
+use Rattle.std.specs.Prelude.{◌≡◌, ◌⊎◌, List, [], ◌∷◌, Some, codes, ℕ}
+use Rattle.clap.specs.Words.{Text}
 use Rattle.command_words.specs.declared.requests.Request.TheVariants.{Two}
 use Rattle.command_words.specs.declared.requests.Checks.{Checks}
 use Rattle.command_words.specs.declared.requests.TwoTexts.TheVariants.{Check}
-use Rattle.command_words.specs.Words.{IsPlain, asked, postcopy_words}
+use Rattle.command_words.specs.Words.{IsPlain, asked, error_kinds}
 use Rattle.judged_texts.specs.Checked.{HeadlineHolds}
 
 -- the command line accepts the words, and they ask for a `check` of the texts under these names, with any options
 pub record IsTakenAsCheck (words : List Text) (first second : Text) : Type 0 where
   pub checks : Checks
-  pub taken : takes postcopy_words words ≡ true
+  pub accepted : error_kinds words ≡ []
   pub asks : asked words ≡ Some (Two (Check checks) first second)
 
 -- the words are `check FIRST SECOND` with names that are no options, or the command line accepts them as a `check` of

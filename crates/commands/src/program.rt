@@ -1,15 +1,15 @@
 //! The program, from its words to its status.
 
-ghost use Rattle.std.specs.Prelude.{◌≡◌, ◌≢◌, ◌<◌, ◌≤◌, ◌⊎◌, ℕ, List, IfOk, IfSome, MatchResult, None, false, length, true};
+ghost use Rattle.std.specs.Prelude.{◌≡◌, ◌≢◌, ◌<◌, ◌≤◌, ◌⊎◌, ℕ, List, [], IfOk, IfSome, MatchResult, None, length, string_len, true};
 ghost use Rattle.std.specs.Io.KnownBytes.{Keeps};
-ghost use Rattle.clap.specs.Words.{kind_of, takes};
+ghost use Rattle.clap.specs.Words.{kind_of};
 ghost use Rattle.command_words.specs.Table.{folders_of, job_of, several_of};
-ghost use Rattle.command_words.specs.Words.{IsPlain, asked, asked_by, clashing, folders_asked, postcopy_words, several_asked};
+ghost use Rattle.command_words.specs.Words.{AreAccepted, AreRefused, IsKindFor, IsPlain, asked, asked_by, clashing, error_kinds, folders_asked, several_asked};
 ghost use Rattle.command_texts.specs.Answers.{fault_line, fault_status};
 ghost use Rattle.command_texts.specs.Told.{AreNamed, AreOfInput, NoSession};
 ghost use Rattle.text_access.specs.Written.{AppendsFront, BothGain, Gains};
 ghost use Rattle.session_commands.specs.Texts.{WritesSession};
-ghost use Rattle.commands.specs.Refused.{IsRefusalOf};
+ghost use Rattle.commands.specs.Refused.{IsRefusalOf, IsRefusedBy};
 ghost use Rattle.commands.specs.Shown.{AsksCheck, ShowsHeadline};
 ghost use Rattle.commands.specs.Told.{EndsAsked, EndsBare, EndsSeveral, HasLines, IsFaultTold, IsSettled, IsSettledList};
 
@@ -52,27 +52,33 @@ fn settle<E: Write>(done: Result<u8, Fault<'_>>, errors: &mut E) -> u8
     }
 }
 
-// Returns the text that clap has for an error in the words.
-fn told_text(alloc: Global, error: &clap::Error) -> Result<String, AllocError> {
+// Returns the text that clap has for an error in the words, or an empty line if it has none.
+fn told_text(alloc: Global, error: &clap::Error) -> Result<String, AllocError>
+    ensures { IfOk result (λ text. 0 < string_len text) }
+{
     let mut text = String::new(alloc);
     write!(text, "{error}")?;
+    if text.is_empty() {
+        text.push('\n')?;
+    }
     Ok(text)
 }
 
 // Reports an error in the words, or shows the help or the version, with this text.
 fn tell_words<O: Write, E: Write>(
     error: &clap::Error,
-    text: &str,
+    text: &[u8],
     output: &mut O,
     errors: &mut E,
 ) -> u8
+    requires { 0 < length text.now }
     ensures { IsRefusalOf (kind_of error.now) (O.contents output.old, E.contents errors.old) (O.contents output.new, E.contents errors.new) result }
 {
     if error.use_stderr() {
-        write_whole(errors, text.as_bytes());
+        write_whole(errors, text);
         return USAGE;
     }
-    match write_or_why(output, text.as_bytes()) {
+    match write_or_why(output, text) {
         Ok(()) => ACCEPTED,
         Err(cause) => tell(Fault::Output(STANDARD_OUTPUT, cause.words()), errors),
     }
@@ -88,7 +94,7 @@ fn refuse<O: Write, E: Write>(
     ensures { IsRefusalOf (kind_of error.now) (O.contents output.old, E.contents errors.old) (O.contents output.new, E.contents errors.new) result }
 {
     match told_text(alloc, error) {
-        Ok(text) => tell_words(error, text.as_str(), output, errors),
+        Ok(text) => tell_words(error, text.as_bytes(), output, errors),
         Err(_) => tell(Fault::Memory, errors),
     }
 }
@@ -158,10 +164,10 @@ fn check_bare<R: Threads + Sync, S: TextSource, I: Read + Send, O: Write, E: Wri
 /// At 2 to 4 the errors say why. At 1 they say why a text is refused, or which part of a certificate does not fit its
 /// session.
 ///
-/// The texts are read in the order of the words. If there are two, both are read before the answer is made. Several
-/// sessions are audited one by one: the answer to one is written before the next is read. If one cannot be read, the
-/// errors say so, and the next one is audited. If the input is one of them, nothing is promised about the bytes that it
-/// held.
+/// The texts are read in the order of the words, and none if the words are refused. If there are two, both are read
+/// before the answer is made. Several sessions are audited one by one: the answer to one is written before the next is
+/// read. If one cannot be read, the errors say so, and the next one is audited. If the input is one of them, nothing is
+/// promised about the bytes that it held.
 ///
 /// If a session is made of the files in folders, it is written as they are read. The errors say what is missing. If the
 /// status is 0, the output gained the text of a recording that files make, perhaps cut.
@@ -191,15 +197,18 @@ pub fn run<
     ensures misuse { result ≡ 2 → Keeps (O.contents console.old.output) (O.contents console.new.output) }
     ensures bare_usage { length reading.entry ≤ 1 → result ≢ 2 }
     ensures bare { length reading.entry ≤ 1 → IsSettled (EndsBare (I.remaining console.old.input) (O.contents console.old.output, E.contents console.old.errors)) (O.contents console.new.output, E.contents console.new.errors) result }
-    ensures usage { takes postcopy_words reading.entry ≡ true → clashing reading.entry ≡ false → result ≢ 2 }
-    ensures clash { takes postcopy_words reading.entry ≡ true → clashing reading.entry ≡ true → (result ≡ 2) ⊎ (result ≡ 4) }
-    ensures told { takes postcopy_words reading.entry ≡ true → IfSome (asked reading.entry) (λ job. IsSettled (EndsAsked job (S.bytes_of console.old.texts.now) (S.text_in console.old.texts.now) (I.remaining console.old.input) (O.contents console.old.output, E.contents console.old.errors)) (O.contents console.new.output, E.contents console.new.errors) result) }
-    ensures several { takes postcopy_words reading.entry ≡ true → IfSome (several_asked reading.entry) (λ asked. IsSettledList (EndsSeveral asked (S.bytes_of console.old.texts.now) (S.text_in console.old.texts.now) (O.contents console.old.output, E.contents console.old.errors)) (O.contents console.new.output, E.contents console.new.errors) result) }
-    ensures folders { takes postcopy_words reading.entry ≡ true → IfSome (folders_asked reading.entry) (λ asked. result ≡ 0 → WritesSession (S.names_in console.old.texts.now) (S.bytes_of console.old.texts.now) asked.1 asked.0 (O.contents console.old.output) (O.contents console.new.output)) }
-    ensures unmade { takes postcopy_words reading.entry ≡ true → IfSome (folders_asked reading.entry) (λ asked. result ≡ 1 → Keeps (O.contents console.old.output) (O.contents console.new.output)) }
-    ensures lines { takes postcopy_words reading.entry ≡ true → result ≡ 0 → IfSome (asked reading.entry) (λ job. HasLines job (S.bytes_of console.old.texts.now) (O.contents console.old.output) (O.contents console.new.output) lines.old lines.new) }
+    ensures usage { AreAccepted reading.entry → result ≢ 2 }
+    ensures refused { AreRefused reading.entry → IsRefusedBy (IsKindFor reading.entry) (O.contents console.old.output, E.contents console.old.errors) (O.contents console.new.output, E.contents console.new.errors) result }
+    ensures untouched { AreRefused reading.entry → (lines.new ≡ lines.old) × (I.remaining console.new.input ≡ I.remaining console.old.input) }
+    ensures clash { error_kinds reading.entry ≡ [] → clashing reading.entry ≡ true → (result ≡ 2) ⊎ (result ≡ 4) }
+    ensures told { error_kinds reading.entry ≡ [] → IfSome (asked reading.entry) (λ job. IsSettled (EndsAsked job (S.bytes_of console.old.texts.now) (S.text_in console.old.texts.now) (I.remaining console.old.input) (O.contents console.old.output, E.contents console.old.errors)) (O.contents console.new.output, E.contents console.new.errors) result) }
+    ensures several { error_kinds reading.entry ≡ [] → IfSome (several_asked reading.entry) (λ asked. IsSettledList (EndsSeveral asked (S.bytes_of console.old.texts.now) (S.text_in console.old.texts.now) (O.contents console.old.output, E.contents console.old.errors)) (O.contents console.new.output, E.contents console.new.errors) result) }
+    ensures folders { error_kinds reading.entry ≡ [] → IfSome (folders_asked reading.entry) (λ asked. result ≡ 0 → WritesSession (S.names_in console.old.texts.now) (S.bytes_of console.old.texts.now) asked.1 asked.0 (O.contents console.old.output) (O.contents console.new.output)) }
+    ensures unmade { error_kinds reading.entry ≡ [] → IfSome (folders_asked reading.entry) (λ asked. result ≡ 1 → Keeps (O.contents console.old.output) (O.contents console.new.output)) }
+    ensures lines { error_kinds reading.entry ≡ [] → result ≡ 0 → IfSome (asked reading.entry) (λ job. HasLines job (S.bytes_of console.old.texts.now) (O.contents console.old.output) (O.contents console.new.output) lines.old lines.new) }
     ensures unlined { asked reading.entry ≡ None → lines.new ≡ lines.old }
     ensures kept { result ≢ 0 → lines.new ≡ lines.old }
+    ensures unasked { AreAccepted reading.entry → asked reading.entry ≡ None → several_asked reading.entry ≡ None → folders_asked reading.entry ≡ None → IsSettled (EndsBare (I.remaining console.old.input) (O.contents console.old.output, E.contents console.old.errors)) (O.contents console.new.output, E.contents console.new.errors) result }
     ensures plain { (name : List ℕ) (names : List (List ℕ)) → IsPlain reading.entry name names → IfSome (asked_by name names) (λ job. (result ≢ 2) × IsSettled (EndsAsked job (S.bytes_of console.old.texts.now) (S.text_in console.old.texts.now) (I.remaining console.old.input) (O.contents console.old.output, E.contents console.old.errors)) (O.contents console.new.output, E.contents console.new.errors) result) }
     ensures bare_headline { length reading.entry ≤ 1 → result ≡ 0 → ShowsHeadline (AreOfInput (I.remaining console.old.input)) }
     ensures headline { (first second : List ℕ) → AsksCheck reading.entry first second → result ≡ 0 → ShowsHeadline (AreNamed first second (S.bytes_of console.old.texts.now) (S.text_in console.old.texts.now) NoSession (I.remaining console.old.input)) }

@@ -1,6 +1,6 @@
 use Rattle.std.proofs.Common.{◌≡◌, ◌∙◌, List, Some, None, sym, ap, option_and_then}
 use Rattle.std.specs.Io.KnownBytes.{Keeps}
-use Rattle.clap.specs.Words.{Text}
+use Rattle.clap.specs.Words.{Text, kind_of}
 use Rattle.command_words.specs.declared.requests.Request.{Request}
 use Rattle.command_words.specs.declared.requests.Request.TheVariants.{Two}
 use Rattle.command_words.specs.declared.requests.TwoTexts.TheVariants.{Check}
@@ -9,23 +9,23 @@ use Rattle.command_words.specs.declared.requests.Lists.{Lists}
 use Rattle.session_commands.specs.Texts.{WritesSession}
 use Rattle.command_words.specs.Table.{folders_of, job_of, plain, several_of}
 use Rattle.command_words.specs.Words.{asked, asked_by, folders_asked, several_asked}
-use Rattle.command_words.proofs.Clashes.{asked_alike, folders_asked_alike, several_asked_alike}
+use Rattle.command_words.proofs.Clashes.{asked_alike, clash_kind, folders_asked_alike, no_kind, not_refused, several_asked_alike}
 use Rattle.command_words.proofs.Plain.{taken_plain}
 use Rattle.commands.specs.Told.{EndsAsked, EndsSeveral, HasLines, IsSettled, IsSettledList}
 use Rattle.commands.proofs.Shown.{shown, taken_check}
-use Rattle.commands.proofs.Settled.{if_some, refusal_fault, refusal_gains, refusal_known, refusal_misuse, refused_clash, some_given, some_told}
+use Rattle.commands.proofs.Settled.{if_some, refusal_fault, refusal_gains, refusal_known, refusal_misuse, refused_clash, some_asked, some_given, some_told}
 use Rattle.commands.proofs.program.run.Goals as goal
 
 pub returns-in-Ok-Some-clause-told : goal.returns-in-Ok-Some-clause-told
-returns-in-Ok-Some-clause-told g c = λ taken. some_told (job_of c.in-Ok-Some.intent) (asked c.args.reading) (λ (job : Request Text). IsSettled (EndsAsked job (g.S.TextSource.bytes_of c.args.console.now.texts.now) (g.S.TextSource.text_in c.args.console.now.texts.now) (g.I.Read.remaining c.args.console.now.input) (g.O.Write.contents c.args.console.now.output, g.E.Write.contents c.args.console.now.errors)) (g.O.Write.contents c.grant.new.console.output, g.E.Write.contents c.grant.new.console.errors) c.grant.result)
+returns-in-Ok-Some-clause-told g c = λ accepted. some_told (job_of c.in-Ok-Some.intent) (asked c.args.reading) (λ (job : Request Text). IsSettled (EndsAsked job (g.S.TextSource.bytes_of c.args.console.now.texts.now) (g.S.TextSource.text_in c.args.console.now.texts.now) (g.I.Read.remaining c.args.console.now.input) (g.O.Write.contents c.args.console.now.output, g.E.Write.contents c.args.console.now.errors)) (g.O.Write.contents c.grant.new.console.output, g.E.Write.contents c.grant.new.console.errors) c.grant.result)
     (ap (option_and_then job_of) (sym c.in-Ok-Some.field-0-is) ∙ c.in-Ok-Some.ensures.job) c.grant.ensures.job
 
 pub returns-in-Ok-Some-clause-several : goal.returns-in-Ok-Some-clause-several
-returns-in-Ok-Some-clause-several g c = λ taken. some_told (several_of c.in-Ok-Some.intent) (several_asked c.args.reading) (λ (several : Lists × List Text). IsSettledList (EndsSeveral several (g.S.TextSource.bytes_of c.args.console.now.texts.now) (g.S.TextSource.text_in c.args.console.now.texts.now) (g.O.Write.contents c.args.console.now.output, g.E.Write.contents c.args.console.now.errors)) (g.O.Write.contents c.grant.new.console.output, g.E.Write.contents c.grant.new.console.errors) c.grant.result)
+returns-in-Ok-Some-clause-several g c = λ accepted. some_told (several_of c.in-Ok-Some.intent) (several_asked c.args.reading) (λ (several : Lists × List Text). IsSettledList (EndsSeveral several (g.S.TextSource.bytes_of c.args.console.now.texts.now) (g.S.TextSource.text_in c.args.console.now.texts.now) (g.O.Write.contents c.args.console.now.output, g.E.Write.contents c.args.console.now.errors)) (g.O.Write.contents c.grant.new.console.output, g.E.Write.contents c.grant.new.console.errors) c.grant.result)
     (ap (option_and_then several_of) (sym c.in-Ok-Some.field-0-is) ∙ c.in-Ok-Some.ensures.several) c.grant.ensures.several
 
 pub returns-in-Ok-Some-clause-folders : goal.returns-in-Ok-Some-clause-folders
-returns-in-Ok-Some-clause-folders g c = λ taken. some_told (folders_of c.in-Ok-Some.intent) (folders_asked c.args.reading) (λ (asked : Lacking × List Text). c.grant.result ≡ 0 → WritesSession (g.S.TextSource.names_in c.args.console.now.texts.now) (g.S.TextSource.bytes_of c.args.console.now.texts.now) asked.1 asked.0 (g.O.Write.contents c.args.console.now.output) (g.O.Write.contents c.grant.new.console.output))
+returns-in-Ok-Some-clause-folders g c = λ accepted. some_told (folders_of c.in-Ok-Some.intent) (folders_asked c.args.reading) (λ (asked : Lacking × List Text). c.grant.result ≡ 0 → WritesSession (g.S.TextSource.names_in c.args.console.now.texts.now) (g.S.TextSource.bytes_of c.args.console.now.texts.now) asked.1 asked.0 (g.O.Write.contents c.args.console.now.output) (g.O.Write.contents c.grant.new.console.output))
     (ap (option_and_then folders_of) (sym c.in-Ok-Some.field-0-is) ∙ c.in-Ok-Some.ensures.folders) c.grant.ensures.folders
 
 pub returns-in-Ok-Some-clause-plain : goal.returns-in-Ok-Some-clause-plain
@@ -53,14 +53,14 @@ returns-in-Ok-None-clause-plain g c = λ name names plain. if_some (asked_by nam
     absurd cc)
 
 pub returns-in-Ok-Some-clause-lines : goal.returns-in-Ok-Some-clause-lines
-returns-in-Ok-Some-clause-lines g c = λ taken zero. some_told (job_of c.in-Ok-Some.intent) (asked c.args.reading) (λ (job : Request Text). HasLines job (g.S.TextSource.bytes_of c.args.console.now.texts.now) (g.O.Write.contents c.args.console.now.output) (g.O.Write.contents c.grant.new.console.output) c.args.lines.now c.grant.new.lines)
+returns-in-Ok-Some-clause-lines g c = λ accepted zero. some_told (job_of c.in-Ok-Some.intent) (asked c.args.reading) (λ (job : Request Text). HasLines job (g.S.TextSource.bytes_of c.args.console.now.texts.now) (g.O.Write.contents c.args.console.now.output) (g.O.Write.contents c.grant.new.console.output) c.args.lines.now c.grant.new.lines)
     (ap (option_and_then job_of) (sym c.in-Ok-Some.field-0-is) ∙ c.in-Ok-Some.ensures.job) (c.grant.ensures.lines zero)
 
 pub returns-in-Ok-Some-clause-unlined : goal.returns-in-Ok-Some-clause-unlined
 returns-in-Ok-Some-clause-unlined g c = λ none. c.grant.ensures.unlined (ap (option_and_then job_of) (sym c.in-Ok-Some.field-0-is) ∙ c.in-Ok-Some.ensures.job ∙ none)
 
 pub returns-in-Ok-None-clause-lines : goal.returns-in-Ok-None-clause-lines
-returns-in-Ok-None-clause-lines g c = λ taken zero. if_some (asked c.args.reading) _ (λ job e.
+returns-in-Ok-None-clause-lines g c = λ accepted zero. if_some (asked c.args.reading) _ (λ job e.
     let none : None ≡ Some job = ap (option_and_then job_of) (sym c.in-Ok-None.field-0-is) ∙ c.in-Ok-None.ensures.job ∙ e in
     absurd cc)
 
@@ -95,55 +95,72 @@ pub returns-in-Err-clause-bare_headline : goal.returns-in-Err-clause-bare_headli
 returns-in-Err-clause-bare_headline g c = λ few zero. let none = c.intent.ensures.bare few in absurd cc
 
 pub returns-in-Err-clause-usage : goal.returns-in-Err-clause-usage
-returns-in-Err-clause-usage g c = λ taken alike two. let clash = (c.in-Err.ensures.err taken).0 in absurd cc
+returns-in-Err-clause-usage g c = λ accepted. absurd (no_kind c.args.reading _ accepted c.in-Err.ensures.kind)
 
 pub returns-in-Err-clause-clash : goal.returns-in-Err-clause-clash
-returns-in-Err-clause-clash g c = λ taken clash. refused_clash _ _ _ c.refuse.result c.refuse.ensures (c.in-Err.ensures.err taken).1
+returns-in-Err-clause-clash g c = λ accepted clash. refused_clash _ _ _ c.refuse.result c.refuse.ensures (clash_kind c.args.reading _ accepted c.in-Err.ensures.kind)
 
 pub returns-in-Err-clause-told : goal.returns-in-Err-clause-told
-returns-in-Err-clause-told g c = λ taken. if_some (asked c.args.reading) _ (λ job e.
+returns-in-Err-clause-told g c = λ accepted. if_some (asked c.args.reading) _ (λ job e.
     let alike = asked_alike c.args.reading job e in
-    let clash = (c.in-Err.ensures.err taken).0 in
-    absurd cc)
+    absurd (no_kind c.args.reading _ (accepted, alike) c.in-Err.ensures.kind))
 
 pub returns-in-Err-clause-several : goal.returns-in-Err-clause-several
-returns-in-Err-clause-several g c = λ taken. if_some (several_asked c.args.reading) _ (λ several e.
+returns-in-Err-clause-several g c = λ accepted. if_some (several_asked c.args.reading) _ (λ several e.
     let alike = several_asked_alike c.args.reading several e in
-    let clash = (c.in-Err.ensures.err taken).0 in
-    absurd cc)
+    absurd (no_kind c.args.reading _ (accepted, alike) c.in-Err.ensures.kind))
 
 pub returns-in-Err-clause-folders : goal.returns-in-Err-clause-folders
-returns-in-Err-clause-folders g c = λ taken. if_some (folders_asked c.args.reading) _ (λ folders e.
+returns-in-Err-clause-folders g c = λ accepted. if_some (folders_asked c.args.reading) _ (λ folders e.
     let alike = folders_asked_alike c.args.reading folders e in
-    let clash = (c.in-Err.ensures.err taken).0 in
-    absurd cc)
+    absurd (no_kind c.args.reading _ (accepted, alike) c.in-Err.ensures.kind))
 
 pub returns-in-Err-clause-lines : goal.returns-in-Err-clause-lines
-returns-in-Err-clause-lines g c = λ taken zero. if_some (asked c.args.reading) _ (λ job e.
+returns-in-Err-clause-lines g c = λ accepted zero. if_some (asked c.args.reading) _ (λ job e.
     let alike = asked_alike c.args.reading job e in
-    let clash = (c.in-Err.ensures.err taken).0 in
-    absurd cc)
+    absurd (no_kind c.args.reading _ (accepted, alike) c.in-Err.ensures.kind))
 
 pub returns-in-Err-clause-plain : goal.returns-in-Err-clause-plain
 returns-in-Err-clause-plain g c = λ name names plain. if_some (asked_by name names) _ (λ job e.
     let is = taken_plain c.args.reading name names job plain e in
     let alike = asked_alike c.args.reading job is.given in
-    let clash = (c.in-Err.ensures.err is.taken).0 in
-    absurd cc)
+    absurd (no_kind c.args.reading _ (is.accepted, alike) c.in-Err.ensures.kind))
 
 pub returns-in-Err-clause-headline : goal.returns-in-Err-clause-headline
 returns-in-Err-clause-headline g c = λ first second asks zero.
     let is = taken_check c.args.reading first second asks in
     let alike = asked_alike c.args.reading (Two (Check is.checks) first second) is.asks in
-    let clash = (c.in-Err.ensures.err is.taken).0 in
-    absurd cc
+    absurd (no_kind c.args.reading _ (is.accepted, alike) c.in-Err.ensures.kind)
 
 pub returns-in-Ok-Some-clause-unmade : goal.returns-in-Ok-Some-clause-unmade
-returns-in-Ok-Some-clause-unmade g c = λ taken. some_told (folders_of c.in-Ok-Some.intent) (folders_asked c.args.reading) (λ (asked : Lacking × List Text). c.grant.result ≡ 1 → Keeps (g.O.Write.contents c.args.console.now.output) (g.O.Write.contents c.grant.new.console.output))
+returns-in-Ok-Some-clause-unmade g c = λ accepted. some_told (folders_of c.in-Ok-Some.intent) (folders_asked c.args.reading) (λ (asked : Lacking × List Text). c.grant.result ≡ 1 → Keeps (g.O.Write.contents c.args.console.now.output) (g.O.Write.contents c.grant.new.console.output))
     (ap (option_and_then folders_of) (sym c.in-Ok-Some.field-0-is) ∙ c.in-Ok-Some.ensures.folders) c.grant.ensures.unmade
 
 pub returns-in-Err-clause-unmade : goal.returns-in-Err-clause-unmade
-returns-in-Err-clause-unmade g c = λ taken. if_some (folders_asked c.args.reading) _ (λ folders e.
+returns-in-Err-clause-unmade g c = λ accepted. if_some (folders_asked c.args.reading) _ (λ folders e.
     let alike = folders_asked_alike c.args.reading folders e in
-    let clash = (c.in-Err.ensures.err taken).0 in
-    absurd cc)
+    absurd (no_kind c.args.reading _ (accepted, alike) c.in-Err.ensures.kind))
+
+pub returns-in-Ok-Some-clause-refused : goal.returns-in-Ok-Some-clause-refused
+returns-in-Ok-Some-clause-refused g c = not_refused c.args.reading _ c.in-Ok-Some.ensures.accepted c.in-Ok-Some.ensures.alike
+
+pub returns-in-Ok-None-clause-refused : goal.returns-in-Ok-None-clause-refused
+returns-in-Ok-None-clause-refused g c = not_refused c.args.reading _ c.in-Ok-None.ensures.accepted c.in-Ok-None.ensures.alike
+
+pub returns-in-Err-clause-refused : goal.returns-in-Err-clause-refused
+returns-in-Err-clause-refused g c = λ refused. record { kind = kind_of c.in-Err.error; is_kind = c.in-Err.ensures.kind; outcome = c.refuse.ensures }
+
+pub returns-in-Ok-Some-clause-untouched : goal.returns-in-Ok-Some-clause-untouched
+returns-in-Ok-Some-clause-untouched g c = not_refused c.args.reading _ c.in-Ok-Some.ensures.accepted c.in-Ok-Some.ensures.alike
+
+pub returns-in-Ok-None-clause-untouched : goal.returns-in-Ok-None-clause-untouched
+returns-in-Ok-None-clause-untouched g c = not_refused c.args.reading _ c.in-Ok-None.ensures.accepted c.in-Ok-None.ensures.alike
+
+pub returns-in-Ok-Some-clause-unasked : goal.returns-in-Ok-Some-clause-unasked
+returns-in-Ok-Some-clause-unasked g c = λ accepted job several folders. some_asked c.in-Ok-Some.intent _
+    (ap (option_and_then job_of) (sym c.in-Ok-Some.field-0-is) ∙ c.in-Ok-Some.ensures.job ∙ job)
+    (ap (option_and_then several_of) (sym c.in-Ok-Some.field-0-is) ∙ c.in-Ok-Some.ensures.several ∙ several)
+    (ap (option_and_then folders_of) (sym c.in-Ok-Some.field-0-is) ∙ c.in-Ok-Some.ensures.folders ∙ folders)
+
+pub returns-in-Err-clause-unasked : goal.returns-in-Err-clause-unasked
+returns-in-Err-clause-unasked g c = λ accepted. absurd (no_kind c.args.reading _ accepted c.in-Err.ensures.kind)
