@@ -1,6 +1,6 @@
 //! What the files of a log say of it but for its records, what it lacks, and the machine that the machine's log describes.
 
-use machine_logs::{DescribeFault, MachineLog, MachineLogFault};
+use machine_logs::{DescribeFault, Description, MachineLog, MachineLogFault};
 use migration_types::LogName;
 use recorded_files::{FileFault, FileReader, Last, Opening, Party};
 use std::alloc::Global;
@@ -202,6 +202,14 @@ log machine 0 0
 4 page 0 00000000000000010000000000000000
 ";
 
+static RISING: &[u8] = b"postcopy-records 1
+recording a
+log machine 0 0
+0 pages 4 2
+1 page 0 00000000000000010000000000000000
+4 page 3 000000000000000000000000000000ab
+";
+
 static MORE: &[u8] = b"postcopy-records 1
 recording a
 log machine 0 0
@@ -260,7 +268,9 @@ fn take(alloc: Global, log: &mut MachineLog, bytes: &'static [u8]) -> Result<(),
 
 /// What two files describe.
 fn fault_of(alloc: Global, one: &'static [u8], other: &'static [u8]) -> Option<DescribeFault> {
-    let mut log = MachineLog::new(alloc);
+    let Ok(mut log) = MachineLog::new(alloc, 2) else {
+        return Some(DescribeFault::Memory);
+    };
     if take(alloc, &mut log, one).is_err() || take(alloc, &mut log, other).is_err() {
         return Some(DescribeFault::Memory);
     }
@@ -270,14 +280,43 @@ fn fault_of(alloc: Global, one: &'static [u8], other: &'static [u8]) -> Option<D
     }
 }
 
+/// The machine that two files describe. There is room for one record: a log takes more.
+fn described(alloc: Global, one: &'static [u8], other: &'static [u8]) -> Option<Description> {
+    let mut log = MachineLog::new(alloc, 1).ok()?;
+    take(alloc, &mut log, one).ok()?;
+    take(alloc, &mut log, other).ok()?;
+    log.describe(alloc).ok()
+}
+
+#[test]
+fn tells_a_record_that_is_none_of_the_machine(rt: HostRuntime) {
+    let alloc = rt.alloc();
+    let Ok(mut log) = MachineLog::new(alloc, 0) else {
+        assert!(rt; false);
+        return;
+    };
+    assert!(rt; take(alloc, &mut log, NONE) == Err(MachineLogFault::Record(2)));
+}
+
+/// Pages that rise with the numbers of their records need no sort.
+#[test]
+fn describes_a_machine_whose_pages_rise(rt: HostRuntime) {
+    let alloc = rt.alloc();
+    let Some(found) = described(alloc, RISING, MORE) else {
+        assert!(rt; false);
+        return;
+    };
+    assert!(rt; found.pages == 4 && found.cells == 2 && found.init.len() == 2);
+    assert!(rt; found.init[0].page == 0 && found.init[0].cells.as_slice() == [1u64, 0].as_slice());
+    assert!(rt;
+        found.init[1].page == 3 && found.init[1].cells.as_slice() == [0u64, 0xab].as_slice()
+    );
+}
+
 #[test]
 fn describes_a_machine(rt: HostRuntime) {
     let alloc = rt.alloc();
-    let mut log = MachineLog::new(alloc);
-    assert!(rt; take(alloc, &mut log, MACHINE).is_ok());
-    assert!(rt; take(alloc, &mut log, MORE).is_ok());
-    assert!(rt; take(alloc, &mut MachineLog::new(alloc), NONE) == Err(MachineLogFault::Record(2)));
-    let Ok(found) = log.describe(alloc) else {
+    let Some(found) = described(alloc, MACHINE, MORE) else {
         assert!(rt; false);
         return;
     };
