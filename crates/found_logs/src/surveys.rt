@@ -14,7 +14,7 @@ use migration_types::LogName;
 use recorded_files::{FileReader, Party};
 use session_words::{Piece, Stop, add, open_text, sentence};
 use std::alloc::{AllocError, Global};
-use surveyed_logs::{Surveyed, survey};
+use surveyed_logs::{Onlooker, Surveyed, survey};
 use text_access::TextSource;
 
 /// The name of the recording, and the last file that had it.
@@ -70,30 +70,32 @@ fn take_name(
 }
 
 /// Reads a file that has a head to its end.
-fn survey_records<S: TextSource>(
+fn survey_records<S: TextSource, O: Onlooker>(
     alloc: Global,
     texts: &S,
     party: Party,
     path: &str,
     surveying: Surveying<'_>,
     reader: &mut FileReader<S::Text>,
+    onlooker: &mut O,
 ) -> Result<Surveyed, Stop>
     ensures { IfOk result (λ found. (known : Option (List ℕ)) → CameTo party known reader.old [] → IsSurveyOf party known reader.old.name found) }
 {
-    match survey(surveying.process, reader) {
+    match survey(surveying.process, reader, onlooker) {
         Ok(surveyed) => Ok(surveyed),
         Err(fault) => Err(file_stop(alloc, texts, party, path, surveying, fault)),
     }
 }
 
 /// Reads a party's file to its end. Returns `None` if it ends within its head.
-fn survey_text<S: TextSource>(
+fn survey_text<S: TextSource, O: Onlooker>(
     alloc: Global,
     texts: &S,
     party: Party,
     path: &str,
     surveying: Surveying<'_>,
     recording: &mut Option<Recording>,
+    onlooker: &mut O,
 ) -> Result<Option<Surveyed>, Stop>
     ensures { IfOk result (λ found. Under recording.old recording.new (λ name. IsReadAs party (S.bytes_of texts.now path.now) name found)) }
 {
@@ -102,7 +104,15 @@ fn survey_text<S: TextSource>(
         Ok(Some(reader)) => {
             let mut reader = reader;
             take_name(alloc, recording, reader.name(), path)?;
-            let found = survey_records(alloc, texts, party, path, surveying, &mut reader)?;
+            let found = survey_records(
+                alloc,
+                texts,
+                party,
+                path,
+                surveying,
+                &mut reader,
+                onlooker,
+            )?;
             Ok(Some(found))
         }
         Ok(None) => Ok(None),
@@ -175,12 +185,13 @@ fn push_of(
 }
 
 /// Reads a file to its end, and adds it to the log of its party.
-fn survey_file<S: TextSource>(
+fn survey_file<S: TextSource, O: Onlooker>(
     alloc: Global,
     texts: &S,
     file: &FoundFile,
     logs: &mut FoundLogs,
     recording: &mut Option<Recording>,
+    onlooker: &mut O,
 ) -> Result<(), Stop>
     ensures { OnOk result (Under recording.old recording.new (λ name. TakesFile (S.bytes_of texts.now) name file.now logs.old logs.new)) }
 {
@@ -189,35 +200,40 @@ fn survey_file<S: TextSource>(
         process: file.process,
     };
     let path = file.path.as_str();
-    let found = survey_text(alloc, texts, file.party, path, surveying, recording)?;
+    let found = survey_text(
+        alloc, texts, file.party, path, surveying, recording, onlooker,
+    )?;
     push_of(alloc, logs, file, found)?;
     Ok(())
 }
 
 /// Reads each file to its end. Returns the files of each log, with what each says but for its records.
-fn survey_files<S: TextSource>(
+fn survey_files<S: TextSource, O: Onlooker>(
     alloc: Global,
     texts: &S,
     files: &[FoundFile],
+    onlooker: &mut O,
 ) -> Result<FoundLogs, Stop>
     ensures { IfOk result (λ logs. (folders : List (List ℕ)) → AreFound (S.names_in texts.now) folders files.now → IsFoundIn (S.names_in texts.now) (S.bytes_of texts.now) folders logs) }
 {
     let mut logs = FoundLogs::new(alloc);
     let mut recording = None;
     for file in files {
-        survey_file(alloc, texts, file, &mut logs, &mut recording)?;
+        survey_file(alloc, texts, file, &mut logs, &mut recording, onlooker)?;
     }
     Ok(logs)
 }
 
-/// Returns the logs of the recorders' files in folders, each of which is read to its end.
-pub fn find_logs<S: TextSource>(
+/// Returns the logs of the recorders' files in folders, each of which is read to its end. The onlooker sees each record of each file,
+/// one file after the other.
+pub fn find_logs<S: TextSource, O: Onlooker>(
     alloc: Global,
     texts: &S,
     folders: &[&str],
+    onlooker: &mut O,
 ) -> Result<FoundLogs, Stop>
     ensures { IfOk result (IsFoundIn (S.names_in texts.now) (S.bytes_of texts.now) (names_of folders.now)) }
 {
     let files = find_files(alloc, texts, folders)?;
-    survey_files(alloc, texts, files.as_slice())
+    survey_files(alloc, texts, files.as_slice(), onlooker)
 }

@@ -18,6 +18,7 @@ use migration_types::Session;
 use session_facts::FactFinder;
 use session_words::Stop;
 use std::alloc::{AllocError, Global};
+use surveyed_logs::NoOnlooker;
 use text_access::TextSource;
 
 /// Returns the session of a recording that is known and was met, if nothing is lacking and it is within the limits of a session.
@@ -101,7 +102,7 @@ fn gather<S: TextSource>(
 ) -> Result<Option<Session>, Stop>
     ensures { IfOk result (λ found. IfSome found (λ session. (text : List ℕ) × IsSessionText (S.names_in texts.now) (S.bytes_of texts.now) (names_of folders.now) Refused text × IsSpelling SpellsSession session text)) }
 {
-    let logs = find_logs(alloc, texts, folders)?;
+    let logs = find_logs(alloc, texts, folders, &mut NoOnlooker)?;
     gather_files(alloc, texts, &logs)
 }
 

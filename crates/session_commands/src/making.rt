@@ -32,6 +32,7 @@ use session_facts::{Ends, FactFinder, Facts, Nobody, tell_cut, tell_empty, tell_
 use session_words::{Stop, push_message};
 use std::alloc::{AllocError, Global};
 use std::io::Write;
+use surveyed_logs::NoOnlooker;
 use text_access::{TextSource, write_whole};
 use walked_logs::{Messages, note_messages, walk_logs};
 use written_recordings::write_recording;
@@ -450,7 +451,7 @@ fn make<S: TextSource, O: Write, E: Write>(
     ensures unfit { IfErr result (λ stop. IsUnfit stop → Keeps (O.contents output.old) (O.contents output.new)) }
     ensures gains { BothGain (O.contents output.old, E.contents errors.old) (O.contents output.new, E.contents errors.new) }
 {
-    let logs = find_logs(alloc, texts, folders)?;
+    let logs = find_logs(alloc, texts, folders, &mut NoOnlooker)?;
     let known = know_facts(alloc, texts, &logs)?;
     settle(alloc, texts, lacking, &logs, known, output, errors)
 }

@@ -9,4 +9,4 @@ mod surveying;
 pub use lacking::{LogLack, count_records, find_lacks};
 pub use names::read_file_name;
 pub use parts::{LogPart, PartEnd, PartFault, find_parts};
-pub use surveying::{Surveyed, survey};
+pub use surveying::{NoOnlooker, Onlooker, Surveyed, survey};

@@ -5,7 +5,8 @@ ghost use Rattle.recorded_files.specs.Said.{CameTo, IsFault};
 ghost use Rattle.recorded_files.specs.declared.lines.Party.{Party};
 ghost use Rattle.surveyed_logs.specs.Surveys.{IsSurveyOf};
 
-use recorded_files::{FileFault, FileReader, Last, Opening};
+use recorded_files::{FileFault, FileReader, Last, Opening, Party};
+use std::alloc::AllocError;
 use std::io::Read;
 
 /// What a file says of its log, but for its records' texts.
@@ -23,14 +24,36 @@ pub struct Surveyed {
     pub last: Option<Last>,
 }
 
-/// Reads a file, none of whose records were read, to its end.
+/// Looks on while files are surveyed.
+pub trait Onlooker {
+    /// Sees the text of a party's record.
+    ///
+    /// # Errors
+    ///
+    /// Memory was refused.
+    fn see(&mut self, party: Party, number: u64, text: &[u8]) -> Result<(), AllocError>;
+}
+
+/// Nobody looks on.
+#[derive(Clone, Copy)]
+pub struct NoOnlooker;
+
+impl Onlooker for NoOnlooker {
+    #[inline(always)]
+    fn see(&mut self, _party: Party, _number: u64, _text: &[u8]) -> Result<(), AllocError> {
+        Ok(())
+    }
+}
+
+/// Reads a file, none of whose records were read, to its end. The onlooker sees each record.
 ///
 /// # Errors
 ///
-/// The line at which the file stops being that of a recorder, or a read failed.
-pub fn survey<R: Read + Drop>(
+/// The line at which the file stops being that of a recorder, or a read failed, or memory was refused.
+pub fn survey<R: Read + Drop, O: Onlooker>(
     process: usize,
     file: &mut FileReader<R>,
+    onlooker: &mut O,
 ) -> Result<Surveyed, FileFault>
     ensures process { IfOk result (λ s. s.process ≡ process) }
     ensures surveyed { IfOk result (λ s. (party : Party) (known : Option (List ℕ)) → CameTo party known file.old [] → IsSurveyOf party known file.old.name s) }
@@ -50,6 +73,9 @@ pub fn survey<R: Read + Drop>(
                 };
                 records = more;
                 next = after;
+                if onlooker.see(opening.party, number, file.text()).is_err() {
+                    return Err(FileFault::Memory);
+                }
             }
             None => {
                 return Ok(Surveyed {

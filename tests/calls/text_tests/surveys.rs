@@ -3,10 +3,10 @@
 use machine_logs::{DescribeFault, Description, MachineLog, MachineLogFault};
 use migration_types::LogName;
 use recorded_files::{FileFault, FileReader, Last, Opening, Party};
-use std::alloc::Global;
+use std::alloc::{AllocError, Global};
 use surveyed_logs::{
-    LogLack, LogPart, PartEnd, PartFault, Surveyed, count_records, find_lacks, find_parts,
-    read_file_name, survey,
+    LogLack, LogPart, Onlooker, PartEnd, PartFault, Surveyed, count_records, find_lacks,
+    find_parts, read_file_name, survey,
 };
 
 #[test]
@@ -46,12 +46,59 @@ log guest 7 2
 next 12
 ";
 
+/// The records that were seen, each as a line.
+#[derive(Drop)]
+struct Seen {
+    lines: Vec<u8>,
+}
+
+impl Onlooker for Seen {
+    fn see(&mut self, party: Party, number: u64, text: &[u8]) -> Result<(), AllocError> {
+        let word: &[u8] = if party == GUEST {
+            b"guest "
+        } else {
+            b"another "
+        };
+        self.lines.extend_from_slice(word)?;
+        self.lines.push(b'0' + (number % 10) as u8)?;
+        self.lines.push(b' ')?;
+        self.lines.extend_from_slice(text)?;
+        self.lines.push(b'\n')?;
+        Ok(())
+    }
+}
+
+/// An onlooker for which there is no memory.
+#[derive(Clone, Copy)]
+struct Refused;
+
+impl Onlooker for Refused {
+    fn see(&mut self, _party: Party, _number: u64, _text: &[u8]) -> Result<(), AllocError> {
+        Err(AllocError)
+    }
+}
+
 #[test]
-fn surveys_a_file(rt: HostRuntime) {
+fn tells_that_an_onlooker_has_no_memory(rt: HostRuntime) {
     let found = match FileReader::open(rt.alloc(), GUEST, FILE) {
         Ok(Some(file)) => {
             let mut file = file;
-            survey(4, &mut file)
+            survey(4, &mut file, &mut Refused)
+        }
+        _ => Err(FileFault::File),
+    };
+    assert!(rt; found == Err(FileFault::Memory));
+}
+
+#[test]
+fn surveys_a_file(rt: HostRuntime) {
+    let mut seen = Seen {
+        lines: Vec::new(rt.alloc()),
+    };
+    let found = match FileReader::open(rt.alloc(), GUEST, FILE) {
+        Ok(Some(file)) => {
+            let mut file = file;
+            survey(4, &mut file, &mut seen)
         }
         _ => Err(FileFault::File),
     };
@@ -70,6 +117,7 @@ fn surveys_a_file(rt: HostRuntime) {
                 last: Some(Last::Next(12))
             })
     );
+    assert!(rt; seen.lines.as_slice() == b"guest 7 halt\nguest 9 resume 3\n".as_slice());
 }
 
 #[test]
