@@ -11,15 +11,15 @@ ghost use Rattle.session_commands.specs.Files.{IsTextOf};
 ghost use Rattle.session_commands.specs.Texts.{IsSessionText};
 ghost use Rattle.session_commands.specs.inner.Seen.{IsKnownAndMet};
 
-use crate::making::{Known, Taking, know};
+use crate::making::{Known, know};
 use found_logs::{FoundLogs, find_logs};
 use held_sessions::{HeldRecording, Room};
 use migration_types::Session;
 use session_facts::FactFinder;
 use session_words::Stop;
 use std::alloc::{AllocError, Global};
-use surveyed_logs::NoOnlooker;
 use text_access::TextSource;
+use walked_logs::Senders;
 
 /// Returns the session of a recording that is known and was met, if nothing is lacking and it is within the limits of a session.
 fn session_of(held: HeldRecording, known: Known) -> Result<Option<Session>, AllocError>
@@ -45,53 +45,32 @@ fn session_of(held: HeldRecording, known: Known) -> Result<Option<Session>, Allo
     }
 }
 
-/// Returns the session of the files of logs whose records take these messages.
-fn gather_taking<S: TextSource>(
+/// Returns the session of the files of logs, given the senders that their records name.
+fn gather_files<S: TextSource>(
     alloc: Global,
     texts: &S,
     logs: &FoundLogs,
-    taking: Taking,
+    senders: Senders,
 ) -> Result<Option<Session>, Stop>
     ensures { IfOk result (λ found. IfSome found (λ session. (text : List ℕ) × IsTextOf (S.bytes_of texts.now) logs.now Refused text × IsSpelling SpellsSession session text)) }
 {
-    let held = HeldRecording::new(alloc, room_of(logs)?);
+    let held = HeldRecording::new(alloc, room_of(logs, &senders)?);
     let mut finder = FactFinder::new(alloc, held);
-    let known = know(&mut finder, alloc, texts, logs, taking)?;
+    let known = know(&mut finder, alloc, texts, logs, Some(senders))?;
     let FactFinder { facts, other } = finder;
     drop(facts);
     Ok(session_of(other, known)?)
 }
 
 /// Returns how many records there are, as the files of logs were surveyed. The pages come last, and take memory that is free then.
-fn room_of(logs: &FoundLogs) -> Result<Room, AllocError> {
+fn room_of(logs: &FoundLogs, senders: &Senders) -> Result<Room, AllocError> {
     Ok(Room {
         guest: logs.guest.records()?,
         source: logs.source.records()?,
-        link: logs.link.records()?,
-        lane: logs.lane.records()?,
+        link: logs.link.records()?.max(senders.link() as u64),
+        lane: logs.lane.records()?.max(senders.lane() as u64),
         pager: logs.pager.records()?,
     })
-}
-
-/// Returns the session of the files of logs.
-///
-/// Where the link has files, its own log most often tells all messages, and the records of the pager and of the source take none
-/// without it. Then these two logs are not read for messages first. If one is taken after all, all is gone through once more.
-fn gather_files<S: TextSource>(
-    alloc: Global,
-    texts: &S,
-    logs: &FoundLogs,
-) -> Result<Option<Session>, Stop>
-    ensures { IfOk result (λ found. IfSome found (λ session. (text : List ℕ) × IsTextOf (S.bytes_of texts.now) logs.now Refused text × IsSpelling SpellsSession session text)) }
-{
-    if !logs.link.is_empty() {
-        match gather_taking(alloc, texts, logs, Taking::Nothing) {
-            Ok(found) => return Ok(found),
-            Err(Stop::Memory) => return Err(Stop::Memory),
-            Err(_) => {}
-        }
-    }
-    gather_taking(alloc, texts, logs, Taking::Named)
 }
 
 /// Returns the session of the files in folders.
@@ -102,8 +81,9 @@ fn gather<S: TextSource>(
 ) -> Result<Option<Session>, Stop>
     ensures { IfOk result (λ found. IfSome found (λ session. (text : List ℕ) × IsSessionText (S.names_in texts.now) (S.bytes_of texts.now) (names_of folders.now) Refused text × IsSpelling SpellsSession session text)) }
 {
-    let logs = find_logs(alloc, texts, folders, &mut NoOnlooker)?;
-    gather_files(alloc, texts, &logs)
+    let mut senders = Senders::new(alloc);
+    let logs = find_logs(alloc, texts, folders, &mut senders)?;
+    gather_files(alloc, texts, &logs, senders)
 }
 
 /// Returns the session of the files that recorders left in folders, without a text in between. Answers `None` where `session` would

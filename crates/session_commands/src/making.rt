@@ -34,7 +34,7 @@ use std::alloc::{AllocError, Global};
 use std::io::Write;
 use surveyed_logs::NoOnlooker;
 use text_access::{TextSource, write_whole};
-use walked_logs::{Messages, note_messages, walk_logs};
+use walked_logs::{Messages, Senders, note_messages, walk_logs};
 use written_recordings::write_recording;
 
 /// What is said last where something is lacking, and is not to be left out.
@@ -74,34 +74,20 @@ fn ends_of<S: TextSource>(
     Ok(ends)
 }
 
-/// How the messages in the logs are found. Logs are not gone through with other messages than theirs.
-#[derive(Clone, Copy)]
-pub(crate) enum Taking {
-    /// Each record of the pager and of the source is read for them.
-    Noted,
-    /// Only those records are read that name a sender.
-    Named,
-    /// No record takes one.
-    Nothing,
-}
-
-/// Returns the messages in the logs, given how many records the pager's has.
+/// Returns the messages in the logs, given how many records the pager's has: those of the senders that were seen, or else each record
+/// of the pager and of the source is read for them. Logs are not gone through with other messages than theirs.
 fn messages_of<S: TextSource>(
     alloc: Global,
     machine: &WideMachine,
     files: &OpenedLogs<'_, S>,
-    taking: Taking,
+    seen: Option<Senders>,
     pager: u64,
 ) -> Result<Messages, Stop>
     requires { IsMachine (extent_of machine.now) }
 {
-    match taking {
-        Taking::Noted => noted(alloc, machine, files),
-        Taking::Named => match Messages::named(alloc, files) {
-            Ok(messages) => Ok(messages),
-            Err(fault) => Err(walk_stop(alloc, files.texts, machine, files.logs, fault)),
-        },
-        Taking::Nothing => Ok(Messages::none(alloc, pager)?),
+    match seen {
+        Some(senders) => Ok(Messages::of(alloc, senders, pager)?),
+        None => noted(alloc, machine, files),
     }
 }
 
@@ -300,14 +286,14 @@ fn see<S: TextSource, V: Visitor>(
     alloc: Global,
     machine: &WideMachine,
     files: &OpenedLogs<'_, S>,
-    taking: Taking,
+    senders: Option<Senders>,
     expected: Front,
 ) -> Result<Seen, Stop>
     requires new { HasNone finder.old.facts × V.IsNew finder.old.other }
     requires machine { IsMachine (extent_of machine.now) }
     ensures { IfOk result (λ seen. HasSeen (V.Met finder.new.other) machine.now (bytes_in (S.bytes_of files.now.texts.now) files.now.logs.now) files.now.logs.now.lane said.old.items said.new.items seen.form) }
 {
-    let messages = messages_of(alloc, machine, files, taking, expected.pager)?;
+    let messages = messages_of(alloc, machine, files, senders, expected.pager)?;
     let form = see_records(finder, said, alloc, machine, files, &messages, expected)?;
     Ok(Seen { messages, form })
 }
@@ -319,7 +305,7 @@ pub(crate) fn know<S: TextSource, V: Visitor>(
     alloc: Global,
     texts: &S,
     logs: &FoundLogs,
-    taking: Taking,
+    senders: Option<Senders>,
 ) -> Result<Known, Stop>
     requires { HasNone finder.old.facts × V.IsNew finder.old.other }
     ensures { IfOk result (IsKnownAndMet (V.Met finder.new.other) (S.bytes_of texts.now) logs.now) }
@@ -336,7 +322,9 @@ pub(crate) fn know<S: TextSource, V: Visitor>(
         cells: description.cells,
     };
     let files = OpenedLogs { texts, logs };
-    let seen = see(finder, &mut said, alloc, &machine, &files, taking, expected)?;
+    let seen = see(
+        finder, &mut said, alloc, &machine, &files, senders, expected,
+    )?;
     Ok(Known {
         machine: WideMachine {
             version: seen.form.version,
@@ -355,7 +343,7 @@ fn know_facts<S: TextSource>(alloc: Global, texts: &S, logs: &FoundLogs) -> Resu
     ensures { IfOk result (λ known. IsKnown (S.bytes_of texts.now) logs.now known) }
 {
     let mut finder = FactFinder::new(alloc, Nobody);
-    know(&mut finder, alloc, texts, logs, Taking::Noted)
+    know(&mut finder, alloc, texts, logs, None)
 }
 
 /// Writes the text of a recording as its files are read.

@@ -5,10 +5,12 @@ mod cursors;
 mod files;
 mod laws;
 mod noting;
+mod senders;
 mod takers;
 mod walking;
 
 pub use files::{LogFiles, WalkFault};
 pub use laws::files_make_one_recording;
 pub use noting::{Messages, note_messages};
+pub use senders::Senders;
 pub use walking::walk_logs;

@@ -10,7 +10,8 @@ use recordings::{
     Visitor, WideGuest, WideInit, WideLane, WideLink, WideMachine, WidePager, WideSource,
 };
 use std::alloc::{AllocError, Global};
-use walked_logs::{LogFiles, Messages, WalkFault, note_messages, walk_logs};
+use surveyed_logs::Onlooker;
+use walked_logs::{LogFiles, Messages, Senders, WalkFault, note_messages, walk_logs};
 
 static MACHINE: WideMachine = WideMachine {
     version: Version::Two,
@@ -233,13 +234,60 @@ fn goes_through_the_deliveries_of_messages(rt: HostRuntime) {
     assert!(rt; makes(rt.alloc(), &told_files(), &told_files(), TOLD) == Ok(true));
 }
 
+/// The messages of records that are seen, of which the pager's log has this many. Each has its party, its number and its text.
+fn seen(
+    alloc: Global,
+    records: &[(Party, u64, &[u8])],
+    pager: u64,
+) -> Result<Messages, AllocError> {
+    let mut senders = Senders::new(alloc);
+    for (party, number, text) in records {
+        senders.see(*party, *number, text)?;
+    }
+    Messages::of(alloc, senders, pager)
+}
+
+const SOURCES: Party = Party::Of(LogName::Source);
+
+const PAGERS: Party = Party::Of(LogName::Pager);
+
 #[test]
-fn goes_through_the_deliveries_of_named_messages(rt: HostRuntime) {
-    let Ok(named) = Messages::named(rt.alloc(), &told_files()) else {
+fn goes_through_the_deliveries_of_senders_that_were_seen(rt: HostRuntime) {
+    let records = [
+        (PAGERS, 2, &b"pull-sent 2"[..]),
+        (PAGERS, 3, b"got-sent 4"),
+        (PAGERS, 4, b"place 2 2 00000000000000ab"),
+        (SOURCES, 5, b"ask-sent 9"),
+        (SOURCES, 2, b"got-sent 3"),
+        (PAGERS, 0, b"got-sent 1"),
+        (PAGERS, 1, b"ask-sent 2"),
+        (Party::Of(LogName::Guest), 0, b"got-sent 8"),
+        (Party::Machine, 0, b"ask-sent 8"),
+        (SOURCES, 3, b"ask-sent 1"),
+        (SOURCES, 4, b"ask-sent 01"),
+    ];
+    let Ok(messages) = seen(rt.alloc(), &records, 5) else {
         assert!(rt; false);
         return;
     };
-    assert!(rt; makes_with(rt.alloc(), &named, &told_files(), TOLD) == Ok(true));
+    assert!(rt; makes_with(rt.alloc(), &messages, &told_files(), TOLD) == Ok(true));
+}
+
+#[test]
+fn counts_the_messages_of_senders_that_were_seen(rt: HostRuntime) {
+    let mut senders = Senders::new(rt.alloc());
+    let records = [
+        (PAGERS, &b"got-sent 1"[..]),
+        (PAGERS, b"pull-sent 2"),
+        (SOURCES, b"ask-sent 9"),
+        (PAGERS, b"got-sent 4294967295"),
+        (PAGERS, b"got-sent 4294967296"),
+        (PAGERS, b"got 1"),
+    ];
+    for (party, text) in records {
+        assert!(rt; senders.see(party, 7, text).is_ok());
+    }
+    assert!(rt; senders.link() == 3 && senders.lane() == 1);
 }
 
 #[test]
@@ -260,7 +308,7 @@ link 1 up 6
 pager 0 got 0
 pager 1 want 2
 ";
-    let (Ok(none), Ok(none_of_five)) = (Messages::none(rt.alloc(), 2), Messages::none(rt.alloc(), 5)) else {
+    let (Ok(none), Ok(none_of_five)) = (seen(rt.alloc(), &[], 2), seen(rt.alloc(), &[], 5)) else {
         assert!(rt; false);
         return;
     };
