@@ -73,6 +73,16 @@ fn room_of(logs: &FoundLogs, senders: &Senders) -> Result<Room, AllocError> {
     })
 }
 
+/// The largest block that the C library lets decide which blocks it keeps when they are given back.
+const LARGEST_KEPT: usize = 33_488_896;
+
+/// Has the C library keep the memory of large blocks that are given back, so that later ones take it. It keeps blocks that are no
+/// larger than the largest that was given back so far; memory of larger ones goes to the system, which clears each page anew.
+fn keep_memory(alloc: Global) {
+    let block: Result<Vec<u8>, AllocError> = Vec::with_capacity(alloc, LARGEST_KEPT);
+    drop(block);
+}
+
 /// Returns the session of the files in folders.
 fn gather<S: TextSource>(
     alloc: Global,
@@ -81,6 +91,7 @@ fn gather<S: TextSource>(
 ) -> Result<Option<Session>, Stop>
     ensures { IfOk result (λ found. IfSome found (λ session. (text : List ℕ) × IsSessionText (S.names_in texts.now) (S.bytes_of texts.now) (names_of folders.now) Refused text × IsSpelling SpellsSession session text)) }
 {
+    keep_memory(alloc);
     let mut senders = Senders::new(alloc);
     let logs = find_logs(alloc, texts, folders, &mut senders)?;
     gather_files(alloc, texts, &logs, senders)
