@@ -313,26 +313,31 @@ def record(folder, placed=lambda page: page + 1, is_closed=True):
 
 
 def test_lines_for_windows(program, room):
-    """The lines of docs/RECORDING.md that judge a larger machine through windows, on one machine. Their status is 0 if each window is
-    clean, and only then: not if what they show cannot be written, nor if the recording made no text and that of an earlier one is there."""
+    """The lines of docs/RECORDING.md that judge a larger machine through windows, on one machine and by an array job, whose tasks run here one
+    after the other. Their status is 0 if each window is clean, and only then: not if what they show cannot be written, nor if the recording
+    made no text and that of an earlier one is there. So it is too where the last window has fewer pages than the others."""
     section = re.search(r"^## Larger machines\n(.*?)^## ", read("docs/RECORDING.md"), re.M | re.S)[1]
-    written, cut, judged, *_, put_together = re.findall(r"^```sh\n(.*?)^```$", section, re.M | re.S)
+    written, cut, judged, _, as_tasks, put_together = re.findall(r"^```sh\n(.*?)^```$", section, re.M | re.S)
+    as_tasks = f'sbatch() {{ for SLURM_ARRAY_TASK_ID in $(seq "${{2#--array=1-}}"); do export SLURM_ARRAY_TASK_ID; sh -c "$4"; done; }}\n{as_tasks}'
     os.symlink(program, f"{room}/postcopy")
 
-    def status(*how):
-        lines = "".join((written, cut, judged)).replace("16384", "2") + f"({put_together.strip()}){''.join(how)}"
+    def status(size, judging, *how):
+        lines = "".join((written, *judging)).replace("16384", size) + f"({put_together.strip()}){''.join(how)}"
         ran = subprocess.run(["bash", "-c", lines], cwd=room, stdin=subprocess.DEVNULL, capture_output=True, encoding="ascii")
         return ran.returncode, ran.stdout
 
     recording = f"{room}/recording"
-    record(recording)
-    assert status() == (0, "")
-    record(recording, is_closed=False)
-    assert status()[0] == 1
-    record(recording, lambda page: page + 1 + (page == 5))
-    # (seven lines stand in front of the window's guest, whose sixth record reads its second page)
-    assert status() == (1, "4 faulty line 13 read\n")
-    assert [status(how)[0] for how in (" > /dev/full", " >&-")] == [1, 1]
+    # (as many lines stand in front of a window's guest as it has pages, and five; two records more, and two for each page up to the faulty one,
+    # which is read in the last of them)
+    for size, told in (("2", "4 faulty line 13 read\n"), ("3", "3 faulty line 16 read\n"), ("7", "0 faulty line 26 read\n"), ("16384", "0 faulty line 27 read\n")):
+        for judging in ((cut, judged), (as_tasks,)):
+            record(recording)
+            assert (size, *status(size, judging)) == (size, 0, "")
+            record(recording, is_closed=False)
+            assert status(size, judging)[0] == 1
+            record(recording, lambda page: page + 1 + (page == 5))
+            assert (size, *status(size, judging)) == (size, 1, told)
+            assert [status(size, judging, how)[0] for how in (" > /dev/full", " >&-")] == [1, 1]
 
 
 def test_lines_of_the_man_page(program, room):
