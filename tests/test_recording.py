@@ -186,6 +186,13 @@ class Tests:
         self.wants("a later packet", self.written(later), ("", "session_from_traces.py: pager.trace: p20 tells of p21, which pager.trace has not before it\n", 1))
         twice = changed(traces, {"pager": [(" p19 packet", " p16 packet")]})
         self.wants("a name that comes twice", self.written(twice), ("", "session_from_traces.py: pager.trace: line 20 names a second p16\n", 1))
+        other = {**traces, "guest": traces["guest"].replace(" g8 ", " h7 ")}
+        self.wants("a number that comes twice", self.written(other), ("", "session_from_traces.py: guest.trace: line 10 names a second h7\n", 1))
+        # (such names tell of no event that is lost)
+        marked = {log: re.sub(r"\b([gatp][0-9]+)\b", r"\1x", text) for log, text in traces.items()}
+        marked["guest"] = re.sub("^[^ \n]+ g20x .*\n", "", marked["guest"], flags=re.MULTILINE)
+        said = "session_from_traces.py: guest.trace: line 3 has the name 'g1x', which is no letter and a number\n"
+        self.wants("names with no number at their end", self.written(marked), ("", said, 1))
         for log, name, behind, left in (("guest", "g8", "g9", 16), ("source", "a4", "a5", 7), ("link", "t4", "t5", 6), ("pager", "p8", "p9", 15)):
             lost = {**traces, log: re.sub(f"^[^ \n]+ {name} .*\n", "", traces[log], flags=re.MULTILINE)}
             said = f"session_from_traces.py: {log}.trace: there is no {name} before {behind}: an event was lost"
@@ -200,10 +207,14 @@ class Tests:
         said = "session_from_traces.py: guest.trace: line 26 has the event 'raed', which is in no table here\n"
         self.wants("an event that is not known", self.written(unknown), ("", said, 1))
         for what, old, new, said in (("a key that is not there", "g12 start pager=p3", "g12 start", "has no pager"), ("a sum that is not there", " sum=", " som=", "has no sum"),
-                                     ("a key that comes twice", "g12 start pager=p3", "g12 start pager=p3 pager=p4", "has a key twice")):
+                                     ("a key that comes twice", "g12 start pager=p3", "g12 start pager=p3 pager=p4", "has a key twice"),
+                                     ("a sum that is no number", "sum=9d2c41f07ab35e68", "sum=none", "has a sum that is no hexadecimal number"),
+                                     ("a frame with a sign", "frame=40001", "frame=-1", "has a frame that is no hexadecimal number")):
             wrong = {**traces, "guest": traces["guest"].replace(old, new, 1)}
             text, told, status = self.written(wrong)
             self.wants(what, (text, re.sub("line [0-9]+", "line N", told), status), ("", f"session_from_traces.py: guest.trace: line N {said}\n", 1))
+        stranger = changed(traces, {"guest": [("g24 read actor=cpu0", "g24 read actor=cpu7")]})
+        self.wants("an actor that begin does not have", self.written(stranger), ("", "session_from_traces.py: guest.trace: 'cpu7' is no actor that begin has\n", 1))
         text, told, status = self.written({**traces, "link": "\x1f\x0b no text"})
         self.wants("a trace that is none", (text, told, status), ("", "session_from_traces.py: link.trace: the last line was not written to its end\n", 1))
         alone = {log: "".join(traces[log].partition(f" {ends}\n")[:2]) for log, ends in (("guest", "g11 stop"), ("source", "a1 stopped guest=g11"))}
@@ -228,7 +239,7 @@ class Tests:
 
 
 @pytest.mark.quick
-@pytest.mark.cases(63)
+@pytest.mark.cases(68)
 def test_recording(program, room):
     tests = Tests(program, room)
     tests.of_folders()

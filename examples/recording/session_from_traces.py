@@ -14,7 +14,8 @@ A page has one cell: the sum, which is a hash of 64 bits of the whole page, and 
 Where an event tells of one that no trace has, there is a hole, and no session is written. With --cut that event is left out
 with all that follow it in its trace, until there is no hole, and standard error says so. A last line that was not written to
 its end is a hole too, and so is a number that no event of a trace has, as a lost one leaves it: names are a letter and a number,
-and each trace numbers its events. An event that is in no table here is refused, and so is one that lacks a key, or has one twice.
+and each trace numbers its events. Another name is refused, and so is an event that is in no table here, lacks a key, has one twice,
+or has a frame, a sum or an actor that is none.
 """
 import argparse
 import os
@@ -63,6 +64,8 @@ RECORDS = {
 OTHERS = {"guest": ("begin", "found"), "source": (), "link": ("hold",), "lane": ("hold",), "pager": ("devices", "wake")}
 # The keys of an event that becomes no record, where something is made of it.
 KEYS = {"begin": ("frames", "actors"), "found": ("frame", "sum")}
+# An event's name, with its number, and the text of a frame or of a sum.
+NAME, HEXADECIMAL = re.compile("[^0-9]*([0-9]+)"), re.compile("[0-9a-f]+")
 LOOKS = ("look", "woken")
 PLACEMENTS = ("place", "zero")
 
@@ -90,7 +93,7 @@ def keys_of(log, what):
 
 def trace(folder, log, cut):
     """The events of a trace by their names, in their order, and what is to be said of a last line that was not written to its end."""
-    events, said = {}, []
+    events, said, numbers = {}, [], set()
     with open(f"{folder}/{log}.trace", encoding="ascii", errors="backslashreplace") as lines:
         for number, line in enumerate(lines, 1):
             if line.startswith("#"):
@@ -103,7 +106,9 @@ def trace(folder, log, cut):
                 event = Event(log, what, dict(field.split("=", 1) for field in fields))
             except ValueError:
                 raise Hole(f"{log}.trace: line {number} is no event") from None
-            if name in events:
+            if not NAME.fullmatch(name):
+                raise Hole(f"{log}.trace: line {number} has the name '{name}', which is no letter and a number")
+            if number_of(name) in numbers:
                 raise Hole(f"{log}.trace: line {number} names a second {name}")
             if what not in (*RECORDS[log], *OTHERS[log]):
                 raise Hole(f"{log}.trace: line {number} has the event '{what}', which is in no table here")
@@ -112,21 +117,28 @@ def trace(folder, log, cut):
             for key in keys_of(log, what):
                 if key not in event.fields:
                     raise Hole(f"{log}.trace: line {number} has no {key}")
+            for key in ("frame", "sum"):
+                if not HEXADECIMAL.fullmatch(event.fields.get(key, "0")):
+                    raise Hole(f"{log}.trace: line {number} has a {key} that is no hexadecimal number")
+            numbers.add(number_of(name))
             events[name] = event
     if said and not cut:
         raise Hole(said[0])
     return events, said
 
 
+def number_of(name):
+    return int(NAME.fullmatch(name)[1])
+
+
 def missing(events):
     """The first number that is missing among the names of a trace, as a name, and the first event behind it; None where none is."""
-    names = [(it[1], int(it[2]), it[0]) for it in map(re.compile("([^0-9]*)([0-9]+)").fullmatch, events) if it]
-    numbers = {number for _, number, _ in names}
+    numbers = set(map(number_of, events))
     lost = next((number for number in range(min(numbers, default=0), max(numbers, default=0)) if number not in numbers), None)
     if lost is None:
         return None
-    letter, _, behind = next(it for it in names if it[1] > lost)
-    return f"{letter}{lost}", behind
+    behind = next(name for name in events if number_of(name) > lost)
+    return f"{behind.rstrip('0123456789')}{lost}", behind
 
 
 class Recording:
@@ -216,6 +228,8 @@ class Recording:
         if "frame" in event.fields:
             values["frame"] = int(event.fields["frame"], 16) - self.frames.start
         if "actor" in event.fields:
+            if event.fields["actor"] not in self.actors:
+                raise Hole(f"guest.trace: '{event.fields['actor']}' is no actor that begin has")
             values["actor"] = self.actors.index(event.fields["actor"])
         if "sum" in event.fields:
             values["sum"], values["value"] = event.fields["sum"], int(event.fields["sum"], 16)
