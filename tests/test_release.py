@@ -123,7 +123,7 @@ def test_version(prefix):
 # What is installed, and removed.
 
 
-@pytest.mark.cases(26)
+@pytest.mark.cases(30)
 def test_installation(prefix, room):
     """What stands under a prefix, and that nothing of it stays."""
     wanted = sorted(INSTALLED.replace("1.2.3", read("VERSION").strip()).split())
@@ -184,6 +184,12 @@ def removed(prefix):
     said, status = ran(*remove, f"{prefix}/new")
     same("a removal around a file that somebody put there", (said, status, files_below(f"{prefix}/new")),
          ("".join(f"tools/install: kept {it}, which has other files\n" for it in (f"{prefix}/new/share", f"{prefix}/new")), 0, ["share/mine"]))
+    for taken in ("bin/postcopy", "lib/libpostcopy.so"):
+        at = f"{prefix}/{os.path.basename(taken)}"
+        os.makedirs(f"{at}/{taken}")
+        said = f"tools/install: {at}/{taken} is a folder, and a file is to be put there\n"
+        same(f"a folder in the place of {taken}", ran(f"{TOP}/tools/install", at), (said, 1))
+        same("a removal of what was put there by then", (ran(*remove, at), files_below(at)), (("", 0), []))
     for words in (("relative",), ("/a", "/b"), ("--uninstall", "/a", "/b"), ("--remove",), ("/a\nb",), ("/a\\b",), ('/a"b',), ("/a$b",), ("/a#b",)):
         same(f"tools/install {words}", ran(f"{TOP}/tools/install", *words)[1], 2)
     same("a relative LIBDIR", ran(f"{TOP}/tools/install", "/a", env={**os.environ, "LIBDIR": "lib"})[1], 2)
