@@ -88,7 +88,7 @@ def test_known_sessions(program, room):
 
 
 @pytest.mark.quick
-@pytest.mark.cases(12)
+@pytest.mark.cases(16)
 def test_outputs(program, room):
     """A text goes to the file of -o. If nothing is written, the file stays; what cannot be read is told with its name."""
     beside = Beside(room, program)
@@ -107,11 +107,12 @@ def test_outputs(program, room):
     ):
         ran = beside.by_command(*words)
         same(what, (ran.returncode, ran.stdout, ran.stderr), (3, "", f"file {words[0]}\n{words[0]}: {why}\n"))
-    file = f"{folder}/guest.1.0"
-    kept, why = beside.has(file), f"session: {file} is a file of a recorder: remove it first, or name another file behind -o\n"
-    for words in ((), ("--cut",), ("--recording",), ("--window", "0-0")):
-        ran = run_script(beside.command, folder, *words, "-o", file)
-        same(f"an output onto a file of a recorder {words}", (ran.returncode, ran.stdout, ran.stderr, beside.has(file)), (2, "", why, kept))
+    beside.put(f"{folder}/recording-name", "told\n")
+    for file in (f"{folder}/guest.1.0", f"{folder}/recording-name"):
+        kept, why = beside.has(file), f"session: {file} is a file of a recorder: remove it first, or name another file behind -o\n"
+        for words in ((), ("--cut",), ("--recording",), ("--window", "0-0")):
+            ran = run_script(beside.command, folder, *words, "-o", file)
+            same(f"an output onto a file of a recorder {words}", (ran.returncode, ran.stdout, ran.stderr, beside.has(file)), (2, "", why, kept))
     same("no folder", beside.by_command().returncode, 2)
     same("a word that is no option", beside.by_command(lacking, "--whole").returncode, 2)
 
