@@ -298,11 +298,43 @@ def test_skeletons_of_other_languages(program, room, cc):
         assert (object_file.startswith(f"{cc} -O2 -pthread "), shown) == (True, ["clean"])
         if language == "c":
             linking = "c++ -std=c++17 -Wall -Wextra -Werror -pthread -Ibindings/c -o smallest smallest.cpp postcopy_record.o"
-        shutil.rmtree(f"{room}/recording", ignore_errors=True)
+        shutil.rmtree(f"{room}/rust-recording", ignore_errors=True)
         ran = subprocess.run(["bash", "-c", f"{object_file} && {linking} && {judging}"], cwd=room, stdout=subprocess.PIPE, stderr=subprocess.STDOUT, encoding="utf-8")
         assert ran.stdout.splitlines() == shown
         status, told = no_folder(room)
         assert (status != 0, "Not a directory" in told) == (True, True)
+
+
+def test_lines_in_their_order(program, room, cc):
+    """The lines of the page that record by a program in C, by userfaultfd and by a program in Rust, each once in the page's order and in one
+    folder, as they are copied: none of them finds the recording of another in its own folder."""
+    page = read("docs/RECORDING.md")
+    for folder in ("bindings", "recorders"):
+        os.symlink(f"{TOP}/{folder}", f"{room}/{folder}")
+    os.symlink(program, f"{room}/postcopy")
+    for name in ("c", "rs"):
+        with open(f"{room}/smallest.{name}", "w", encoding="ascii") as file:
+            file.write(re.search(rf"```\w+\n(/[/*] smallest\.{name}: .*?)```", page, re.S)[1])
+
+    def wrote(*lines):
+        ran = subprocess.run(["bash", "-e", "-c", "\n".join(lines)], cwd=room, stdin=subprocess.DEVNULL, capture_output=True, encoding="utf-8")
+        return ran.returncode, ran.stdout.partition("\n")[0], ran.stderr
+
+    commands = [command for command, _, _ in commands_of(page)]
+    assert commands[0].startswith(f"{cc} -pthread ")
+    assert wrote(*commands[:2]) == (0, "clean", "")
+    compiling, moving, explaining = re.search(r"^```sh\n(cc .*?uffd.*?)^```$", page, re.M | re.S)[1].splitlines()
+    status, _, why = wrote(compiling, moving)
+    if status == 3:
+        leave_out(f"the lines by userfaultfd: {why.strip()}")
+    else:
+        status, first, told = wrote(explaining)
+        assert (status, re.sub("[0-9]+", "N", first), told) == (1, "faulty line N early", "")
+    if not shutil.which("rustc"):
+        leave_out("the lines by rustc, which is not there")
+        return
+    at = next(at for at, command in enumerate(commands) if command.startswith("rustc "))
+    assert wrote(*commands[at - 1:at + 2]) == (0, "clean", "")
 
 
 def record(folder, placed=lambda page: page + 1, is_closed=True):
