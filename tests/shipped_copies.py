@@ -235,7 +235,7 @@ def put_back(room, copy):
     """Makes the sources of a copy those of the tree again."""
     for it in ("crates", "crates.txt", "HANDLES"):
         if os.path.isdir(f"{copy}/{it}"):
-            shutil.rmtree(f"{copy}/{it}/session_log")
+            shutil.rmtree(f"{copy}/{it}/session_log", ignore_errors=True)
             shutil.copytree(f"{room.tree}/{it}", f"{copy}/{it}", dirs_exist_ok=True)
         else:
             shutil.copyfile(f"{room.tree}/{it}", f"{copy}/{it}")

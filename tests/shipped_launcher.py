@@ -127,7 +127,7 @@ def tests_of_forty(room):
          ["checkout", "postcopy"])
 
 
-def changes(copy):
+def changes(room, copy):
     """Changes of the sources: what each is, and how it is made."""
     lib = f"{copy}/{SOURCE}"
     proofs = glob.glob(f"{copy}/crates/session_log/proofs/**/*.antt", recursive=True)
@@ -141,13 +141,15 @@ def changes(copy):
     yield "a source that came", lambda: write(f"{os.path.dirname(lib)}/more.rt", b"")
     yield "another crates.txt", lambda: append(f"{copy}/crates.txt", b"# x\n")
     yield "another HANDLES", lambda: append(f"{copy}/HANDLES", b"\n")
+    yield "a HANDLES that is gone", lambda: os.remove(f"{copy}/HANDLES")
+    yield "a crate that is gone", lambda: os.rename(f"{copy}/crates/session_log", f"{room.folder}/gone")
 
 
 def tests_of_changes(room):
     """A source is changed, with no toolchain, and changed back."""
     copy = room.copy()
     same("before any change", check(copy, room), YES)
-    for what, change in changes(copy):
+    for what, change in changes(room, copy):
         time.sleep(0.02)
         change()
         says(f"{what}, changed", check(copy, room), 2, "the sources here are not those", "install the Rattle toolchain (kit-of-tests)")

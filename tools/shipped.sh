@@ -40,16 +40,17 @@ is_up_to_date() {
     places=$(sh "$top/tools/shipped-sources" --places) || return 1
     # (no name of a place has a space)
     # shellcheck disable=SC2086
-    [ -z "$(cd "${2:-$top}" && find $places -newer "$1" -print -quit)" ]
+    newer=$(cd "${2:-$top}" && find $places -newer "$1" -print -quit) && [ -z "$newer" ]
 }
 
 # Whether no source was written since a file was, under whatever time: the system tells when it last wrote of each, and nobody
-# sets that. It says so too of a source that was only copied or renamed: then the digest tells.
+# sets that. It says so too of a source that was only copied or renamed: then the digest tells. A place that is gone is a change,
+# and of a crate that is gone the folder of all crates tells.
 is_unchanged_since() {
     [ -r "$1" ] || return 1
     places=$(sh "$top/tools/shipped-sources" --places) || return 1
     # shellcheck disable=SC2086
-    [ -z "$(cd "$top" && find $places \( -newer "$1" -o -cnewer "$1" \) -print -quit)" ]
+    newer=$(cd "$top" && find crates $places \( -newer "$1" -o -cnewer "$1" \) -print -quit -o -path crates -prune) && [ -z "$newer" ]
 }
 
 is_of_machine() {
