@@ -2,8 +2,17 @@
 import argparse
 
 
+def number(text, least):
+    if not (text.isascii() and text.isdecimal() and int(text) >= least):
+        raise argparse.ArgumentTypeError(f"'{text}' is not a number of {least} or more")
+    return int(text)
+
+
+def from_0(text):
+    """Returns a number of 0 or more."""
+    return number(text, 0)
+
+
 def above_0(text):
     """Returns a number of 1 or more. A series of none would be one in which nothing was wrong."""
-    if not (text.isascii() and text.isdecimal() and int(text) > 0):
-        raise argparse.ArgumentTypeError(f"'{text}' is not a number of 1 or more")
-    return int(text)
+    return number(text, 1)
