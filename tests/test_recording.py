@@ -213,6 +213,8 @@ class Tests:
             wrong = {**traces, "guest": traces["guest"].replace(old, new, 1)}
             text, told, status = self.written(wrong)
             self.wants(what, (text, re.sub("line [0-9]+", "line N", told), status), ("", f"session_from_traces.py: guest.trace: line N {said}\n", 1))
+        capital = changed(traces, {"guest": [("g8 write actor=cpu1 frame=7f3a1", "g8 write actor=cpu1 frame=7F3A1")]})
+        self.wants("a frame in capital digits", self.written(capital), (session, "", 0))
         stranger = changed(traces, {"guest": [("g24 read actor=cpu0", "g24 read actor=cpu7")]})
         self.wants("an actor that begin does not have", self.written(stranger), ("", "session_from_traces.py: guest.trace: 'cpu7' is no actor that begin has\n", 1))
         text, told, status = self.written({**traces, "link": "\x1f\x0b no text"})

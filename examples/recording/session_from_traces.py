@@ -65,7 +65,7 @@ OTHERS = {"guest": ("begin", "found"), "source": (), "link": ("hold",), "lane": 
 # The keys of an event that becomes no record, where something is made of it.
 KEYS = {"begin": ("frames", "actors"), "found": ("frame", "sum")}
 # An event's name, with its number, and the text of a frame or of a sum.
-NAME, HEXADECIMAL = re.compile("[^0-9]*([0-9]+)"), re.compile("[0-9a-f]+")
+NAME, HEXADECIMAL = re.compile("[^0-9]*([0-9]+)"), re.compile("[0-9a-fA-F]+")
 LOOKS = ("look", "woken")
 PLACEMENTS = ("place", "zero")
 
