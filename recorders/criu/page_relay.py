@@ -7,6 +7,7 @@ Each message is handed over whole, after it is written down, under one lock. The
     down status VALUE
     fault KIND ADDRESS                     what was put in
 """
+import contextlib
 import socket
 import threading
 import time
@@ -22,6 +23,15 @@ def shut(end, how):
         end.shutdown(how)
     except OSError:
         pass  # it is
+
+
+@contextlib.contextmanager
+def recording():
+    """Tells that something cannot be recorded apart from a connection that ends."""
+    try:
+        yield
+    except OSError as fault:
+        raise Strange(f"the relay cannot record: {fault.strerror}") from None
 
 
 class Relay:
@@ -42,7 +52,8 @@ class Relay:
             thread.start()
 
     def tell(self, *fields):
-        print(*fields, file=self.log, flush=True)
+        with recording():
+            print(*fields, file=self.log, flush=True)
 
     def guarded(self, work, source, sink):
         """Forwards until the connection ends, and then ends the other connection in this direction."""
@@ -75,17 +86,19 @@ class Relay:
         with self.lock:
             answers = self.answers.feed(data)
             self.is_delaying = bool(answers)
-        for answer in answers:
-            if self.delay:
-                time.sleep(self.delay)
-            with self.lock:
-                given = self.told(answer)
-                if given is not None:
-                    sink.sendall(given.to_bytes(self.header))
-                self.is_cut = self.fault.ends_connections and self.fault.is_done
-            if self.is_cut:
-                break
-        self.is_delaying = False
+        try:
+            for answer in answers:
+                if self.delay:
+                    time.sleep(self.delay)
+                with self.lock:
+                    given = self.told(answer)
+                    if given is not None:
+                        sink.sendall(given.to_bytes(self.header))
+                    self.is_cut = self.fault.ends_connections and self.fault.is_done
+                if self.is_cut:
+                    break
+        finally:
+            self.is_delaying = False
 
     def told(self, answer):
         """Writes an answer down, and returns what is handed over in its place, or None."""
@@ -93,8 +106,9 @@ class Relay:
             self.tell("down", "status", answer.value)
             return answer
         given = self.fault.of(answer)
-        self.contents.write(answer.contents)
-        self.contents.flush()
+        with recording():
+            self.contents.write(answer.contents)
+            self.contents.flush()
         self.tell("down", "pages", answer.pages, f"{answer.address:x}", self.stored, given.pages if given else 0)
         self.stored += answer.pages
         return given
@@ -107,6 +121,9 @@ class Relay:
             thread.join()
         self.pager.close()
         self.server.close()
-        with self.lock:
-            self.contents.close()
-            self.log.close()
+        for file in (self.contents, self.log):
+            try:
+                with self.lock, recording():
+                    file.close()
+            except Strange as fault:
+                self.complaint = self.complaint or str(fault)

@@ -182,6 +182,26 @@ def of_strange_relay(tests):
         server.close()
 
 
+def of_full_disk(tests):
+    """What cannot be recorded is not handed over, and is told: it is no end of a connection."""
+    for full in ("relay.log", "relay.pages"):
+        with tempfile.TemporaryDirectory() as folder:
+            os.symlink("/dev/full", f"{folder}/{full}")
+            (pager, ours), (server, theirs) = socket.socketpair(), socket.socketpair()
+            for end in (pager, server):
+                end.settimeout(10)
+            relay = Relay(folder, NARROW, ours, theirs, plan_of("live"), b"")
+            pager.sendall(get(0, 1).to_bytes(NARROW))
+            if full == "relay.pages":
+                server.recv(NARROW.size)
+                server.sendall(add(0, 1).to_bytes(NARROW))
+            tests.wants(f"neither side hears of more, with a full {full}", (pager.recv(100), server.recv(100)), (b"", b""))
+            relay.end()
+            tests.wants("it is told", relay.complaint, "the relay cannot record: No space left on device")
+            pager.close()
+            server.close()
+
+
 def run(tests):
     of_bytes(tests)
     of_pieces(tests)
@@ -190,3 +210,4 @@ def run(tests):
     of_relay(tests)
     of_ended_relay(tests)
     of_strange_relay(tests)
+    of_full_disk(tests)
