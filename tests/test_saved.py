@@ -25,6 +25,9 @@ RECORDING = b"postcopy-session 1\npages 1\ncells 1\ninit 0\n"
 # What is told where the lines of a window and its session are to go to one file.
 ONE_FILE = b"error: --lines and --output name one file\n"
 
+# What is told where a recorder's file would be written over.
+RECORDED = b"error: %s names a file of a recorder: remove it first, or name another\n"
+
 # Where bindings/c/tests/refusing.c tells how many calls there were.
 COUNTS = 99
 
@@ -359,6 +362,26 @@ def recorded(run, folder, pages):
     return folder
 
 
+def a_recorders_file(run):
+    """No answer is written over a file of a recorder, by whatever name, as where the session's own was left out."""
+    folder = recorded(run, "whole", 3)
+    guest = run.has(f"{folder}/guest.1.0")
+    session = run("session", folder)[1]
+    run.put("recording", session)
+    run.put("cut", b"postcopy-records 1")
+    os.symlink(f"{folder}/guest.1.0", f"{run.room}/link")
+    for words in (("session", folder), ("audit", folder), ("explain", folder), steps_words(), ("window", "recording", "0", "1")):
+        for name in (f"{folder}/guest.1.0", f"./{folder}/../{folder}/guest.1.0", "link", "cut"):
+            yield f"{words[0]} over {name}", run(*words, "-o", name), (2, b"", RECORDED % b"--output")
+    yield "the table of lines", run("window", "recording", "0", "1", "--lines", "link"), (2, b"", RECORDED % b"--lines")
+    yield "the recorder's file", run.has(f"{folder}/guest.1.0"), guest
+    yield "another", run.has("cut"), b"postcopy-records 1"
+    yield "no new files", sorted(os.listdir(run.room)), ["cut", "link", "recording", folder]
+    for name, text in (("session", session), ("short", b"postcopy-records "), ("none", b""), ("another", b"postcopy-recorded 1\n")):
+        run.put(name, text)
+        yield f"over {name}", (run("session", folder, "-o", name), run.has(name)), ((0, b"", b""), session)
+
+
 def least_memory(run, *words):
     """The least limit on the address space, in MiB, under which the program does what it is asked for."""
     def is_enough(mebibytes):
@@ -478,13 +501,13 @@ def other_commands(run):
 
 
 ALL = (a_new_file, an_old_file, the_users_own, who_may_read, who_owns_it, whose_group_it_is, a_name_that_is_not_given, a_link, many_links, two_writers, two_names, a_limit_on_files, lines_of_nothing, refused_memory,
-       one_file_without_memory, a_folder_without_memory, a_refused_script, no_text, no_place, a_device, a_long_answer, a_write_that_fails, a_long_answer_that_gets_no_name, a_long_list,
+       one_file_without_memory, a_folder_without_memory, a_refused_script, no_text, no_place, a_device, a_recorders_file, a_long_answer, a_write_that_fails, a_long_answer_that_gets_no_name, a_long_list,
        a_long_answer_in_little_memory,
        a_migration, other_commands)
 
 
 # How many cases each has at least.
-LEAST = {other_commands: 28, a_link: 14, two_writers: 62, two_names: 23, who_may_read: 27, the_users_own: 8, a_new_file: 11, refused_memory: 750, one_file_without_memory: 40, a_device: 6, a_long_answer: 11, a_write_that_fails: 13, a_long_answer_that_gets_no_name: 6, a_long_list: 4, a_folder_without_memory: 300}
+LEAST = {other_commands: 28, a_link: 14, two_writers: 62, two_names: 23, who_may_read: 27, the_users_own: 8, a_new_file: 11, refused_memory: 750, one_file_without_memory: 40, a_device: 6, a_recorders_file: 28, a_long_answer: 11, a_write_that_fails: 13, a_long_answer_that_gets_no_name: 6, a_long_list: 4, a_folder_without_memory: 300}
 
 
 @pytest.mark.parametrize("tested", [pytest.param(it, marks=pytest.mark.cases(LEAST.get(it, 1)), id=it.__name__) for it in ALL])

@@ -20,8 +20,10 @@
 ghost use Rattle.std.specs.Prelude.{◌≤◌};
 
 mod folders;
+mod recorded;
 
 use crate::folders::WithFolders;
+use crate::recorded::refuse_recorded;
 use command_texts::{Closable, Console, Fault, USAGE, tell};
 use commands::{Reading, Targets, read_words, run};
 use process_io::{Disk, Saved, put, refuse_targets, slices, tell_wrong_word, words};
@@ -115,7 +117,10 @@ where
     if targets.lines.is_none() && targets.output.is_none() {
         return answer(rt, alloc, texts, reading, output, errors, &mut None);
     }
-    match refuse_targets(rt, alloc, targets, errors) {
+    if let Some(status) = refuse_targets(rt, alloc, targets, errors) {
+        return status;
+    }
+    match refuse_recorded(rt, targets, errors) {
         Some(status) => status,
         None => answer_into(rt, alloc, texts, reading, targets, output, errors),
     }
