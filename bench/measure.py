@@ -2,6 +2,7 @@
 import argparse
 import os
 import re
+import statistics
 import subprocess
 import sys
 import tempfile
@@ -112,13 +113,23 @@ def best(runs, key=lambda run: run.seconds):
     return min(runs, key=key)._replace(memory=max(run.memory for run in runs))
 
 
-def in_turns(ways, times, key=lambda run: run.seconds):
-    """Of each way to run something, by its name, the best run. They take turns, so that a busy machine is as bad for each."""
+def runs_in_turns(ways, times):
+    """All runs of each way to run something, by its name. They take turns, so that a busy machine is as bad for each."""
     found = {name: [] for name in ways}
     for _ in range(times):
         for name, way in ways.items():
             found[name].append(way())
-    return {name: best(runs, key) for name, runs in found.items()}
+    return found
+
+
+def in_turns(ways, times, key=lambda run: run.seconds):
+    """The best run of each way to run something."""
+    return {name: best(runs, key) for name, runs in runs_in_turns(ways, times).items()}
+
+
+def middle_ratio(runs, others):
+    """How many times the seconds of all processors some runs took that others took in the same turns: the median of the turns."""
+    return statistics.median(run.busy / other.busy for run, other in zip(runs, others))
 
 
 def status_of(words, wanted):
