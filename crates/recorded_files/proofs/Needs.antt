@@ -101,8 +101,8 @@ behind_steps other names there i xs steps same e le point =
     ∙ omega arith
 
 -- one more record
-pub more_needed : (other : LogName) (names : List (Option Name)) (named : Option Name) (old : Steps) (steps : Vec Step) (place needed : ℕ) → AreSteps old other names → place ≡ length names → needed ≡ need other named → old.needed < needed → steps.items ≡ old.steps.items ++ record { needed = needed; place = place } ∷ [] → AreSteps (record { needed = needed; steps = steps }) other (names ++ named ∷ [])
-more_needed other names named old steps place needed is e n lt more = record {
+pub more_needed : (other : LogName) (names : List (Option Name)) (named : Option Name) (old : Steps) (steps : Vec Step) (expected place needed : ℕ) → AreSteps old other names → place ≡ length names → needed ≡ need other named → old.needed < needed → steps.items ≡ old.steps.items ++ record { needed = needed; place = place } ∷ [] → AreSteps (record { needed = needed; steps = steps; expected = expected }) other (names ++ named ∷ [])
+more_needed other names named old steps expected place needed is e n lt more = record {
   needed = n ∙ sym (ap (λ b. if b then need other named else needed_on other 0 names) high) ∙ sym (needed_end other 0 names named);
   items = more
       ∙ ap (λ xs. xs ++ record { needed = needed; place = place } ∷ []) is.items

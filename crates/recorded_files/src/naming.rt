@@ -28,12 +28,27 @@ impl Naming {
     pub fn new(alloc: Global) -> Self
         ensures { IsBlank result }
     {
+        let nothing = Front {
+            guest: 0,
+            source: 0,
+            link: 0,
+            lane: 0,
+            pager: 0,
+        };
+        Naming::expecting(alloc, nothing)
+    }
+
+    /// Returns a visitor that has met nothing, and is expected to meet this many records of each log. It can meet more or
+    /// fewer; where it meets about as many, it is faster. Allocates no memory.
+    pub fn expecting(alloc: Global, counts: Front) -> Self
+        ensures { IsBlank result }
+    {
         Naming {
-            guest: Reach::new(alloc),
-            source: Reach::new(alloc),
-            link: Reach::new(alloc),
-            lane: Reach::new(alloc),
-            pager: Reach::new(alloc),
+            guest: Reach::new(alloc, counts.guest),
+            source: Reach::new(alloc, counts.source),
+            link: Reach::new(alloc, counts.link),
+            lane: Reach::new(alloc, counts.lane),
+            pager: Reach::new(alloc, counts.pager),
         }
     }
 

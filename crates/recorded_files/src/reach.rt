@@ -33,17 +33,18 @@ fn need(log: LogName, named: Option<(LogName, u64)>) -> Result<u64, AllocError>
 }
 
 impl Reach {
-    /// Returns the reach of no records.
-    pub(crate) fn new(alloc: Global) -> Self
+    /// Returns the reach of no records, where this many are expected. Allocates no memory.
+    pub(crate) fn new(alloc: Global, expected: u64) -> Self
         ensures { IsReach result [] }
     {
+        let expected = usize::try_from(expected).unwrap_or(0);
         Reach {
             count: 0,
-            guest: Steps::new(alloc),
-            source: Steps::new(alloc),
-            link: Steps::new(alloc),
-            lane: Steps::new(alloc),
-            pager: Steps::new(alloc),
+            guest: Steps::new(alloc, expected),
+            source: Steps::new(alloc, expected),
+            link: Steps::new(alloc, expected),
+            lane: Steps::new(alloc, expected),
+            pager: Steps::new(alloc, expected),
         }
     }
 

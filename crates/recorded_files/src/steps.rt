@@ -19,16 +19,31 @@ pub(crate) struct Step {
 pub(crate) struct Steps {
     pub(crate) needed: u64,
     pub(crate) steps: Vec<Step>,
+    /// How many records are expected. Room for them is taken at once with the first step, so that a list that grows is not moved
+    /// again and again.
+    expected: usize,
 }
 
 impl Steps {
-    /// Returns the steps of no records.
-    pub(crate) fn new(alloc: Global) -> Self
+    /// Returns the steps of no records, where this many are expected. Allocates no memory.
+    pub(crate) fn new(alloc: Global, expected: usize) -> Self
         ensures { (other : LogName) → AreSteps result other [] }
     {
         Steps {
             needed: 0,
             steps: Vec::new(alloc),
+            expected,
+        }
+    }
+
+    /// Takes room for the steps of all records that are expected before the first one, if there is so much memory.
+    #[inline(always)]
+    fn take_room(&mut self)
+        ensures steps { self.new.steps.items ≡ self.old.steps.items }
+        ensures needed { self.new.needed ≡ self.old.needed }
+    {
+        if self.needed == 0 {
+            let _ = self.steps.reserve(self.expected);
         }
     }
 
@@ -38,6 +53,7 @@ impl Steps {
         ensures { (other : LogName) (names : List (Option Name)) (named : Option Name) → AreSteps self.old other names → place ≡ length names → needed ≡ need other named → OnOk result (AreSteps self.new other (names ++ named ∷ [])) }
     {
         if needed > self.needed {
+            self.take_room();
             self.steps.push(Step { needed, place })?;
             self.needed = needed;
         }

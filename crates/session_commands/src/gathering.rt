@@ -11,10 +11,11 @@ ghost use Rattle.session_commands.specs.Files.{IsTextOf};
 ghost use Rattle.session_commands.specs.Texts.{IsSessionText};
 ghost use Rattle.session_commands.specs.inner.Seen.{IsKnownAndMet};
 
-use crate::making::{Known, know};
+use crate::making::{Known, counts_of, know};
 use found_logs::{FoundLogs, find_logs};
 use held_sessions::{HeldRecording, Room};
 use migration_types::Session;
+use recorded_files::Front;
 use session_facts::FactFinder;
 use session_words::Stop;
 use std::alloc::{AllocError, Global};
@@ -54,23 +55,34 @@ fn gather_files<S: TextSource>(
 ) -> Result<Option<Session>, Stop>
     ensures { IfOk result (λ found. IfSome found (λ session. (text : List ℕ) × IsTextOf (S.bytes_of texts.now) logs.now Refused text × IsSpelling SpellsSession session text)) }
 {
-    let held = HeldRecording::new(alloc, room_of(logs, &senders)?);
-    let mut finder = FactFinder::new(alloc, held);
+    let expected = expected_of(logs, &senders)?;
+    let held = HeldRecording::new(alloc, room_for(expected));
+    let mut finder = FactFinder::new(alloc, held, expected);
     let known = know(&mut finder, alloc, texts, logs, Some(senders))?;
     let FactFinder { facts, other } = finder;
     drop(facts);
     Ok(session_of(other, known)?)
 }
 
-/// Returns how many records there are, as the files of logs were surveyed. The pages come last, and take memory that is free then.
-fn room_of(logs: &FoundLogs, senders: &Senders) -> Result<Room, AllocError> {
-    Ok(Room {
-        guest: logs.guest.records()?,
-        source: logs.source.records()?,
-        link: logs.link.records()?.max(senders.link() as u64),
-        lane: logs.lane.records()?.max(senders.lane() as u64),
-        pager: logs.pager.records()?,
+/// Returns how many records of each log there are, as the files of logs were surveyed.
+fn expected_of(logs: &FoundLogs, senders: &Senders) -> Result<Front, AllocError> {
+    let counts = counts_of(logs)?;
+    Ok(Front {
+        link: counts.link.max(senders.link() as u64),
+        lane: counts.lane.max(senders.lane() as u64),
+        ..counts
     })
+}
+
+/// Returns room for this many records. The pages come last, and take memory that is free then.
+fn room_for(expected: Front) -> Room {
+    Room {
+        guest: expected.guest,
+        source: expected.source,
+        link: expected.link,
+        lane: expected.lane,
+        pager: expected.pager,
+    }
 }
 
 /// The largest block that the C library lets decide which blocks it keeps when they are given back.

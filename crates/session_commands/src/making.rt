@@ -338,11 +338,22 @@ pub(crate) fn know<S: TextSource, V: Visitor>(
     })
 }
 
+/// Returns how many records the files of each log have.
+pub(crate) fn counts_of(logs: &FoundLogs) -> Result<Front, AllocError> {
+    Ok(Front {
+        guest: logs.guest.records()?,
+        source: logs.source.records()?,
+        link: logs.link.records()?,
+        lane: logs.lane.records()?,
+        pager: logs.pager.records()?,
+    })
+}
+
 /// Goes through the files, up to what is to be known before the text is written.
 fn know_facts<S: TextSource>(alloc: Global, texts: &S, logs: &FoundLogs) -> Result<Known, Stop>
     ensures { IfOk result (λ known. IsKnown (S.bytes_of texts.now) logs.now known) }
 {
-    let mut finder = FactFinder::new(alloc, Nobody);
+    let mut finder = FactFinder::new(alloc, Nobody, counts_of(logs)?);
     know(&mut finder, alloc, texts, logs, None)
 }
 

@@ -257,12 +257,12 @@ fn is_small(front: Front, pages: u64, cells: u32) -> bool
 }
 
 impl Facts {
-    /// Returns the facts of which nothing was seen.
-    pub fn new(alloc: Global) -> Self
+    /// Returns the facts of which nothing was seen, where about this many records of each log are expected.
+    pub fn new(alloc: Global, expected: Front) -> Self
         ensures { HasNone result }
     {
         Facts {
-            naming: Naming::new(alloc),
+            naming: Naming::expecting(alloc, expected),
             has_back: false,
             has_pull: false,
             halt: None,

@@ -4,6 +4,7 @@ ghost use Rattle.std.specs.Prelude.{◌≡◌, ⊤};
 ghost use Rattle.session_facts.specs.Facts.{HasNone};
 
 use crate::facts::Facts;
+use recorded_files::Front;
 use recordings::{
     Visitor, WideGuest, WideInit, WideLane, WideLink, WideMachine, WidePager, WideSource,
 };
@@ -17,13 +18,14 @@ pub struct FactFinder<V> {
 }
 
 impl<V> FactFinder<V> {
-    /// Returns a visitor that has found nothing, with another visitor.
-    pub fn new(alloc: Global, other: V) -> Self
+    /// Returns a visitor that has found nothing, with another visitor. They are expected to meet about this many records of
+    /// each log.
+    pub fn new(alloc: Global, other: V, expected: Front) -> Self
         ensures none { HasNone result.facts }
         ensures other { result.other ≡ other }
     {
         FactFinder {
-            facts: Facts::new(alloc),
+            facts: Facts::new(alloc, expected),
             other,
         }
     }

@@ -1,8 +1,8 @@
 //! How far the logs of recordings go, beside a search of all fronts of small ones made at random.
 
 use crate::numbers::Numbers;
-use recorded_files::{Front, greatest_front};
-use recordings::RecordingFault;
+use recorded_files::{Front, Naming, greatest_front};
+use recordings::{RecordingFault, walk};
 use std::alloc::{AllocError, Global};
 use std::io;
 use std::io::{ErrorKind, Read};
@@ -214,6 +214,32 @@ fn cuts_only_what_names_a_record_that_is_not_there(rt: HostRuntime) {
                 pager: 0
             })
     );
+}
+
+/// The greatest front of a recording of which so many records of each log are expected.
+fn front_expecting(alloc: Global, text: &[u8], count: u64) -> Option<Front> {
+    let expected = Front {
+        guest: count,
+        source: count,
+        link: count,
+        lane: count,
+        pager: count,
+    };
+    let mut naming = Naming::expecting(alloc, expected);
+    walk(alloc, &mut &*text, &mut naming).ok()?;
+    Some(naming.greatest_front())
+}
+
+#[test]
+fn finds_the_front_whatever_is_expected(rt: HostRuntime) {
+    for text in [WHOLE, LACKING] {
+        let wanted = greatest_front(rt.alloc(), &mut &*text).ok();
+        assert!(rt; wanted.is_some());
+        assert!(rt; front_expecting(rt.alloc(), text, 0) == wanted);
+        assert!(rt; front_expecting(rt.alloc(), text, 1) == wanted);
+        assert!(rt; front_expecting(rt.alloc(), text, 1_000) == wanted);
+        assert!(rt; front_expecting(rt.alloc(), text, u64::MAX) == wanted);
+    }
 }
 
 /// A reader that fails.
