@@ -320,6 +320,15 @@ def tests_of_memory(browser, url):
     is_shown(browser, "a session with no memory", example("handover"), "odd", "The memory did not suffice", "Nothing is said of the session")
 
 
+def tests_of_changed_files(browser, url):
+    """What is said of a file that is longer or shorter once it is read."""
+    for more in ("yield* was(file); yield new Uint8Array([10]);", "for await (const piece of was(file)) yield piece.subarray(1);"):
+        browser.open("about:blank")
+        browser.open(url)
+        browser.run(f"document.getElementById('worker').textContent += ';const was = piecesOf; piecesOf = async function* (file) {{ {more} }};'")
+        is_shown(browser, f"a session that changes: {more}", example("handover"), "odd", "The session could not be judged.", "became another one while it was read")
+
+
 def tests_of_look(browser, url, room):
     """Screenshots, the dark look, a narrow window, and print."""
     browser.open("about:blank")
@@ -410,6 +419,7 @@ def tests_of_chromium(room, program):
         browser.open(url)
         tests_of_large(browser, room, program)
         tests_of_memory(browser, url)
+        tests_of_changed_files(browser, url)
         tests_of_look(browser, url, room)
         tests_of_network(browser, url)
 

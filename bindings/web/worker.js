@@ -15,13 +15,15 @@ async function* piecesOf(file) {
 
 // Reads a file into the module's memory, piece by piece.
 async function readInto(it, file, say) {
-  const room = it.room(file.size);
+  const room = it.room(file.size), changed = "the file became another one while it was read";
   let done = 0;
   for await (const piece of piecesOf(file)) {
+    if (piece.length > file.size - done) throw new Error(changed);
     it.view(room).set(piece, done);
     done += piece.length;
     say(done, file.size);
   }
+  if (done < file.size) throw new Error(changed);
   return room;
 }
 
