@@ -1,13 +1,15 @@
 //! Contents of pages.
 
-ghost use Rattle.std.specs.Prelude.{◌≡◌, [], ◌∷◌, IfOk};
+ghost use Rattle.std.specs.Prelude.{◌≡◌, ◌≤◌, ◌+◌, [], ◌∷◌, IfOk, drop, length, take};
 
+use crate::shared::Shared;
 use std::alloc::{AllocError, Global};
 use std::marker::Model;
 use std::sync::ArcSlice;
 
 /// The values of a page's cells, cell 0 first. Contracts see them as a list. A single value has no memory of its own.
-/// Shared values are stored once, however many contents share them.
+/// Shared values are stored once, however many contents share them. Contents can also be a part of a list of values that
+/// has several owners, and then have no memory of their own either.
 #[derive(Drop)]
 pub struct Contents {
     stored: Stored,
@@ -19,15 +21,26 @@ enum Stored {
     One([u64; 1]),
     Many(Vec<u64>),
     Shared(ArcSlice<u64>),
+    Part(Part),
+}
+
+/// A part of a list of values that has several owners: so many values, from a place on.
+#[derive(Drop)]
+struct Part {
+    all: Shared<u64>,
+    from: usize,
+    count: usize,
 }
 
 impl Model for Contents {
     ghost use Rattle.std.specs.Prelude.{ℕ, List};
-    ghost use Rattle.migration_types.specs.inner.Stored.{values};
+    ghost use Rattle.migration_types.specs.inner.Stored.{values, IsWithin};
 
     ghost Value = { List ℕ };
 
     ghost view = { λ a. values a.stored };
+
+    ghost invariant = { λ a. IsWithin a.stored };
 }
 
 impl Contents {
@@ -80,7 +93,20 @@ impl Contents {
                     stored: Stored::Shared(shared),
                 })
             }
+            Stored::Part(part) => Contents::part(&part.all, part.from, part.count),
         }
+    }
+
+    /// Returns contents with this many of the values of a list, from a place on, in the list's memory. Fails only if the
+    /// list has more owners than can be counted.
+    pub fn part(all: &Shared<u64>, from: usize, count: usize) -> Result<Self, AllocError>
+        requires { from + count ≤ length all.now }
+        ensures { IfOk result (λ c. c ≡ take count (drop from all.now)) }
+    {
+        let all = all.another()?;
+        Ok(Contents {
+            stored: Stored::Part(Part { all, from, count }),
+        })
     }
 
     /// Returns a copy of these values. Fails only if memory runs out.
@@ -101,6 +127,7 @@ impl Contents {
             Stored::One(value) => value,
             Stored::Many(values) => values,
             Stored::Shared(values) => values.as_slice(),
+            Stored::Part(part) => &part.all.as_slice()[part.from..part.from + part.count],
         }
     }
 }

@@ -8,6 +8,7 @@ ghost use Rattle.migration_types.specs.Limits.{most_pages};
 ghost use Rattle.migration_types.specs.Sessions.{IsNumber};
 
 use crate::forms::past_records;
+use crate::halted::Halted;
 use migration_types::{Contents, PageNo, Size};
 use session_grammar::read_page_contents;
 use std::alloc::Global;
@@ -37,14 +38,16 @@ pub(crate) fn page_then<'a>(text: &'a [u8], key: &[u8], pages: u32) -> Option<(P
     Some((PageNo::new(page as u32), rest))
 }
 
-/// Returns the values of a page's cells, this many of them, at the front, and what follows. Nothing follows if the text
-/// is these alone. Allocates no memory for a page of one cell.
+/// Returns the values of the page's cells, this many of them, at the front, and what follows. Nothing follows if the text
+/// is these alone. Allocates no memory for a page of one cell, nor for the values that the page had at the halt.
 #[inline(always)]
-pub(crate) fn contents_then(
+pub(crate) fn contents_then<'a>(
     alloc: Global,
-    text: &[u8],
+    halted: &Halted,
+    page: PageNo,
+    text: &'a [u8],
     cells: u32,
-) -> Result<(Contents, &[u8]), FaultKind>
+) -> Result<(Contents, &'a [u8]), FaultKind>
     ensures found { IfOk result (λ found. IsContent cells found.0 × (text.now ≡ contents_text found.0 ++ found.1.now)) }
     ensures refused { IfErr result (λ kind. kind ≢ FaultKind.Memory → (xs : List ℕ) → IsContent cells xs → text.now ≢ contents_text xs) }
     ensures whole { IfOk result (λ found. (xs : List ℕ) → IsContent cells xs → text.now ≡ contents_text xs → found.1.now ≡ []) }
@@ -54,6 +57,9 @@ pub(crate) fn contents_then(
         return Err(FaultKind::Form);
     }
     let (digits, rest) = text.split_at(digits);
+    if let Some(same) = halted.same(page, cells, digits) {
+        return Ok((same, rest));
+    }
     let contents = read_page_contents(alloc, digits, cells)?;
     Ok((contents, rest))
 }

@@ -3,7 +3,9 @@
 use crate::formats::{Format, fault_in};
 use crate::slow::slow_refusal_line;
 use crate::texts::{FIRST, KINDS, LATE, PULLED, PUSHED, SECOND};
-use migration_types::{GuestRec, InitPage, LinkRec, LogName, Session, Version, line_of};
+use migration_types::{
+    GuestRec, InitPage, LinkRec, LogName, PagerRec, Session, SourceRec, Version, line_of,
+};
 use session_log::read_session;
 use std::alloc::Global;
 
@@ -167,6 +169,42 @@ pub fn is_judged_alike(alloc: Global, bytes: &[u8]) -> bool {
         Ok(text) => found == slow_refusal_line(text),
         Err(_) => false,
     }
+}
+
+/// A session whose first page is sent and placed as it was in the beginning and at the halt. The second, which was written, is sent
+/// as it was at the halt, and placed with other contents.
+static WRITTEN: &str = "postcopy-session 1\npages 2\ncells 2\ninit 2\npage 0 00000000000000050000000000000000\npage 1 00000000000000000000000000000006\nguest 3\nw 0 1 0 9\nhalt\nresume 1\nsource 4\nhalted 1\nstate\nsend 0 00000000000000050000000000000000\nsend 1 00000000000000090000000000000006\nlink 3\ndown 1\ndown 2\ndown 3\npager 6\ngot 0\nready\ngot 1\nplace 0 2 00000000000000050000000000000000\ngot 2\nplace 1 4 00000000000000090000000000000007\nend\n";
+
+fn is_sent(session: &Session, place: usize, values: [u64; 2]) -> bool {
+    match session.source().get(place) {
+        Some(SourceRec::Send { contents, .. }) => contents.as_slice() == values.as_slice(),
+        _ => false,
+    }
+}
+
+fn is_placed(session: &Session, place: usize, values: [u64; 2]) -> bool {
+    match session.pager().get(place) {
+        Some(PagerRec::Place { contents, .. }) => contents.as_slice() == values.as_slice(),
+        _ => false,
+    }
+}
+
+fn are_contents_read(alloc: Global) -> bool {
+    match read_session(alloc, WRITTEN.as_bytes()) {
+        Ok(session) => {
+            is_sent(&session, 2, [5, 0])
+                && is_sent(&session, 3, [9, 6])
+                && is_placed(&session, 3, [5, 0])
+                && is_placed(&session, 5, [9, 7])
+        }
+        Err(_) => false,
+    }
+}
+
+#[test]
+fn contents_are_read_as_they_stand(rt: HostRuntime) {
+    assert!(rt; are_contents_read(rt.alloc()));
+    assert!(rt; is_judged_alike_throughout(rt.alloc(), WRITTEN));
 }
 
 /// Bytes that the formats have, and such as stand beside these or look like them.

@@ -2,7 +2,7 @@
 
 use migration_types::{
     Cert, Contents, Entry, First, Geometry, GeometryFault, GuestRec, LaneRec, LinkRec, LogName,
-    Logs, PageNo, PagerRec, Record, Run, Seq, Session, Size, SourceRec, Version, lane_lines,
+    Logs, PageNo, PagerRec, Record, Run, Seq, Session, Shared, Size, SourceRec, Version, lane_lines,
 };
 use std::alloc::{AllocError, Global};
 
@@ -104,6 +104,28 @@ fn copies_cells(alloc: Global, cells: &[u64]) -> bool {
 
 fn keeps_one_cell() -> bool {
     Contents::one(7).as_slice() == [7].as_slice()
+}
+
+/// The second and the third of four values, as contents and once more, after the list is gone.
+fn part_of_four(alloc: Global) -> Result<(Contents, Contents), AllocError> {
+    let all = Shared::from_vec(Vec::from_array(alloc, [3, 1, 2, 5])?)?;
+    let part = Contents::part(&all, 1, 2)?;
+    let another = part.another(alloc)?;
+    Ok((part, another))
+}
+
+fn keeps_a_part(alloc: Global) -> bool {
+    match part_of_four(alloc) {
+        Ok((part, another)) => {
+            part.as_slice() == [1, 2].as_slice() && another.as_slice() == [1, 2].as_slice()
+        }
+        Err(_) => false,
+    }
+}
+
+#[test]
+fn keeps_parts_of_lists(rt: HostRuntime) {
+    assert!(rt; keeps_a_part(rt.alloc()));
 }
 
 #[test]

@@ -23,3 +23,6 @@ returns-in_err-contents-clause-refused c = let p = err_from_is_err_and c.from_re
 
 pub returns-clause-whole : goal.returns-clause-whole
 returns-clause-whole c = λ xs fits e. let count = fits.count in c.split_at.ensures.back ∙ (cut c.args.text.now xs (16 * c.args.cells) (omega arith) e).1
+
+pub returns-in-Some-clause-whole : goal.returns-in-Some-clause-whole
+returns-in-Some-clause-whole c = λ xs fits e. let count = fits.count in c.split_at.ensures.back ∙ (cut c.args.text.now xs (16 * c.args.cells) (omega arith) e).1

@@ -17,7 +17,7 @@ returns-in-Init c =
 pub returns-in-Guest : goal.returns-in-Guest
 returns-in-Guest c =
     let d = draft_of c.args.self.now in
-    behind c.args.stage Guest d (record d { source = c.begin_log-in-Guest.new.log }) c.args.line.now c.begin_log-in-Guest.result c.in-Guest.is c.requires.live c.requires.none (source_begins d c.begin_log-in-Guest.new.log c.args.line.now c.begin_log-in-Guest.result c.begin_log-in-Guest.ensures.found c.begin_log-in-Guest.ensures.refused c.begin_log-in-Guest.ensures.err)
+    behind c.args.stage Guest d (record d { source = c.begin_log-begun.new.log }) c.args.line.now c.begin_log-begun.result c.in-Guest.is c.requires.live c.requires.none (source_begins d c.begin_log-begun.new.log c.args.line.now c.begin_log-begun.result c.begin_log-begun.ensures.found c.begin_log-begun.ensures.refused c.begin_log-begun.ensures.err)
 
 pub returns-in-Source : goal.returns-in-Source
 returns-in-Source c =
