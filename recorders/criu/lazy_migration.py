@@ -97,8 +97,7 @@ class Migration:
         return self.outcome
 
     def write(self, name, text):
-        with open(f"{self.folder}/{name}", "w", encoding="utf-8") as file:
-            file.write(text)
+        folders.write(f"{self.folder}/{name}", text)
 
     def side(self, name):
         side = Side(name, self.root, [self.folder, self.room.path, criu_build.HERE, criu_build.OUT], self.errors)

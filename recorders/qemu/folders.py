@@ -4,6 +4,7 @@ Nothing is removed from a folder that was not made here. A folder that was made 
 recorder writes are replaced in it. Those of a recording, which MARK lists, are replaced by a recording of another recorder too.
 A process that has taken a folder keeps it until it ends: two recordings at once would each have files of the other.
 """
+import errno
 import fcntl
 import os
 import re
@@ -26,6 +27,8 @@ FILES = (PLAN, "guest.bin", "outcome.json", "halt.mem", "relay.log", "relay.page
 LONGEST_TOP = 60
 PLAIN = re.compile(r"/[A-Za-z0-9/._-]*")
 
+
+CANNOT = 3  # the status where this machine cannot record
 
 HELD = {}  # the marks of the folders that this process has taken, which stay open and locked
 
@@ -82,6 +85,32 @@ def end_in_order():
     for number in (signal.SIGHUP, signal.SIGTERM):
         if signal.getsignal(number) == signal.SIG_DFL:
             signal.signal(number, lambda number, _: sys.exit(128 + number))
+
+
+def write(path, text):
+    """Writes a text to a file. A fault names the file."""
+    try:
+        with open(path, "w", encoding="utf-8") as out:
+            out.write(text)
+    except OSError as fault:
+        raise OSError(fault.errno, fault.strerror, path) from None
+
+
+def status_of(name, main):
+    """Runs the command of this name, and returns its status. It says what cannot be read or written, and is silent at an interrupt."""
+    try:
+        if sys.stdout is None:
+            raise OSError(errno.EBADF, "it is closed")
+        status = main()
+        sys.stdout.flush()
+        return status
+    except KeyboardInterrupt:
+        return 128 + signal.SIGINT
+    except OSError as fault:
+        print(f"{name}: {fault.filename or 'standard output'}: {fault.strerror}", file=sys.stderr)
+        if fault.filename is None and sys.stdout:
+            os.dup2(os.open(os.devnull, os.O_WRONLY), sys.stdout.fileno())  # which takes what is left
+        return CANNOT
 
 
 def hold(folder):

@@ -6,6 +6,7 @@ import subprocess
 import sys
 
 from convert import recording_in
+from folders import write
 from records import Hole
 from witness import witness
 
@@ -32,11 +33,6 @@ def ask(folder, *words):
 @functools.lru_cache(maxsize=None)
 def tell_once(line):
     print(line, file=sys.stderr)
-
-
-def write(path, text):
-    with open(path, "w") as out:
-        out.write(text)
 
 
 class Verdict:

@@ -22,8 +22,10 @@ the connection. Connections are counted from 0 in the order in which they open:
     late                        a connection that was on its way at a cut: it is handed on unread, until the recovery
     strange WORDS               the stream has something unknown next; from there on it is handed on, and not recorded
 
-After a connection is cut, nothing more is recorded about it: what is still read from it went nowhere.
+After a connection is cut, nothing more is recorded about it: what is still read from it went nowhere. Where something cannot be recorded,
+as on a full disk, all connections end, and nothing is handed over any more: `unrecorded` says which file, and why.
 """
+import contextlib
 import select
 import socket
 import threading
@@ -95,7 +97,7 @@ class Relay:
         self.fault = fault_of(fault, skip, window, self.tell)
         self.lock, self.books = threading.Lock(), threading.RLock()
         self.stored, self.is_post = 0, False
-        self.connections, self.threads, self.lost, self.complaint = [], [], [], None
+        self.connections, self.threads, self.lost, self.complaint, self.unrecorded = [], [], [], None, ""
         self.has_multifd, self.unread = has_multifd, []
         self.before_package = before_package
         self.was_cut, self.is_cut_off = threading.Event(), False
@@ -108,14 +110,32 @@ class Relay:
         self.accepting = threading.Thread(target=self.accept, daemon=True)
         self.accepting.start()
 
-    def tell(self, *fields):
+    @contextlib.contextmanager
+    def recording(self, name):
+        """Ends all connections if something cannot be recorded, and raises Cut then and from there on."""
         with self.books:
+            try:
+                if self.unrecorded:
+                    raise Cut
+                yield
+            except OSError as fault:
+                self.unrecorded = f"{name}: {fault.strerror}"
+                for connection in self.connections:
+                    connection.is_cut = True
+                    connection.shut()
+                self.shut_unread()
+                raise Cut from None
+
+    def tell(self, *fields):
+        with self.recording("relay.log"):
             print(*fields, file=self.log, flush=True)
 
     def store(self, contents):
         if len(contents) == 1:
             return "zero"
-        self.contents.write(contents)
+        with self.recording("relay.pages"):
+            self.contents.write(contents)
+            self.contents.flush()
         self.stored += 1
         return self.stored - 1
 
@@ -132,9 +152,12 @@ class Relay:
             connection.close()
         for end in self.unread:
             end.close()
-        with self.lock:
-            self.contents.close()
-            self.log.close()
+        for name, file in (("relay.pages", self.contents), ("relay.log", self.log)):
+            try:
+                with self.lock:
+                    file.close()
+            except OSError as fault:
+                self.unrecorded = self.unrecorded or f"{name}: {fault.strerror}"
 
     # Connections
 
@@ -155,16 +178,24 @@ class Relay:
                 source.close()
                 target.close()
                 continue
-            if self.has_multifd and self.begins_with(source, stream.MULTIFD_MAGIC):
-                self.hand_on(source, target, "multifd")
-                continue
-            with self.books:
-                connection = None if self.is_cut_off or self.target != address else self.opened(source, target)
-            if not connection:
-                self.hand_on(source, target, "late")
-                continue
-            self.start(self.down, connection)
-            self.start(self.up, connection)
+            try:
+                self.connected(source, target, address)
+            except Cut:  # nothing is recorded any more
+                source.close()
+                target.close()
+
+    def connected(self, source, target, address):
+        """Begins to hand on what comes over a connection."""
+        if self.has_multifd and self.begins_with(source, stream.MULTIFD_MAGIC):
+            self.hand_on(source, target, "multifd")
+            return
+        with self.books:
+            connection = None if self.is_cut_off or self.target != address else self.opened(source, target)
+        if not connection:
+            self.hand_on(source, target, "late")
+            return
+        self.start(self.down, connection)
+        self.start(self.up, connection)
 
     def recover(self, target):
         """Sends the next connections to this socket. Closes those that opened since the cut, because they belong to the migration before it."""
@@ -339,7 +370,7 @@ class Relay:
             return False
         if not connection.is_losing:
             connection.is_losing = True
-            timer = threading.Timer(LONGEST_LOSS, self.cut_losing)
+            timer = threading.Timer(LONGEST_LOSS, self.guarded, [self.cut_losing])
             timer.daemon = True
             timer.start()
         self.lost.append(page.offset)

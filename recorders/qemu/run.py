@@ -76,8 +76,7 @@ class Migration:
         library = self.build()
         machine, traces = self.prepare(library)
         folders.take(self.folder, self.files)
-        with open(f"{self.folder}/plan.json", "w") as out:
-            out.write(self.plan.to_text())
+        folders.write(f"{self.folder}/plan.json", self.plan.to_text())
         self.put_guest()
         began = time.monotonic()
         self.room = folders.Room()
@@ -90,8 +89,7 @@ class Migration:
         self.outcome.seconds = round(time.monotonic() - began, 1)
         if self.outcome.is_held_up:
             self.remark(f"the machine was busy: QEMU had no processor for {self.outcome.waited:.0f} of {self.outcome.seconds:.0f} s")
-        with open(f"{self.folder}/outcome.json", "w") as out:
-            json.dump(asdict(self.outcome), out, indent=1)
+        folders.write(f"{self.folder}/outcome.json", json.dumps(asdict(self.outcome), indent=1))
         return self.outcome
 
     def build(self):
@@ -129,11 +127,18 @@ class Migration:
             self.outcome.waited = round(max((machine.waited() for machine in self.machines), default=0.0), 1)
             self.end_machines()
             self.relay.end()
+            self.note_lost(self.relay.unrecorded)
 
     def end_machines(self):
         """Ends both QEMUs. A migration of whose recording something is lost is not whole, whatever they say."""
-        self.outcome.lost = [*filter(None, [machine.end(self.outcome.is_whole) for machine in reversed(self.machines)])]
-        for lost in self.outcome.lost:
+        is_well = self.outcome.is_whole
+        for lost in [machine.end(is_well) for machine in reversed(self.machines)]:
+            self.note_lost(lost)
+
+    def note_lost(self, lost):
+        """Notes why something of what was recorded is in no file, if it is so."""
+        if lost:
+            self.outcome.lost.append(lost)
             self.remark(lost)
 
     def save_memory(self):
@@ -229,7 +234,7 @@ class Migration:
         until, told = time.monotonic() + self.plan.limit, time.monotonic()
         while True:
             status, there = self.source.migration(), self.target.migration()
-            if self.relay.was_cut.is_set() or status in ENDS or status in DEAD or there in DEAD:
+            if self.relay.was_cut.is_set() or self.relay.unrecorded or status in ENDS or status in DEAD or there in DEAD:
                 return
             if time.monotonic() > until:
                 self.remark(f"it took more than {self.plan.limit:.0f} s")

@@ -1,5 +1,6 @@
 """The folders that a recorder takes, and what it leaves alone in all others; and who may enter where its sockets are."""
 import io
+import json
 import lzma
 import os
 import resource
@@ -12,6 +13,8 @@ import sys
 import tarfile
 import tempfile
 import time
+from types import SimpleNamespace
+from unittest import mock
 
 import folders
 import judge
@@ -225,6 +228,63 @@ def of_a_full_disk(tests, room):
         tests.wants(f"what is told with room for {most} bytes", found, wanted)
 
 
+class Recorded(Migration):
+    """One in which both sides come to their end at once. The relay's contents are beyond what a disk takes."""
+
+    def prepare(self, library):
+        return "pc", {"source": (), "target": ()}
+
+    def build(self):
+        return None
+
+    def put_guest(self):
+        os.symlink("/dev/full", f"{self.folder}/relay.pages")
+
+    def record(self, *words):
+        self.machine_class = lambda *_: SimpleNamespace(waited=lambda: 0.0, end=lambda is_well: "")
+        super().record(*words)
+
+    def migrate(self):
+        self.outcome.source = self.outcome.target = "completed"
+        self.relay.contents.write(b"any")
+
+
+def of_a_relay_on_a_full_disk(tests, room):
+    """What the relay could not record is told, and the migration is not whole, though both sides came to their end."""
+    folder, emulator = f"{room}/relay-full", SimpleNamespace(version_text="10.0.13", path="none")
+    with mock.patch("build.require_tools"):
+        outcome = Recorded(plan_of("live"), folder, lambda line: None, [emulator, emulator]).run()
+    lost = ["relay.pages: No space left on device"]
+    tests.wants("what is told", (outcome.lost, outcome.remarks, outcome.is_whole), (lost, lost, False))
+    with open(f"{folder}/outcome.json", encoding="utf-8") as file:
+        tests.wants("and kept", json.load(file)["lost"], lost)
+
+
+def of_what_cannot_be_written(tests, room):
+    """A command says which file it could not write, or that it was its output, and has the status of one that cannot record."""
+    os.symlink("/dev/full", f"{room}/no room")
+    command = "import sys, folders; sys.exit(folders.status_of('any', lambda: %s))"
+    reader, closed = os.pipe()
+    os.close(reader)
+    with open("/dev/full", "w", encoding="ascii") as full:
+        for act, out, wanted in (("folders.write('no room', 'x')", None, (3, "any: no room: No space left on device\n")),
+                                 ("print('x')", full, (3, "any: standard output: No space left on device\n")),
+                                 ("print('x')", closed, (3, "any: standard output: Broken pipe\n")),
+                                 ("open('none')", None, (3, "any: none: No such file or directory\n")),
+                                 ("exec('raise KeyboardInterrupt')", None, (130, "")), ("7", None, (7, ""))):
+            for buffered in ({}, {"PYTHONUNBUFFERED": "1"}):
+                environment = {name: value for name, value in os.environ.items() if name != "PYTHONUNBUFFERED"}
+                done = subprocess.run([sys.executable, "-B", "-c", command % act], cwd=room, stdout=out, stderr=subprocess.PIPE, text=True,
+                                      env={**environment, "PYTHONPATH": f"{QEMU}:{os.path.dirname(HERE)}", **buffered})
+                tests.wants(f"{act} {buffered}", (done.returncode, done.stderr), wanted)
+    os.close(closed)
+    for name in ("campaign", "compare", "both_sides", "direct", "found", "linux", "linux_runs", "migrate", "versions", "../criu/campaign",
+                 "../criu/migrate", "../criu/versions"):
+        done = subprocess.run(["sh", "-c", '"$@" >&-', "sh", sys.executable, "-B", f"{QEMU}/{name}", "--help"], capture_output=True, text=True)
+        word = os.path.basename(name)
+        tests.wants(f"{name} without an output", (done.returncode, done.stderr), (3, f"{word}: standard output: it is closed\n"))
+
+
 def of_a_strange_name(tests, room):
     """A recording is judged in a folder whose name is no text."""
     folder = f"{room}/a, b %d\n" + os.fsdecode(b"\xff")
@@ -257,5 +317,7 @@ def run(tests):
         of_a_room(tests, room)
         of_the_sockets(tests, room)
         of_a_full_disk(tests, room)
+        of_a_relay_on_a_full_disk(tests, room)
+        of_what_cannot_be_written(tests, room)
         of_a_strange_name(tests, room)
         of_packed(tests, room)

@@ -1,5 +1,6 @@
 """The relay between a source and a target that are written here: what it hands over, what it tells, and each fault."""
 import io
+import os
 import socket
 import tempfile
 import threading
@@ -359,6 +360,40 @@ def of_multifd(tests):
     tests.wants("what is told of it", ([line for line in log if line.startswith(("open", "multifd"))]), ["open 0 main new", "multifd"])
 
 
+FULL = "No space left on device"
+
+
+def of_a_full_disk(tests):
+    """What cannot be recorded is not handed over. It ends all connections, is told, and is no end of one; nor does a later one open."""
+    for full in ("relay.log", "relay.pages"):
+        with tempfile.TemporaryDirectory() as room:
+            os.symlink("/dev/full", f"{room}/{full}")
+            ends = Ends(room, has_multifd=True)
+            source, target = ends.connect()
+            source.sendall(BEFORE)
+            found = read_all(target)
+            tests.wants(f"no page is handed over, with a full {full}", (len(found) < len(BEFORE) - 8 * 4096, filled(1) in found), (True, False))
+            tests.wants("the source hears of it", read_all(source), b"")
+            for first in (HEADER, stream.MULTIFD_MAGIC):
+                more, there = ends.connect()
+                more.sendall(first)
+                tests.wants("nothing is handed over that comes then", (read_all(there), read_all(more)), (b"", b""))
+            ends.relay.end()
+            tests.wants("it is told", (ends.relay.unrecorded, ends.relay.was_cut.is_set()), (f"{full}: {FULL}", False))
+            ends.listener.close()
+            ends.room.end()
+
+
+def of_a_disk_that_is_full_at_the_end(tests):
+    """What is left to write at the end, and cannot be, is told too."""
+    with tempfile.TemporaryDirectory() as room:
+        os.symlink("/dev/full", f"{room}/relay.pages")
+        ends = Ends(room)
+        ends.relay.contents.write(b"any")
+        ends.end()
+    tests.wants("at the end", ends.relay.unrecorded, f"relay.pages: {FULL}")
+
+
 def wait_for(is_so, seconds=10):
     until = time.monotonic() + seconds
     while not is_so() and time.monotonic() < until:
@@ -376,3 +411,5 @@ def run(tests):
     of_what_is_strange(tests)
     of_the_package(tests)
     of_multifd(tests)
+    of_a_full_disk(tests)
+    of_a_disk_that_is_full_at_the_end(tests)
