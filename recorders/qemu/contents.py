@@ -7,6 +7,7 @@ import array
 import hashlib
 import sys
 
+from records import Hole
 from stream import PAGE_BYTES
 from wire import ZERO
 
@@ -34,7 +35,10 @@ class Contents:
             return bytes(PAGE_BYTES)
         if file not in self.files:
             self.files[file] = self.read(file)
-        return self.files[file][int(place) * PAGE_BYTES:(int(place) + 1) * PAGE_BYTES]
+        page = self.files[file][int(place) * PAGE_BYTES:(int(place) + 1) * PAGE_BYTES]
+        if len(page) < PAGE_BYTES:
+            raise Hole(f"{file} ends before page {place}")
+        return page
 
     def cells(self, file, place):
         return "0" * 16 * self.words if place == ZERO else cells_of(self.page(file, place), self.words)

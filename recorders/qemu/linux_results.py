@@ -1,5 +1,6 @@
 """The results of migrations of Linux guests, one line for each, and the table of them by version."""
 import collections
+import contextlib
 import json
 import os
 import re
@@ -9,6 +10,8 @@ from typing import Optional
 
 import dialect
 from convert import recording_in
+from folders import write
+from records import Hole
 from results import markdown, was_put_in
 from witness import pages_that_differ
 
@@ -107,15 +110,15 @@ def result_of(folder, workload, is_bare, verdict, seconds, stands_still=False):
     recording = recording_in(folder)
     plan, lost = recording.plan, None
     if os.path.exists(f"{folder}/halt.mem") and not recording.wire.strange:
-        lost = len(pages_that_differ(recording)[0])
+        with contextlib.suppress(Hole):
+            lost = len(pages_that_differ(recording)[0])
     if not recording.wire.has_state and not plan.is_precopy:
         verdict = verdict or NO_POSTCOPY
     fault = plan.fault and (plan.fault if was_put_in(folder) else plan.fault + NOT_REACHED)
     result = Result(plan.source_version, is_bare, plan.cpus, workload, plan.pre_pages <= plan.pages, fault, verdict, lost,
                     what_guest_says(folder), round(seconds, 1), round(os.getloadavg()[0], 1), time.strftime("%Y-%m-%dT%H:%M:%S", time.gmtime()),
                     is_precopy=plan.is_precopy, stands_still=stands_still)
-    with open(f"{folder}/{FILE}", "w", encoding="utf-8") as out:
-        print(result.to_text(), file=out)
+    write(f"{folder}/{FILE}", f"{result.to_text()}\n")
     return result
 
 

@@ -6,22 +6,24 @@ pre-copy came to its end, no page is forgotten.
 import os
 
 from convert import recording_in
-from stream import PAGE_BYTES
+from records import Hole
 
 
 def pages_that_differ(recording):
-    """Returns the pages that were left at the target and differ from the source's memory at the halt, and how many were left."""
-    memory, wire = recording.read("halt.mem"), recording.wire
+    """Returns the pages that were left at the target and differ from the source's memory at the halt, and how many were left. Raises Hole if
+    one of them is not in the files."""
+    wire, contents = recording.wire, recording.contents
     left = sorted(wire.last_before.keys() - wire.discarded)
-    differ = [page for page in left
-              if recording.contents.page("relay.pages", wire.last_before[page]) != memory[page * PAGE_BYTES:(page + 1) * PAGE_BYTES]]
-    return differ, len(left)
+    return [page for page in left if contents.page("relay.pages", wire.last_before[page]) != contents.page("halt.mem", page)], len(left)
 
 
 def witness(folder):
     if not os.path.exists(f"{folder}/halt.mem"):
         return "the source's memory at the halt was not kept\n"
-    differ, left = pages_that_differ(recording_in(folder))
+    try:
+        differ, left = pages_that_differ(recording_in(folder))
+    except Hole as fault:
+        return f"nothing, since {fault}\n"
     if not differ:
         return f"{left} pages that pre-copy sent were not sent again, and are what the source has at the halt\n"
     return (f"{left} pages that pre-copy sent were not sent again; of these {len(differ)} are not what the source has at the "

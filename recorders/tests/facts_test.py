@@ -375,6 +375,23 @@ def of_restarts(tests):
         tests.wants(f"where the source of {name} goes on", (verdict.line, verdict.is_clean, verdict.restart.line(), left), (line, False, ran, f"{ran}\n"))
 
 
+def of_files_that_end_early(tests):
+    """Of pages that are in no file, as after a full disk, nothing is judged, and nothing is seen: nor are two of them alike."""
+    files = files_of("example-live")
+    for cut, hole, of_witness in ((["relay.pages"], "relay.pages ends before page 34", "relay.pages ends before page 25"),
+                                  (["halt.mem"], "halt.mem ends before page 0", "halt.mem ends before page 0"),
+                                  (["relay.pages", "halt.mem"], "halt.mem ends before page 0", "relay.pages ends before page 25"),
+                                  (["target.pages"], "target.pages ends before page 0", None)):
+        for left in (0, 5):
+            with tempfile.TemporaryDirectory() as room:
+                for name, data in files.items():
+                    with open(f"{room}/{name}", "wb") as out:
+                        out.write(data[:left] if name in cut else data)
+                line, seen = judge.judge(room).line, judge.witness(room)
+            tests.wants(f"where {' and '.join(cut)} end", (line, seen), (
+                f"not judged: {hole}", f"nothing, since {of_witness}\n" if of_witness else "2 pages that pre-copy sent were not sent again, and are what the source has at the halt\n"))
+
+
 def of_statuses(tests):
     """What ends early is no success, though what is left is clean; nor is a migration of which QEMU says that it came to its end, and
     whose logs do not tell that each page came."""
@@ -506,6 +523,7 @@ def run(tests):
     of_the_first_access(tests)
     of_a_source_that_goes_on(tests)
     of_restarts(tests)
+    of_files_that_end_early(tests)
     of_statuses(tests)
     of_what_is_not_put_in(tests)
     of_a_long_log(tests)

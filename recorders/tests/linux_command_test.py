@@ -109,6 +109,8 @@ def of_results(tests):
         found = linux_results.result_of(folder, "busy", True, "", 1)
         tests.wants("where nothing else was asked for", (found.verdict, found.lost, found.is_precopy, found.in_a_word), ("", 1, True, "lost pages"))
         write({**made(), "target.console": b"guest: booted\n"}, folder)
+        os.truncate(f"{folder}/halt.mem", 7)
+        tests.wants("with a beginning of the memory at the halt", linux_results.result_of(folder, "busy", True, "", 1).in_a_word, "not judged")
         os.unlink(f"{folder}/halt.mem")
         tests.wants("without the memory at the halt", linux_results.result_of(folder, "busy", True, "", 1).in_a_word, "not judged")
 
