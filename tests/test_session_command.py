@@ -132,6 +132,28 @@ def test_two_folders(program, room):
         same("two folders", (ran.returncode, ran.stdout, ran.stderr), (0, wanted, ""))
 
 
+@pytest.mark.cases(7)
+def test_packed_files(program, room):
+    """A file of a recorder that somebody has compressed is told, also where nothing else is missing; but for one whose own file is there."""
+    beside = Beside(room, program)
+    folder = beside.recording()
+    wanted = run_script(beside.command, folder)
+    for name in ("lane.1.0.gz", "guest.12.34.zst", "guest.1.0.xz", "guest.gz", "pager.1.0.txt", "a\nguest.2.0.gz"):
+        beside.put(f"{folder}/{name}", "any")
+    told = [f"session: {folder}/{name} is compressed, and is not read: unpack it first\n" for name in ("guest.12.34.zst", "lane.1.0.gz")]
+    ran = run_script(beside.command, folder)
+    same("a whole recording", (ran.returncode, ran.stdout, ran.stderr), (0, wanted.stdout, "".join(told)))
+    os.rename(f"{folder}/guest.1.0", f"{folder}/guest.1.0.gz")
+    ran = run_script(beside.command, f"{folder}/", "--cut")
+    same("one that lacks it", (ran.returncode, ran.stderr.split("\n")[0]), (0, f"session: {folder}/guest.1.0.gz is compressed, and is not read: unpack it first"))
+    count(f"session: {folder}/guest.1.0.xz is compressed, and is not read: unpack it first\n" in ran.stderr, "and in another form")
+    for log in list(MOVED):
+        if os.path.exists(f"{folder}/{log}.1.0"):
+            os.rename(f"{folder}/{log}.1.0", f"{folder}/{log}.1.0.bz2")
+            ran = run_script(beside.command, folder)
+            count(f"{folder}/{log}.1.0.bz2 is compressed" in ran.stderr and ran.returncode, f"the log of the {log}")
+
+
 MOST_OF_A_SMALL_LOG = 1048576
 
 
