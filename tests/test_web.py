@@ -496,7 +496,7 @@ def test_windows(page, program, room):
     web_reports.tests_of_windows(room, program)
 
 
-@pytest.mark.cases(20)
+@pytest.mark.cases(30)
 def test_refusals(page, room):
     web_reports.tests_of_refusals(room)
 

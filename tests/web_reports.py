@@ -99,11 +99,14 @@ def tests_of_refusals(room):
         ran = subprocess.run([SCRIPT, "--page", PAGE, *words], cwd=room, stdin=subprocess.DEVNULL, capture_output=True)
         same(f"{what}: {ran.stderr.decode()}", (ran.returncode, part in ran.stderr.decode(), ran.stdout), (wanted, True, b""))
         same(f"the report that was there, with {what}", (read(f"{room}/out.html"), os.listdir(room)), (b"as it was", ["out.html"]))
-    for was in (read(session), read(example("handover", "certificate")[0])):
-        write(f"{room}/out.html", was)
-        ran = subprocess.run([SCRIPT, "--page", PAGE, session, "-o", "out.html"], cwd=room, stdin=subprocess.DEVNULL, capture_output=True)
-        same("a session in the report's place", (ran.returncode, ran.stdout, ran.stderr.startswith(b"postcopy-report: out.html is a session or another text of postcopy")), (3, b"", True))
-        same("the session that was there", (read(f"{room}/out.html"), os.listdir(room)), (was, ["out.html"]))
+    os.remove(f"{room}/out.html")
+    for name, was in (("out.html", read(session)), ("out.html", read(example("handover", "certificate")[0])), ("out.html", b"faulty line 32 altered\n"),
+                      ("out.html", b"clean\n"), ("out.html", b"incomplete page 7\n"), ("guest.1.0", b"postcopy-records 1\n"), ("recording-name", b"told\n")):
+        write(f"{room}/{name}", was)
+        ran = subprocess.run([SCRIPT, "--page", PAGE, session, "-o", name], cwd=room, stdin=subprocess.DEVNULL, capture_output=True)
+        same(f"{was[:20]} in the report's place", (ran.returncode, ran.stdout, ran.stderr.startswith(f"postcopy-report: {name} is a session or another text of postcopy".encode())), (3, b"", True))
+        same("what was there", (read(f"{room}/{name}"), os.listdir(room)), (was, [name]))
+        os.remove(f"{room}/{name}")
 
 
 def tests_of_outputs(room):
