@@ -7,7 +7,9 @@ files, whole and cut short at random.
 import errno
 import os
 import random
+import resource
 import subprocess
+import tempfile
 
 import pytest
 from cases import count, same
@@ -88,7 +90,7 @@ def test_known_sessions(program, room):
 
 
 @pytest.mark.quick
-@pytest.mark.cases(16)
+@pytest.mark.cases(19)
 def test_outputs(program, room):
     """A text goes to the file of -o. If nothing is written, the file stays; what cannot be read is told with its name."""
     beside = Beside(room, program)
@@ -113,6 +115,9 @@ def test_outputs(program, room):
         for words in ((), ("--cut",), ("--recording",), ("--window", "0-0")):
             ran = run_script(beside.command, folder, *words, "-o", file)
             same(f"an output onto a file of a recorder {words}", (ran.returncode, ran.stdout, ran.stderr, beside.has(file)), (2, "", why, kept))
+    for words in ((), ("-o", "/dev/null"), ("--window", "0-0")):
+        ran = run_script(beside.command, folder, *words, preexec_fn=lambda: resource.setrlimit(resource.RLIMIT_FSIZE, (10, 10)))
+        same(f"a temporary folder without room {words}", (ran.returncode, ran.stdout, ran.stderr), (2, "", f"session: {tempfile.gettempdir()}: the file would be too large\n"))
     same("no folder", beside.by_command().returncode, 2)
     same("a word that is no option", beside.by_command(lacking, "--whole").returncode, 2)
 
