@@ -726,8 +726,17 @@ def test_examples(postcopy, prefix, room):
     tests_of_examples(postcopy, prefix, room)
 
 
-def test_example_for_python(postcopy, monkeypatch, capsys):
-    """The example for Python goes by what the check answers, and not by the report alone."""
+@pytest.mark.cases(8)
+def test_example_for_python(postcopy, monkeypatch, capsys, room):
+    """The example for Python goes by what the check answers, and not by the report alone. Where there is no answer it says why."""
+    session = f"{TOP}/examples/handover/session"
+    for words, output, status, why in (([session], os.devnull, 0, ""), ([f"{room}/none"], os.devnull, 3, f"check.py: {room}/none: No such file or directory\n"),
+                                       ([room], os.devnull, 3, f"check.py: {room}: it is a folder"), ([session], "/dev/full", 3, "check.py: standard output: No space left on device\n"),
+                                       ([], os.devnull, 2, "Audits a session"), ([session, session], os.devnull, 2, "Audits a session")):
+        with open(output, "w", encoding="utf-8") as out:
+            ran = subprocess.run([sys.executable, "-B", f"{TOP}/bindings/python/examples/check.py", *words], stdout=out, stderr=subprocess.PIPE, text=True,
+                                 env={**os.environ, "PYTHONPATH": f"{TOP}/bindings/python"})
+        same(f"the example for Python, {words} > {output}", (ran.returncode, ran.stderr[:len(why) or None]), (status, why))
     for answer, status in ((postcopy.Answer(postcopy.Kind.YES), 0), (postcopy.Answer(postcopy.Kind.RUNS, 7), 1)):
         monkeypatch.setattr(postcopy, "check", lambda *_, answer=answer: answer)
         main = runpy.run_path(f"{TOP}/bindings/python/examples/check.py")["main"]
