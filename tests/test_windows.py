@@ -423,6 +423,12 @@ def beyond_in_python(tests):
         except ValueError as fault:
             found = str(fault).split(",")[0]
         tests.same(f"the window of the pages {first} to {last} of 3", found, last - first + 1 if 0 <= first <= last < 3 else "the machine has 3 pages")
+    for size, wanted in ((2, [2, 1]), (0, "windows of 0 pages show nothing"), (-2, "windows of -2 pages show nothing")):
+        try:
+            found = [seen.pages for seen in session.windows(size)]
+        except ValueError as fault:
+            found = str(fault)
+        tests.same(f"the windows of {size} pages", found, wanted)
 
 
 @pytest.fixture
@@ -446,6 +452,6 @@ def test_windows(tests):
 
 @pytest.mark.parametrize("part", (
     pytest.param(wrong_words, marks=pytest.mark.cases(45)), pytest.param(pipes, marks=pytest.mark.cases(9)), pytest.param(many_windows, marks=pytest.mark.cases(20)),
-    pytest.param(memory, marks=pytest.mark.cases(2)), pytest.param(beyond_in_python, marks=pytest.mark.cases(6))), ids=lambda it: it.__name__)
+    pytest.param(memory, marks=pytest.mark.cases(2)), pytest.param(beyond_in_python, marks=pytest.mark.cases(9))), ids=lambda it: it.__name__)
 def test_alone(tests, part):
     part(tests)

@@ -156,7 +156,9 @@ class Session:
 
     def windows(self, size: int) -> Iterator["Session"]:
         """Yields the session seen through consecutive windows of this many pages, until each page was in one. The last window may
-        have fewer pages. This takes little longer than one window."""
+        have fewer pages. This takes little longer than one window. Raises ValueError if the number is below 1."""
+        if size < 1:
+            raise ValueError(f"windows of {size} pages show nothing")
         return self._seen(0, size, self.pages)
 
     def _seen(self, first: int, size: int, end: int) -> Iterator["Session"]:
