@@ -209,12 +209,16 @@ class Tests:
         for what, old, new, said in (("a key that is not there", "g12 start pager=p3", "g12 start", "has no pager"), ("a sum that is not there", " sum=", " som=", "has no sum"),
                                      ("a key that comes twice", "g12 start pager=p3", "g12 start pager=p3 pager=p4", "has a key twice"),
                                      ("a sum that is no number", "sum=9d2c41f07ab35e68", "sum=none", "has a sum that is no hexadecimal number"),
-                                     ("a frame with a sign", "frame=40001", "frame=-1", "has a frame that is no hexadecimal number")):
+                                     ("a frame with a sign", "frame=40001", "frame=-1", "has a frame that is no hexadecimal number"),
+                                     *((f"the frames {it}", "frames=40000-40003", f"frames={it}", "has frames that are not FIRST-LAST, in hexadecimal")
+                                       for it in ("40003-40000", "40000", "40000-40001-40003", "-40003", "any-40003"))):
             wrong = {**traces, "guest": traces["guest"].replace(old, new, 1)}
             text, told, status = self.written(wrong)
             self.wants(what, (text, re.sub("line [0-9]+", "line N", told), status), ("", f"session_from_traces.py: guest.trace: line N {said}\n", 1))
         capital = changed(traces, {"guest": [("g8 write actor=cpu1 frame=7f3a1", "g8 write actor=cpu1 frame=7F3A1")]})
         self.wants("a frame in capital digits", self.written(capital), (session, "", 0))
+        again = changed(traces, {"guest": [("g3 found frame=40001", "g3 found frame=40000")]})
+        self.wants("a frame that is found twice", self.written(again), ("", "session_from_traces.py: guest.trace: g3 has a frame that was found before\n", 1))
         stranger = changed(traces, {"guest": [("g24 read actor=cpu0", "g24 read actor=cpu7")]})
         self.wants("an actor that begin does not have", self.written(stranger), ("", "session_from_traces.py: guest.trace: 'cpu7' is no actor that begin has\n", 1))
         text, told, status = self.written({**traces, "link": "\x1f\x0b no text"})
@@ -241,7 +245,7 @@ class Tests:
 
 
 @pytest.mark.quick
-@pytest.mark.cases(68)
+@pytest.mark.cases(74)
 def test_recording(program, room):
     tests = Tests(program, room)
     tests.of_folders()

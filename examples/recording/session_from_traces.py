@@ -15,7 +15,7 @@ Where an event tells of one that no trace has, there is a hole, and no session i
 with all that follow it in its trace, until there is no hole, and standard error says so. A last line that was not written to
 its end is a hole too, and so is a number that no event of a trace has, as a lost one leaves it: names are a letter and a number,
 and each trace numbers its events. Another name is refused, and so is an event that is in no table here, lacks a key, has one twice,
-or has a frame, a sum or an actor that is none.
+or has a frame, a sum or an actor that is none, and a frame that is found a second time.
 """
 import argparse
 import os
@@ -66,6 +66,7 @@ OTHERS = {"guest": ("begin", "found"), "source": (), "link": ("hold",), "lane": 
 KEYS = {"begin": ("frames", "actors"), "found": ("frame", "sum")}
 # An event's name, with its number, and the text of a frame or of a sum.
 NAME, HEXADECIMAL = re.compile("[^0-9]*([0-9]+)"), re.compile("[0-9a-fA-F]+")
+FRAMES = re.compile("([0-9a-fA-F]+)-([0-9a-fA-F]+)")
 LOOKS = ("look", "woken")
 PLACEMENTS = ("place", "zero")
 
@@ -120,11 +121,19 @@ def trace(folder, log, cut):
             for key in ("frame", "sum"):
                 if not HEXADECIMAL.fullmatch(event.fields.get(key, "0")):
                     raise Hole(f"{log}.trace: line {number} has a {key} that is no hexadecimal number")
+            if what == "begin" and not frames_of(event):
+                raise Hole(f"{log}.trace: line {number} has frames that are not FIRST-LAST, in hexadecimal")
             numbers.add(number_of(name))
             events[name] = event
     if said and not cut:
         raise Hole(said[0])
     return events, said
+
+
+def frames_of(begin):
+    """The frames that an event tells of, from the first to the last; none where it tells of none."""
+    found = FRAMES.fullmatch(begin.fields["frames"])
+    return range(int(found[1], 16), int(found[2], 16) + 1) if found else range(0)
 
 
 def number_of(name):
@@ -153,8 +162,7 @@ class Recording:
         begin = next(iter(self.traces["guest"].values()), None)
         if begin is None or begin.what != "begin":
             raise Hole("guest.trace: the first event is no begin")
-        first, last = (int(frame, 16) for frame in begin.fields["frames"].split("-"))
-        self.frames = range(first, last + 1)
+        self.frames = frames_of(begin)
         self.actors = begin.fields["actors"].split(",")
         self.traces["guest"] = self.with_placements(self.traces["guest"])
         self.kept = {log: {name: event for name, event in self.traces[log].items() if self.is_kept(event)} for log in LOGS}
@@ -237,8 +245,14 @@ class Recording:
 
     def initial_pages(self):
         """How many pages did not begin as zeros, and a line for each."""
-        found = [event.fields for event in self.traces["guest"].values() if event.what == "found" and self.is_in_window(event)]
-        sums = {int(fields["frame"], 16) - self.frames.start: fields["sum"] for fields in found if int(fields["sum"], 16) != 0}
+        sums = {}
+        for name, event in self.traces["guest"].items():
+            if event.what == "found" and self.is_in_window(event):
+                page = int(event.fields["frame"], 16) - self.frames.start
+                if page in sums:
+                    raise Hole(f"guest.trace: {name} has a frame that was found before")
+                sums[page] = event.fields["sum"]
+        sums = {page: text for page, text in sums.items() if int(text, 16) != 0}
         return [f"init {len(sums)}", *(f"page {page} {sums[page]}" for page in sorted(sums))]
 
     def version(self):
