@@ -306,6 +306,28 @@ def of_packed(tests, room):
     tests.wants("and not written", os.path.exists(f"{room}/outside"), False)
 
 
+def of_packing(tests, room):
+    """A recording is packed, and unpacked into a folder without one: no file of a recording is written over."""
+    fill(f"{room}/to-pack", pack.FILES)
+    before = held(f"{room}/to-pack")
+
+    def told(*words):
+        done = subprocess.run([sys.executable, "-B", f"{QEMU}/pack.py", *words], cwd=room, capture_output=True, text=True)
+        return done.returncode, done.stdout, done.stderr
+
+    there = "it is there already, and is a file of a recording\n"
+    for words, wanted in ((("to-pack", "small"), (0, "", "")), (("--out", "small", "out-of-it"), (0, "", "")),
+                          (("--out", "small", "to-pack"), (1, "", f"pack.py: to-pack/plan.json: {there}")),
+                          (("to-pack", "to-pack/halt.mem"), (1, "", f"pack.py: to-pack/halt.mem: {there}")),
+                          (("none", "other"), (1, "", "pack.py: none/plan.json: No such file or directory\n")),
+                          (("to-pack", "/dev/full"), (1, "", "pack.py: /dev/full: No space left on device\n")),
+                          (("--out", "to-pack/plan.json", "other"), (1, "", "pack.py: to-pack/plan.json: Input format not supported by decoder\n"))):
+        tests.wants(f"pack.py {' '.join(words)}", told(*words), wanted)
+    os.truncate(f"{room}/small", os.path.getsize(f"{room}/small") - 20)
+    tests.wants("one that ends early", told("--out", "small", "other")[::2], (1, "pack.py: small: Compressed data ended before the end-of-stream marker was reached\n"))
+    tests.wants("what is there", (held(f"{room}/to-pack"), held(f"{room}/out-of-it"), os.path.exists(f"{room}/other")), (before, before, False))
+
+
 def run(tests):
     with tempfile.TemporaryDirectory() as room:
         of_a_users_folder(tests, room)
@@ -321,3 +343,4 @@ def run(tests):
         of_what_cannot_be_written(tests, room)
         of_a_strange_name(tests, room)
         of_packed(tests, room)
+        of_packing(tests, room)
