@@ -3,16 +3,21 @@
     python3 recorders/qemu/linux_cut.py FOLDER FIRST COUNT OUT
 
 The window of a recording's session is the session of what this leaves in OUT, except for numbers. Only those lines of the trace stay
-from which a session is made. The recording must have one connection.
+from which a session is made. The recording must have one connection. OUT may have no recording. The status is 1 if a file cannot be read or
+written, or ends early, and 2 for wrong words.
 """
+import argparse
 import os
 import struct
 import sys
 
 HERE = os.path.dirname(os.path.abspath(__file__))
 sys.path[:0] = [HERE, os.path.dirname(HERE), f"{HERE}/../../bindings/python"]
+import pack  # noqa: E402
+from counts import above_0, from_0  # noqa: E402
 from dialect import Moments  # noqa: E402
 from kinds import plan_from_text  # noqa: E402
+from records import Hole  # noqa: E402
 from stream import PAGE, PAGE_BYTES, REQUEST, REQUEST_WITH_BLOCK, ZERO  # noqa: E402
 from wire import ZERO as ZEROS  # noqa: E402
 
@@ -27,7 +32,7 @@ class Pages:
     """A file of pages, some of which go into another file."""
 
     def __init__(self, path, out):
-        self.source, self.out, self.places = open(path, "rb"), open(out, "wb"), {}
+        self.path, self.source, self.out, self.places = path, open(path, "rb"), open(out, "wb"), {}
 
     def place(self, place):
         """Returns the place of a page there, which may be `zero` or `-`."""
@@ -35,7 +40,10 @@ class Pages:
             return place
         if place not in self.places:
             self.source.seek(int(place) * PAGE_BYTES)
-            self.out.write(self.source.read(PAGE_BYTES))
+            page = self.source.read(PAGE_BYTES)
+            if len(page) < PAGE_BYTES:
+                raise Hole(f"{self.path} ends before page {place}")
+            self.out.write(page)
             self.places[place] = str(len(self.places))
         return self.places[place]
 
@@ -49,6 +57,8 @@ class Cut:
         self.folder, self.first, self.count, self.out = folder, first, count, out
         with open(f"{folder}/plan.json", encoding="ascii") as file:
             self.plan = plan_from_text(file.read())
+        if first + count > self.plan.pages:
+            raise Hole(f"{folder} has {self.plan.pages} pages, from 0 on")
         self.start = self.plan.base + first * PAGE_BYTES
         self.end = self.start + count * PAGE_BYTES
         self.handed, self.requests = [], []       # whether each stays, in the relay's order
@@ -56,6 +66,7 @@ class Cut:
 
     def make(self):
         os.makedirs(self.out, exist_ok=True)
+        pack.refuse((*pack.FILES, *pack.OF_LINUX), self.out)
         self.plan.base, self.plan.pages = self.start, self.count
         with open(f"{self.out}/plan.json", "w", encoding="ascii") as out:
             out.write(self.plan.to_text())
@@ -185,7 +196,20 @@ class Cut:
                 out.write(f"records {kept}\n" if line.startswith("records ") else line)
 
 
+def main():
+    words = argparse.ArgumentParser(prog="linux_cut.py", description=__doc__, formatter_class=argparse.RawDescriptionHelpFormatter, usage=argparse.SUPPRESS)
+    words.add_argument("folder", help=argparse.SUPPRESS)
+    words.add_argument("first", type=from_0, help=argparse.SUPPRESS)
+    words.add_argument("count", type=above_0, help=argparse.SUPPRESS)
+    words.add_argument("out", help=argparse.SUPPRESS)
+    asked = words.parse_args()
+    try:
+        Cut(asked.folder, asked.first, asked.count, asked.out).make()
+    except OSError as fault:
+        sys.exit(f"linux_cut.py: {fault.filename or asked.out}: {fault.strerror}")
+    except (Hole, ValueError, struct.error) as fault:
+        sys.exit(f"linux_cut.py: {fault}")
+
+
 if __name__ == "__main__":
-    if len(sys.argv) != 5:
-        sys.exit(__doc__)
-    Cut(sys.argv[1], int(sys.argv[2]), int(sys.argv[3]), sys.argv[4]).make()
+    main()

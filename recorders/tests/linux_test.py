@@ -8,6 +8,8 @@ import os
 import re
 import shutil
 import struct
+import subprocess
+import sys
 import tempfile
 from unittest import mock
 
@@ -119,6 +121,7 @@ def made(source=SOURCE, target=TARGET, halt=HALT, end=END, target_raw=TARGET_RAW
 
 
 def write(files, folder):
+    os.makedirs(folder, exist_ok=True)
     for name, data in files.items():
         with open(f"{folder}/{name}", "wb") as out:
             out.write(data)
@@ -323,10 +326,36 @@ def of_a_cut(tests):
         linux_session.judged(folder, True, "")
         for first, count in ((0, 4), (0, 1), (1, 2), (2, 2), (3, 1)):
             window, _ = judge.ask(folder, "window", "session", str(first), str(count))
-            linux_cut.Cut(folder, first, count, f"{folder}/cut").make()
-            verdict, _ = linux_session.judged(f"{folder}/cut", True, "")
-            with open(f"{folder}/cut/session", encoding="ascii") as file:
+            out = f"{folder}/{first}-{count}"
+            linux_cut.Cut(folder, first, count, out).make()
+            verdict, _ = linux_session.judged(out, True, "")
+            with open(f"{out}/session", encoding="ascii") as file:
                 tests.wants(f"{count} pages from {first} on", (file.read() == window, verdict.line), (True, "clean, yes"))
+
+
+def of_what_is_not_cut(tests):
+    """A recording is cut into no folder that has one, as its own, and not where a file ends early or a page is none."""
+    with tempfile.TemporaryDirectory() as folder:
+        write(made(), f"{folder}/whole")
+        write({**made(), "relay.pages": made()["relay.pages"][:-1]}, f"{folder}/early")
+        def has():
+            found = {}
+            for name in os.listdir(f"{folder}/whole"):
+                with open(f"{folder}/whole/{name}", "rb") as file:
+                    found[name] = file.read()
+            return found
+
+        before = has()
+        pages = len(before["relay.pages"]) // PAGE_BYTES
+        for words, status, said in ((("whole", "0", "2", "whole"), 1, "linux_cut.py: whole/plan.json: it is there already, and is a file of a recording\n"),
+                                    (("whole", "0", "2", "early"), 1, "linux_cut.py: early/plan.json: it is there already, and is a file of a recording\n"),
+                                    (("early", "0", "4", "out"), 1, f"linux_cut.py: early/relay.pages ends before page {pages - 1}\n"),
+                                    (("whole", "3", "2", "other"), 1, "linux_cut.py: whole has 4 pages, from 0 on\n"),
+                                    (("none", "0", "1", "other"), 1, "linux_cut.py: none/plan.json: No such file or directory\n"),
+                                    (("whole", "-1", "2", "other"), 2, ""), (("whole", "0", "0", "other"), 2, "")):
+            done = subprocess.run([sys.executable, "-B", linux_cut.__file__, *words], cwd=folder, capture_output=True, text=True)
+            tests.wants(f"linux_cut.py {' '.join(words)}", (done.returncode, done.stdout, done.stderr if said else ""), (status, "", said))
+        tests.wants("the recording stays", (has() == before, os.path.exists(f"{folder}/other")), (True, False))
 
 
 def of_frames_that_are_missing(tests):
@@ -355,6 +384,7 @@ def run(tests):
     of_accesses_that_are_nowhere(tests)
     of_the_example(tests)
     of_a_cut(tests)
+    of_what_is_not_cut(tests)
     of_frames_that_are_missing(tests)
     of_facts(tests)
     of_a_page_that_is_given_up(tests)
