@@ -360,6 +360,14 @@ def of_multifd(tests):
     tests.wants("what is told of it", ([line for line in log if line.startswith(("open", "multifd"))]), ["open 0 main new", "multifd"])
 
 
+def has_ended(end):
+    """Whether the other side has ended a connection, over which nothing came. (One that stays open is a timeout, which is raised.)"""
+    try:
+        return end.recv(1) == b""
+    except ConnectionResetError:
+        return True
+
+
 FULL = "No space left on device"
 
 
@@ -373,11 +381,11 @@ def of_a_full_disk(tests):
             source.sendall(BEFORE)
             found = read_all(target)
             tests.wants(f"no page is handed over, with a full {full}", (len(found) < len(BEFORE) - 8 * 4096, filled(1) in found), (True, False))
-            tests.wants("the source hears of it", read_all(source), b"")
+            tests.wants("the source hears of it", has_ended(source), True)
             for first in (HEADER, stream.MULTIFD_MAGIC):
                 more, there = ends.connect()
                 more.sendall(first)
-                tests.wants("nothing is handed over that comes then", (read_all(there), read_all(more)), (b"", b""))
+                tests.wants("nothing is handed over that comes then", (has_ended(there), has_ended(more)), (True, True))
             ends.relay.end()
             tests.wants("it is told", (ends.relay.unrecorded, ends.relay.was_cut.is_set()), (f"{full}: {FULL}", False))
             ends.listener.close()
