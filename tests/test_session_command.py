@@ -159,6 +159,22 @@ def test_packed_files(program, room):
             count(f"{folder}/{log}.1.0.bz2 is compressed" in ran.stderr and ran.returncode, f"the log of the {log}")
 
 
+@pytest.mark.cases(6)
+def test_beyond_the_limits(program, room):
+    """The script writes no session that is beyond the limits, neither of all pages nor of some, and leaves the output as it was."""
+    beside = Beside(room, program)
+    logs = {"guest": ["halt", "resume 1"], "source": ["halted 0", "state"], "link": ["down 1"], "pager": ["got 0", "ready"]}
+    folder, name = beside.recording(machine=["pages 32769 512"], **logs), f"{room}/session"
+    for words, status in (((), 2), (("-o", name), 2), (("--window", "0-32768", "-o", name), 2), (("--windows", "32769", "-o", f"{room}/by"), 2),
+                          (("--recording", "-o", name), 0), (("--window", "0-1", "-o", name), 0)):
+        beside.put(name, "as it was")
+        ran = run_script(beside.command, folder, *words)
+        is_told = ran.stderr.startswith("session: 32769 pages of 512 cells, ") and ", are too many: a session has at most " in ran.stderr
+        left = os.listdir(f"{room}/by") if os.path.exists(f"{room}/by") else []
+        same(f"a machine with too many cells {words}", (ran.returncode, ran.stdout, is_told, beside.has(name) == "as it was", left),
+             (status, "", status != 0, status != 0, []))
+
+
 MOST_OF_A_SMALL_LOG = 1048576
 
 
