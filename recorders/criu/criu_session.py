@@ -3,7 +3,7 @@
 A page in an answer has the name (answer, place in it), and a request for a page has the name (request, place in it). The n-th message
 that was sent over a connection is the n-th that arrived over it. The parties' logs name each other's records with these names.
 """
-from contents import cells_of
+from contents import Contents
 from criu_plans import BASE, plan_from_text
 from page_server import PAGE_BYTES, Requests, header_of
 from records import Hole, Session
@@ -255,8 +255,8 @@ class Recording:
 
     def contents(self, name):
         """Returns a function that reads the cells of a page in a file of contents."""
-        data = self.read(name)
-        return lambda place: cells_of(data[place * PAGE_BYTES:(place + 1) * PAGE_BYTES], self.plan.words)
+        contents = Contents(self.read, self.plan.words)
+        return lambda place: contents.cells(name, place)
 
     def session(self):
         session = Session(self.plan.pages, self.plan.words, self.plan.has_releases_at_target)

@@ -59,6 +59,19 @@ def of_cut(tests):
         tests.wants("live: reads of what was not written", criu_judge.wrong_reads(room), 0)
 
 
+def of_files_that_end_early(tests):
+    """Of pages that are in no file, as after a full disk, nothing is judged: nor where the end of one is missing."""
+    files = kept.files_of("live")
+    for name in ("relay.pages", "target.pages"):
+        last = len(files[name]) // PAGE_BYTES - 1
+        for left, page in ((0, 0), (5, 0), (len(files[name]) - 1, last), (len(files[name]) - PAGE_BYTES, last)):
+            with tempfile.TemporaryDirectory() as room:
+                for file, data in files.items():
+                    with open(f"{room}/{file}", "wb") as out:
+                        out.write(data[:left] if file == name else data)
+                tests.wants(f"{left} bytes of {name}", criu_judge.judged(room).line, f"not judged: {name} ends before page {page}")
+
+
 def of_what_is_not_put_in(tests):
     """A clean migration in which a fault was to be put in, and was not, is told as such."""
     loader = importlib.machinery.SourceFileLoader("criu_migrate", f"{os.path.dirname(os.path.abspath(kept.__file__))}/migrate")
@@ -247,6 +260,7 @@ def of_facts(tests):
 
 def run(tests):
     of_kept(tests)
+    of_files_that_end_early(tests)
     of_what_is_not_put_in(tests)
     of_hang(tests)
     of_cut(tests)

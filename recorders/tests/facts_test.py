@@ -392,6 +392,17 @@ def of_files_that_end_early(tests):
                 f"not judged: {hole}", f"nothing, since {of_witness}\n" if of_witness else "2 pages that pre-copy sent were not sent again, and are what the source has at the halt\n"))
 
 
+def of_an_end_that_is_missing(tests):
+    """The last byte of the last page is missing, which the guest does not use: nothing is judged either."""
+    files = files_of("example-live")
+    for cut in ("relay.pages", "target.pages"):
+        with tempfile.TemporaryDirectory() as room:
+            for name, data in files.items():
+                with open(f"{room}/{name}", "wb") as out:
+                    out.write(data[:-1] if name == cut else data)
+            tests.wants(f"{cut} without its last byte", judge.judge(room).line, f"not judged: {cut} ends before page {len(files[cut]) // PAGE_BYTES - 1}")
+
+
 def of_statuses(tests):
     """What ends early is no success, though what is left is clean; nor is a migration of which QEMU says that it came to its end, and
     whose logs do not tell that each page came."""
@@ -524,6 +535,7 @@ def run(tests):
     of_a_source_that_goes_on(tests)
     of_restarts(tests)
     of_files_that_end_early(tests)
+    of_an_end_that_is_missing(tests)
     of_statuses(tests)
     of_what_is_not_put_in(tests)
     of_a_long_log(tests)
