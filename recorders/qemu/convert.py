@@ -8,7 +8,6 @@ from pipe import Access, Pipe, text_of
 from postcopy.records import SMALL
 from records import Hole, Session
 from relay import Window
-from stream import PAGE_BYTES
 from source_side import SourceSide
 from target_side import TargetSide
 from wire import Wire
@@ -72,8 +71,7 @@ class Recording:
         return in_flight.done(self.read("target.raw"), self.cell_at_halt)
 
     def cell_at_halt(self, page, cell):
-        place = page * PAGE_BYTES + cell * 8
-        return int.from_bytes(self.read("halt.mem")[place:place + 8], "little")
+        return int.from_bytes(self.contents.page("halt.mem", page)[cell * 8:cell * 8 + 8], "little")
 
     def restart(self):
         """Returns the Restart, or None if the source did not start its guest again."""

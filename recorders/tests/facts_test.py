@@ -401,6 +401,10 @@ def of_an_end_that_is_missing(tests):
                 with open(f"{room}/{name}", "wb") as out:
                     out.write(data[:-1] if name == cut else data)
             tests.wants(f"{cut} without its last byte", judge.judge(room).line, f"not judged: {cut} ends before page {len(files[cut]) // PAGE_BYTES - 1}")
+    cut_off = convert.Recording({**files, "halt.mem": files["halt.mem"][:-1]}.__getitem__)
+    page = len(files["halt.mem"]) // PAGE_BYTES - 1
+    said = tests.refuses("a cell at the halt that is in no file", Hole, lambda: cut_off.cell_at_halt(page, 511))
+    tests.wants("which page it is", said, f"halt.mem ends before page {page}")
 
 
 def of_statuses(tests):
