@@ -150,9 +150,11 @@ class LinuxRecording(Recording):
         return self.open[name]
 
     def counts(self, side):
-        lines = self.file(f"{side}.counts").decode().splitlines()
-        kept = os.path.getsize(f"{self.folder}/{side}.accesses") // RECORD_BYTES
-        return {**{name: int(count) for name, count in (line.split() for line in lines)}, "kept": kept}
+        *lines, rest = self.file(f"{side}.counts").decode().split("\n")
+        found = {name: int(count) for name, count in (line.split() for line in lines)}
+        if rest or "words" not in found:  # (which stands behind those that are looked at)
+            raise Hole(f"{side}.counts ends early")
+        return {**found, "kept": os.path.getsize(f"{self.folder}/{side}.accesses") // RECORD_BYTES}
 
     def write_placements(self, session):
         with open(f"{self.folder}/placements", "wb") as out:

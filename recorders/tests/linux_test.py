@@ -333,6 +333,14 @@ def of_a_cut(tests):
                 tests.wants(f"{count} pages from {first} on", (file.read() == window, verdict.line), (True, "clean, yes"))
 
 
+def of_counts_that_end_early(tests):
+    """What the recorder counted of its own work is missing, as after a full disk: nothing is judged."""
+    for side in ("source", "target"):
+        whole = made()[f"{side}.counts"]
+        for left in (0, whole.index(b"gates"), whole.index(b"misses"), len(whole) - 1):
+            tests.wants(f"{left} bytes of {side}.counts", verdict_of({**made(), f"{side}.counts": whole[:left]}), f"not judged: {side}.counts ends early")
+
+
 def of_what_is_not_cut(tests):
     """A recording is cut into no folder that has one, as its own, and not where a file ends early or a page is none."""
     with tempfile.TemporaryDirectory() as folder:
@@ -384,6 +392,7 @@ def run(tests):
     of_accesses_that_are_nowhere(tests)
     of_the_example(tests)
     of_a_cut(tests)
+    of_counts_that_end_early(tests)
     of_what_is_not_cut(tests)
     of_frames_that_are_missing(tests)
     of_facts(tests)
