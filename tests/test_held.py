@@ -5,9 +5,13 @@ released is sent and placed: once as it was at the halt, and once as it was befo
 takes less memory, by most of what those contents take.
 """
 import os
+import subprocess
+import sys
 
 import pytest
 from cases import same
+
+pytestmark = pytest.mark.quick
 
 # So many that what their contents take can be told from what the program takes anyway.
 PAGES, CELLS = 8_192, 64
@@ -37,17 +41,22 @@ def session(is_stale):
     yield "end\n"
 
 
+# Runs a program on some processors, and tells its status and the most memory that it held. (By a small process: what a process holds
+# that starts a program counts as the program's.)
+MEASURING = """import os, sys
+os.sched_setaffinity(0, {int(it) for it in sys.argv[1].split()})
+to_nothing = [(os.POSIX_SPAWN_OPEN, output, os.devnull, os.O_WRONLY, 0) for output in (1, 2)]
+_, status, used = os.wait4(os.posix_spawn(sys.argv[2], sys.argv[2:], os.environ, file_actions=to_nothing), 0)
+print(os.waitstatus_to_exitcode(status), 1024 * used.ru_maxrss)"""
+
+
 def audited(program, room, is_stale, processors):
     """The status of an audit on so many processors, and the most memory that it held."""
     with open(f"{room}/session", "w", encoding="ascii") as file:
         file.writelines(session(is_stale))
-    child = os.fork()
-    if not child:
-        os.sched_setaffinity(0, processors)
-        os.dup2(os.open(os.devnull, os.O_WRONLY), 1)
-        os.execv(program, [program, "audit", "--quiet", f"{room}/session"])
-    _, status, used = os.wait4(child, 0)
-    return os.waitstatus_to_exitcode(status), used.ru_maxrss * 1024
+    words = [" ".join(map(str, processors)), program, "audit", "--quiet", f"{room}/session"]
+    told = subprocess.run([sys.executable, "-ISc", MEASURING, *words], check=True, capture_output=True, text=True).stdout
+    return [*map(int, told.split())]
 
 
 @pytest.mark.cases(2)
