@@ -512,6 +512,12 @@ def numbers_line(answer):
     return f"kind {answer.kind} line {answer.line or 0} reason {answer.reason or 0}\n"
 
 
+def said(words, **how):
+    """What a program writes, and its status."""
+    ran = subprocess.run(words, capture_output=True, **how)
+    return ran.returncode, ran.stdout, ran.stderr
+
+
 def tests_of_examples(postcopy, prefix, room):
     """The examples for C, Python and Rust, each run on a right certificate and on a wrong one."""
     programs = {}
@@ -529,12 +535,14 @@ def tests_of_examples(postcopy, prefix, room):
         texts = [f"{TOP}/examples/handover/{it}" for it in ("session", "certificate")]
         for name, words, given in (("audit", [], read(texts[0], "rb")), ("check", texts, b"")):
             with open("/dev/full", "wb") as full:
-                ran = subprocess.run([f"{room}/{name}-{how}", *words], input=given, stdout=full)
-            same(f"the {name} in C, {how}, whose answer cannot be written", ran.returncode, 3)
+                ran = subprocess.run([f"{room}/{name}-{how}", *words], input=given, stdout=full, stderr=subprocess.PIPE)
+            same(f"the {name} in C, {how}, whose answer cannot be written", (ran.returncode, ran.stderr), (3, b"standard output: No space left on device\n"))
         folder = os.open(room, os.O_RDONLY)
-        same(f"the audit in C, {how}, of what cannot be read", subprocess.run([f"{room}/audit-{how}"], stdin=folder, stdout=subprocess.PIPE).returncode, 3)
+        same(f"the audit in C, {how}, of what cannot be read", said([f"{room}/audit-{how}"], stdin=folder), (3, b"", b"standard input: Is a directory\n"))
         os.close(folder)
-        same(f"the check in C, {how}, of what cannot be mapped", subprocess.run([f"{room}/check-{how}", texts[0], os.devnull], stdout=subprocess.PIPE).returncode, 3)
+        for words, status, wanted in (([texts[0], os.devnull], 3, f"{os.devnull}: only a file can be mapped"), ([texts[0], f"{room}/none"], 3, f"{room}/none: No such file or directory"),
+                                      ([], 2, "usage: check SESSION CERT")):
+            same(f"the check in C, {how}, of {words}", said([f"{room}/check-{how}", *words]), (status, b"", f"{wanted}\n".encode()))
     if shutil.which("c++"):
         headers = [f"{prefix}/include/{it}.h" for it in ("postcopy", "postcopy_record")]
         ran = subprocess.run(["c++", "-Wall", "-Wextra", "-Werror", "-fsyntax-only", "-x", "c++", *headers])
