@@ -25,7 +25,7 @@ use faulty_pages::{Faults, FaultyPage, HowMany, many_of_pages_are_many};
 use migration_types::{Entry, PageNo, Run, Seq, Session, line_of};
 use page_facts::{
     Findings, FirstFault, InThreads, Judges, OneThread, PageFault, Question, answer_apart,
-    answer_beside, fault_of, first_of_pages_is_first, is_judged_alone,
+    fault_of, first_of_pages_is_first, is_judged_alone,
 };
 use std::alloc::{AllocError, Global};
 use std::marker::Sync;
@@ -261,7 +261,7 @@ fn report_beside<R: Threads + Sync>(
             ensures fault { IfOk result (λ audited. IsFirstFaultFrom session.entry.now 0 session.entry.now.geometry.pages audited.fault) }
             ensures many { IfOk result (λ audited. AreManyFrom session.entry.now 0 session.entry.now.geometry.pages audited.faulty) }
             ensures entries { IfOk result (λ audited. MatchOption audited.entries (HasBarePage session.entry.now) (λ made. AreMadeFrom session.entry.now 0 session.entry.now.geometry.pages made.items)) }
-        { answer_beside(rt, &FaultAndEntries, alloc, session) },
+        { answer_apart(rt, &FaultAndEntries, alloc, session) },
     );
     match first? {
         OrderOrReport::Report(report) => Ok(report),

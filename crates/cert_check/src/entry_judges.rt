@@ -12,7 +12,7 @@ use crate::shape_fault::shape;
 use crate::verdict::Verdict;
 use merge_runs::first_bad_run;
 use migration_types::{Cert, Session};
-use page_facts::{InThreads, JudgesEntries, OneThread, ThreadsBeside, is_judged_alone};
+use page_facts::{InThreads, JudgesEntries, OneThread, is_judged_alone};
 use std::alloc::{AllocError, Global};
 use std::marker::Sync;
 use std::thread::{Threads, join};
@@ -125,7 +125,7 @@ impl<R: Threads + Sync> EntryJudges for InThreads<'_, R> {
             || -> Result<Option<usize>, AllocError>
                 requires { IsSync R.row × SamePages session.now cert.now }
                 ensures { IfOk result (λ page. MatchOption page (AreRightEntries session.entry.now cert.entry.now.entries) (IsFirstBadPage session.entry.now cert.entry.now.entries)) }
-            { first_bad_page(&ThreadsBeside { rt }, alloc, session, cert) },
+            { first_bad_page(&InThreads { rt }, alloc, session, cert) },
         );
         let first = first?;
         let bad = bad?;

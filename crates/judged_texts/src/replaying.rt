@@ -16,7 +16,7 @@ use cert_text::read_order;
 use merge_runs::{MergeFault, is_merging, replay};
 use migration_types::{Run, Seq, Session, line_of};
 use page_facts::{
-    FirstFault, InThreads, Judges, OneThread, PageFault, answer_beside, first_of_pages_is_first,
+    FirstFault, InThreads, Judges, OneThread, PageFault, answer_apart, first_of_pages_is_first,
     is_judged_alone,
 };
 use session_log::read_session;
@@ -149,7 +149,7 @@ impl<R: Threads + Sync> Replayers for InThreads<'_, R> {
             || -> Result<Option<PageFault>, AllocError>
                 requires { IsSync R.row }
                 ensures { IfOk result (IsFirstFaultFrom session.entry.now 0 session.entry.now.geometry.pages) }
-            { answer_beside(rt, &FirstFault, alloc, session) },
+            { answer_apart(rt, &FirstFault, alloc, session) },
         );
         match first? {
             Some(outcome) => Ok(outcome),

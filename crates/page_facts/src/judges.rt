@@ -6,7 +6,7 @@ ghost use Rattle.migration_types.specs.Limits.{longest_log, most_pages};
 ghost use Rattle.page_facts.specs.Entries.{AreJudged};
 
 use crate::entries::Entries;
-use crate::question::{Question, answer_alone, answer_apart, answer_beside, threads_for};
+use crate::question::{Question, answer_alone, answer_apart, threads_for};
 use migration_types::{Entry, Session, logs};
 use std::alloc::{AllocError, Global};
 use std::marker::Sync;
@@ -83,26 +83,6 @@ impl<R: Threads + Sync> JudgesEntries for InThreads<'_, R> {
         entries: &[Entry],
     ) -> Result<Option<usize>, AllocError> {
         answer_apart(self.rt, &Entries { entries }, alloc, session)
-    }
-}
-
-/// Threads as [`InThreads`] has them, but one less, beside something else that the caller does.
-#[derive(Clone, Copy)]
-pub struct ThreadsBeside<'a, R> {
-    /// What starts threads.
-    pub rt: &'a R,
-}
-
-impl<R: Threads + Sync> JudgesEntries for ThreadsBeside<'_, R> {
-    ghost ready = { IsSync R.row };
-
-    fn first_wrong_entry(
-        &self,
-        alloc: Global,
-        session: &Session,
-        entries: &[Entry],
-    ) -> Result<Option<usize>, AllocError> {
-        answer_beside(self.rt, &Entries { entries }, alloc, session)
     }
 }
 

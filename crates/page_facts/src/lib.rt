@@ -25,9 +25,9 @@ mod right_entry;
 
 pub use facts::{PageFacts, facts_of};
 pub use findings::Findings;
-pub use judges::{InThreads, Judges, JudgesEntries, OneThread, ThreadsBeside, is_judged_alone};
+pub use judges::{InThreads, Judges, JudgesEntries, OneThread, is_judged_alone};
 pub use machine::halt_place;
 pub use page_fault::{FirstFault, PageFault, fault_of, first_of_pages_is_first, first_page_fault};
-pub use question::{Question, answer_apart, answer_beside};
+pub use question::{Question, answer_apart};
 pub use range_judge::findings_for;
 pub use right_entry::is_right_entry;

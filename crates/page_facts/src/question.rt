@@ -274,11 +274,10 @@ fn answer_parts<R: Threads + Sync, X: Send + Drop, Q: Question<Answer = X> + Syn
         .collect(rt, alloc)?
 }
 
-/// Returns the answer about all pages by this many threads side by side, each with a range of pages. The calling thread
-/// alone judges all if there is to be one. Fails only if memory runs out.
-fn answer_by<R: Threads + Sync, X: Send + Drop, Q: Question<Answer = X> + Sync>(
+/// Returns the answer about all pages by threads side by side, with a range of pages for each processor. If there is
+/// one processor or little work, the calling thread judges all. Fails only if memory runs out.
+pub fn answer_apart<R: Threads + Sync, X: Send + Drop, Q: Question<Answer = X> + Sync>(
     rt: &R,
-    parts: usize,
     question: &Q,
     alloc: Global,
     session: &Session,
@@ -286,6 +285,7 @@ fn answer_by<R: Threads + Sync, X: Send + Drop, Q: Question<Answer = X> + Sync>(
     requires { Q.IsFor question.now session.now }
     ensures { IfOk result (Q.IsAnswer question.now session.now 0 session.now.geometry.pages) }
 {
+    let parts = threads_for(rt, session);
     if parts < 2 {
         return answer_alone(question, alloc, session);
     }
@@ -301,32 +301,4 @@ fn answer_by<R: Threads + Sync, X: Send + Drop, Q: Question<Answer = X> + Sync>(
     };
     add_parts(question, session, &mut all, answered)?;
     complete(question, alloc, session, &looks, all)
-}
-
-/// Returns the answer about all pages by threads side by side, with a range of pages for each processor. If there is
-/// one processor or little work, the calling thread judges all. Fails only if memory runs out.
-pub fn answer_apart<R: Threads + Sync, X: Send + Drop, Q: Question<Answer = X> + Sync>(
-    rt: &R,
-    question: &Q,
-    alloc: Global,
-    session: &Session,
-) -> Result<X, AllocError>
-    requires { Q.IsFor question.now session.now }
-    ensures { IfOk result (Q.IsAnswer question.now session.now 0 session.now.geometry.pages) }
-{
-    answer_by(rt, threads_for(rt, session), question, alloc, session)
-}
-
-/// Returns what [`answer_apart`] returns, by one thread less, which leaves a processor to what the caller does beside it.
-pub fn answer_beside<R: Threads + Sync, X: Send + Drop, Q: Question<Answer = X> + Sync>(
-    rt: &R,
-    question: &Q,
-    alloc: Global,
-    session: &Session,
-) -> Result<X, AllocError>
-    requires { Q.IsFor question.now session.now }
-    ensures { IfOk result (Q.IsAnswer question.now session.now 0 session.now.geometry.pages) }
-{
-    let parts = threads_for(rt, session).saturating_sub(1);
-    answer_by(rt, parts, question, alloc, session)
 }
