@@ -10,8 +10,8 @@
         1   the guest's records too, in 16 bytes each
         2   the contents that were sent and placed too, in a block each
         3   the initial pages too, in a block each, apart from the frames
-        4   the records of source and pager in 40 bytes each too: all that the program holds where no contents are as
-            at the halt
+        4   the records of source and pager in 40 bytes each too: all that the program holds where no contents are placed
+            as they were sent
 */
 #include <emmintrin.h>
 #include <fcntl.h>

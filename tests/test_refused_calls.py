@@ -75,8 +75,10 @@ NONE = {
     "pager_book": "PagerBook::pager_log PagerBook::flush PagerBook::next_page",
 }
 
-# Those that make the growth of a line again, by itself, where it was refused to them among others.
+# Those that make the growth of a line again, by itself, where it was refused to them among others; or that make it as lines come, where
+# it was refused for all of them.
 AGAIN = {
+    "guest_script": "read_script read_events",
     "session_log": "read_session SessionReader::feed",
     "cert_text": "read_cert CertReader::feed read_runs RunsReader::feed",
     "judged_texts": "check_texts",

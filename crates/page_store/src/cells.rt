@@ -82,13 +82,6 @@ impl Cells {
     {
         &self.values[from..to]
     }
-
-    /// Returns the values.
-    pub fn into_vec(self) -> Vec<u64>
-        ensures { result.items ≡ self }
-    {
-        self.values
-    }
 }
 
 /// Returns this many zeros. Fails only if memory runs out.

@@ -116,13 +116,6 @@ impl Store {
         self.items.put(from, content);
     }
 
-    /// Returns the values of all pages, page 0 first, and of each cell 0 first. Allocates no memory.
-    pub fn into_values(self) -> Vec<u64>
-        ensures { result.items ≡ self.items }
-    {
-        self.items.into_vec()
-    }
-
     /// Returns the machine's geometry.
     pub fn geometry(&self) -> Geometry
         ensures { result ≡ self.now.geometry }

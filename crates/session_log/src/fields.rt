@@ -8,7 +8,7 @@ ghost use Rattle.migration_types.specs.Limits.{most_pages};
 ghost use Rattle.migration_types.specs.Sessions.{IsNumber};
 
 use crate::forms::past_records;
-use crate::halted::Halted;
+use crate::sent::Sent;
 use migration_types::{Contents, PageNo, Size};
 use session_grammar::read_page_contents;
 use std::alloc::Global;
@@ -39,11 +39,11 @@ pub(crate) fn page_then<'a>(text: &'a [u8], key: &[u8], pages: u32) -> Option<(P
 }
 
 /// Returns the values of the page's cells, this many of them, at the front, and what follows. Nothing follows if the text
-/// is these alone. Allocates no memory for a page of one cell, nor for the values that the page had at the halt.
+/// is these alone. Allocates no memory for a page of one cell, nor for what was sent of the page.
 #[inline(always)]
 pub(crate) fn contents_then<'a>(
     alloc: Global,
-    halted: &Halted,
+    sent: &Sent,
     page: PageNo,
     text: &'a [u8],
     cells: u32,
@@ -57,7 +57,7 @@ pub(crate) fn contents_then<'a>(
         return Err(FaultKind::Form);
     }
     let (digits, rest) = text.split_at(digits);
-    if let Some(same) = halted.same(page, cells, digits) {
+    if let Some(same) = sent.same(alloc, page, cells, digits) {
         return Ok((same, rest));
     }
     let contents = read_page_contents(alloc, digits, cells)?;

@@ -36,6 +36,15 @@ pub(crate) trait RecordForm: Sync + Drop {
         Some((record, after_end(rest)?))
     }
 
+    /// Settles the records from one of them on, which one thread has read: they may be stored otherwise, and stay the same records.
+    fn settle(&self, records: &mut Vec<Self::Record>, from: usize)
+        requires { IsForm self.now }
+        ensures { records.new.items ≡ records.old.items }
+    {
+        let _ = records;
+        let _ = from;
+    }
+
     /// Appends the line of a record.
     fn push(rec: &Self::Record, out: &mut Vec<u8>) -> Result<(), AllocError>
         ensures { OnOk result (out.new.items ≡ out.old.items ++ (spell rec.now ++ 10 ∷ [])) };
@@ -71,6 +80,10 @@ impl<F: RecordForm> LineForm for Records<F> {
 
     fn may_follow(&self, _before: &[F::Record], _item: &F::Record) -> bool {
         true
+    }
+
+    fn settle(&self, items: &mut Vec<F::Record>, from: usize) {
+        self.0.settle(items, from);
     }
 
     #[inline(always)]

@@ -22,15 +22,6 @@ fn frames_keep_values(rt: HostRuntime) -> Result<(), Fail> {
     Ok(())
 }
 
-#[test]
-fn frames_give_their_values(rt: HostRuntime) -> Result<(), Fail> {
-    let mut store = Store::zeroed(rt.alloc(), Geometry::new(2, 2)?)?;
-    store.write(PageNo::new(1), 0, 9);
-    store.write(PageNo::new(0), 1, 4);
-    assert!(rt; store.into_values().as_slice() == [0, 4, 9, 0].as_slice());
-    Ok(())
-}
-
 /// Whether each cell of a page is 0.
 fn is_blank(store: &Store, page: PageNo) -> bool {
     page.number() < store.geometry().pages() && store.page(page).iter().all(|value| *value == 0)

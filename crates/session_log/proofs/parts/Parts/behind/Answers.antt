@@ -17,12 +17,12 @@ returns-in-Init c =
 pub returns-in-Guest : goal.returns-in-Guest
 returns-in-Guest c =
     let d = draft_of c.args.self.now in
-    behind c.args.stage Guest d (record d { source = c.begin_log-begun.new.log }) c.args.line.now c.begin_log-begun.result c.in-Guest.is c.requires.live c.requires.none (source_begins d c.begin_log-begun.new.log c.args.line.now c.begin_log-begun.result c.begin_log-begun.ensures.found c.begin_log-begun.ensures.refused c.begin_log-begun.ensures.err)
+    behind c.args.stage Guest d (record d { source = c.begin_log-in-Guest.new.log }) c.args.line.now c.begin_log-in-Guest.result c.in-Guest.is c.requires.live c.requires.none (source_begins d c.begin_log-in-Guest.new.log c.args.line.now c.begin_log-in-Guest.result c.begin_log-in-Guest.ensures.found c.begin_log-in-Guest.ensures.refused c.begin_log-in-Guest.ensures.err)
 
 pub returns-in-Source : goal.returns-in-Source
 returns-in-Source c =
     let d = draft_of c.args.self.now in
-    behind c.args.stage Source d (record d { link = c.begin_log-in-Source.new.log }) c.args.line.now c.begin_log-in-Source.result c.in-Source.is c.requires.live c.requires.none (link_begins d c.begin_log-in-Source.new.log c.args.line.now c.begin_log-in-Source.result c.begin_log-in-Source.ensures.found c.begin_log-in-Source.ensures.refused c.begin_log-in-Source.ensures.err)
+    behind c.args.stage Source d (record d { link = c.begin_log-begun.new.log }) c.args.line.now c.begin_log-begun.result c.in-Source.is c.requires.live c.requires.none (link_begins d c.begin_log-begun.new.log c.args.line.now c.begin_log-begun.result c.begin_log-begun.ensures.found c.begin_log-begun.ensures.refused c.begin_log-begun.ensures.err)
 
 pub returns-in-Lane : goal.returns-in-Lane
 returns-in-Lane c =

@@ -1,7 +1,7 @@
 use Rattle.std.proofs.Common.{◌≡◌, ◌<◌, ◌^◌, ◌++◌, take}
 use Rattle.std.specs.List.{AllByRecursion}
 use Rattle.text_lines.specs.Contents.{contents_text}
-use Rattle.session_log.proofs.halted.spells.Given as goal
+use Rattle.session_log.proofs.sent.spells.Given as goal
 
 abbrev pub invariant-loop-value : goal.invariant-loop-value
 invariant-loop-value l = record {
