@@ -24,6 +24,14 @@ def read(name):
         return file.read()
 
 
+def script_of_traces():
+    """The script of the example traces, as a module."""
+    spec = importlib.util.spec_from_file_location("session_from_traces", f"{TOP}/{TRACES}/session_from_traces.py")
+    script = importlib.util.module_from_spec(spec)
+    spec.loader.exec_module(script)
+    return script
+
+
 def text_of(path):
     """A file's text, or nothing where it has bytes that no text has."""
     with open(path, "rb") as file:
@@ -192,9 +200,7 @@ class MadeSessions:
     def of_cuts_and_windows(self):
         """Logs that end early, at each record, and windows, beside the script of the traces. The frame that the traces have
         outside of their window is put beside the others, so that each event of a frame becomes a record."""
-        spec = importlib.util.spec_from_file_location("session_from_traces", f"{TOP}/{TRACES}/session_from_traces.py")
-        script = importlib.util.module_from_spec(spec)
-        spec.loader.exec_module(script)
+        script = script_of_traces()
         traces = {log: read(f"{TRACES}/{log}.trace").replace("7f3a1", "40004") for log in LOGS if log != "lane"}
 
         def recording(frames="40000-40004", ended=None):

@@ -14,6 +14,7 @@ import sys
 
 import pytest
 from cases import leave_out, same
+from made_sessions import script_of_traces
 from page_text import commands_of
 
 from postcopy.recorder import Log
@@ -243,15 +244,61 @@ class Tests:
             self.wants("the same, cut", self.written(ended, "--cut"), (cut, told, 0))
             self.wants("audit of what was cut", self.answer("audit", cut)[0].split("\n", 1)[0], "clean")
 
+    def of_limits(self):
+        """Machines, logs and numbers of the greatest size that a session may have, and ones that are greater by one."""
+        traces = {log: text.replace("frame=7f3a1 ", "frame=7f3a1ff ") for log, text in traces_of(RIGHT).items()}
+        session = SessionText(read(f"{RIGHT}/session"))
+        for last, pages, version in (("4ffff", 65536, 1), ("50000", 65537, 3), ("103ffff", 16777216, 3)):
+            session.tell_in(version)
+            session.head[1] = f"pages {pages}"
+            ran = self.written(changed(traces, {"guest": [("frames=40000-40003", f"frames=40000-{last}")]}))
+            self.wants(f"{pages} pages", ran, (session.text(), "", 0))
+            if pages == 65537:
+                self.wants("their verdict", self.answer("audit", ran[0])[0].split("\n", 1)[0], "clean")
+        for last, pages in (("1040000", 16777217), ("4" + 19 * "0" + "3ffff", 4 * 16**24)):
+            said = f"session_from_traces.py: guest.trace: begin has {pages} frames, and a session at most 16777216 pages\n"
+            for options in ((), ("--cut",)):
+                self.wants(f"{pages} pages {options}", self.written(changed(traces, {"guest": [("frames=40000-40003", f"frames=40000-{last}")]}), *options), ("", said, 1))
+        for number, wanted in ((63, ""), (64, "session_from_traces.py: guest.trace: 'cpu1' is none of the first 64 actors of begin, and a session has no more\n")):
+            names = ",".join(["cpu0", "disk0", *(f"none{it}" for it in range(number - 2)), "cpu1"])
+            text, said, status = self.written(changed(traces, {"guest": [("actors=cpu0,cpu1,disk0", f"actors={names}")]}))
+            verdict = self.answer("audit", text)[0].split("\n", 1)[0] if text else ""
+            self.wants(f"an actor with {number} in front of it", (verdict, said, status), ("" if wanted else "clean", wanted, 1 if wanted else 0))
+        told = {log: re.sub("sum=([0-9a-f]+)", lambda found: f"sum={found[1].lstrip('0').upper() or '0'}", text) for log, text in traces_of(RIGHT).items()}
+        self.wants("sums in capital digits, and with no zeros in front", self.written(told), (read(f"{RIGHT}/session"), "", 0))
+        for log, line in (("guest", 3), ("source", 5), ("pager", 9)):
+            longer = {**traces, log: re.sub("sum=", "sum=1", traces[log], count=1)}
+            text, said, status = self.written(longer)
+            said = re.sub("line [0-9]+", "line N", said)
+            self.wants(f"a sum of 68 bits in {log}.trace", (text, said, status), ("", f"session_from_traces.py: {log}.trace: line N has a sum of more than 16 digits\n", 1))
+        self.of_records()
+
+    def of_records(self):
+        """Logs of a script with lesser limits: the pager's, which is the longest, has 18 records."""
+        for log, text in traces_of(RIGHT).items():
+            with open(f"{self.room}/{log}.trace", "w", encoding="ascii") as file:
+                file.write(text)
+        script, session = script_of_traces(), SessionText(read(f"{RIGHT}/session"))
+        self.wants("the limits", (script.SMALL, script.LARGE), ((65536, 1048576), (16777216, 134217728)))
+        longest = max(len(session.logs[log]) for log in LOGS)
+        for small, large, version in ((longest, longest, 1), (longest - 1, longest, 3)):
+            script.SMALL, script.LARGE = (4, small), (4, large)
+            session.tell_in(version)
+            self.wants(f"{longest} records, with room for {small} and {large}", script.Recording(self.room, False).text(), session.text())
+        script.LARGE = (4, longest - 1)
+        with pytest.raises(script.Hole, match=f"there are {longest} records, and a session has at most {longest - 1} of a log"):
+            script.Recording(self.room, False)
+
 
 @pytest.mark.quick
-@pytest.mark.cases(74)
+@pytest.mark.cases(97)
 def test_recording(program, room):
     tests = Tests(program, room)
     tests.of_folders()
     tests.of_changes()
     tests.of_lane()
     tests.of_holes()
+    tests.of_limits()
 
 
 def test_skeleton(program, cc, room):

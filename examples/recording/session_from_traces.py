@@ -4,10 +4,10 @@
     session_from_traces.py FOLDER [--cut] > session
 
 FOLDER has guest.trace, source.trace, link.trace and pager.trace. Where a second link carried pages down, the lane, it has
-lane.trace too, and the session is of the second version; where the source started its guest again, it is of the third. A line
-of a trace is a time, the event's name, what happened, and with what, as KEY=VALUE. A key that is a log's name tells of an event
-in that log's trace, and `of` tells of an earlier one in the same trace. The times are of clocks that do not agree, and nothing
-here looks at them.
+lane.trace too, and the session is of the second version; where the source started its guest again, or the first two versions
+have no room for so many pages or records, it is of the third. A line of a trace is a time, the event's name, what happened, and
+with what, as KEY=VALUE. A key that is a log's name tells of an event in that log's trace, and `of` tells of an earlier one in the
+same trace. The times are of clocks that do not agree, and nothing here looks at them.
 
 A page has one cell: the sum, which is a hash of 64 bits of the whole page, and 0 for a page of zeros.
 
@@ -15,7 +15,8 @@ Where an event tells of one that no trace has, there is a hole, and no session i
 with all that follow it in its trace, until there is no hole, and standard error says so. A last line that was not written to
 its end is a hole too, and so is a number that no event of a trace has, as a lost one leaves it: names are a letter and a number,
 and each trace numbers its events. Another name is refused, and so is an event that is in no table here, lacks a key, has one twice,
-or has a frame, a sum or an actor that is none, and a frame that is found a second time.
+or has a frame, a sum or an actor that is none, and a frame that is found a second time. So are more pages, records or actors than
+any session may have.
 """
 import argparse
 import os
@@ -65,8 +66,11 @@ OTHERS = {"guest": ("begin", "found"), "source": (), "link": ("hold",), "lane": 
 # The keys of an event that becomes no record, where something is made of it.
 KEYS = {"begin": ("frames", "actors"), "found": ("frame", "sum")}
 # An event's name, with its number, and the text of a frame or of a sum.
-NAME, HEXADECIMAL = re.compile("[^0-9]*([0-9]+)"), re.compile("[0-9a-fA-F]+")
+NAME, HEXADECIMAL, SUM = re.compile("[^0-9]*([0-9]+)"), re.compile("[0-9a-fA-F]+"), re.compile("[0-9a-fA-F]{1,16}")
 FRAMES = re.compile("([0-9a-fA-F]+)-([0-9a-fA-F]+)")
+# The most pages and the most records of a log in a session of the first two versions, and in one of the third; the most actors.
+SMALL, LARGE = (65536, 1048576), (16777216, 134217728)
+MOST_ACTORS = 64
 LOOKS = ("look", "woken")
 PLACEMENTS = ("place", "zero")
 
@@ -121,6 +125,8 @@ def trace(folder, log, cut):
             for key in ("frame", "sum"):
                 if not HEXADECIMAL.fullmatch(event.fields.get(key, "0")):
                     raise Hole(f"{log}.trace: line {number} has a {key} that is no hexadecimal number")
+            if not SUM.fullmatch(event.fields.get("sum", "0")):
+                raise Hole(f"{log}.trace: line {number} has a sum of more than 16 digits")
             if what == "begin" and not frames_of(event):
                 raise Hole(f"{log}.trace: line {number} has frames that are not FIRST-LAST, in hexadecimal")
             numbers.add(number_of(name))
@@ -163,12 +169,14 @@ class Recording:
         if begin is None or begin.what != "begin":
             raise Hole("guest.trace: the first event is no begin")
         self.frames = frames_of(begin)
+        self.pages = self.frames.stop - self.frames.start
         self.actors = begin.fields["actors"].split(",")
         self.traces["guest"] = self.with_placements(self.traces["guest"])
         self.kept = {log: {name: event for name, event in self.traces[log].items() if self.is_kept(event)} for log in LOGS}
         if cut and len(self.kept["source"]) == 1:
             self.left_out.append(f"source.trace: {next(iter(self.kept['source']))} alone is no log of a source: left out")
             self.kept["source"] = {}
+        self.look_for_limits()
         self.numbers = {(log, name): number for log in LOGS for number, name in enumerate(self.kept[log])}
 
     def cut_at_holes(self, cut):
@@ -196,6 +204,17 @@ class Recording:
                         before = " before it" if told[0] == log else ""
                         yield log, name, f"{log}.trace: {name} tells of {told[1]}, which {told[0]}.trace has not{before}"
                 earlier.add(name)
+
+    def fits(self, limits):
+        """Whether a session with these limits has room for the pages, and for the records of each log."""
+        return self.pages <= limits[0] and all(len(self.kept[log]) <= limits[1] for log in LOGS)
+
+    def look_for_limits(self):
+        if self.pages > LARGE[0]:
+            raise Hole(f"guest.trace: begin has {self.pages} frames, and a session at most {LARGE[0]} pages")
+        for log in LOGS:
+            if len(self.kept[log]) > LARGE[1]:
+                raise Hole(f"{log}.trace: there are {len(self.kept[log])} records, and a session has at most {LARGE[1]} of a log")
 
     def is_in_window(self, event):
         return "frame" not in event.fields or int(event.fields["frame"], 16) in self.frames
@@ -239,8 +258,11 @@ class Recording:
             if event.fields["actor"] not in self.actors:
                 raise Hole(f"guest.trace: '{event.fields['actor']}' is no actor that begin has")
             values["actor"] = self.actors.index(event.fields["actor"])
+            if values["actor"] >= MOST_ACTORS:
+                raise Hole(f"guest.trace: '{event.fields['actor']}' is none of the first {MOST_ACTORS} actors of begin, and a session has no more")
         if "sum" in event.fields:
-            values["sum"], values["value"] = event.fields["sum"], int(event.fields["sum"], 16)
+            values["value"] = int(event.fields["sum"], 16)
+            values["sum"] = f"{values['value']:016x}"
         return RECORDS[event.log][event.what].format(**values)
 
     def initial_pages(self):
@@ -251,19 +273,20 @@ class Recording:
                 page = int(event.fields["frame"], 16) - self.frames.start
                 if page in sums:
                     raise Hole(f"guest.trace: {name} has a frame that was found before")
-                sums[page] = event.fields["sum"]
-        sums = {page: text for page, text in sums.items() if int(text, 16) != 0}
-        return [f"init {len(sums)}", *(f"page {page} {sums[page]}" for page in sorted(sums))]
+                sums[page] = int(event.fields["sum"], 16)
+        sums = {page: value for page, value in sums.items() if value != 0}
+        return [f"init {len(sums)}", *(f"page {page} {sums[page]:016x}" for page in sorted(sums))]
 
     def version(self):
-        """The version of the session: a guest that was started again is of the third, and a lane of the second."""
-        if any(event.what == "restart" for event in self.kept["source"].values()):
+        """The version of the session: a guest that was started again is of the third, as is what the first two have no room for, and a
+        lane is of the second."""
+        if any(event.what == "restart" for event in self.kept["source"].values()) or not self.fits(SMALL):
             return 3
         return 2 if self.has_lane else 1
 
     def text(self):
         version = self.version()
-        lines = [f"postcopy-session {version}", f"pages {len(self.frames)}", "cells 1", *self.initial_pages()]
+        lines = [f"postcopy-session {version}", f"pages {self.pages}", "cells 1", *self.initial_pages()]
         for log in LOGS if version > 1 else [log for log in LOGS if log != "lane"]:
             lines += [f"{log} {len(self.kept[log])}", *map(self.record, self.kept[log].values())]
         return "\n".join([*lines, "end", ""])
