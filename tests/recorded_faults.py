@@ -4,8 +4,10 @@ Each is a right recording with one fault: of the disk, of a file, of the program
 where others write there too, or the disk is full.
 """
 import contextlib
+import copy
 import errno
 import os
+import pickle
 import re
 import resource
 import shutil
@@ -15,6 +17,7 @@ import subprocess
 import sys
 import threading
 import time
+import warnings
 
 from made_sessions import TOP, numbered, run_script, text_of_file
 from recorded_model import session_of
@@ -98,6 +101,7 @@ class Faults:
         self.of_machines()
         self.of_children()
         self.of_python()
+        self.of_dropped()
         self.of_output()
 
     def of_whole_ones(self):
@@ -465,6 +469,61 @@ class Faults:
                 text = file.read()
             self.tests.same("half a record is taken back", (error, text.endswith(last), text.count(b"\n") - text.count(b"lost")), (27, True, 4 + 64 - lost))
             self.tests.same("what is said of it", any(it.startswith("machine: ") for it in session_of([folder])[1]), True)
+
+    def of_dropped(self):
+        """Logs that nobody refers to any more: their files are closed, by the process that opened them alone, and such a log has no end."""
+        folder = self.recording(guest=None)
+        self.put(f"{folder}/recording-name", "made\n")
+        log = Log(folder, "guest")
+        self.tests.same("its calls", (log.write(0, 0, 0, 5), log.halt(), log.resume(1), log.see(3), log.read(0, 0, 0, 5)), (0, 1, 2, 3, 4))
+        file = log._file
+        child = os.fork()
+        if child == 0:
+            del log
+            os._exit(0 if os.path.samestat(os.fstat(file), os.stat(f"{folder}/{self.only(folder, 'guest')}")) else 1)
+        self.tests.same("a child that drops its parent's log", self.waited(child), 0)
+        child = os.fork()
+        if child == 0:
+            taken, give = os.pipe()
+            os.dup2(give, file)  # (as where a child closes what it did not open, and then opens its own)
+            del log
+            os.write(file, b".")
+            os._exit(0 if os.read(taken, 1) == b"." else 1)
+        self.tests.same("a child that drops it and has another file of this number", self.waited(child), 0)
+        with warnings.catch_warnings(record=True) as told:
+            warnings.simplefilter("always")
+            name = log._path
+            del log
+        self.tests.same("what Python tells", [(it.category, str(it.message)) for it in told], [(ResourceWarning, f"a log was not closed: {name}")])
+        self.tests.same("whether its file is open", os.path.realpath(name) in self.open_files(), False)
+        self.wants("a log that was dropped", folder, 1, f"guest: FOLDER/{self.only(folder, 'guest')} has no end: {ENDLESS}")
+        with warnings.catch_warnings(record=True) as told:
+            warnings.simplefilter("always")
+            for drop in (lambda: Log(folder, "lane").close(), lambda: Log(None, "lane"), lambda: Log(folder, "guest", LOST)):
+                drop()
+            for wrong in (-1, "none"):
+                with contextlib.suppress(ValueError, TypeError):
+                    Log(folder, "lane", wrong)
+        self.tests.same("what Python tells of logs that were closed, or have no file", [str(it.message) for it in told], [])
+        with Log(self.folder(), "guest") as log:
+            for copied in (copy.copy, copy.deepcopy, pickle.dumps):
+                try:
+                    copied(log)
+                    self.tests.same("no refusal", True, False)
+                except TypeError as refusal:
+                    self.tests.same(f"a copy by {copied.__name__}", str(refusal), "a log cannot be copied")
+        words = "import sys; from postcopy.recorder import Log; log = Log(sys.argv[1], 'guest'); log.itself = log; log.halt()"
+        env = {**os.environ, "PYTHONPATH": f"{TOP}/bindings/python"}
+        folder = self.folder()
+        ran = subprocess.run([sys.executable, "-B", "-W", "always::ResourceWarning", "-c", words, folder], capture_output=True, encoding="utf-8", env=env)
+        name = f"{folder}/{self.only(folder, 'guest')}"
+        said = re.sub("^.*ResourceWarning", "ResourceWarning", ran.stderr.splitlines()[0] if ran.stderr else "")
+        self.tests.same("a process that ends", (ran.returncode, said, "Traceback" in ran.stderr), (0, f"ResourceWarning: a log was not closed: {name}", False))
+        self.tests.same("the file of a process that ends", self.has(name).splitlines()[3:], ["0 halt"])
+
+    @staticmethod
+    def open_files():
+        return [os.path.realpath(f"/proc/self/fd/{it}") for it in os.listdir("/proc/self/fd")]
 
     def of_last_window(self, folder, place):
         """Where the last window cannot be cut, the others have no name either: a judge of what stands there would find all of it clean."""

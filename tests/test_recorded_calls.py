@@ -436,7 +436,7 @@ def test_recorders(program, room, cc):
 
 
 @pytest.mark.slow
-@pytest.mark.cases(318)
+@pytest.mark.cases(333)
 def test_faults(program, room, cc):
     tests = Tests(program)
     Faults(tests, room, program, Recorders(tests, room).program).run()

@@ -31,7 +31,8 @@ import os
 import re
 import secrets
 import threading
-from typing import Iterable, Optional, Union
+import warnings
+from typing import Any, Iterable, Optional, Union
 
 from .records import LOGS, LOST
 
@@ -81,8 +82,11 @@ class Log:
     that is LOST, nothing is recorded. `recording` is the recording's name. The first log that is opened in a folder makes one at
     random.
 
-    The end of a `with` closes the log. If an exception ends it, the log is left as if its process had died.
+    The end of a `with` closes the log. If an exception ends it, the log is left as if its process had died. So is a log that nobody closed
+    and nobody refers to any more: there is a ResourceWarning, and its file has its records and no end.
     """
+
+    _file = -1  # (where no file was opened, none is given back)
 
     def __init__(self, folder: Optional[Folder], party: str, first: int = 0) -> None:
         if party not in LOGS and party != "machine":
@@ -116,7 +120,7 @@ class Log:
         try:
             self._put(head)
         except OSError:
-            os.close(self._file)
+            self._give_back()
             os.remove(path)
             raise
         self._path, self._head = path, head.encode("ascii")
@@ -130,6 +134,21 @@ class Log:
         except OSError:
             os.ftruncate(self._file, os.fstat(self._file).st_size - written)
             raise
+
+    def _give_back(self, _close: Any = os.close) -> None:
+        """Closes the file, once: another may have its number from then on."""
+        file, self._file = self._file, -1
+        _close(file)
+
+    def __del__(self, _getpid: Any = os.getpid, _warn: Any = warnings.warn) -> None:
+        # (as a process ends, its modules lose their names: what is called here stands in the heads of these two. A child did not open the
+        # file, and may have another of this number)
+        if self._file >= 0 and self._process == _getpid():
+            self._give_back()
+            _warn(f"a log was not closed: {self._path}", ResourceWarning, source=self)
+
+    def __getstate__(self) -> object:
+        raise TypeError("a log cannot be copied")  # (two objects would count the same numbers, and one give back the file of both)
 
     def _is_open(self) -> bool:
         """Whether this process writes the log. (Check this before you take the lock: in a forked child nobody may release it.)"""
@@ -169,8 +188,7 @@ class Log:
                 self._put(f"{word} {number}\n" if self.error is None else f"lost {self.error.errno}\n")
         except OSError as error:
             self.error = self.error or error
-        os.close(self._file)
-        self._file = -1
+        self._give_back()
         if self._stray is not None:
             self._stray[1] = 1
             if self._stray[0]:  # (a child made its call just then)
