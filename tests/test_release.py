@@ -123,7 +123,7 @@ def test_version(prefix):
 # What is installed, and removed.
 
 
-@pytest.mark.cases(30)
+@pytest.mark.cases(45)
 def test_installation(prefix, room):
     """What stands under a prefix, and that nothing of it stays."""
     wanted = sorted(INSTALLED.replace("1.2.3", read("VERSION").strip()).split())
@@ -138,6 +138,36 @@ def test_installation(prefix, room):
          sorted(it for it in wanted if it.startswith("bin/") or it.startswith("lib/libpostcopy.so")))
     told_to_the_loader(room)
     removed(f"{room}/where files were")
+    interrupted(room)
+
+
+def interrupted(room):
+    """Installations that fail while they write the list of files, or behind another that did: a removal leaves no file."""
+    def stopped_by(prefix, program, words, script):
+        """The status of an installation where a call of a program with words like these is the script."""
+        folder = f"{room}/without-{program}"
+        os.makedirs(folder)
+        with open(f"{folder}/{program}", "w") as file:
+            file.write(f'#!/bin/sh\nPATH={shlex.quote(os.environ["PATH"])}\ncase "$*" in {words}) {script} ;; esac\nexec {program} "$@"\n')
+        os.chmod(file.name, 0o755)
+        return ran(f"{TOP}/tools/install", prefix, env={**os.environ, "PATH": f"{folder}:{os.environ['PATH']}"})[1]
+
+    for program, words, script in (("awk", "'!seen'*", 'awk "$@" | head -n 5; exit 1'), ("cp", "*/installed.new", 'head -c 100 "$1" > "$2"; exit 1'), ("mv", "*/installed", "exit 1")):
+        prefix = f"{room}/by-{program}"
+        run(f"{TOP}/tools/install", prefix)
+        before = read(f"{prefix}/share/postcopy/installed").splitlines()
+        same(f"the status where {program} fails", stopped_by(prefix, program, words, script), 1)
+        same(f"what the list lacks where {program} failed", set(before) - set(read(f"{prefix}/share/postcopy/installed").splitlines()), set())
+        same(f"what is beside the list where {program} failed", sorted(os.listdir(f"{prefix}/share/postcopy")), ["installed", "postcopy.html", "postcopy_record.c", "python"])
+        same(f"a removal where {program} failed", (ran(f"{TOP}/tools/install", "--uninstall", prefix), os.path.exists(prefix)), (("", 0), False))
+    prefix = f"{room}/cut"
+    os.makedirs(f"{prefix}/share/postcopy")
+    os.makedirs(f"{prefix}/bin")
+    with open(f"{prefix}/share/postcopy/installed", "w") as file:
+        file.write(f"file {prefix}/b")
+    same("a second installation that fails", stopped_by(prefix, "install", "*/bin/postcopy) ;; *", "exit 1"), 1)
+    same("what it left", files_below(prefix), ["bin/postcopy", "share/postcopy/installed"])
+    same("a removal behind it", (ran(f"{TOP}/tools/install", "--uninstall", prefix)[1], files_below(prefix)), (0, []))
 
 
 def told_to_the_loader(room):
