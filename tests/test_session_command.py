@@ -137,17 +137,21 @@ def test_two_folders(program, room):
         same("two folders", (ran.returncode, ran.stdout, ran.stderr), (0, wanted, ""))
 
 
-@pytest.mark.cases(7)
+@pytest.mark.cases(12)
 def test_packed_files(program, room):
-    """A file of a recorder that somebody has compressed is told, also where nothing else is missing; but for one whose own file is there."""
+    """A file of a recorder that somebody has compressed is missing, also where nothing else is; but for one whose own file is there."""
     beside = Beside(room, program)
     folder = beside.recording()
     wanted = run_script(beside.command, folder)
     for name in ("lane.1.0.gz", "guest.12.34.zst", "guest.1.0.xz", "guest.gz", "pager.1.0.txt", "a\nguest.2.0.gz"):
         beside.put(f"{folder}/{name}", "any")
     told = [f"session: {folder}/{name} is compressed, and is not read: unpack it first\n" for name in ("guest.12.34.zst", "lane.1.0.gz")]
-    ran = run_script(beside.command, folder)
-    same("a whole recording", (ran.returncode, ran.stdout, ran.stderr), (0, wanted.stdout, "".join(told)))
+    nothing = "session: nothing was written: repair this, or use session --cut to write what is left\n"
+    for words in ((), ("--recording",), ("-o", f"{room}/none"), ("-o", f"{room}/none", "--window", "0-0"), ("-o", f"{room}/none", "--windows", "1")):
+        ran = run_script(beside.command, folder, *words)
+        same(f"a recording with packed files {words}", (ran.returncode, ran.stdout, ran.stderr, os.path.exists(f"{room}/none")), (1, "", "".join(told) + nothing, False))
+    ran = run_script(beside.command, folder, "--cut")
+    same("the same, cut", (ran.returncode, ran.stdout, ran.stderr), (0, wanted.stdout, "".join(told)))
     os.rename(f"{folder}/guest.1.0", f"{folder}/guest.1.0.gz")
     ran = run_script(beside.command, f"{folder}/", "--cut")
     same("one that lacks it", (ran.returncode, ran.stderr.split("\n")[0]), (0, f"session: {folder}/guest.1.0.gz is compressed, and is not read: unpack it first"))
