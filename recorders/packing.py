@@ -19,10 +19,13 @@ def pack(folder, names, path):
 
 
 def unpacked(path, names):
-    """Returns the files of a packed recording, by their names. Raises ValueError if it contains any other file."""
+    """Returns the files of a packed recording, by their names. Raises ValueError if it contains any other file, or one twice."""
     with open(path, "rb") as file:
         packed = io.BytesIO(lzma.decompress(file.read()))
     with tarfile.open(fileobj=packed) as archive:
-        if strange := set(archive.getnames()) - set(names):
+        found = archive.getnames()
+        if strange := set(found) - set(names):
             raise ValueError(f"{path} contains {', '.join(sorted(strange))}; a recording has no such file")
+        if len(found) > len(set(found)):
+            raise ValueError(f"{path} contains a file twice")
         return {member.name: archive.extractfile(member).read() for member in archive}

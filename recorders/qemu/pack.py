@@ -3,7 +3,8 @@
     python3 recorders/qemu/pack.py FOLDER FILE     packs what a session of FOLDER is made from
     python3 recorders/qemu/pack.py --out FILE FOLDER
 
-A file of a recording is never written over. The status is 1 if a file cannot be read or written, or is none that was packed here.
+A file of a recording is never written over. The status is 1 if a file cannot be read or written, if one of a recording's files is missing,
+or if what is to be unpacked was not packed here.
 """
 import errno
 import lzma
@@ -29,12 +30,20 @@ def pack(folder, path):
     """Packs what a session is made from. For a Linux guest, also packs what its log is made from."""
     if os.path.basename(path) in (*FILES, *OF_LINUX):
         refuse([os.path.basename(path)], os.path.dirname(path) or ".")
-    packing.pack(folder, (*FILES, *OF_LINUX) if os.path.exists(f"{folder}/init.mem") else FILES, path)
+    packing.pack(folder, names_of(name for name in OF_LINUX if os.path.lexists(f"{folder}/{name}")), path)
+
+
+def names_of(found):
+    """Returns the names of all files of a recording of which some were found: those of a Linux guest too, if one of them is there."""
+    return (*FILES, *OF_LINUX) if set(found) & set(OF_LINUX) else FILES
 
 
 def unpacked(path):
-    """Returns the files of a packed recording, by their names. Raises ValueError if it contains any other file."""
-    return packing.unpacked(path, (*FILES, *OF_LINUX))
+    """Returns the files of a packed recording, by their names. Raises ValueError if it contains any other file, or lacks one."""
+    files = packing.unpacked(path, (*FILES, *OF_LINUX))
+    if lacking := [name for name in names_of(files) if name not in files]:
+        raise ValueError(f"a recording also has {', '.join(lacking)}")
+    return files
 
 
 def unpack(path, folder):

@@ -21,6 +21,7 @@ import judge
 import lazy_migration
 import linux_run
 import pack
+import packing
 from kinds import plan_of
 from machine import Machine
 from relay import Relay, Window
@@ -323,6 +324,19 @@ def of_packing(tests, room):
                           (("to-pack", "/dev/full"), (1, "", "pack.py: /dev/full: No space left on device\n")),
                           (("--out", "to-pack/plan.json", "other"), (1, "", "pack.py: to-pack/plan.json: Input format not supported by decoder\n"))):
         tests.wants(f"pack.py {' '.join(words)}", told(*words), wanted)
+    fill(f"{room}/of-linux", (*pack.FILES, *pack.OF_LINUX))
+    tests.wants("pack.py of a Linux guest", (told("of-linux", "of-it"), told("--out", "of-it", "out-of-linux"), held(f"{room}/out-of-linux")),
+                ((0, "", ""), (0, "", ""), held(f"{room}/of-linux")))
+    for name in ("plan.json", *pack.OF_LINUX):
+        lacks = f"{room}/without-{name}"
+        shutil.copytree(f"{room}/of-linux", lacks)
+        os.remove(f"{lacks}/{name}")
+        tests.wants(f"pack.py of a Linux guest without {name}", (told(lacks, "other"), os.path.exists(f"{room}/other")),
+                    ((1, "", f"pack.py: {lacks}/{name}: No such file or directory\n"), False))
+        packing.pack(lacks, os.listdir(lacks), f"{room}/lacking")
+        tests.wants(f"pack.py --out without {name}", told("--out", "lacking", "other"), (1, "", f"pack.py: lacking: a recording also has {name}\n"))
+    packing.pack(f"{room}/to-pack", (*pack.FILES, "halt.mem"), f"{room}/twice")
+    tests.wants("pack.py --out of a file that is there twice", told("--out", "twice", "other"), (1, "", "pack.py: twice: twice contains a file twice\n"))
     os.truncate(f"{room}/small", os.path.getsize(f"{room}/small") - 20)
     tests.wants("one that ends early", told("--out", "small", "other")[::2], (1, "pack.py: small: Compressed data ended before the end-of-stream marker was reached\n"))
     tests.wants("what is there", (held(f"{room}/to-pack"), held(f"{room}/out-of-it"), os.path.exists(f"{room}/other")), (before, before, False))
