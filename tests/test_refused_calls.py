@@ -84,6 +84,12 @@ AGAIN = {
     "judged_texts": "check_texts",
 }
 
+# Those of them whose piece may end where room was made for the lines to come, and nothing was read into it.
+EARLY = {
+    "session_log": "SessionReader::feed",
+    "cert_text": "CertReader::feed RunsReader::feed",
+}
+
 # Those that go on without a thread that they do not get.
 THREADS = {
     "cert_check": "check_par",
@@ -146,7 +152,8 @@ class Call:
         self.told = []
 
     def may_go_on(self):
-        return self.name in names(THREADS) or not self.is_on and self.name in names(AGAIN)
+        is_early = self.refused == 1 and self.name in names(EARLY)
+        return self.name in names(THREADS) or (is_early or not self.is_on) and self.name in names(AGAIN)
 
     def is_right_after(self, answer):
         """Whether it gave this answer, and nothing about it was wrong."""
