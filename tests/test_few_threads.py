@@ -1,5 +1,5 @@
-"""How many threads judge: as many as there are processors, and where no further thread may be made, the one that there is. A
-migration, which cannot do with one, says what it lacks.
+"""How many threads judge: as many as there are processors, with one more for the shape, and where no further thread may be made, the
+one that there is. A migration, which cannot do with one, says what it lacks.
 
 The superuser has no limit on threads, so the program is run as another user then. What is judged is long enough that several threads
 would read and judge it. Calls that make a thread are counted by bindings/c/tests/refusing.c.
@@ -56,13 +56,15 @@ def begun(program, counting, words, given, processors):
 
 
 def counted(program, counting):
-    """No processor is without work, and one of them has the thread that there is. Each judges a range of the pages, or, in an audit, a
-    certify and a check, one judges the shape and the runs or the order, and the others the pages."""
+    """No processor is without work, and one of them has the thread that there is. Each judges a range of the pages. In an audit, a
+    certify, an explanation and a check, one more judges the shape and the runs or the order, where there are several."""
     pair = MANY_PAGES + run(program, ("certify", "-"), MANY_PAGES)[1]
     for processors in range(1, min(4, len(os.sched_getaffinity(0))) + 1):
-        for words, given in ((("audit", "-"), MANY_PAGES), (("certify", "-"), MANY_PAGES), (("explain", "-"), MANY_PAGES),
-                             (("audit", "--all", "-"), MANY_PAGES), (("check", "-", "-"), pair)):
-            yield f"threads begun by {words} on {processors} processors", begun(program, counting, words, given, processors), processors - 1
+        others = processors - 1
+        for words, given, wanted in ((("audit", "-"), MANY_PAGES, others + min(1, others)), (("certify", "-"), MANY_PAGES, others + min(1, others)),
+                                     (("explain", "-"), MANY_PAGES, others + min(1, others)), (("audit", "--all", "-"), MANY_PAGES, others),
+                                     (("check", "-", "-"), pair, others + min(1, others))):
+            yield f"threads begun by {words} on {processors} processors", begun(program, counting, words, given, processors), wanted
     few = MANY_PAGES.replace(b"65536", b"8")
     yield "threads begun by an audit of few pages", begun(program, counting, ("audit", "-"), few, 4), 0
 
