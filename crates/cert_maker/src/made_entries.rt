@@ -1,30 +1,16 @@
 //! The entries of a certificate, made from the facts of the pages.
 
-ghost use Rattle.std.specs.Prelude.{⊤, ◌≡◌, length, slice_get, MatchOption};
+ghost use Rattle.std.specs.Prelude.{⊤, ◌≡◌, MatchOption};
 ghost use Rattle.std.specs.List.{list_any};
-ghost use Rattle.audit_model.specs.Names.{if_there};
 ghost use Rattle.audit_model.specs.Certificates.{is_fresh};
 ghost use Rattle.page_facts.specs.Facts.{IsFacts};
 ghost use Rattle.page_facts.specs.Findings.{IsFindings};
-ghost use Rattle.page_facts.specs.Looks.{first_look};
 ghost use Rattle.cert_maker.specs.Made.{HasNoEntry, IsMadeEntry};
-ghost use Rattle.cert_maker.specs.inner.Entries.{send_of, first_of, entry_at, unplaced_entry, entry_of, AreMadeFrom, HasBarePage, version_for};
+ghost use Rattle.cert_maker.specs.inner.Entries.{first_of, entry_at, unplaced_entry, entry_of, AreMadeFrom, HasBarePage, version_for};
 
-use audit_model::delivery;
-use migration_types::{Entry, First, PageNo, PagerRec, Seq, Session, SourceRec, Version};
+use migration_types::{Entry, First, PageNo, PagerRec, Seq, Session, Version};
 use page_facts::{Findings, PageFacts, Question, facts_of, is_right_entry};
 use std::alloc::{AllocError, Global};
-
-/// Returns the `send` whose contents a `got` of the pager took, from the `send` itself or from an `again` of it.
-fn send_of(session: &Session, got: u32) -> Option<u32>
-    ensures { result ≡ send_of session.now got }
-{
-    let delivered = delivery(session, got)?;
-    match session.source().get(delivered as usize) {
-        Some(SourceRec::Again { sending }) => Some(*sending),
-        _ => Some(delivered),
-    }
-}
 
 /// Returns a page's first touch with its first look, if there is a look.
 fn first_of(touch: Option<u32>, look: Option<u32>) -> Option<Option<First>>
@@ -37,15 +23,14 @@ fn first_of(touch: Option<u32>, look: Option<u32>) -> Option<Option<First>>
     Some(Some(First { access: touch, see }))
 }
 
-/// Returns the entry for this placement.
-fn entry_at(session: &Session, place: u32, first: Option<First>) -> Option<Entry>
-    ensures { result ≡ if_there (entry_at session.now place first) (slice_get session.now.pager place) }
+/// Returns the entry of a page with this placement, given the `send` whose contents that has.
+fn entry_at(session: &Session, sent: Option<u32>, place: u32, first: Option<First>) -> Option<Entry>
+    ensures { result ≡ entry_at session.now sent place first }
 {
+    if let Some(send) = sent {
+        return Some(Entry::Source { send, place, first });
+    }
     match session.pager().get(place as usize)? {
-        PagerRec::Place { got, .. } => {
-            let send = send_of(session, *got)?;
-            Some(Entry::Source { send, place, first })
-        }
         PagerRec::Zero { .. } => Some(Entry::Balloon { place, first }),
         _ => None,
     }
@@ -61,29 +46,23 @@ fn unplaced_entry(facts: &PageFacts) -> Entry
     }
 }
 
-/// Returns the one entry that can be right for a page with these facts and this first look.
-fn entry_of(session: &Session, facts: &PageFacts, look: Option<u32>) -> Option<Entry>
-    ensures { result ≡ entry_of session.now facts.now look }
+/// Returns the one entry that can be right for a page with these facts.
+fn entry_of(session: &Session, facts: &PageFacts) -> Option<Entry>
+    ensures { result ≡ entry_of session.now facts.now }
 {
     let Some(place) = facts.placement else {
         return Some(unplaced_entry(facts));
     };
-    let first = first_of(facts.touch, look)?;
-    entry_at(session, place, first)
+    let first = first_of(facts.touch, facts.look)?;
+    entry_at(session, facts.sent, place, first)
 }
 
 /// Returns the right entry of a page with these facts, if there is one.
-fn entry_by_facts(
-    session: &Session,
-    page: PageNo,
-    facts: &PageFacts,
-    look: Option<u32>,
-) -> Option<Entry>
-    requires facts { IsFacts session.now page facts.now }
-    requires look { look ≡ first_look session.now (length session.now.guest) page }
+fn entry_by_facts(session: &Session, page: PageNo, facts: &PageFacts) -> Option<Entry>
+    requires { IsFacts session.now page facts.now }
     ensures { MatchOption result (HasNoEntry session.now page) (IsMadeEntry session.now page) }
 {
-    let Some(entry) = entry_of(session, facts, look) else {
+    let Some(entry) = entry_of(session, facts) else {
         return None;
     };
     let is_right = is_right_entry(session, page, facts, &entry);
@@ -97,7 +76,7 @@ pub fn made_entry(session: &Session, findings: &Findings, page: PageNo) -> Optio
     ensures { MatchOption result (HasNoEntry session.now page) (IsMadeEntry session.now page) }
 {
     let facts = facts_of(session, findings, page);
-    entry_by_facts(session, page, &facts, findings.look)
+    entry_by_facts(session, page, &facts)
 }
 
 /// The question for the right entries of the pages, each with the earliest look that covers its placement. The answer

@@ -9,6 +9,7 @@ use Rattle.migration_types.specs.Memory.{Memory, initial, with_content}
 use Rattle.migration_types.specs.Sessions.{Recorded}
 use Rattle.page_facts.specs.declared.range.PageState.{PageState}
 use Rattle.page_facts.specs.declared.range.Range.{Range}
+use Rattle.page_facts.specs.Judged.{releases_at}
 use Rattle.page_facts.specs.Ranges.{IsRange}
 use Rattle.page_facts.specs.Begun.{AreBegun, IsGiven}
 use Rattle.page_facts.proofs.Ranging.{unlike}
@@ -59,6 +60,7 @@ begun_range s first count g le was = record {
           released = ap (λ (x : PageState). x.released) is;
           wrong = ap (λ (x : PageState). x.wrong) is;
           touch = ap (λ (x : PageState). x.touch) is;
+          releases = ap (λ (x : PageState). x.releases) is ∙ sym (ap (λ (x : PageState). releases_at s x.touch) is);
         };
   };
 }

@@ -1,6 +1,6 @@
 -- The pages of a range at the next record of the guest.
 use Rattle.std.proofs.Common.{◌≡◌, ◌≢◌, ℕ, zero, suc, ◌+◌, ◌<◌, ◌≤◌, Bool, true, false, cond, ◌&&◌, List, [], ◌∷◌, length, Option, Some, None, refl, sym, ap, ◌∙◌, subst, arith, eq-eqb}
-use Rattle.std.specs.Prelude.{slice_get, slice_set, ◌==◌}
+use Rattle.std.specs.Prelude.{slice_get, slice_set, ◌==◌, ◌||◌, not}
 use Rattle.std.proofs.lemmas.Bool.{eqb-true}
 use Rattle.migration_types.specs.declared.records.GuestRec.{GuestRec}
 use Rattle.migration_types.specs.declared.records.GuestRec.TheVariants.{Read, Write, Release, Miss, Halt, Resume, See}
@@ -8,18 +8,18 @@ use Rattle.migration_types.specs.Extents.{Extent}
 use Rattle.migration_types.specs.Memory.{Memory}
 use Rattle.migration_types.specs.Sessions.{Recorded}
 use Rattle.audit_model.specs.Flat.{flat, home, is_target}
-use Rattle.audit_model.specs.Shape.{passes}
+use Rattle.audit_model.specs.Shape.{passes, is_release}
 use Rattle.audit_model.specs.Certificates.{is_touch_of}
 use Rattle.page_store.specs.Frames.{memory_of}
 use Rattle.page_store.proofs.Noting.{noted_none}
 use Rattle.migration_types.specs.Paged.{guest_page}
 use Rattle.migration_types.specs.Paged.{of_page, is_page}
 use Rattle.page_facts.specs.Tables.{or_here, first_before}
-use Rattle.page_facts.specs.Judged.{is_late_touch}
+use Rattle.page_facts.specs.Judged.{is_late_touch, releases_at}
 use Rattle.page_facts.specs.declared.range.PageState.{PageState}
 use Rattle.page_facts.specs.declared.range.Range.{Range}
 use Rattle.page_facts.specs.Machines.{late_after}
-use Rattle.page_facts.specs.Ranges.{cells_by, released_by, wrong_at, IsSeen, IsSeenOn, touch_at, memory_by, IsStepOn, AreSeen, IsRange}
+use Rattle.page_facts.specs.Ranges.{cells_by, released_by, wrong_at, IsSeen, IsSeenOn, touch_at, releases_by, memory_by, IsStepOn, AreSeen, IsRange}
 use Rattle.page_facts.proofs.Judging.{late_next}
 use Rattle.page_facts.proofs.Framing.{flat_same, ledger_same, wrong_same, flat_on, ledger_on, wrong_on}
 
@@ -108,6 +108,33 @@ module _ (s : Recorded) (page n : ℕ) (r : GuestRec) (is : slice_get s.guest n 
       go (Resume i) e = sym (noted_none old n)
       go (See k) e = sym (noted_none old n)
 
+  -- a first touch is a release if its record is one
+  releases_on : (late : Bool) (old : Option ℕ) → releases_by late r old (releases_at s old) ≡ releases_at s (touch_at n late r old)
+  releases_on late old = go r is late old
+    where
+      kept : (b late : Bool) → (b || (late && false)) ≡ b
+      kept true late = refl
+      kept false true = refl
+      kept false false = refl
+
+      at : (x : GuestRec) → slice_get s.guest n ≡ Some x → is_release x ≡ releases_at s (Some n)
+      at x is = sym (ap (λ o. passes is_release o) is)
+
+      go : (x : GuestRec) → slice_get s.guest n ≡ Some x → (late : Bool) (old : Option ℕ) → releases_by late x old (releases_at s old) ≡ releases_at s (touch_at n late x old)
+      go (Read v p d y) is late (Some k) = refl
+      go (Read v p d y) is true None = at (Read v p d y) is
+      go (Read v p d y) is false None = refl
+      go (Write v p d y) is late (Some k) = refl
+      go (Write v p d y) is true None = at (Write v p d y) is
+      go (Write v p d y) is false None = refl
+      go (Release v p) is late (Some k) = kept (releases_at s (Some k)) late
+      go (Release v p) is true None = at (Release v p) is
+      go (Release v p) is false None = refl
+      go (Miss v p) is late old = refl
+      go Halt is late old = refl
+      go (Resume i) is late old = refl
+      go (See k) is late old = refl
+
   -- a record of another page leaves all as it was
   seen_same : of_page guest_page page r ≡ false → (cells : ℕ → ℕ) (v : PageState) → IsSeen s page n cells v → IsSeen s page (suc n) cells v
   seen_same other cells v was =
@@ -117,6 +144,7 @@ module _ (s : Recorded) (page n : ℕ) (r : GuestRec) (is : slice_get s.guest n 
         released = was.released ∙ sym (ledger_same s page n (suc n) le none);
         wrong = was.wrong ∙ sym (wrong_same s page n (suc n) le none);
         touch = was.touch ∙ sym (touch_next ∙ ap (λ b. or_here (first_touch n) b n) (touch_off other) ∙ noted_none (first_touch n) n);
+        releases = was.releases;
       }
     where
       none : (k : ℕ) → n ≤ k → k < suc n → passes (of_page guest_page page) (slice_get s.guest k) ≡ false
@@ -129,6 +157,7 @@ module _ (s : Recorded) (page n : ℕ) (r : GuestRec) (is : slice_get s.guest n 
     released = on.released ∙ ap (λ b. released_by r b) was.released ∙ ledger_on s page n r is own;
     wrong = on.wrong ∙ ap (λ (m : ℕ → ℕ). wrong_at n r m v.wrong) was.memory ∙ ap (λ o. wrong_at n r (flat s n page) o) was.wrong ∙ wrong_on s page n r is own;
     touch = on.touch ∙ ap (λ o. touch_at n late r o) was.touch ∙ touch_on late at own (first_touch n) ∙ sym touch_next;
+    releases = on.releases ∙ ap (λ b. releases_by late r v.touch b) was.releases ∙ releases_on late v.touch ∙ ap (λ o. releases_at s o) (sym on.touch);
   }
 
 -- the same in other words

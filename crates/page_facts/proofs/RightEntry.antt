@@ -9,7 +9,7 @@ use Rattle.std.proofs.lemmas.Slice.Eq.{bytes_eq-Decides}
 use Rattle.migration_types.specs.declared.records.GuestRec.{GuestRec}
 use Rattle.migration_types.specs.declared.records.GuestRec.TheVariants.{Read, Release, See}
 use Rattle.migration_types.specs.declared.records.SourceRec.{SourceRec}
-use Rattle.migration_types.specs.declared.records.SourceRec.TheVariants.{Send, Again}
+use Rattle.migration_types.specs.declared.records.SourceRec.TheVariants.{Send}
 use Rattle.migration_types.specs.declared.records.PagerRec.{PagerRec}
 use Rattle.migration_types.specs.declared.records.PagerRec.TheVariants.{Place, Zero}
 use Rattle.migration_types.specs.Memory.{page_of}
@@ -20,15 +20,18 @@ use Rattle.migration_types.specs.declared.cert.Entry.TheVariants.{Nothing, Fresh
 use Rattle.audit_model.specs.declared.home.Home.{Home}
 use Rattle.audit_model.specs.declared.home.Home.TheVariants.{AtSource, Nowhere, AtTarget}
 use Rattle.audit_model.specs.Flat.{flat, in_ledger, home, is_target, at_halt}
-use Rattle.audit_model.specs.Shape.{passes, is_release, is_send_of, is_placement_of, delivery}
+use Rattle.audit_model.specs.Shape.{passes, is_release, is_placement_of}
 use Rattle.audit_model.specs.Certificates.{is_touch_of, IsLateTouch, IsHonest, IsOnlyPlacement, IsCovered, IsNothing, IsFresh, IsFromSource, IsBalloon, IsOf, IsRightEntry}
 use Rattle.page_facts.specs.declared.facts.PageFacts.{PageFacts}
 use Rattle.page_facts.specs.Tables.{some_before, first_before}
 use Rattle.page_facts.specs.Facts.{IsFacts}
 use Rattle.page_facts.specs.Judged.{is_wrong_read, is_wrong_send, is_altered, is_late_touch, releases_at}
-use Rattle.page_facts.specs.Moved.{is_again}
-use Rattle.page_facts.specs.inner.EntryTests.{is_place, is_absent, sees_from, repeats, delivers_from, places_from, zeroes, covers, is_once, is_right_of, is_right_entry}
+use Rattle.page_facts.specs.Looks.{first_look}
+use Rattle.page_facts.specs.Moved.{is_again, origin_at}
+use Rattle.page_facts.specs.inner.EntryTests.{is_place, is_absent, sees_from, sees_by, zeroes, covers, is_once, is_right_of, is_right_entry}
 use Rattle.page_facts.proofs.Before.{some_false, some_true, first_none, first_some, IsFirstAt}
+use Rattle.page_facts.proofs.Sighting.{first_sees}
+use Rattle.page_facts.proofs.Origins.{placed_from, origin_is}
 
 -- late touches
 pub target_is : (h : Home) → is_target h ≡ true → h ≡ AtTarget
@@ -55,6 +58,11 @@ first_late s page k e = (late_from s page k f.by f.stands f.passes_test, λ n a.
     go n a (inl lt) = let h = f.is_first n a.by a.stands lt in let t = late_test s page n a in absurd (cc)
     go n a (inr le) = le
 
+-- a place that is there
+pub place_some : (o : Option ℕ) (place : ℕ) → is_place o place ≡ true → o ≡ Some place
+place_some None place e = absurd (cc)
+place_some (Some n) place e = ap (λ k. Some k) (eqb-true n place e)
+
 -- covered
 pub sees_at : (s : Recorded) (n place : ℕ) → passes (sees_from place) (slice_get s.guest n) ≡ true → (k : ℕ) × (slice_get s.guest n ≡ Some (See k)) × (place ≤ k)
 sees_at s n place e = go (slice_get s.guest n) refl e
@@ -67,16 +75,24 @@ sees_at s n place e = go (slice_get s.guest n) refl e
     go None is e = absurd (cc)
     go (Some r) is e = at r is e
 
-pub covered : (s : Recorded) (page place : ℕ) (touch : Option ℕ) (first : Option First) → touch ≡ first_before (is_late_touch s page) s.guest (length s.guest) → covers s touch place first ≡ true → IsCovered s page place first
-covered s page place None None e t = none_late s page (sym e)
-covered s page place None (Some f) e t = absurd (cc)
-covered s page place (Some k) None e t = absurd (cc)
-covered s page place (Some k) (Some f) e t =
-    let p = and_parts ((k == f.access) && nat_lt f.see k) (passes (sees_from place) (slice_get s.guest f.see)) t in
+-- the page's first look sees its first placement
+pub seen_by : (s : Recorded) (page place : ℕ) (look : Option ℕ) (n : ℕ) → first_before (λ m. is_placement_of page) s.pager (length s.pager) ≡ Some place → look ≡ first_look s (length s.guest) page → sees_by s look place n ≡ true → passes (sees_from place) (slice_get s.guest n) ≡ true
+seen_by s page place look n first is t = go (or_cases (is_place look n) (passes (sees_from place) (slice_get s.guest n)) t)
+  where
+    go : (is_place look n ≡ true) ⊎ (passes (sees_from place) (slice_get s.guest n) ≡ true) → passes (sees_from place) (slice_get s.guest n) ≡ true
+    go (inl e) = first_sees s page place first n (sym is ∙ place_some look n e)
+    go (inr e) = e
+
+pub covered : (s : Recorded) (page place : ℕ) (look touch : Option ℕ) (first : Option First) → first_before (λ m. is_placement_of page) s.pager (length s.pager) ≡ Some place → look ≡ first_look s (length s.guest) page → touch ≡ first_before (is_late_touch s page) s.guest (length s.guest) → covers s look touch place first ≡ true → IsCovered s page place first
+covered s page place look None None once sight e t = none_late s page (sym e)
+covered s page place look None (Some f) once sight e t = absurd (cc)
+covered s page place look (Some k) None once sight e t = absurd (cc)
+covered s page place look (Some k) (Some f) once sight e t =
+    let p = and_parts ((k == f.access) && nat_lt f.see k) (sees_by s look place f.see) t in
     let q = and_parts (k == f.access) (nat_lt f.see k) p.0 in
     let same : k ≡ f.access = eqb-true k f.access q.0 in
     let first = first_late s page k (sym e) in
-    let see = sees_at s f.see place p.1 in
+    let see = sees_at s f.see place (seen_by s page place look f.see once sight p.1) in
     let lt = ltb-true f.see k q.1 in
     record {
       is_touch = subst (λ n. IsLateTouch s page n) same first.0;
@@ -87,17 +103,17 @@ covered s page place (Some k) (Some f) e t =
       is_earlier = omega (arith, same);
     }
 
-pub covers_from : (s : Recorded) (page place : ℕ) (touch : Option ℕ) (first : Option First) → touch ≡ first_before (is_late_touch s page) s.guest (length s.guest) → IsCovered s page place first → covers s touch place first ≡ true
-covers_from s page place None None e c = refl
-covers_from s page place None (Some f) e c = absurd (none_late s page (sym e) f.access c.is_touch)
-covers_from s page place (Some k) None e c = absurd (c k (first_late s page k (sym e)).0)
-covers_from s page place (Some k) (Some f) e c =
+pub covers_from : (s : Recorded) (page place : ℕ) (look touch : Option ℕ) (first : Option First) → touch ≡ first_before (is_late_touch s page) s.guest (length s.guest) → IsCovered s page place first → covers s look touch place first ≡ true
+covers_from s page place look None None e c = refl
+covers_from s page place look None (Some f) e c = absurd (none_late s page (sym e) f.access c.is_touch)
+covers_from s page place look (Some k) None e c = absurd (c k (first_late s page k (sym e)).0)
+covers_from s page place look (Some k) (Some f) e c =
     let first = first_late s page k (sym e) in
     let low = first.1 f.access c.is_touch in
     let high = c.is_first k first.0 in
     let early = c.is_earlier in
     let sees : passes (sees_from place) (slice_get s.guest f.see) ≡ true = ap (λ o. passes (sees_from place) o) c.sees ∙ le-leb place c.placement c.covers in
-    and_from ((k == f.access) && nat_lt f.see k) (passes (sees_from place) (slice_get s.guest f.see)) (and_from (k == f.access) (nat_lt f.see k) (eq-eqb k f.access (omega arith)) (lt-ltb f.see k (omega arith))) sees
+    and_from ((k == f.access) && nat_lt f.see k) (sees_by s look place f.see) (and_from (k == f.access) (nat_lt f.see k) (eq-eqb k f.access (omega arith)) (lt-ltb f.see k (omega arith))) (or_right (is_place look f.see) (passes (sees_from place) (slice_get s.guest f.see)) sees)
 
 -- honest
 content_is : (xs ys : List ℕ) → not (bytes_eq xs ys) ≡ false → xs ≡ ys
@@ -259,10 +275,6 @@ ledger_zero : (s : Recorded) (page n : ℕ) → in_ledger s (at_halt s) page ≡
 ledger_zero s page n e = ap (λ b. b && not (in_ledger s (at_halt s) page)) (same_page page) ∙ ap (λ b. not b) e
 
 -- the parts of `is_once`
-pub place_some : (o : Option ℕ) (place : ℕ) → is_place o place ≡ true → o ≡ Some place
-place_some None place e = absurd (cc)
-place_some (Some n) place e = ap (λ k. Some k) (eqb-true n place e)
-
 pub absent_none : (o : Option ℕ) → is_absent o ≡ true → o ≡ None
 absent_none None e = refl
 absent_none (Some n) e = absurd (cc)
@@ -282,54 +294,6 @@ once_test : (f : PageFacts) (place : ℕ) → IsOnce f place → is_once f place
 once_test f place o = and_from (is_place f.placement place && not f.again) (not f.altered) (and_from (is_place f.placement place) (not f.again) (ap (λ x. is_place x place) o.placement ∙ same_page place) (not_from_false f.again o.again)) (not_from_false f.altered o.altered)
 
 -- what stands at a place
-pub record IsPlaceAt (s : Recorded) (page send place : ℕ) : Type 0 where
-  pub got : ℕ
-  pub content : List ℕ
-  pub stands : slice_get s.pager place ≡ Some (Place page got content)
-  pub delivered : ℕ
-  pub is_delivery : delivery s got ≡ Some delivered
-  pub is_the_send : (delivered ≡ send) ⊎ (slice_get s.source delivered ≡ Some (Again send))
-
-repeats_is : (s : Recorded) (d send : ℕ) → passes (repeats send) (slice_get s.source d) ≡ true → slice_get s.source d ≡ Some (Again send)
-repeats_is s d send e = go (slice_get s.source d) refl e
-  where
-    at : (r : SourceRec) → slice_get s.source d ≡ Some r → repeats send r ≡ true → slice_get s.source d ≡ Some (Again send)
-    at (Again i) is e = is ∙ ap (λ k. Some (Again k)) (eqb-true i send e)
-    at _ is e = absurd (cc)
-
-    go : (o : Option SourceRec) → slice_get s.source d ≡ o → passes (repeats send) o ≡ true → slice_get s.source d ≡ Some (Again send)
-    go None is e = absurd (cc)
-    go (Some r) is e = at r is e
-
-delivered_is : (s : Recorded) (send : ℕ) (o : Option ℕ) → delivers_from s send o ≡ true → (d : ℕ) × (o ≡ Some d) × ((d ≡ send) ⊎ (slice_get s.source d ≡ Some (Again send)))
-delivered_is s send None e = absurd (cc)
-delivered_is s send (Some d) e = (d, refl, go (or_cases (d == send) (passes (repeats send) (slice_get s.source d)) e))
-  where
-    go : ((d == send) ≡ true) ⊎ (passes (repeats send) (slice_get s.source d) ≡ true) → (d ≡ send) ⊎ (slice_get s.source d ≡ Some (Again send))
-    go (inl h) = inl (eqb-true d send h)
-    go (inr h) = inr (repeats_is s d send h)
-
-delivered_test : (s : Recorded) (send : ℕ) (o : Option ℕ) (d : ℕ) → o ≡ Some d → (d ≡ send) ⊎ (slice_get s.source d ≡ Some (Again send)) → delivers_from s send o ≡ true
-delivered_test s send o d e is = ap (λ x. delivers_from s send x) e ∙ go is
-  where
-    go : (d ≡ send) ⊎ (slice_get s.source d ≡ Some (Again send)) → ((d == send) || passes (repeats send) (slice_get s.source d)) ≡ true
-    go (inl h) = or_left (d == send) (passes (repeats send) (slice_get s.source d)) (eq-eqb d send h)
-    go (inr h) = or_right (d == send) (passes (repeats send) (slice_get s.source d)) (ap (λ x. passes (repeats send) x) h ∙ same_page send)
-
-pub place_at : (s : Recorded) (page send place : ℕ) → passes (places_from s page send) (slice_get s.pager place) ≡ true → IsPlaceAt s page send place
-place_at s page send place e = go (slice_get s.pager place) refl e
-  where
-    at : (r : PagerRec) → slice_get s.pager place ≡ Some r → places_from s page send r ≡ true → IsPlaceAt s page send place
-    at (Place p got content) is t =
-        let parts = and_parts (p == page) (delivers_from s send (delivery s got)) t in
-        let d = delivered_is s send (delivery s got) parts.1 in
-        record { got = got; content = content; stands = is ∙ ap (λ q. Some (Place q got content)) (eqb-true p page parts.0); delivered = d.0; is_delivery = d.1; is_the_send = d.2 }
-    at _ is t = absurd (cc)
-
-    go : (o : Option PagerRec) → slice_get s.pager place ≡ o → passes (places_from s page send) o ≡ true → IsPlaceAt s page send place
-    go None is t = absurd (cc)
-    go (Some r) is t = at r is t
-
 pub zero_at : (s : Recorded) (page place : ℕ) → passes (zeroes page) (slice_get s.pager place) ≡ true → slice_get s.pager place ≡ Some (Zero page)
 zero_at s page place e = go (slice_get s.pager place) refl e
   where
@@ -338,17 +302,6 @@ zero_at s page place e = go (slice_get s.pager place) refl e
     at _ is t = absurd (cc)
 
     go : (o : Option PagerRec) → slice_get s.pager place ≡ o → passes (zeroes page) o ≡ true → slice_get s.pager place ≡ Some (Zero page)
-    go None is t = absurd (cc)
-    go (Some r) is t = at r is t
-
-pub send_at : (s : Recorded) (page send : ℕ) → passes (is_send_of page) (slice_get s.source send) ≡ true → (content : List ℕ) × (slice_get s.source send ≡ Some (Send page content))
-send_at s page send e = go (slice_get s.source send) refl e
-  where
-    at : (r : SourceRec) → slice_get s.source send ≡ Some r → is_send_of page r ≡ true → (content : List ℕ) × (slice_get s.source send ≡ Some (Send page content))
-    at (Send p content) is t = (content, is ∙ ap (λ q. Some (Send q content)) (eqb-true p page t))
-    at _ is t = absurd (cc)
-
-    go : (o : Option SourceRec) → slice_get s.source send ≡ o → passes (is_send_of page) o ≡ true → (content : List ℕ) × (slice_get s.source send ≡ Some (Send page content))
     go None is t = absurd (cc)
     go (Some r) is t = at r is t
 
@@ -398,15 +351,14 @@ module _ (s : Recorded) (page : ℕ) (f : PageFacts) (facts : IsFacts s page f) 
 
   source_from : (send place : ℕ) (first : Option First) → is_right_of s page f (Source send place first) ≡ true → IsFromSource s page send place first
   source_from send place first t =
-      let a = and_parts (passes (is_send_of page) (slice_get s.source send) && passes (places_from s page send) (slice_get s.pager place) && is_once f place) (covers s f.touch place first) t in
-      let b = and_parts (passes (is_send_of page) (slice_get s.source send) && passes (places_from s page send) (slice_get s.pager place)) (is_once f place) a.0 in
-      let d = and_parts (passes (is_send_of page) (slice_get s.source send)) (passes (places_from s page send) (slice_get s.pager place)) b.0 in
-      let sent = send_at s page send d.0 in
-      let at = place_at s page send place d.1 in
+      let a = and_parts (is_place f.sent send && is_once f place) (covers s f.look f.touch place first) t in
+      let b = and_parts (is_place f.sent send) (is_once f place) a.0 in
       let once = once_from f place b.1 in
+      let placed = sym facts.placement ∙ once.placement in
+      let at = placed_from s page send place placed (sym (facts.sent ∙ ap (λ o. origin_at s page o) once.placement) ∙ place_some f.sent send b.0) in
       record {
-        sent = sent.0;
-        is_sent = sent.1;
+        sent = at.sent;
+        is_sent = at.is_sent;
         got = at.got;
         content = at.content;
         is_placed = at.stands;
@@ -414,21 +366,22 @@ module _ (s : Recorded) (page : ℕ) (f : PageFacts) (facts : IsFacts s page f) 
         is_delivery = at.is_delivery;
         is_the_send = at.is_the_send;
         is_flat = place_content s page place at.got at.content (some_false (is_altered s page) s.pager (length s.pager) (sym facts.altered ∙ once.altered) place (Place page at.got at.content) at.stands (slice_get_within s.pager place (Place page at.got at.content) at.stands));
-        is_only = only_from s page place (sym facts.placement ∙ once.placement) (sym facts.again ∙ once.again);
-        is_covered = covered s page place f.touch first facts.touch a.1;
+        is_only = only_from s page place placed (sym facts.again ∙ once.again);
+        is_covered = covered s page place f.look f.touch first placed facts.look facts.touch a.1;
       }
 
   balloon_from : (place : ℕ) (first : Option First) → is_right_of s page f (Balloon place first) ≡ true → IsBalloon s page place first
   balloon_from place first t =
-      let a = and_parts (passes (zeroes page) (slice_get s.pager place) && is_once f place) (covers s f.touch place first) t in
+      let a = and_parts (passes (zeroes page) (slice_get s.pager place) && is_once f place) (covers s f.look f.touch place first) t in
       let b = and_parts (passes (zeroes page) (slice_get s.pager place)) (is_once f place) a.0 in
       let at = zero_at s page place b.0 in
       let once = once_from f place b.1 in
+      let placed = sym facts.placement ∙ once.placement in
       record {
         is_zeroed = at;
-        is_only = only_from s page place (sym facts.placement ∙ once.placement) (sym facts.again ∙ once.again);
+        is_only = only_from s page place placed (sym facts.again ∙ once.again);
         is_released = zero_ledger s page place (some_false (is_altered s page) s.pager (length s.pager) (sym facts.altered ∙ once.altered) place (Zero page) at (slice_get_within s.pager place (Zero page) at));
-        is_covered = covered s page place f.touch first facts.touch a.1;
+        is_covered = covered s page place f.look f.touch first placed facts.look facts.touch a.1;
       }
 
   of_from : (entry : Entry) → is_right_of s page f entry ≡ true → IsOf s page entry
@@ -469,18 +422,25 @@ module _ (s : Recorded) (page : ℕ) (f : PageFacts) (facts : IsFacts s page f) 
       (facts.releases ∙ ap (λ o. releases_at s o) (facts.touch ∙ touch) ∙ ap (λ o. passes is_release o) e.is_release)
   of_test (Source send place first) e =
       let own : is_placement_of page (Place page e.got e.content) ≡ true = same_page page in
+      let placed = facts.placement ∙ only_first s page place (Place page e.got e.content) e.is_placed own e.is_only in
       let once = once_test f place (record {
-        placement = facts.placement ∙ only_first s page place (Place page e.got e.content) e.is_placed own e.is_only;
+        placement = placed;
         again = facts.again ∙ only_again s page place e.is_only;
         altered = facts.altered ∙ only_altered s page place (Place page e.got e.content) e.is_placed e.is_only (content_place s page place e.got e.content e.is_flat);
       }) in
-      and_from _ (covers s f.touch place first)
-      (and_from _ (is_once f place)
-      (and_from (passes (is_send_of page) (slice_get s.source send)) (passes (places_from s page send) (slice_get s.pager place))
-      (ap (λ x. passes (is_send_of page) x) e.is_sent ∙ same_page page)
-      (ap (λ x. passes (places_from s page send) x) e.is_placed ∙ and_from (page == page) (delivers_from s send (delivery s e.got)) (same_page page) (delivered_test s send (delivery s e.got) e.delivered e.is_delivery e.is_the_send)))
-      once)
-      (covers_from s page place f.touch first facts.touch e.is_covered)
+      let origin = origin_is s page send place (record {
+        got = e.got;
+        content = e.content;
+        stands = e.is_placed;
+        delivered = e.delivered;
+        is_delivery = e.is_delivery;
+        is_the_send = e.is_the_send;
+        sent = e.sent;
+        is_sent = e.is_sent;
+      }) in
+      and_from (is_place f.sent send && is_once f place) (covers s f.look f.touch place first)
+      (and_from (is_place f.sent send) (is_once f place) (ap (λ o. is_place o send) (facts.sent ∙ ap (λ o. origin_at s page o) placed ∙ origin) ∙ same_page send) once)
+      (covers_from s page place f.look f.touch first facts.touch e.is_covered)
   of_test (Balloon place first) e =
       let own : is_placement_of page (Zero page) ≡ true = same_page page in
       let once = once_test f place (record {
@@ -488,9 +448,9 @@ module _ (s : Recorded) (page : ℕ) (f : PageFacts) (facts : IsFacts s page f) 
         again = facts.again ∙ only_again s page place e.is_only;
         altered = facts.altered ∙ only_altered s page place (Zero page) e.is_zeroed e.is_only (ledger_zero s page place e.is_released);
       }) in
-      and_from _ (covers s f.touch place first)
+      and_from _ (covers s f.look f.touch place first)
       (and_from (passes (zeroes page) (slice_get s.pager place)) (is_once f place) (ap (λ x. passes (zeroes page) x) e.is_zeroed ∙ same_page page) once)
-      (covers_from s page place f.touch first facts.touch e.is_covered)
+      (covers_from s page place f.look f.touch first facts.touch e.is_covered)
 
   pub right_test : (entry : Entry) → IsRightEntry s page entry → is_right_entry s page f entry ≡ true
   right_test entry e =

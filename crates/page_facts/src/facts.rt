@@ -15,6 +15,8 @@ pub struct PageFacts {
     pub wrong_send: bool,
     /// The pager's first placement of it.
     pub placement: Option<u32>,
+    /// The `send` of it whose contents that first placement has.
+    pub sent: Option<u32>,
     /// Whether it was placed again.
     pub again: bool,
     /// Whether it was placed with other contents than it had at the halt, or as zeros although it was not released
@@ -24,6 +26,8 @@ pub struct PageFacts {
     pub touch: Option<u32>,
     /// Whether that first touch is a release.
     pub releases: bool,
+    /// The guest's first look at a placement of it, or at a later record of the pager.
+    pub look: Option<u32>,
 }
 
 /// Returns the facts of a page with these findings.
@@ -35,9 +39,11 @@ pub fn facts_of(_session: &Session, findings: &Findings, _page: PageNo) -> PageF
         wrong_read: findings.wrong_read.is_some(),
         wrong_send: findings.wrong_send.is_some(),
         placement: findings.placement,
+        sent: findings.sent,
         again: findings.again.is_some(),
         altered: findings.altered.is_some(),
         touch: findings.touch,
         releases: findings.releases,
+        look: findings.look,
     }
 }

@@ -50,6 +50,7 @@ fn unseen_for(alloc: Global, count: usize) -> Result<Vec<PageState>, AllocError>
         released: false,
         wrong: None,
         touch: None,
+        releases: false,
     };
     Ok(vec![in alloc; unseen; count]?)
 }

@@ -1,14 +1,13 @@
 //! Whether a page's entry in a certificate is right, given the facts of the page.
 
 ghost use Rattle.std.specs.Prelude.{◌≡◌, ◌↔◌, IsTrue, slice_get};
-ghost use Rattle.audit_model.specs.Shape.{passes, is_send_of};
+ghost use Rattle.audit_model.specs.Shape.{passes};
 ghost use Rattle.audit_model.specs.Certificates.{IsRightEntry};
 ghost use Rattle.page_facts.specs.Facts.{IsFacts};
-ghost use Rattle.page_facts.specs.inner.EntryTests.{is_place, sees_from, repeats, delivers_from, places_from, zeroes, covers, is_once, is_right_of, is_right_entry};
+ghost use Rattle.page_facts.specs.inner.EntryTests.{is_place, sees_from, sees_by, zeroes, covers, is_once, is_right_of, is_right_entry};
 
 use crate::facts::PageFacts;
-use audit_model::{delivery, is_send_of};
-use migration_types::{Entry, First, GuestRec, PageNo, PagerRec, Session, SourceRec};
+use migration_types::{Entry, First, GuestRec, PageNo, PagerRec, Session};
 
 /// Returns whether guest record n is a look at this placement, or at a later one.
 fn sees_from_at(session: &Session, n: u32, place: u32) -> bool
@@ -16,55 +15,6 @@ fn sees_from_at(session: &Session, n: u32, place: u32) -> bool
 {
     match session.guest().get(n as usize) {
         Some(GuestRec::See { placement }) => place <= *placement,
-        _ => false,
-    }
-}
-
-/// Returns whether source record n is a `send` of the page.
-fn is_send_at(session: &Session, n: u32, page: PageNo) -> bool
-    ensures { result ≡ passes (is_send_of page) (slice_get session.now.source n) }
-{
-    session
-        .source()
-        .get(n as usize)
-        .is_some_and(|rec| is_send_of(rec, page))
-}
-
-/// Returns whether source record n is an `again` of this `send`.
-fn repeats_at(session: &Session, n: u32, send: u32) -> bool
-    ensures { result ≡ passes (repeats send) (slice_get session.now.source n) }
-{
-    match session.source().get(n as usize) {
-        Some(SourceRec::Again { sending }) => *sending == send,
-        _ => false,
-    }
-}
-
-/// Returns whether a delivery is this `send`, or an `again` of it.
-fn delivers_from(session: &Session, send: u32, delivered: Option<u32>) -> bool
-    ensures { result ≡ delivers_from session.now send delivered }
-{
-    match delivered {
-        Some(sending) => sending == send || repeats_at(session, sending, send),
-        None => false,
-    }
-}
-
-/// Returns whether pager record n is a `place` of the page, delivered from this `send`.
-fn places_from_at(session: &Session, page: PageNo, send: u32, n: u32) -> bool
-    ensures { result ≡ passes (places_from session.now page send) (slice_get session.now.pager n) }
-{
-    match session.pager().get(n as usize) {
-        Some(
-            PagerRec::Place {
-                page: placed,
-                got,
-                ..
-            },
-        ) => {
-            placed.number() == page.number()
-                && delivers_from(session, send, delivery(session, *got))
-        }
         _ => false,
     }
 }
@@ -79,14 +29,27 @@ fn zeroes_at(session: &Session, page: PageNo, n: u32) -> bool
     }
 }
 
-/// Returns whether an entry's first touch and its look are right.
-fn covers(session: &Session, touch: Option<u32>, place: u32, first: &Option<First>) -> bool
-    ensures { result ≡ covers session.now touch place first.now }
+/// Returns whether guest record n is a look at this placement of a page, or at a later one. The page's first look is one.
+fn sees_by(session: &Session, look: Option<u32>, place: u32, n: u32) -> bool
+    ensures { result ≡ sees_by session.now look place n }
+{
+    is_place(look, n) || sees_from_at(session, n, place)
+}
+
+/// Returns whether an entry's first touch and its look are right, given the page's first look and first touch.
+fn covers(
+    session: &Session,
+    look: Option<u32>,
+    touch: Option<u32>,
+    place: u32,
+    first: &Option<First>,
+) -> bool
+    ensures { result ≡ covers session.now look touch place first.now }
 {
     match (touch, first) {
         (None, None) => true,
         (Some(touch), Some(first)) => {
-            touch == first.access && first.see < touch && sees_from_at(session, first.see, place)
+            touch == first.access && first.see < touch && sees_by(session, look, place, first.see)
         }
         _ => false,
     }
@@ -119,15 +82,14 @@ fn is_right_of(session: &Session, page: PageNo, facts: &PageFacts, entry: &Entry
             facts.placement.is_none() && is_place(facts.touch, *first) && facts.releases
         }
         Entry::Source { send, place, first } => {
-            is_send_at(session, *send, page)
-                && places_from_at(session, page, *send, *place)
+            is_place(facts.sent, *send)
                 && is_once(facts, *place)
-                && covers(session, facts.touch, *place, first)
+                && covers(session, facts.look, facts.touch, *place, first)
         }
         Entry::Balloon { place, first } => {
             zeroes_at(session, page, *place)
                 && is_once(facts, *place)
-                && covers(session, facts.touch, *place, first)
+                && covers(session, facts.look, facts.touch, *place, first)
         }
     }
 }

@@ -1,10 +1,8 @@
--- The one entry that can be right for a page, given its facts and its first look.
+-- The one entry that can be right for a page, given its facts.
 use Rattle.std.specs.Prelude.{◌≡◌, ℕ, ◌+◌, ◌<◌, Bool, true, false, List, length, Option, Some, None, slice_get, if◌then◌else◌}
 use Rattle.std.specs.List.{list_any}
-use Rattle.migration_types.specs.declared.records.SourceRec.{SourceRec}
-use Rattle.migration_types.specs.declared.records.SourceRec.TheVariants.{Again}
 use Rattle.migration_types.specs.declared.records.PagerRec.{PagerRec}
-use Rattle.migration_types.specs.declared.records.PagerRec.TheVariants.{Place, Zero}
+use Rattle.migration_types.specs.declared.records.PagerRec.TheVariants.{Zero}
 use Rattle.migration_types.specs.declared.cert.First.{First}
 use Rattle.migration_types.specs.declared.cert.Entry.{Entry}
 use Rattle.migration_types.specs.declared.cert.Entry.TheVariants.{Nothing, Fresh, Source, Balloon}
@@ -12,18 +10,9 @@ use Rattle.migration_types.specs.declared.version.Version.{Version}
 use Rattle.migration_types.specs.declared.version.Version.TheVariants.{Two}
 use Rattle.migration_types.specs.Sessions.{Recorded}
 use Rattle.audit_model.specs.Names.{if_there}
-use Rattle.audit_model.specs.Shape.{delivery}
 use Rattle.audit_model.specs.Certificates.{is_fresh}
 use Rattle.page_facts.specs.declared.facts.PageFacts.{PageFacts}
 use Rattle.cert_maker.specs.Made.{HasNoEntry, IsMadeEntry}
-
-abbrev pub repeated : ℕ → Option SourceRec → ℕ
-repeated delivered (Some (Again sending)) = sending
-repeated delivered _ = delivered
-
--- the `send` whose contents a `got` took
-abbrev pub send_of : Recorded → ℕ → Option ℕ
-send_of s got = if_there (λ delivered. Some (repeated delivered (slice_get s.source delivered))) (delivery s got)
 
 abbrev pub touch_and_look : ℕ → ℕ → First
 touch_and_look touch see = record { access = touch; see = see }
@@ -32,10 +21,14 @@ abbrev pub first_of : Option ℕ → Option ℕ → Option (Option First)
 first_of None look = Some None
 first_of (Some touch) look = if_there (λ see. Some (Some (touch_and_look touch see))) look
 
-abbrev pub entry_at : Recorded → ℕ → Option First → PagerRec → Option Entry
-entry_at s place first (Place p got content) = if_there (λ send. Some (Source send place first)) (send_of s got)
-entry_at s place first (Zero p) = Some (Balloon place first)
-entry_at s place first _ = None
+abbrev pub zeroed_at : ℕ → Option First → PagerRec → Option Entry
+zeroed_at place first (Zero p) = Some (Balloon place first)
+zeroed_at place first _ = None
+
+-- the entry of a page with this placement, given the `send` whose contents that has
+abbrev pub entry_at : Recorded → Option ℕ → ℕ → Option First → Option Entry
+entry_at s (Some send) place first = Some (Source send place first)
+entry_at s None place first = if_there (zeroed_at place first) (slice_get s.pager place)
 
 -- the entry of a page that is not placed, given its first touch and whether that is a release
 abbrev pub unplaced_entry : Option ℕ → Bool → Entry
@@ -43,12 +36,12 @@ unplaced_entry None releases = Nothing
 unplaced_entry (Some first) true = Fresh first
 unplaced_entry (Some first) false = Nothing
 
-abbrev pub entry_with : Recorded → PageFacts → Option ℕ → Option ℕ → Option Entry
-entry_with s f look None = Some (unplaced_entry f.touch f.releases)
-entry_with s f look (Some place) = if_there (λ first. if_there (entry_at s place first) (slice_get s.pager place)) (first_of f.touch look)
+abbrev pub entry_with : Recorded → PageFacts → Option ℕ → Option Entry
+entry_with s f None = Some (unplaced_entry f.touch f.releases)
+entry_with s f (Some place) = if_there (entry_at s f.sent place) (first_of f.touch f.look)
 
-abbrev pub entry_of : Recorded → PageFacts → Option ℕ → Option Entry
-entry_of s f look = entry_with s f look f.placement
+abbrev pub entry_of : Recorded → PageFacts → Option Entry
+entry_of s f = entry_with s f f.placement
 
 -- a page of the machine has no right entry
 pub record HasBarePage (s : Recorded) : Type 0 where

@@ -15,8 +15,10 @@ returns c =
       wrong_read = c.is_some.ensures ∙ ap there are.wrong_read ∙ sym (some_is_first (is_wrong_read s page) s.guest (length s.guest));
       wrong_send = c.is_some-2.ensures ∙ ap there are.wrong_send ∙ sym (some_is_first (is_wrong_send s page) s.source (length s.source));
       placement = are.placement;
+      sent = are.sent;
       again = c.is_some-3.ensures ∙ ap there are.again ∙ sym (some_is_first (is_again s page) s.pager (length s.pager));
       altered = c.is_some-4.ensures ∙ ap there are.altered ∙ sym (some_is_first (is_altered s page) s.pager (length s.pager));
       touch = are.touch;
       releases = are.releases;
+      look = are.look;
     }
