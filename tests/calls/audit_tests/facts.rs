@@ -47,6 +47,22 @@ const SEEN_BEFORE: Logs = Logs {
     pager: "got 0\nready\ngot 1\nplace 0 2 0000000000000005\n",
 };
 
+/// A session in which page 0 is placed as it was sent again.
+const AGAIN: Logs = Logs {
+    guest: "halt\nresume 1\n",
+    source: "state\nsend 0 0000000000000005\nagain 1\n",
+    link: "down 0\ndown 2\n",
+    pager: "got 0\nready\ngot 1\nplace 0 2 0000000000000005\n",
+};
+
+/// The same, but what was sent was page 1.
+const OF_ANOTHER: Logs = Logs {
+    guest: "halt\nresume 1\n",
+    source: "state\nsend 1 0000000000000005\nagain 1\n",
+    link: "down 0\ndown 2\n",
+    pager: "got 0\nready\ngot 1\nplace 0 2 0000000000000005\n",
+};
+
 /// What is said of a session.
 enum Said {
     /// These are the facts of the page of this number.
@@ -64,7 +80,7 @@ struct Case {
     said: Said,
 }
 
-static CASES: [Case; 34] = [
+static CASES: [Case; 36] = [
     Case {
         is: "a page that is used",
         logs: RIGHT,
@@ -74,10 +90,12 @@ static CASES: [Case; 34] = [
                 wrong_read: false,
                 wrong_send: false,
                 placement: Some(3),
+                sent: Some(1),
                 again: false,
                 altered: false,
                 touch: Some(3),
                 releases: false,
+                look: Some(2),
             },
         ),
     },
@@ -90,10 +108,12 @@ static CASES: [Case; 34] = [
                 wrong_read: false,
                 wrong_send: false,
                 placement: None,
+                sent: None,
                 again: false,
                 altered: false,
                 touch: None,
                 releases: false,
+                look: None,
             },
         ),
     },
@@ -106,10 +126,48 @@ static CASES: [Case; 34] = [
                 wrong_read: true,
                 wrong_send: true,
                 placement: Some(0),
+                sent: None,
                 again: true,
                 altered: true,
                 touch: Some(3),
                 releases: false,
+                look: None,
+            },
+        ),
+    },
+    Case {
+        is: "a page that is placed as it was sent again",
+        logs: AGAIN,
+        said: Said::Facts(
+            0,
+            PageFacts {
+                wrong_read: false,
+                wrong_send: false,
+                placement: Some(3),
+                sent: Some(1),
+                again: false,
+                altered: false,
+                touch: None,
+                releases: false,
+                look: None,
+            },
+        ),
+    },
+    Case {
+        is: "a page that is placed as another was sent",
+        logs: OF_ANOTHER,
+        said: Said::Facts(
+            0,
+            PageFacts {
+                wrong_read: false,
+                wrong_send: false,
+                placement: Some(3),
+                sent: None,
+                again: false,
+                altered: false,
+                touch: None,
+                releases: false,
+                look: None,
             },
         ),
     },
@@ -335,10 +393,12 @@ static CASES: [Case; 34] = [
                 wrong_read: false,
                 wrong_send: false,
                 placement: None,
+                sent: None,
                 again: false,
                 altered: false,
                 touch: Some(2),
                 releases: true,
+                look: None,
             },
         ),
     },
