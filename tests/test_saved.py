@@ -38,8 +38,8 @@ class Run:
     def __init__(self, program, room, library):
         self.program, self.room, self.library = program, room, library
 
-    def __call__(self, *words, stdin=b"", **more):
-        child = subprocess.run([self.program, *words], cwd=self.room, input=stdin, capture_output=True, **more)
+    def __call__(self, *words, stdin=b"", at=None, **more):
+        child = subprocess.run([self.program, *words], cwd=at or self.room, input=stdin, capture_output=True, **more)
         return child.returncode, child.stdout, child.stderr
 
     def counted(self, what, *words):
@@ -373,6 +373,15 @@ def a_recorders_file(run):
     for words in (("session", folder), ("audit", folder), ("explain", folder), steps_words(), ("window", "recording", "0", "1")):
         for name in (f"{folder}/guest.1.0", f"./{folder}/../{folder}/guest.1.0", "link", "cut"):
             yield f"{words[0]} over {name}", run(*words, "-o", name), (2, b"", RECORDED % b"--output")
+    os.mkdir(f"{run.room}/named")
+    run.put("named/recording-name", b"one\n")
+    for words in (("session", folder), ("audit", folder)):
+        for place, name in ((run.room, "named/recording-name"), (f"{run.room}/named", "recording-name")):
+            target = os.path.relpath(f"{run.room}/{folder}", place)
+            yield f"{words[0]} over {name}", run(words[0], target, "-o", name, at=place), (2, b"", RECORDED % b"--output")
+    yield "the recording's name", run.has("named/recording-name"), b"one\n"
+    yield "a name that only ends so", run("session", folder, "-o", "named/a-recording-name"), (0, b"", b"")
+    shutil.rmtree(f"{run.room}/named")
     yield "the table of lines", run("window", "recording", "0", "1", "--lines", "link"), (2, b"", RECORDED % b"--lines")
     yield "the recorder's file", run.has(f"{folder}/guest.1.0"), guest
     yield "another", run.has("cut"), b"postcopy-records 1"
@@ -507,7 +516,7 @@ ALL = (a_new_file, an_old_file, the_users_own, who_may_read, who_owns_it, whose_
 
 
 # How many cases each has at least.
-LEAST = {other_commands: 28, a_link: 14, two_writers: 62, two_names: 23, who_may_read: 27, the_users_own: 8, a_new_file: 11, refused_memory: 750, one_file_without_memory: 40, a_device: 6, a_recorders_file: 28, a_long_answer: 11, a_write_that_fails: 13, a_long_answer_that_gets_no_name: 6, a_long_list: 4, a_folder_without_memory: 300}
+LEAST = {other_commands: 28, a_link: 14, two_writers: 62, two_names: 23, who_may_read: 27, the_users_own: 8, a_new_file: 11, refused_memory: 750, one_file_without_memory: 40, a_device: 6, a_recorders_file: 34, a_long_answer: 11, a_write_that_fails: 13, a_long_answer_that_gets_no_name: 6, a_long_list: 4, a_folder_without_memory: 300}
 
 
 @pytest.mark.parametrize("tested", [pytest.param(it, marks=pytest.mark.cases(LEAST.get(it, 1)), id=it.__name__) for it in ALL])

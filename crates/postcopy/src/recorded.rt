@@ -7,6 +7,12 @@ use std::fs;
 use std::io::{Read, Write};
 use std::rt::Files;
 
+// Returns whether a path names the file with a recording's name in a recorder's folder.
+fn is_name_of_recording(path: &str) -> bool {
+    let path = path.as_bytes();
+    path == b"recording-name" || path.ends_with(b"/recording-name")
+}
+
 // Returns whether a name leads to a recorder's file, as far as it can be known. Only a regular file is opened.
 fn is_recorded<R: Files>(rt: &R, name: Option<&str>) -> bool {
     let Some(name) = name else {
@@ -15,6 +21,9 @@ fn is_recorded<R: Files>(rt: &R, name: Option<&str>) -> bool {
     match fs::metadata(rt, name) {
         Ok(found) if found.is_file() => {}
         _ => return false,
+    }
+    if is_name_of_recording(name) {
+        return true;
     }
     let Ok(file) = fs::open(rt, name) else {
         return false;
