@@ -220,6 +220,9 @@ class Tests:
         self.wants("a frame in capital digits", self.written(capital), (session, "", 0))
         again = changed(traces, {"guest": [("g3 found frame=40001", "g3 found frame=40000")]})
         self.wants("a frame that is found twice", self.written(again), ("", "session_from_traces.py: guest.trace: g3 has a frame that was found before\n", 1))
+        second = {**traces, "guest": f"{traces['guest']}0 g25 begin frames=40000-40001 actors=cpu0\n"}
+        for options in ((), ("--cut",)):
+            self.wants("a second begin", self.written(second, *options), ("", "session_from_traces.py: guest.trace: g25 is a second begin\n", 1))
         stranger = changed(traces, {"guest": [("g24 read actor=cpu0", "g24 read actor=cpu7")]})
         self.wants("an actor that begin does not have", self.written(stranger), ("", "session_from_traces.py: guest.trace: 'cpu7' is no actor that begin has\n", 1))
         text, told, status = self.written({**traces, "link": "\x1f\x0b no text"})

@@ -15,8 +15,8 @@ Where an event tells of one that no trace has, there is a hole, and no session i
 with all that follow it in its trace, until there is no hole, and standard error says so. A last line that was not written to
 its end is a hole too, and so is a number that no event of a trace has, as a lost one leaves it: names are a letter and a number,
 and each trace numbers its events. Another name is refused, and so is an event that is in no table here, lacks a key, has one twice,
-or has a frame, a sum or an actor that is none, and a frame that is found a second time. So are more pages, records or actors than
-any session may have.
+or has a frame, a sum or an actor that is none, and so are a second begin, and a frame that is found a second time. So are more
+pages, records or actors than any session may have.
 """
 import argparse
 import os
@@ -165,9 +165,7 @@ class Recording:
         self.traces = {log: events for log, (events, _) in read.items()}
         self.left_out = [f"{it}: left out" for _, said in read.values() for it in said]
         self.cut_at_holes(cut)
-        begin = next(iter(self.traces["guest"].values()), None)
-        if begin is None or begin.what != "begin":
-            raise Hole("guest.trace: the first event is no begin")
+        begin = self.begin()
         self.frames = frames_of(begin)
         self.pages = self.frames.stop - self.frames.start
         self.actors = begin.fields["actors"].split(",")
@@ -178,6 +176,16 @@ class Recording:
             self.kept["source"] = {}
         self.look_for_limits()
         self.numbers = {(log, name): number for log in LOGS for number, name in enumerate(self.kept[log])}
+
+    def begin(self):
+        """The first event of the guest, which tells of its frames and its actors."""
+        first, *others = self.traces["guest"] or [None]
+        if first is None or self.traces["guest"][first].what != "begin":
+            raise Hole("guest.trace: the first event is no begin")
+        for name in others:
+            if self.traces["guest"][name].what == "begin":
+                raise Hole(f"guest.trace: {name} is a second begin")
+        return self.traces["guest"][first]
 
     def cut_at_holes(self, cut):
         """Refuses traces with a hole, or cuts each in front of its first one."""
