@@ -24,7 +24,12 @@ TAILS = (b"", b"", b"", b"\0" * 100, b"7 rea", b"7 r 0 0 0 1\0\0", b"\0\0w 1 2 3
 
 # What stands beside the files of recorders and is none.
 OTHERS = ("recording-name", "recording-name.5", "guest.1", "guest.1.x", "Guest.1.0", "guest.1.0.old", "guest..0", "guest.1.0~", "guests.1.0", ".guest.1.0", "pager.1.-1",
-          "guest.\u0663.0", "notes", "link.1.0 ", "lane.1.0x", "machine.1.0.gz", "guest.1.0\udcff", "pager.1.0\n")
+          "guest.\u0663.0", "notes", "link.1.0 ", "lane.1.0x", "machine.1.0.zip", "guest.1.0\udcff", "pager.1.0\n", "guest.1.gz", "lane.1.0.gz.1", "link.1.x.xz",
+          ".gz", "source.1.0..gz", "pager.1.0gz", "lane.1.0.gz.xz")
+
+
+# What the name of a file gets as it is compressed.
+ENDINGS = ("bz2", "gz", "lz4", "lzma", "xz", "zst")
 
 
 @dataclass
@@ -1180,6 +1185,17 @@ def moved_file(made):
     file.folder = made.folders
     made.folders += 1
     made.words = made.words and [*made.words, "%s"]
+    return True
+
+
+@damage
+def compressed_file(made):
+    """Somebody has compressed some files, and for some of them the file itself is there too."""
+    gone = made.rng.sample(made.files, made.rng.choice((1, 1, 2, len(made.files))) if len(made.files) > 1 else 1)
+    for file in gone:
+        made.others.setdefault(file.folder, {})[f"{file.file()}.{made.rng.choice(ENDINGS)}"] = b"\x1f\x8b"
+    if made.rng.random() < 0.7:
+        made.files = [it for it in made.files if it not in gone]
     return True
 
 

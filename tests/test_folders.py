@@ -77,6 +77,52 @@ def test_no_session(run, room):
     same("a folder without files of recorders", (told.returncode, told.stdout, told.stderr), (3, "", wanted))
 
 
+NOTHING = "session: nothing was written: repair this, or use session --cut to write what is left\n"
+
+# Names that recorders' files do not get as they are compressed.
+OTHERS = ("guest.1.gz", "lane.1.0.zip", "lane.1.0gz", "lane.1.0..gz", "lane.1.0.gz.1", "lanes.1.0.gz", "lane.1.0.GZ", "lane.x.0.gz")
+
+
+def told_of(folder, *names):
+    """What is told of these files, which are compressed."""
+    return "".join(f"session: {folder}/{name} is compressed, and is not read: unpack it first\n" for name in names)
+
+
+@pytest.mark.quick
+@pytest.mark.cases(27)
+def test_compressed(run, room):
+    """A file that is only there compressed is lacking, also where all others are a whole session. With --cut that is written."""
+    def answers(what, ran, *wanted):
+        same(what, (ran.returncode, ran.stdout, ran.stderr), wanted)
+
+    faults = Faults(Silent(), room)
+    folder, whole = faults.recording(), faults.recording()
+    text, logs = run("session", folder).stdout, ("machine", "guest", "source", "link", "lane", "pager")
+    for name in (*OTHERS, "guest.1.0.gz", "pager.1.0.zst"):
+        faults.put(f"{folder}/{name}", "any")
+    answers("other names, and files that are there too", run("session", folder), 0, text, "")
+    for log, ending in zip(logs, ("bz2", "gz", "lz4", "lzma", "xz", "zst")):
+        name = f"{log}.12.34.{ending}"
+        faults.put(f"{folder}/{name}", "any")
+        told = told_of(folder, name)
+        answers(f"a session without {name}", run("session", folder), 1, "", told + NOTHING)
+        answers(f"what is left without {name}", run("session", "--cut", folder), 0, text, told)
+        answers(f"an audit without {name}", run("audit", folder), 3, "", f"{told}{NOTHING}file {folder}\n{folder}: {UNREAD}\n")
+        os.remove(f"{folder}/{name}")
+    faults.put(f"{folder}/lane.1.0.gz", "any")
+    behind = f"{told_of(folder, 'lane.1.0.gz')}{NOTHING}file {folder}\n{folder}: {UNREAD}\n"
+    for command, *more in (("explain",), ("draw",), ("certify",), ("window", "0", "1")):
+        answers(f"{command} without lane.1.0.gz", run(command, folder, *more), 3, "", behind)
+    answers("the audit of several", run("audit", folder, whole), 3, f"{whole}: clean\n1 of 2 sessions are clean\n", behind)
+    for log in logs:
+        if log != "lane":
+            os.rename(f"{folder}/{log}.1.0", f"{folder}/{log}.1.0.gz")
+    told = told_of(folder, "guest.1.0.gz", "lane.1.0.gz", "link.1.0.gz", "machine.1.0.gz", "pager.1.0.gz", "pager.1.0.zst", "source.1.0.gz")
+    answers("a folder in which all are compressed", run("session", folder), 1, "", told + NOTHING)
+    answers("the same, cut", run("session", "--cut", folder), 1, "", f"{told}session: {folder}: there is no file of a recorder, PARTY.PROCESS.N\n")
+    answers("two folders", run("session", folder, whole), 1, "", told + NOTHING)
+
+
 class BesideItsText(Beside):
     """What commands answer to a folder, beside what they answer to the text that `session` writes of it."""
 

@@ -15,7 +15,7 @@ import pytest
 from cases import count, same
 from made_sessions import files_of, known_sessions, numbered, run_script, text_of_file
 from recorded_faults import MOVED, Faults
-from recorded_model import answer_of, model_of, told
+from recorded_model import NOTHING, answer_of, model_of, told
 from session_text import SessionText
 from test_saved import Run
 
@@ -59,7 +59,7 @@ class Beside(Faults):
         text, lines, status = answer_of(made, said, "--cut" in words)
         ran = self.by_command(*words)
         same(f"session {' '.join(words)}", (ran.returncode, ran.stdout, ran.stderr), (status, text, told(lines)))
-        wanted = subprocess.CompletedProcess(words, 2 if made is None else status, text, told(lines, True))
+        wanted = subprocess.CompletedProcess(words, 2 if made is None and lines[-1] != NOTHING else status, text, told(lines, True))
         if self.has_script:
             ran = run_script(self.command, *words)
             same(f"recorders/session {' '.join(words)}", (ran.returncode, ran.stdout, ran.stderr), (wanted.returncode, wanted.stdout, wanted.stderr))

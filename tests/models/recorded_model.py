@@ -14,6 +14,8 @@ So a process writes a part of the log: the records from FIRST on, up to COUNT, w
 part's first file. In place of `end COUNT`, the last line is `next COUNT` if the log was handed over to another process, and `lost
 ERRNO` if a record was not written. A file ends at a byte 0, or with a line that has no end, if its process died. A log is whole
 if each of its parts was closed, and if they have each number from 0 on once.
+
+A file that is only there compressed, as PARTY.PROCESS.N.gz, is not read.
 """
 from __future__ import annotations
 
@@ -28,7 +30,11 @@ from postcopy.sessions import Session
 PREFIX = "session: "
 NOTHING = "nothing was written: repair this, or use session --cut to write what is left"
 
+# How the line ends that tells of a file that is compressed.
+COMPRESSED = " is compressed, and is not read: unpack it first"
+
 _FILE = re.compile(rf"(machine|{'|'.join(LOGS)})\.([0-9]+)\.[0-9]+", re.ASCII)
+_ENDING = re.compile(r"\.(bz2|gz|lz4|lzma|xz|zst)")
 _HEAD = ("postcopy-records 1", "recording ([A-Za-z0-9_.-]{1,64})", "log %s (0|[1-9][0-9]{0,9}) (0|[1-9][0-9]{0,9})")
 _TOLD = ("'postcopy-records 1': no recorder of this release wrote it", "'recording NAME'", "'log %s FIRST OPENING'")
 _LINE = re.compile("(0|[1-9][0-9]{0,9}) (.+)", re.ASCII)
@@ -184,20 +190,38 @@ class _Log:
         return first, "" if first >= count else f"record {first} is missing" if end == first + 1 else f"records {first} to {end - 1} are missing"
 
 
+def _listed(folders: Iterable[str]) -> Dict[str, List[str]]:
+    """Returns the names in each of these folders."""
+    found: Dict[str, List[str]] = {}
+    for folder in folders:
+        if os.path.realpath(folder) in map(os.path.realpath, found):
+            raise Unfit(f"{folder} is named twice")
+        found[folder] = sorted(os.listdir(folder))
+    return found
+
+
+def _compressed(folders: Iterable[str]) -> List[str]:
+    """Says in words which recorders' files in these folders are only there compressed."""
+    said = []
+    for folder, names in _listed(folders).items():
+        for name in names:
+            whole, ending = os.path.splitext(name)
+            if _ENDING.fullmatch(ending) and _FILE.fullmatch(whole) and whole not in names:
+                said.append(f"{os.path.join(folder, name)}{COMPRESSED}")
+    return said
+
+
 def _read(folders: Iterable[str]) -> Dict[str, _Log]:
     """Returns the logs that have a file in these folders."""
     logs: Dict[str, _Log] = {}
-    named, recording = [], _Name()
-    for folder in folders:
-        if os.path.realpath(folder) in map(os.path.realpath, named):
-            raise Unfit(f"{folder} is named twice")
-        named.append(folder)
-        for name in sorted(os.listdir(folder)):
+    listed, recording = _listed(folders), _Name()
+    for folder, names in listed.items():
+        for name in names:
             match = _FILE.fullmatch(name)
             if match:
                 logs.setdefault(match[1], _Log(match[1])).read(os.path.join(folder, name), match[2], recording)
     if not logs:
-        raise Unfit(f"{', '.join(named)}: there is no file of a recorder, PARTY.PROCESS.N")
+        raise Unfit(f"{', '.join(listed)}: there is no file of a recorder, PARTY.PROCESS.N")
     return logs
 
 
@@ -313,12 +337,14 @@ def session_of(folders: Iterable[str]) -> Tuple[Session, List[str]]:
 
 
 def model_of(folders: Iterable[str]) -> Tuple[Optional[str], List[str]]:
-    """Returns the text of the recording, or None where the files make none, and what is said."""
+    """Returns the text of the recording, or None where the files make none, and what is said. Files that are compressed come first."""
+    compressed: List[str] = []
     try:
+        compressed += _compressed(folders)
         recording, said = recording_of(folders)
-        return "".join(recording.lines()), said
+        return "".join(recording.lines()), compressed + said
     except ValueError as fault:
-        return None, [str(fault)]
+        return None, [*compressed, str(fault)]
 
 
 def told(lines: Iterable[str], is_ascii: bool = False) -> str:
@@ -331,7 +357,11 @@ def told(lines: Iterable[str], is_ascii: bool = False) -> str:
 
 
 def answer_of(text: Optional[str], said: List[str], is_cut: bool) -> Tuple[str, List[str], int]:
-    """Returns what `session` writes, the lines that it tells, and its status, where this is made of the folders."""
+    """Returns what `session` writes, the lines that it tells, and its status, where this is made of the folders. If a file is compressed, no
+    other is read without --cut."""
+    compressed = [line for line in said if line.endswith(COMPRESSED)]
+    if compressed and not is_cut:
+        return "", [*compressed, NOTHING], 1
     if text is None:
         return "", said, 1
     if said and not is_cut:

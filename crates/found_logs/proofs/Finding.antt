@@ -1,6 +1,6 @@
 -- The files of recorders, as they are found.
 use Rattle.std.proofs.Common.{◌≡◌, ◌∙◌, ◌⊎◌, ℕ, zero, suc, ◌+◌, ◌<◌, ◌≤◌, inl, inr, List, [], ◌∷◌, ◌++◌, length, map, take, get_or, Option, Some, None, refl, ap, sym, subst, arith}
-use Rattle.std.specs.Prelude.{◌↔◌, ◌==◌, if◌then◌else◌, IfSome, slice_index, string_bytes}
+use Rattle.std.specs.Prelude.{◌==◌, if◌then◌else◌, IfSome, slice_index, string_bytes}
 use Rattle.std.specs.List.{Contains}
 use Rattle.std.specs.List.Sorted.{IsPermutation}
 use Rattle.std.proofs.lemmas.List.{map-append, take_all, take_more}
@@ -9,9 +9,9 @@ use Rattle.std.proofs.lemmas.List.Sorted.{Contains-permutation, IsPermutation-sy
 use Rattle.migration_types.specs.declared.records.LogName.TheVariants.{Guest, Source, Link, Lane, Pager}
 use Rattle.recorded_files.specs.declared.lines.Party.{Party}
 use Rattle.recorded_files.specs.declared.lines.Party.TheVariants.{Machine, Of}
-use Rattle.surveyed_logs.specs.Names.{AreDigits, file_name}
-use Rattle.found_logs.specs.Found.{IsFileOf, IsNameOf, path_in}
-use Rattle.found_logs.specs.inner.Finding.{AddsFolder, AddsNames, AreFound, told_of}
+use Rattle.surveyed_logs.specs.Names.{AreDigits, IsNameOf, file_name}
+use Rattle.found_logs.specs.Found.{AreFound, IsFileOf, path_in, told_of}
+use Rattle.found_logs.specs.inner.Finding.{AddsFolder, AddsNames}
 use Rattle.found_logs.specs.declared.found.FoundFile.{FoundFile}
 
 -- ---- elements

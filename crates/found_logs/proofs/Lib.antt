@@ -1,3 +1,4 @@
+pub mod Compressing
 pub mod Finding
 pub mod Firsts
 pub mod Surveying

@@ -13,8 +13,8 @@ use Rattle.recorded_files.specs.declared.lines.Party.TheVariants.{Machine, Of}
 use Rattle.surveyed_logs.specs.Surveys.{IsSurveyOf}
 use Rattle.surveyed_logs.specs.declared.surveying.Surveyed.{Surveyed}
 use Rattle.found_logs.specs.Logs.{log_of}
-use Rattle.found_logs.specs.Found.{AreFilesOf, IsFoundIn, IsSurveyed, path_in}
-use Rattle.found_logs.specs.inner.Finding.{AreFound, AreLogsOf, GetsFile, HasName, IsNothing, IsReadAs, TakesFile, told_of}
+use Rattle.found_logs.specs.Found.{AreFound, IsFoundIn, IsSurveyed, path_in, told_of}
+use Rattle.found_logs.specs.inner.Finding.{AreLogsOf, GetsFile, HasName, IsNothing, IsReadAs, TakesFile}
 use Rattle.found_logs.specs.declared.found.FoundFile.{FoundFile}
 use Rattle.found_logs.specs.declared.found.FoundLog.{FoundLog}
 use Rattle.found_logs.specs.declared.found.FoundLogs.{FoundLogs}

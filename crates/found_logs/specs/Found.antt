@@ -2,20 +2,16 @@
 use Rattle.std.specs.Prelude.{◌≡◌, ℕ, ◌-◌, ◌==◌, if◌then◌else◌, List, [], ◌∷◌, ◌++◌, Option, Some, None, IfSome, length, map, slice_get, string_bytes}
 use Rattle.std.specs.List.{AllByRecursion, AllZip, Contains}
 use Rattle.std.specs.List.Sorted.{IsPermutation}
-use Rattle.migration_types.specs.declared.records.LogName.{LogName}
 use Rattle.recorded_files.specs.Said.{Says}
 use Rattle.recorded_files.specs.declared.lines.Party.{Party}
-use Rattle.surveyed_logs.specs.Names.{AreDigits, file_name}
+use Rattle.surveyed_logs.specs.Names.{IsCompressedName, IsNameOf}
 use Rattle.surveyed_logs.specs.Surveys.{IsSurveyOf}
 use Rattle.found_logs.specs.Logs.{log_of}
+use Rattle.found_logs.specs.declared.found.FoundFile.{FoundFile}
 use Rattle.found_logs.specs.declared.found.FoundLog.{FoundLog}
 use Rattle.found_logs.specs.declared.found.FoundLogs.{FoundLogs}
 
 -- ---- files by their names
-
--- this is the name of a file of the party's recorders
-abbrev pub IsNameOf : Party → List ℕ → Type 0
-IsNameOf party name = (process number : List ℕ) × AreDigits process × AreDigits number × (name ≡ file_name party process number)
 
 -- a slash (47), unless a name has no last byte, or this last one is a slash
 abbrev pub slash_after : Option ℕ → List ℕ
@@ -43,6 +39,38 @@ pub record IsFileOf (names_in : List ℕ → Option (List (List ℕ))) (folders 
 pub record AreFilesOf (names_in : List ℕ → Option (List (List ℕ))) (folders : List (List ℕ)) (party : Party) (paths : List (List ℕ)) : Type 0 where
   pub each : (path : List ℕ) → Contains paths path → IsFileOf names_in folders party path
   pub all : (folder name : List ℕ) (names : List (List ℕ)) → Contains folders folder → names_in folder ≡ Some names → Contains names name → IsNameOf party name → Contains paths (path_in folder name)
+
+-- a file's party and its path
+abbrev pub told_of : FoundFile → Party × List ℕ
+told_of file = (file.party, string_bytes file.path)
+
+-- These are the files in the folders: each is one, and none is left out where it is known what is in a folder.
+pub record AreFound (names_in : List ℕ → Option (List (List ℕ))) (folders : List (List ℕ)) (files : List FoundFile) : Type 0 where
+  pub each : (party : Party) (path : List ℕ) → Contains (map told_of files) (party, path) → IsFileOf names_in folders party path
+  pub all : (party : Party) (folder name : List ℕ) (names : List (List ℕ)) → Contains folders folder → names_in folder ≡ Some names → Contains names name → IsNameOf party name → Contains (map told_of files) (party, path_in folder name)
+
+-- ---- files that are compressed
+
+-- Where a folder has these names, this one is that of a recorder's file that is only there compressed: the file itself is not there.
+pub record IsCompressed (names : List (List ℕ)) (name : List ℕ) : Type 0 where
+  pub party : Party
+  pub whole : List ℕ
+  pub is_name : IsNameOf party whole
+  pub is_ended : IsCompressedName whole name
+  pub alone : Contains names whole → ⊥
+
+-- This is the path of such a file in one of these folders. What is in a folder may be known.
+pub record IsCompressedFile (names_in : List ℕ → Option (List (List ℕ))) (folders : List (List ℕ)) (path : List ℕ) : Type 0 where
+  pub folder : List ℕ
+  pub name : List ℕ
+  pub named : Contains folders folder
+  pub there : IfSome (names_in folder) (λ names. Contains names name × IsCompressed names name)
+  pub is : path ≡ path_in folder name
+
+-- These are the paths of such files in the folders: each is one, and none is left out where it is known what is in a folder.
+pub record AreCompressed (names_in : List ℕ → Option (List (List ℕ))) (folders : List (List ℕ)) (paths : List (List ℕ)) : Type 0 where
+  pub each : (path : List ℕ) → Contains paths path → IsCompressedFile names_in folders path
+  pub all : (folder name : List ℕ) (names : List (List ℕ)) → Contains folders folder → names_in folder ≡ Some names → Contains names name → IsCompressed names name → Contains paths (path_in folder name)
 
 -- ---- what they are
 

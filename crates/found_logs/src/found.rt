@@ -4,9 +4,11 @@ ghost use Rattle.std.specs.Prelude.{◌≡◌, ◌≤◌, ◌↔◌, ◌^◌, �
 ghost use Rattle.std.specs.List.{Contains};
 ghost use Rattle.text_access.specs.Names.{names_of};
 ghost use Rattle.found_logs.specs.Logs.{log_of, records_in};
-ghost use Rattle.found_logs.specs.Found.{path_in, slash_behind};
-ghost use Rattle.found_logs.specs.inner.Finding.{AddsFolder, AddsNames, AreFound, AreLogsOf, IsNothing};
+ghost use Rattle.found_logs.specs.Found.{path_in, slash_behind, AreCompressed, AreFound};
+ghost use Rattle.found_logs.specs.inner.Compressing.{AddsCompressedOf};
+ghost use Rattle.found_logs.specs.inner.Finding.{AddsFolder, AddsNames, AreLogsOf, IsNothing};
 
+use crate::compressed::push_compressed;
 use migration_types::LogName;
 use recorded_files::Party;
 use session_words::{Piece, Stop, add, push, sentence, unread};
@@ -30,6 +32,15 @@ pub(crate) struct FoundFile {
     digits: Vec<u8>,
     /// Its process: the first file of this process, counted from 0.
     pub(crate) process: usize,
+}
+
+/// The files of recorders in folders, by their names. None of them was read yet.
+#[derive(Drop)]
+pub struct FoundFiles {
+    /// The files, folder by folder.
+    pub(crate) files: Vec<FoundFile>,
+    /// The paths of those that are only there as somebody has compressed them, folder by folder. They are not read.
+    pub compressed: Vec<String>,
 }
 
 /// The files of a log.
@@ -137,7 +148,7 @@ fn slash_behind(folder: &str) -> &'static str
 }
 
 /// Returns the path of what has this name in a folder.
-fn joined(alloc: Global, folder: &str, name: &str) -> Result<String, AllocError>
+pub(crate) fn joined(alloc: Global, folder: &str, name: &str) -> Result<String, AllocError>
     ensures { IfOk result (λ path. string_bytes path ≡ path_in folder.now name.now) }
 {
     let mut path = String::from_str(alloc, folder)?;
@@ -231,15 +242,17 @@ fn unlisted(alloc: Global, folder: &str, error: &io::Error) -> Stop {
     unread(name, error)
 }
 
-/// Adds the recorders' files in a folder, by their names.
+/// Adds the recorders' files in a folder, by their names, and the paths of those that are only there compressed.
 fn push_files<S: TextSource>(
     alloc: Global,
     texts: &S,
     files: &mut Vec<FoundFile>,
+    compressed: &mut Vec<String>,
     folder: &str,
     place: usize,
 ) -> Result<(), Stop>
-    ensures { OnOk result (AddsFolder (S.names_in texts.now folder.now) folder.now files.old.items files.new.items) }
+    ensures files { OnOk result (AddsFolder (S.names_in texts.now folder.now) folder.now files.old.items files.new.items) }
+    ensures compressed { OnOk result (AddsCompressedOf (S.names_in texts.now folder.now) folder.now (map string_bytes compressed.old.items) (map string_bytes compressed.new.items)) }
 {
     let mut names = match texts.names(alloc, folder) {
         Ok(names) => names,
@@ -247,6 +260,7 @@ fn push_files<S: TextSource>(
     };
     names.sort()?;
     push_named(alloc, files, folder, place, names.as_slice())?;
+    push_compressed(alloc, compressed, folder, names.as_slice())?;
     Ok(())
 }
 
@@ -277,8 +291,8 @@ pub(crate) fn push_listed(out: &mut Vec<u8>, place: usize, name: &str) -> Result
     push(out, name)
 }
 
-/// Returns the words on folders that have no file of a recorder.
-fn none(alloc: Global, folders: &[&str]) -> Result<Stop, AllocError> {
+/// Returns why folders that have no file of a recorder make no session.
+pub(crate) fn none(alloc: Global, folders: &[&str]) -> Result<Stop, AllocError> {
     let mut words = Vec::new(alloc);
     for i in 0..folders.len() {
         push_listed(&mut words, i, folders[i])?;
@@ -291,23 +305,26 @@ fn none(alloc: Global, folders: &[&str]) -> Result<Stop, AllocError> {
 }
 
 /// Returns the recorders' files in folders, folder by folder, by their names.
-pub(crate) fn find_files<S: TextSource>(
+///
+/// # Errors
+///
+/// A folder cannot be listed, or is named twice, or memory runs out.
+pub fn find_files<S: TextSource>(
     alloc: Global,
     texts: &S,
     folders: &[&str],
-) -> Result<Vec<FoundFile>, Stop>
-    ensures { IfOk result (λ files. AreFound (S.names_in texts.now) (names_of folders.now) files.items) }
+) -> Result<FoundFiles, Stop>
+    ensures files { IfOk result (λ found. AreFound (S.names_in texts.now) (names_of folders.now) found.files.items) }
+    ensures compressed { IfOk result (λ found. AreCompressed (S.names_in texts.now) (names_of folders.now) (map string_bytes found.compressed.items)) }
 {
     let mut files = Vec::new(alloc);
+    let mut compressed = Vec::new(alloc);
     for place in 0..folders.len() {
         let folder = folders[place];
         if is_named_twice(texts, folders, place) {
             return Err(twice(alloc, folder)?);
         }
-        push_files(alloc, texts, &mut files, folder, place)?;
+        push_files(alloc, texts, &mut files, &mut compressed, folder, place)?;
     }
-    if files.is_empty() {
-        return Err(none(alloc, folders)?);
-    }
-    Ok(files)
+    Ok(FoundFiles { files, compressed })
 }

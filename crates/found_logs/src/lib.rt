@@ -1,6 +1,7 @@
 //! The logs of recorders' files in folders: the files are found and surveyed, and what the logs lack is told.
 #![tactic(auto)]
 
+mod compressed;
 mod faults;
 mod found;
 mod lacks;
@@ -8,7 +9,8 @@ mod machines;
 mod surveys;
 mod telling;
 
-pub use found::{FoundLog, FoundLogs};
+pub use compressed::tell_compressed;
+pub use found::{FoundFiles, FoundLog, FoundLogs, find_files};
 pub use lacks::find_hole;
 pub use machines::describe;
 pub use surveys::find_logs;

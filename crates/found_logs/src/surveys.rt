@@ -5,11 +5,11 @@ ghost use Rattle.recorded_files.specs.declared.lines.Party.{Party as Writer};
 ghost use Rattle.recorded_files.specs.Said.{CameTo};
 ghost use Rattle.surveyed_logs.specs.Surveys.{IsSurveyOf};
 ghost use Rattle.text_access.specs.Names.{names_of};
-ghost use Rattle.found_logs.specs.Found.{IsFoundIn};
-ghost use Rattle.found_logs.specs.inner.Finding.{AreFound, GetsFile, IsReadAs, TakesFile, Under};
+ghost use Rattle.found_logs.specs.Found.{AreFound, IsFoundIn};
+ghost use Rattle.found_logs.specs.inner.Finding.{GetsFile, IsReadAs, TakesFile, Under};
 
 use crate::faults::{Surveying, file_stop};
-use crate::found::{FoundFile, FoundLog, FoundLogs, find_files};
+use crate::found::{FoundFile, FoundFiles, FoundLog, FoundLogs, none};
 use migration_types::LogName;
 use recorded_files::{FileReader, Party};
 use session_words::{Piece, Stop, add, open_text, sentence};
@@ -224,16 +224,23 @@ fn survey_files<S: TextSource, O: Onlooker>(
     Ok(logs)
 }
 
-/// Returns the logs of the recorders' files in folders, each of which is read to its end. The onlooker sees each record of each file,
-/// one file after the other.
+/// Returns the logs of the recorders' files that were found in folders, each of which is read to its end. The onlooker sees each record
+/// of each file, one file after the other.
+///
+/// # Errors
+///
+/// There is no file, a file was not read or is none of a recorder's, the files are of two recordings, or memory runs out.
 pub fn find_logs<S: TextSource, O: Onlooker>(
     alloc: Global,
     texts: &S,
     folders: &[&str],
+    found: &FoundFiles,
     onlooker: &mut O,
 ) -> Result<FoundLogs, Stop>
-    ensures { IfOk result (IsFoundIn (S.names_in texts.now) (S.bytes_of texts.now) (names_of folders.now)) }
+    ensures { IfOk result (λ logs. AreFound (S.names_in texts.now) (names_of folders.now) found.now.files.items → IsFoundIn (S.names_in texts.now) (S.bytes_of texts.now) (names_of folders.now) logs) }
 {
-    let files = find_files(alloc, texts, folders)?;
-    survey_files(alloc, texts, files.as_slice(), onlooker)
+    if found.files.is_empty() {
+        return Err(none(alloc, folders)?);
+    }
+    survey_files(alloc, texts, found.files.as_slice(), onlooker)
 }

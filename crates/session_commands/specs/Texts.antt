@@ -1,15 +1,18 @@
 -- The text of a session that is made of the files of recorders in folders.
-use Rattle.std.specs.Prelude.{ℕ, List, Option}
+use Rattle.std.specs.Prelude.{◌≡◌, ℕ, List, [], Option}
 use Rattle.std.specs.Io.KnownBytes.{Appends}
 use Rattle.command_words.specs.declared.requests.Lacking.{Lacking}
+use Rattle.command_words.specs.declared.requests.Lacking.TheVariants.{Refused}
 use Rattle.session_commands.specs.Files.{IsTextOf}
-use Rattle.found_logs.specs.Found.{IsFoundIn}
+use Rattle.found_logs.specs.Found.{AreCompressed, IsFoundIn}
 use Rattle.found_logs.specs.declared.found.FoundLogs.{FoundLogs}
 
--- This is the text of the recording that the files of recorders in these folders make.
+-- This is the text of the recording that the files of recorders in these folders make. No file is left out because it is only there
+-- compressed, unless that may be.
 pub record IsSessionText (names_in : List ℕ → Option (List (List ℕ))) (files : List ℕ → Option (List ℕ)) (folders : List (List ℕ)) (lacking : Lacking) (text : List ℕ) : Type 0 where
   pub logs : FoundLogs
   pub found : IsFoundIn names_in files folders logs
+  pub whole : lacking ≡ Refused → AreCompressed names_in folders []
   pub is : IsTextOf files logs lacking text
 
 -- such a text was appended

@@ -12,7 +12,7 @@ ghost use Rattle.session_commands.specs.Texts.{IsSessionText};
 ghost use Rattle.session_commands.specs.inner.Seen.{IsKnownAndMet};
 
 use crate::making::{Known, counts_of, know};
-use found_logs::{FoundLogs, find_logs};
+use found_logs::{FoundLogs, find_files, find_logs};
 use held_sessions::{HeldRecording, Room};
 use migration_types::Session;
 use recorded_files::Front;
@@ -104,8 +104,12 @@ fn gather<S: TextSource>(
     ensures { IfOk result (λ found. IfSome found (λ session. (text : List ℕ) × IsSessionText (S.names_in texts.now) (S.bytes_of texts.now) (names_of folders.now) Refused text × IsSpelling SpellsSession session text)) }
 {
     keep_memory(alloc);
+    let found = find_files(alloc, texts, folders)?;
+    if !found.compressed.is_empty() {
+        return Ok(None);
+    }
     let mut senders = Senders::new(alloc);
-    let logs = find_logs(alloc, texts, folders, &mut senders)?;
+    let logs = find_logs(alloc, texts, folders, &found, &mut senders)?;
     gather_files(alloc, texts, &logs, senders)
 }
 

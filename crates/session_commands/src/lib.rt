@@ -6,8 +6,9 @@ mod files;
 mod forms;
 mod gathering;
 mod making;
+mod performing;
 mod recording;
 mod walk_stops;
 
 pub use gathering::gather_session;
-pub use making::perform_session;
+pub use performing::perform_session;

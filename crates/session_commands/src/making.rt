@@ -1,17 +1,14 @@
-//! The command `session`, pass by pass.
+//! The session of recorders' files, pass by pass.
 
-ghost use Rattle.std.specs.Prelude.{◌≡◌, ◌↔◌, ◌<◌, ◌⊎◌, [], Ok, IfErr, IfOk, IsTrue, OnOk};
+ghost use Rattle.std.specs.Prelude.{◌≡◌, ◌↔◌, ◌<◌, [], IfErr, IfOk, IsTrue, OnOk};
 ghost use Rattle.command_words.specs.declared.requests.Lacking.TheVariants.{Refused};
 ghost use Rattle.migration_types.specs.Sessions.{Recorded, log_length};
 ghost use Rattle.recordings.specs.Recordings.{IsMachine};
 ghost use Rattle.recordings.specs.Wide.{extent_of};
 ghost use Rattle.recorded_files.specs.Named.{IsNaming};
 ghost use Rattle.walked_logs.specs.Walks.{HasNoHole, WalksFiles};
-ghost use Rattle.command_texts.specs.Several.{IsListStatus, TellsOneUnread};
-ghost use Rattle.text_access.specs.Names.{names_of};
 ghost use Rattle.text_access.specs.Written.{BothGain, Gains};
 ghost use Rattle.session_commands.specs.Files.{bytes_in, WritesText};
-ghost use Rattle.session_commands.specs.Texts.{WritesSession};
 ghost use Rattle.std.specs.Io.KnownBytes.{Keeps};
 ghost use Rattle.session_commands.specs.inner.Seen.{HasSeen, IsKnown, IsKnownAndMet, IsUnfit};
 ghost use Rattle.session_facts.specs.Facts.{HasNone, IsFacts, ReachIn, SomeIn};
@@ -22,9 +19,9 @@ use crate::files::OpenedLogs;
 use crate::forms::form_of;
 use crate::recording::FileRecording;
 use crate::walk_stops::{check_facts, walk_stop, write_stop};
-use command_texts::{ACCEPTED, Console, Fault, REFUSED, STANDARD_OUTPUT, given, tell};
+use command_texts::{ACCEPTED, REFUSED};
 use command_words::Lacking;
-use found_logs::{FoundLogs, check_logs, describe, find_logs, tell_logs, tell_machine};
+use found_logs::{FoundLogs, check_logs, describe, tell_logs, tell_machine};
 use migration_types::{LogName, Size, Version};
 use recorded_files::Front;
 use recordings::{Visitor, WideInit, WideMachine};
@@ -32,7 +29,6 @@ use session_facts::{Ends, FactFinder, Facts, Nobody, tell_cut, tell_empty, tell_
 use session_words::{Stop, push_message};
 use std::alloc::{AllocError, Global};
 use std::io::Write;
-use surveyed_logs::NoOnlooker;
 use text_access::{TextSource, write_whole};
 use walked_logs::{Messages, Senders, note_messages, walk_logs};
 use written_recordings::write_recording;
@@ -350,7 +346,11 @@ pub(crate) fn counts_of(logs: &FoundLogs) -> Result<Front, AllocError> {
 }
 
 /// Goes through the files, up to what is to be known before the text is written.
-fn know_facts<S: TextSource>(alloc: Global, texts: &S, logs: &FoundLogs) -> Result<Known, Stop>
+pub(crate) fn know_facts<S: TextSource>(
+    alloc: Global,
+    texts: &S,
+    logs: &FoundLogs,
+) -> Result<Known, Stop>
     ensures { IfOk result (λ known. IsKnown (S.bytes_of texts.now) logs.now known) }
 {
     let mut finder = FactFinder::new(alloc, Nobody, counts_of(logs)?);
@@ -395,7 +395,7 @@ fn write<S: TextSource, O: Write>(
 
 /// Says what is lacking, and that nothing was written.
 #[tactic(auto, using(crate::proofs::Gained::same, crate::proofs::Gained::front, crate::proofs::Gained::both))]
-fn refuse<E: Write>(said: Vec<u8>, errors: &mut E) -> Result<u8, Stop>
+pub(crate) fn refuse<E: Write>(said: Vec<u8>, errors: &mut E) -> Result<u8, Stop>
     ensures refused { IfOk result (λ status. status ≡ 1) }
     ensures gains { Gains (E.contents errors.old) (E.contents errors.new) }
 {
@@ -406,7 +406,7 @@ fn refuse<E: Write>(said: Vec<u8>, errors: &mut E) -> Result<u8, Stop>
 }
 
 /// Writes the text of a recording, if nothing is lacking or it is to be cut. Says what is lacking.
-fn settle<S: TextSource, O: Write, E: Write>(
+pub(crate) fn settle<S: TextSource, O: Write, E: Write>(
     alloc: Global,
     texts: &S,
     lacking: Lacking,
@@ -431,84 +431,5 @@ fn settle<S: TextSource, O: Write, E: Write>(
             write_whole(errors, known.said.as_slice());
             write(alloc, texts, lacking, logs, known, output)
         }
-    }
-}
-
-/// Makes the session of the files in folders, and says what is lacking.
-#[tactic(auto, using(crate::proofs::Gained::same, crate::proofs::Gained::front, crate::proofs::Gained::both))]
-fn make<S: TextSource, O: Write, E: Write>(
-    alloc: Global,
-    texts: &S,
-    lacking: Lacking,
-    folders: &[&str],
-    output: &mut O,
-    errors: &mut E,
-) -> Result<u8, Stop>
-    ensures few { IfOk result (λ status. status < 2) }
-    ensures written { IfOk result (λ status. status ≡ 0 → WritesSession (S.names_in texts.now) (S.bytes_of texts.now) (names_of folders.now) lacking (O.contents output.old) (O.contents output.new)) }
-    ensures refused { IfOk result (λ status. status ≡ 1 → Keeps (O.contents output.old) (O.contents output.new)) }
-    ensures unfit { IfErr result (λ stop. IsUnfit stop → Keeps (O.contents output.old) (O.contents output.new)) }
-    ensures gains { BothGain (O.contents output.old, E.contents errors.old) (O.contents output.new, E.contents errors.new) }
-{
-    let logs = find_logs(alloc, texts, folders, &mut NoOnlooker)?;
-    let known = know_facts(alloc, texts, &logs)?;
-    settle(alloc, texts, lacking, &logs, known, output, errors)
-}
-
-/// Reports why the files make no session.
-#[tactic(auto, using(crate::proofs::Gained::same, crate::proofs::Gained::front, crate::proofs::Gained::both))]
-fn tell_unfit<E: Write>(alloc: Global, words: &[u8], errors: &mut E) -> Result<u8, AllocError>
-    ensures refused { IfOk result (λ status. status ≡ 1) }
-    ensures gains { Gains (E.contents errors.old) (E.contents errors.new) }
-{
-    let mut line = Vec::new(alloc);
-    push_message(&mut line, words)?;
-    write_whole(errors, line.as_slice());
-    Ok(REFUSED)
-}
-
-/// Reports why no session was made, and returns the status of that.
-#[tactic(auto, using(crate::proofs::Gained::same, crate::proofs::Gained::front, crate::proofs::Gained::both))]
-fn tell_stop<'a, E: Write>(alloc: Global, stop: Stop, errors: &mut E) -> Result<u8, Fault<'a>>
-    ensures known { IfOk result (λ status. (status ≡ 1) ⊎ (status ≡ 3)) }
-    ensures unfit { IfOk result (λ status. status ≡ 1 → IsUnfit stop) }
-    ensures unread { IfOk result (λ status. status ≡ 3 → TellsOneUnread (E.contents errors.old) (E.contents errors.new)) }
-    ensures gains { Gains (E.contents errors.old) (E.contents errors.new) }
-{
-    match stop {
-        Stop::Unfit(words) => given(tell_unfit(alloc, words.as_slice(), errors)),
-        Stop::File(name, why) => Ok(tell(Fault::File(name.as_str(), why), errors)),
-        Stop::Output(why) => Err(Fault::Output(STANDARD_OUTPUT, why)),
-        Stop::Memory => Err(Fault::Memory),
-    }
-}
-
-/// `session`: makes the session of the files that recorders left in folders, and writes its text as the files are read.
-///
-/// The status is 0 if the text was written, and 1 if something is missing and what is left is not asked for, or if the
-/// files make no session. It is 3 if a file was not read. The errors say why.
-#[tactic(auto, using(crate::proofs::Gained::same, crate::proofs::Gained::front, crate::proofs::Gained::both))]
-pub fn perform_session<'a, R, S: TextSource, I, O: Write, E: Write>(
-    console: &mut Console<'_, R, S, I, O, E>,
-    lacking: Lacking,
-    folders: &[&'a str],
-) -> Result<u8, Fault<'a>>
-    ensures known { IfOk result IsListStatus }
-    ensures unread { IfOk result (λ status. status ≡ 3 → TellsOneUnread (E.contents console.old.errors) (E.contents console.new.errors)) }
-    ensures written { result ≡ Ok 0 → WritesSession (S.names_in console.old.texts.now) (S.bytes_of console.old.texts.now) (names_of folders.now) lacking (O.contents console.old.output) (O.contents console.new.output) }
-    ensures refused { result ≡ Ok 1 → Keeps (O.contents console.old.output) (O.contents console.new.output) }
-    ensures gains { BothGain (O.contents console.old.output, E.contents console.old.errors) (O.contents console.new.output, E.contents console.new.errors) }
-{
-    let alloc = console.alloc;
-    match make(
-        alloc,
-        console.texts,
-        lacking,
-        folders,
-        &mut console.output,
-        &mut console.errors,
-    ) {
-        Ok(status) => Ok(status),
-        Err(stop) => tell_stop(alloc, stop, &mut console.errors),
     }
 }

@@ -1,10 +1,10 @@
-//! The name of a file.
+//! The name of a file, as its recorder wrote it and as somebody has compressed it.
 
 ghost use Rattle.std.specs.Prelude.{◌≡◌, ◌≢◌, ◌==◌, ◌++◌, ◌∷◌, [], ℕ, List, IfSome, IfNone, position};
 ghost use Rattle.std.specs.List.{list_all};
 ghost use Rattle.recorded_files.specs.Files.{party_word};
 ghost use Rattle.recorded_files.specs.declared.lines.Party.{Party as Writer};
-ghost use Rattle.surveyed_logs.specs.Names.{are_digits, file_name, is_digit, AreDigits};
+ghost use Rattle.surveyed_logs.specs.Names.{are_digits, file_name, is_digit, AreDigits, IsCompressedName, IsEnding, IsNameOf};
 
 use migration_types::LogName;
 use recorded_files::Party;
@@ -108,4 +108,43 @@ pub fn read_file_name(name: &[u8]) -> Option<(Party, &[u8])>
         Some(process) => Some((Party::Of(LogName::Pager), process)),
         None => None,
     }
+}
+
+/// Returns what is in front of an ending of compressed files, if it is the name of a recorder's file.
+fn name_before<'a>(name: &'a [u8], ending: &[u8]) -> Option<&'a [u8]>
+    requires { IsEnding ending.now }
+    ensures found { IfSome result (λ whole. ((party : Writer) × IsNameOf party whole.now) × IsCompressedName whole.now name.now) }
+    ensures none { IfNone result ((party : Writer) (whole : List ℕ) → IsNameOf party whole → name.now ≢ whole ++ ending.now) }
+{
+    let Some(whole) = name.strip_suffix(ending) else {
+        return None;
+    };
+    match read_file_name(whole) {
+        Some(_) => Some(whole),
+        None => None,
+    }
+}
+
+/// Returns the name that a recorder's file had before somebody compressed it, which is `PARTY.PROCESS.NUMBER` in
+/// `PARTY.PROCESS.NUMBER.ENDING`. The endings are `bz2`, `gz`, `lz4`, `lzma`, `xz` and `zst`.
+pub fn read_compressed_name(name: &[u8]) -> Option<&[u8]>
+    ensures found { IfSome result (λ whole. ((party : Writer) × IsNameOf party whole.now) × IsCompressedName whole.now name.now) }
+    ensures none { IfNone result ((party : Writer) (whole : List ℕ) → IsNameOf party whole → IsCompressedName whole name.now → ⊥) }
+{
+    if let Some(whole) = name_before(name, b".bz2") {
+        return Some(whole);
+    }
+    if let Some(whole) = name_before(name, b".gz") {
+        return Some(whole);
+    }
+    if let Some(whole) = name_before(name, b".lz4") {
+        return Some(whole);
+    }
+    if let Some(whole) = name_before(name, b".lzma") {
+        return Some(whole);
+    }
+    if let Some(whole) = name_before(name, b".xz") {
+        return Some(whole);
+    }
+    name_before(name, b".zst")
 }

@@ -6,7 +6,7 @@ use recorded_files::{FileFault, FileReader, Last, Opening, Party};
 use std::alloc::{AllocError, Global};
 use surveyed_logs::{
     LogLack, LogPart, Onlooker, PartEnd, PartFault, Surveyed, count_records, find_lacks,
-    find_parts, read_file_name, survey,
+    find_parts, read_compressed_name, read_file_name, survey,
 };
 
 #[test]
@@ -19,6 +19,29 @@ fn reads_the_name_of_a_file(rt: HostRuntime) {
     assert!(rt; read_file_name(b"guests.1.1").is_none());
     assert!(rt; read_file_name(b"pager.1.1x").is_none());
     assert!(rt; read_file_name(b".pager.1.1").is_none());
+}
+
+#[test]
+fn reads_the_name_of_a_compressed_file(rt: HostRuntime) {
+    let names: [&[u8]; 6] = [
+        b"lane.1.0.bz2",
+        b"lane.1.0.gz",
+        b"lane.1.0.lz4",
+        b"lane.1.0.lzma",
+        b"lane.1.0.xz",
+        b"lane.1.0.zst",
+    ];
+    for name in names {
+        assert!(rt; read_compressed_name(name) == Some(&b"lane.1.0"[..]));
+    }
+    assert!(rt; read_compressed_name(b"machine.12.3.gz") == Some(&b"machine.12.3"[..]));
+    assert!(rt; read_compressed_name(b"lane.1.0").is_none());
+    assert!(rt; read_compressed_name(b"lane.1.0gz").is_none());
+    assert!(rt; read_compressed_name(b"lane.1.0.zip").is_none());
+    assert!(rt; read_compressed_name(b"lane.1.0.gz.xz").is_none());
+    assert!(rt; read_compressed_name(b"lane.1.gz").is_none());
+    assert!(rt; read_compressed_name(b"lanes.1.0.gz").is_none());
+    assert!(rt; read_compressed_name(b".gz").is_none());
 }
 
 const GUEST: Party = Party::Of(LogName::Guest);

@@ -3,18 +3,15 @@ use Rattle.std.specs.Prelude.{◌≡◌, ◌⊎◌, ◌↔◌, ℕ, List, [], �
 use Rattle.std.specs.List.{Contains}
 use Rattle.recorded_files.specs.Said.{Says}
 use Rattle.recorded_files.specs.declared.lines.Party.{Party}
+use Rattle.surveyed_logs.specs.Names.{IsNameOf}
 use Rattle.surveyed_logs.specs.Surveys.{IsSurveyOf}
 use Rattle.surveyed_logs.specs.declared.surveying.Surveyed.{Surveyed}
 use Rattle.found_logs.specs.Logs.{log_of}
-use Rattle.found_logs.specs.Found.{IsFileOf, IsNameOf, IsSurveyed, path_in}
+use Rattle.found_logs.specs.Found.{IsSurveyed, path_in, told_of}
 use Rattle.found_logs.specs.declared.found.FoundFile.{FoundFile}
 use Rattle.found_logs.specs.declared.found.FoundLog.{FoundLog}
 use Rattle.found_logs.specs.declared.found.FoundLogs.{FoundLogs}
 use Rattle.found_logs.specs.declared.surveys.Recording.{Recording}
-
--- a file's party and its path
-abbrev pub told_of : FoundFile → Party × List ℕ
-told_of file = (file.party, string_bytes file.path)
 
 -- The files of these names in a folder are added.
 pub record AddsNames (IsOne : List ℕ → Type 0) (folder : List ℕ) (old new : List FoundFile) : Type 0 where
@@ -27,11 +24,6 @@ pub record AddsFolder (known : Option (List (List ℕ))) (folder : List ℕ) (ol
   pub names : List (List ℕ)
   pub is_known : (listing : List (List ℕ)) → known ≡ Some listing → (name : List ℕ) → Contains listing name ↔ Contains names name
   pub adds : AddsNames (Contains names) folder old new
-
--- these are the files in the folders
-pub record AreFound (names_in : List ℕ → Option (List (List ℕ))) (folders : List (List ℕ)) (files : List FoundFile) : Type 0 where
-  pub each : (party : Party) (path : List ℕ) → Contains (map told_of files) (party, path) → IsFileOf names_in folders party path
-  pub all : (party : Party) (folder name : List ℕ) (names : List (List ℕ)) → Contains folders folder → names_in folder ≡ Some names → Contains names name → IsNameOf party name → Contains (map told_of files) (party, path_in folder name)
 
 -- ---- as they are surveyed
 

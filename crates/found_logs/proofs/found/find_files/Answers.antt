@@ -1,7 +1,9 @@
-use Rattle.std.proofs.Common.{ℕ, List, [], sym, subst}
+use Rattle.std.proofs.Common.{ℕ, List, [], map, sym, subst}
+use Rattle.std.specs.Prelude.{string_bytes}
 use Rattle.std.specs.Borrow.{Bor}
 use Rattle.found_logs.specs.declared.found.FoundFile.{FoundFile}
-use Rattle.found_logs.specs.inner.Finding.{AreFound}
+use Rattle.found_logs.specs.Found.{AreFound}
+use Rattle.found_logs.proofs.Compressing.{all_in, compressed_in_none, next_in}
 use Rattle.found_logs.proofs.Finding.{all_found, found_none, next_found}
 use Rattle.found_logs.proofs.found.find_files.Goals as goal
 
@@ -10,10 +12,16 @@ abbrev no_folder : Bor (List ℕ)
 no_folder = record { ref_ptr = (0, 0); now = [] }
 
 pub loop-place-init : goal.loop-place-init
-loop-place-init g c = subst (λ (files : List FoundFile). AreFound (g.S.TextSource.names_in c.args.texts.now) [] files) (sym c.new-files.ensures.items) (found_none (g.S.TextSource.names_in c.args.texts.now))
+loop-place-init g c = (subst (λ (files : List FoundFile). AreFound (g.S.TextSource.names_in c.args.texts.now) [] files) (sym c.new-files.ensures.items) (found_none (g.S.TextSource.names_in c.args.texts.now)), rw c.new-compressed.ensures.items (compressed_in_none (g.S.TextSource.names_in c.args.texts.now)))
 
 pub loop-place-preserved : goal.loop-place-preserved
-loop-place-preserved g c = next_found (λ folder. folder.now) (g.S.TextSource.names_in c.args.texts.now) c.args.folders.now c.loop-place.place no_folder c.loop-place.files.items c.push_files.new.files.items c.loop-place-test.true c.loop-place.invariant c.in_ok-push_files.ensures
+loop-place-preserved g c = (
+  next_found (λ folder. folder.now) (g.S.TextSource.names_in c.args.texts.now) c.args.folders.now c.loop-place.place no_folder c.loop-place.files.items c.push_files.new.files.items c.loop-place-test.true c.loop-place.invariant.0 c.in_ok-push_files.ensures.files,
+  next_in (λ folder. folder.now) (g.S.TextSource.names_in c.args.texts.now) c.args.folders.now c.loop-place.place no_folder (map string_bytes c.loop-place.compressed.items) (map string_bytes c.push_files.new.compressed.items) c.loop-place-test.true c.loop-place.invariant.1 c.in_ok-push_files.ensures.compressed,
+)
 
-pub returns : goal.returns
-returns g c = all_found (λ folder. folder.now) (g.S.TextSource.names_in c.args.texts.now) c.args.folders.now c.loop-place.place c.loop-place.files.items c.loop-place-test.false c.loop-place.invariant
+pub returns-clause-files : goal.returns-clause-files
+returns-clause-files g c = all_found (λ folder. folder.now) (g.S.TextSource.names_in c.args.texts.now) c.args.folders.now c.loop-place.place c.loop-place.files.items c.loop-place-test.false c.loop-place.invariant.0
+
+pub returns-clause-compressed : goal.returns-clause-compressed
+returns-clause-compressed g c = all_in (λ folder. folder.now) (g.S.TextSource.names_in c.args.texts.now) c.args.folders.now c.loop-place.place _ c.loop-place-test.false c.loop-place.invariant.1

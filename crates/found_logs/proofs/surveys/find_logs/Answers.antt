@@ -3,4 +3,4 @@ use Rattle.text_access.specs.Names.{names_of}
 use Rattle.found_logs.proofs.surveys.find_logs.Goals as goal
 
 pub returns : goal.returns
-returns g c = IfOk-weaker c.survey_files.result _ _ (λ logs is. is (names_of c.args.folders.now) (rw c.as_slice.ensures.value c.in_ok-files.ensures)) c.survey_files.ensures
+returns g c = IfOk-weaker c.survey_files.result _ _ (λ logs is found. is (names_of c.args.folders.now) (rw c.as_slice.ensures.value found)) c.survey_files.ensures
