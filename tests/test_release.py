@@ -24,6 +24,7 @@ from needed import can_have
 
 TOP = os.path.dirname(os.path.dirname(os.path.realpath(__file__)))
 SCRIPTS = {"postcopy-session": "recorders/session", "postcopy-annotate": "share/bin/postcopy-annotate", "postcopy-report": "share/bin/postcopy-report"}
+NOBODY = 65534  # a user without rights
 MODULES = ("__init__", "recorder", "records", "sessions", "testing")
 
 # What stands under a prefix, where the version is 1.2.3.
@@ -213,7 +214,7 @@ def removed(prefix):
     open(f"{prefix}/new/share/mine", "w").close()
     said, status = ran(*remove, f"{prefix}/new")
     same("a removal around a file that somebody put there", (said, status, files_below(f"{prefix}/new")),
-         ("".join(f"tools/install: kept {it}, which has other files\n" for it in (f"{prefix}/new/share", f"{prefix}/new")), 0, ["share/mine"]))
+         ("".join(f"tools/install: kept {it}, which is not empty\n" for it in (f"{prefix}/new/share", f"{prefix}/new")), 0, ["share/mine"]))
     for taken in ("bin/postcopy", "lib/libpostcopy.so"):
         at = f"{prefix}/{os.path.basename(taken)}"
         os.makedirs(f"{at}/{taken}")
@@ -239,6 +240,33 @@ def test_odd_prefix(room):
     else:
         leave_out("what pkg-config tells (there is none)")
     same("a removal", (ran(f"{TOP}/tools/install", "--uninstall", prefix), os.path.exists(prefix)), (("", 0), False))
+
+
+@pytest.mark.quick
+@pytest.mark.cases(2)
+def test_removal_without_a_right(room):
+    """A removal by a user who may not remove a folder: why it stays is told, and the status is not 0."""
+    def become_nobody():
+        os.setgid(NOBODY)
+        os.setuid(NOBODY)
+
+    prefix, is_superuser = f"{room}/home/prefix", os.geteuid() == 0
+    os.makedirs(f"{prefix}/share/postcopy")
+    with open(f"{prefix}/share/postcopy/installed", "w") as file:
+        file.write(f"folder {prefix}\nfolder {prefix}/share\nfolder {prefix}/share/postcopy\n")
+    os.mkdir(f"{room}/tools")  # (not every user can enter each folder that has a checkout)
+    for it in ("install", "shipped.sh"):
+        shutil.copy(f"{TOP}/tools/{it}", f"{room}/tools")
+    os.chmod(prefix, 0o555)
+    if is_superuser:
+        os.chmod(room, 0o755)
+        for at, _, names in os.walk(f"{room}/home"):
+            for it in (at, *(f"{at}/{name}" for name in names)):
+                os.chown(it, NOBODY, NOBODY)
+    said, status = ran(f"{room}/tools/install", "--uninstall", prefix, preexec_fn=become_nobody if is_superuser else None)
+    same("what is told", said, f"tools/install: kept {prefix}/share: Permission denied\ntools/install: kept {prefix}, which is not empty\n")
+    same("the status, and what stays", (status, folders_below(prefix), files_below(prefix)), (1, [".", "share"], []))
+    os.chmod(prefix, 0o755)
 
 
 # Man pages and completions.
