@@ -8,7 +8,7 @@ ZERO = "0" * 16
 
 def session_of(folder, is_whole):
     """Returns the recording's session. If CRIU did not come to its end, the logs are cut so that no record names a missing one."""
-    session = recording_in(folder).session()
+    session = recording_in(folder).session(is_whole)
     left_out = 0 if is_whole else session.cut()
     return session, left_out
 

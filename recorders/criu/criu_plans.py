@@ -50,6 +50,7 @@ class Plan:
     limit: float = 60.0     # seconds for each part of the migration
     plain: bool = False     # without the library in lazy-pages: nothing is judged
     criu: str = ""          # the version
+    log_has_end: bool = True  # whether the log's last line says how long it is: of an early recording it does not
 
     def to_text(self):
         return json.dumps(asdict(self), indent=1)
@@ -65,4 +66,4 @@ def plan_of(kind, **changes):
 
 
 def plan_from_text(text):
-    return Plan(**json.loads(text))
+    return Plan(**{"log_has_end": False, **json.loads(text)})

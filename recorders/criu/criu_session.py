@@ -14,6 +14,11 @@ def whole_lines(data):
     return data.decode("ascii").split("\n")[:-1]
 
 
+def end_of_log(length):
+    """Returns the last line of a log in which so many bytes stand before it."""
+    return f"end {length}\n"
+
+
 class Wire:
     """The logs of the source and of the link, from the relay's log."""
 
@@ -258,13 +263,24 @@ class Recording:
         contents = Contents(self.read, self.plan.words)
         return lambda place: contents.cells(name, place)
 
-    def session(self):
+    def log(self, is_whole):
+        """Returns the log without its end, which must be there if the recording is whole."""
+        data = self.read("log")
+        before = data[:data.rfind(b"\n", 0, -1) + 1]
+        if data[len(before):] == end_of_log(len(before)).encode("ascii"):
+            return before
+        if is_whole and self.plan.log_has_end:
+            raise Hole("log: its end is missing")
+        return data
+
+    def session(self, is_whole=True):
+        """Returns the session. If the recording is not whole, its log may end early."""
         session = Session(self.plan.pages, self.plan.words, self.plan.has_releases_at_target)
         wire = self.wire(self, session)
         for line in whole_lines(self.read("relay.log")):
             wire.read(line.split())
         sides = self.sides(self, session, wire)
-        for line in whole_lines(self.read("log")):
+        for line in whole_lines(self.log(is_whole)):
             sides.read(line.split())
         if not sides.is_resumed:
             raise Hole("there was no post-copy: the process was not resumed at the target")

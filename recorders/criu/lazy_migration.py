@@ -10,6 +10,7 @@ from dataclasses import dataclass, field
 import criu_build
 import folders
 from criu_plans import BASE
+from criu_session import end_of_log
 from page_relay import Relay
 from page_server import PAGE_BYTES, header_of
 from sides import PROCESS, Failed, Side
@@ -276,3 +277,17 @@ class Migration:
             self.relay.end()
             if self.relay.complaint:
                 self.outcome.remarks.append(self.relay.complaint)
+        self.end_log()
+
+    def end_log(self):
+        """Writes the log's last line, by which it shows that nothing of it is lost. Nobody else writes to the log any more."""
+        try:
+            with open(self.log, "r+b") as log:
+                length = log.seek(0, os.SEEK_END)
+                log.seek(max(length - 1, 0))
+                if log.read() not in (b"", b"\n"):
+                    self.outcome.remarks.append("log: its last line is not whole")
+                else:
+                    log.write(end_of_log(length).encode("ascii"))
+        except OSError as fault:
+            self.outcome.remarks.append(f"log: {fault.strerror}")

@@ -6,13 +6,14 @@ import os
 import re
 import sys
 import tempfile
+from dataclasses import replace
 from types import SimpleNamespace
 from unittest import mock
 
 import criu_judge
 import judge
 import kept
-from criu_plans import BASE, plan_of
+from criu_plans import BASE, plan_from_text, plan_of
 from criu_session import Recording, Sides, Wire
 from lazy_migration import RECORDED, Outcome
 from page_server import NARROW, PAGE_BYTES, Message, Strange
@@ -72,6 +73,29 @@ def of_files_that_end_early(tests):
                 tests.wants(f"{left} bytes of {name}", criu_judge.judged(room).line, f"not judged: {name} ends before page {page}")
 
 
+def of_a_log_that_ends_early(tests):
+    """The log's last line says how long it is. Where it does not, the migration is not judged as a whole one, and what is left of one that
+    is not whole is judged."""
+    files, (digest, verdict) = kept.files_of("live"), kept.expected()["live"]
+    plan = replace(plan_from_text(files["plan.json"].decode()), log_has_end=True)
+    whole = {**files, "plan.json": plan.to_text().encode(), "log": files["log"] + b"end %d\n" % len(files["log"])}
+    tests.wants("a log with an end", kept.hash_of(session_of(whole).text()), digest)
+    end = len(whole["log"])
+    last = whole["log"].rindex(b"\ng ")  # (what the process told last)
+    for left in (end - 1, end - 2, len(files["log"]), len(files["log"]) - 1, last + 1, last, end // 2, 0):
+        cut = {**whole, "log": whole["log"][:left]}
+        said = tests.refuses(f"{left} of {end} bytes of the log", Hole, lambda: session_of(cut))
+        tests.wants(f"what is told of {left} bytes", said, "log: its end is missing")
+    lacking = {**whole, "log": whole["log"][:last + 1] + whole["log"][whole["log"].rindex(b"end "):]}
+    tests.refuses("a log that lacks a line before its end", Hole, lambda: session_of(lacking))
+    with tempfile.TemporaryDirectory() as room:
+        for file, data in {**whole, "log": whole["log"][:last + 1]}.items():
+            with open(f"{room}/{file}", "wb") as out:
+                out.write(data)
+        for is_whole, wanted in ((True, "not judged: log: its end is missing"), (False, verdict)):
+            tests.wants(f"the verdict on a log without an end, {is_whole}", criu_judge.judged(room, is_whole).line, wanted)
+
+
 def of_what_is_not_put_in(tests):
     """A clean migration in which a fault was to be put in, and was not, is told as such."""
     loader = importlib.machinery.SourceFileLoader("criu_migrate", f"{os.path.dirname(os.path.abspath(kept.__file__))}/migrate")
@@ -122,7 +146,7 @@ def of_hang(tests):
 
 def released_under_way(placed_after):
     """A page that is given up while it is on its way, and is put in place before or after lazy-pages takes the message of it."""
-    plan = plan_of("releases", pages=2, words=1, criu="4.1.1")
+    plan = plan_of("releases", pages=2, words=1, criu="4.1.1", log_has_end=False)
     first, second = f"{BASE:x}", f"{BASE + PAGE_BYTES:x}"
     request, end = Message("get", 2, BASE, 1), Message("force-close", 0, 0, 0)
     places = [f"p down {NARROW.size + 2 * PAGE_BYTES}", f"p place {first} 0", f"p place {second} 1"]
@@ -261,6 +285,7 @@ def of_facts(tests):
 def run(tests):
     of_kept(tests)
     of_files_that_end_early(tests)
+    of_a_log_that_ends_early(tests)
     of_what_is_not_put_in(tests)
     of_hang(tests)
     of_cut(tests)

@@ -1,5 +1,6 @@
 """How the recorder of CRIU tells a migration that hangs from one on a slow machine, and how it waits for programs."""
 import os
+import resource
 import subprocess
 import tempfile
 import threading
@@ -138,9 +139,44 @@ def of_programs(tests):
         tests.wants("a program that ends", ended(program, 10), 3)
 
 
+def of_the_end(tests, room):
+    """The recorder ends the log, unless it is not whole by then or has no more room: that is told."""
+    limits = resource.getrlimit(resource.RLIMIT_FSIZE)
+    for held, most, wanted in ((b"", 1 << 20, (b"end 0\n", [])), (b"g 0 m 7\n", 1 << 20, (b"g 0 m 7\nend 8\n", [])),
+                               (b"g 0 m 7\ng", 1 << 20, (b"g 0 m 7\ng", ["log: its last line is not whole"])),
+                               (b"g 0 m 7\n", 8, (b"g 0 m 7\n", ["log: File too large"])),
+                               (None, 1 << 20, (None, ["log: No such file or directory"]))):
+        migration = migration_in(room)
+        migration.sides, migration.relay = [], None
+        migration.lock_gate = lambda seconds: True
+        write(migration.log, held)
+        resource.setrlimit(resource.RLIMIT_FSIZE, (most, limits[1]))
+        try:
+            migration.stop()
+        finally:
+            resource.setrlimit(resource.RLIMIT_FSIZE, limits)
+        tests.wants(f"the end of a log of {held} with room for {most} bytes", (held_by(migration.log), migration.outcome.remarks), wanted)
+
+
+def write(path, data):
+    """Puts a file there, or none."""
+    os.unlink(path)
+    if data is not None:
+        with open(path, "wb") as out:
+            out.write(data)
+
+
+def held_by(path):
+    if not os.path.exists(path):
+        return None
+    with open(path, "rb") as file:
+        return file.read()
+
+
 def run(tests):
     with tempfile.TemporaryDirectory() as room:
         of_rest(tests, room)
         of_ends(tests, room)
         of_waiting(tests, room)
+        of_the_end(tests, room)
     of_programs(tests)
