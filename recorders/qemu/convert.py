@@ -66,6 +66,12 @@ class Recording:
             return self.session(is_from_halt=True)
         return session
 
+    def require_end(self):
+        """Raises Hole if what the target recorded has no end. The recorder stops the guest there, so nothing is told behind that."""
+        told = text_of(self.read("target.raw"))
+        if told.rfind(STOPS) < told.rfind(RUNS):
+            raise Hole("target.raw: its end is missing")
+
     def done_before(self, in_flight):
         """Returns the access that the halt interrupted, if it was done before the halt."""
         return in_flight.done(self.read("target.raw"), self.cell_at_halt)

@@ -57,9 +57,12 @@ class Verdict:
 
 def session_of(folder, is_whole, is_from_halt):
     """Returns the recording's session. If a QEMU ended early, the logs are cut so that no record names a missing one."""
-    session = recording_in(folder).session(is_from_halt)
-    left_out = 0 if is_whole else session.cut()
-    return session, left_out
+    recording = recording_in(folder)
+    session = recording.session(is_from_halt)
+    if not is_whole:
+        return session, session.cut()
+    recording.require_end()
+    return session, 0
 
 
 def judge(folder, is_whole=True, is_from_halt=False):

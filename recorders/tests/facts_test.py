@@ -407,6 +407,24 @@ def of_an_end_that_is_missing(tests):
     tests.wants("which page it is", said, f"halt.mem ends before page {page}")
 
 
+def of_a_target_that_ends_early(tests):
+    """What the target recorded ends where the recorder stops the guest. Without that a migration is not judged as one that came to its end."""
+    for name, _, _ in kept():
+        recording = convert.Recording(files_of(name).__getitem__)
+        if recording.restart() is None:  # (each of the others came to its end)
+            recording.require_end()
+    files = files_of("example-live")
+    told, runs, stops = files["target.raw"], *(files["target.raw"].rindex(f"vm_state_notify running {it} ".encode()) for it in (1, 0))
+    tests.wants("the guest runs at the target before it is stopped", runs < stops, True)
+    for left in (stops, stops - 1, (runs + 2 * stops) // 3):
+        for is_whole, wanted in ((True, "not judged: target.raw: its end is missing"), (False, "clean, yes")):
+            with tempfile.TemporaryDirectory() as room:
+                for name, data in {**files, "target.raw": told[:left]}.items():
+                    with open(f"{room}/{name}", "wb") as out:
+                        out.write(data)
+                tests.wants(f"{left} of {len(told)} bytes of target.raw, {is_whole}", judge.judge(room, is_whole).line, wanted)
+
+
 def of_statuses(tests):
     """What ends early is no success, though what is left is clean; nor is a migration of which QEMU says that it came to its end, and
     whose logs do not tell that each page came."""
@@ -540,6 +558,7 @@ def run(tests):
     of_restarts(tests)
     of_files_that_end_early(tests)
     of_an_end_that_is_missing(tests)
+    of_a_target_that_ends_early(tests)
     of_statuses(tests)
     of_what_is_not_put_in(tests)
     of_a_long_log(tests)
