@@ -4,6 +4,7 @@ Nothing is removed from a folder that was not made here. A folder that was made 
 recorder writes are replaced in it. Those of a recording, which MARK lists, are replaced by a recording of another recorder too.
 A process that has taken a folder keeps it until it ends: two recordings at once would each have files of the other.
 """
+import contextlib
 import errno
 import fcntl
 import os
@@ -87,13 +88,19 @@ def end_in_order():
             signal.signal(number, lambda number, _: sys.exit(128 + number))
 
 
-def write(path, text):
-    """Writes a text to a file. A fault names the file."""
+@contextlib.contextmanager
+def naming(path):
+    """Has a fault name this file, if it names none, as where the disk is full."""
     try:
-        with open(path, "w", encoding="utf-8") as out:
-            out.write(text)
+        yield
     except OSError as fault:
-        raise OSError(fault.errno, fault.strerror, path) from None
+        raise OSError(fault.errno, fault.strerror, fault.filename or path) from None
+
+
+def write(path, text, how="w"):
+    """Writes a text to a file, or with "a" adds it. A fault names the file."""
+    with naming(path), open(path, how, encoding="utf-8") as out:
+        out.write(text)
 
 
 def status_of(name, main):

@@ -123,11 +123,17 @@ def result_of(folder, workload, is_bare, verdict, seconds, stands_still=False):
 
 
 def results_in(path):
-    """Returns the results that a file has, a line each."""
+    """Returns the results that a file has, a line each. Raises ValueError, with the line, if one is none."""
     if not os.path.exists(path):
         return []
+    found = []
     with open(path, encoding="utf-8") as lines:
-        return [result_from_text(line) for line in lines]
+        for number, line in enumerate(lines, 1):
+            try:
+                found.append(result_from_text(line))
+            except (ValueError, TypeError):
+                raise ValueError(f"{path}:{number}: this line is no result of linux_runs, or not whole") from None
+    return found
 
 
 def write_results(path, results):

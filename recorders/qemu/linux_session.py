@@ -13,6 +13,7 @@ import build
 import judge
 from contents import Contents
 from convert import Recording
+from folders import naming
 from postcopy.records import LARGE
 from records import Hole
 from source_side import SourceSide
@@ -157,7 +158,8 @@ class LinuxRecording(Recording):
         return {**found, "kept": os.path.getsize(f"{self.folder}/{side}.accesses") // RECORD_BYTES}
 
     def write_placements(self, session):
-        with open(f"{self.folder}/placements", "wb") as out:
+        path = f"{self.folder}/placements"
+        with naming(path), open(path, "wb") as out:
             for name, page, contents in self.target.told:
                 number = NONE if name is None else session.numbers["pager"][name]
                 out.write(struct.pack("=3I", number, page, NONE if contents == ZERO else int(contents)))
@@ -199,7 +201,8 @@ class LinuxRecording(Recording):
         whole.is_large = True
         if not whole.fits(LARGE) or len(session.logs["guest"]) > LARGE.records:
             raise Hole(f"{len(session.logs['guest'])} records of the guest are more than a session has")
-        with open(f"{self.folder}/session", "wb") as out:
+        path = f"{self.folder}/session"
+        with naming(path), open(path, "wb") as out:
             for line in whole.lines():
                 if line != "guest 0\n":
                     out.write(line.encode())

@@ -7,6 +7,7 @@ import threading
 import time
 
 from dialect import PC_RAM
+from folders import write
 from qmp import Gone, Hangs, Qmp, Refused
 from roots import die_with_parent
 
@@ -78,8 +79,7 @@ class Machine:
             "-nodefaults", "-no-user-config", "-display", "none", *self.guest(plan),
             "-qmp", f"unix:{self.socket},server=on,wait=off", "-D", self.pipe,
             *(word for event in trace for word in ("-trace", event)), *extra]
-        with open(f"{folder}/{name}.command", "w") as out:
-            print(*command, file=out)
+        write(f"{folder}/{name}.command", " ".join(command) + "\n")
         environment = {**os.environ, **self.environment(plan)} if library else None
         with open(self.errors, "w") as errors:
             self.process = subprocess.Popen(command, cwd=folder, env=environment, stderr=errors, stdin=subprocess.DEVNULL, preexec_fn=die_with_parent)

@@ -15,6 +15,7 @@ from unittest import mock
 
 import debian
 import dialect
+import folders
 import found_page
 import linux_results
 import linux_run
@@ -382,6 +383,15 @@ def of_runs(tests, room):
         "", "5 migrations, 3 of them at a load of 4 to 4:", "", "| Migrations of | 7.2.22 |", "| --- | --- |"])
     wanted = "| recorded, 1 processor, `spread`, the switch in pre-copy's first round | 2 clean, 1 faulty, 2 not judged |"
     tests.wants("and its table", wanted in read(runs.PAGE), True)
+    results_file = f"{room}/cut/results"
+    os.makedirs(os.path.dirname(results_file))
+    folders.take(os.path.dirname(results_file), ())
+    for text, line in ((f"{results[0].to_text()}\n{results[0].to_text()[:-9]}", 2), ("\n", 1), ('{"plan": {}}\n', 1)):
+        with open(results_file, "w", encoding="utf-8") as out:
+            out.write(text)
+        tests.wants("a file of results that is not whole", (made("0", f"{room}/cut"), read(results_file)), (2, text))
+        said = tests.refuses("what is no result", ValueError, lambda: linux_results.results_in(results_file))
+        tests.wants("where it is", said.partition(": ")[0], f"{results_file}:{line}")
     tests.wants("written once more, nothing is added", (made("0", f"{room}/seen", "--write"), len(linux_results.results_in(runs.KEPT)), wanted in read(runs.PAGE)), (0, 5, True))
     tests.wants("without runs the table of those that are kept", (made("0", f"{room}/none", "--write"), wanted in read(runs.PAGE)), (0, True))
 

@@ -286,6 +286,30 @@ def of_comparisons(tests, room):
             tests.wants(f"the status and the folders where QEMU lacks '{lacks}'", (compare.main(), made), wanted)
 
 
+def of_a_full_disk(tests, room):
+    """A series that cannot write its results or its table names that file."""
+    def emulator_of(name):
+        return SimpleNamespace(path=f"/{name}", version_text="10.0.13")
+
+    for name, words, file in (("campaign", ["1", "--qemu", "one"], "results"), ("campaign", ["1", "--qemu", "one"], "table"), ("compare", ["one", "--case", "live", "--runs", "1"], "table")):
+        series, folder = command(name), f"{room}/{name}-{file}"
+
+        def make_all(todo, *_, path=f"{folder}/{file}"):
+            with contextlib.suppress(FileNotFoundError):
+                os.unlink(path)
+            os.symlink("/dev/full", path)
+            return [Result(plan, "clean, yes", "completed") for plan in [plan_of("live")]]
+
+        with contextlib.ExitStack() as patches, contextlib.redirect_stdout(io.StringIO()), contextlib.redirect_stderr(io.StringIO()) as said:
+            for where, changes in ((series, {"Emulator": emulator_of}), (sys, {"argv": [name, *words, "--folder", folder], "stdout": io.TextIOWrapper(io.BytesIO())}),
+                                   (series.build, {"require_tools": lambda: None, "build": lambda: ("rom", "library")}), (series.series, {"make_all": make_all})):
+                patches.enter_context(mock.patch.multiple(where, **changes))
+            if name == "compare":
+                patches.enter_context(mock.patch.object(series, "lacks", lambda *_: ""))
+            status = series.folders.status_of(name, series.main)
+        tests.wants(f"{name} without room for the {file}", (status, said.getvalue()), (3, f"{name}: {folder}/{file}: No space left on device\n"))
+
+
 def of_what_was_found(tests, room):
     """The tables of campaigns: by version, from old to new, and of each kind; and where they stand in the page."""
     found = command("found")
@@ -312,7 +336,7 @@ def of_what_was_found(tests, room):
 
 
 def run(tests):
-    for of_them in (of_what_is_lacking, of_roots, of_one_that_hangs, of_the_forwarder, of_comparisons, of_what_was_found):
+    for of_them in (of_what_is_lacking, of_roots, of_one_that_hangs, of_the_forwarder, of_comparisons, of_a_full_disk, of_what_was_found):
         with tempfile.TemporaryDirectory() as room:
             of_them(tests, room)
     of_the_table(tests)
