@@ -168,9 +168,14 @@ def libc(name, *arguments):
         raise OSError(error, f"{name}: {os.strerror(error)}")
 
 
-def die_with_parent():
-    """Has the system kill this process when the thread that started it ends."""
-    libc("prctl", PR_SET_PDEATHSIG, signal.SIGKILL)
+def die_with_parent(number=signal.SIGKILL):
+    """Has the system kill this process, or send it another signal, when the thread that started it ends."""
+    libc("prctl", PR_SET_PDEATHSIG, number)
+
+
+def end_with_parent():
+    """Has the system end this process in order when the thread that started it ends."""
+    die_with_parent(signal.SIGTERM)
 
 
 def mount(what, where, kind, flags):

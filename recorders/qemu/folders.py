@@ -164,6 +164,15 @@ def remove(folder, files=FILES):
         os.rmdir(folder)
 
 
+def remove_all(folder):
+    """Removes a folder that an earlier run left, with all that is in it. Raises NotOurs if another process records into it."""
+    if not is_ours(folder):
+        return
+    hold(folder)
+    shutil.rmtree(folder, ignore_errors=True)
+    HELD.pop(os.path.realpath(folder)).close()
+
+
 class Room:
     """A folder that only this user can enter, for the sockets and pipes of a migration. Its path is short and has no special characters."""
 

@@ -7,6 +7,7 @@ import time
 
 import folders
 import results
+from roots import end_with_parent
 
 HERE = os.path.dirname(os.path.abspath(__file__))
 
@@ -15,7 +16,7 @@ def make(plan, folder, names):
     """Makes one migration with the QEMUs of these names, and returns its result. Removes a folder with nothing to look at."""
     words = [sys.executable, "-B", f"{HERE}/one.py", folder, *names]
     try:
-        done = subprocess.run(words, input=plan.to_text(), capture_output=True, text=True, timeout=plan.limit * 8)
+        done = subprocess.run(words, input=plan.to_text(), capture_output=True, text=True, timeout=plan.limit * 8, preexec_fn=end_with_parent)
         result = results.result_of(plan, folder, done)
     except subprocess.TimeoutExpired:
         result = results.Result(plan, "not judged: it took too long", "")

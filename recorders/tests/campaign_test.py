@@ -2,8 +2,11 @@
 import itertools
 import os
 import random
+import signal
 import subprocess
 import sys
+import tempfile
+import time
 from dataclasses import asdict, replace
 from types import SimpleNamespace
 
@@ -122,10 +125,45 @@ class Clock:
 
 def of_the_limit(tests):
     """Behind the moment at which a series ends no migration is begun, and what was made is answered in its order."""
-    make, time, series.make, series.time = series.make, series.time, lambda number: number, Clock()
+    make, clock, series.make, series.time = series.make, series.time, lambda number: number, Clock()
     tests.wants("those that were begun in time", list(series.make_all([(number,) for number in range(200)], 1, 9)), list(range(10)))
     tests.wants("without a limit", list(series.make_all([(1,), (2,), (3,)], 2)), [1, 2, 3])
-    series.make, series.time = make, time
+    series.make, series.time = make, clock
+
+
+ONE = """import os, sys, time
+sys.path[:0] = [%r, %r]
+import folders
+folders.end_in_order()
+print(os.getpid(), file=open(sys.argv[1], "w"))
+try:
+    time.sleep(60)
+finally:
+    open(sys.argv[1] + " ended", "w").close()
+"""
+
+
+def of_the_end_of_a_series(tests):
+    """A migration ends in order with the series that it is made for, also where that one is killed."""
+    script = (f"import sys\nsys.path[:0] = [{RECORDERS!r}, '{RECORDERS}/qemu', '{RECORDERS}/../bindings/python']\nimport series\nfrom kinds import plan_of\n"
+              "series.HERE = sys.argv[1]\nlist(series.make_all([(plan_of('live'), sys.argv[2], [])], 1))")
+    for number in (signal.SIGTERM, signal.SIGKILL):
+        with tempfile.TemporaryDirectory() as room:
+            with open(f"{room}/one.py", "w", encoding="utf-8") as out:
+                out.write(ONE % (f"{RECORDERS}/qemu", RECORDERS))
+            made = f"{room}/made"
+            with subprocess.Popen([sys.executable, "-B", "-c", script, room, made]) as parent:
+                is_begun = wait_for(made, os.path.getsize)
+                parent.send_signal(number)
+            tests.wants(f"a series that ends by signal {number}", (is_begun, wait_for(f"{made} ended", os.path.isfile)), (True, True))
+
+
+def wait_for(path, is_there):
+    """Waits half a minute for a file of which this holds. Returns whether it is there."""
+    until = time.monotonic() + 30
+    while not (os.path.exists(path) and is_there(path)) and time.monotonic() < until:
+        time.sleep(0.01)
+    return os.path.exists(path)
 
 
 def of_words(tests):
@@ -144,3 +182,4 @@ def run(tests):
     of_a_busy_machine(tests)
     of_a_guest_that_stands_still(tests)
     of_the_limit(tests)
+    of_the_end_of_a_series(tests)

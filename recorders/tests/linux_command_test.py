@@ -1,5 +1,6 @@
 """The command of Linux guests: the words, the packages, the initramfs, the machine and the boot, and what became of runs."""
 import contextlib
+import fcntl
 import gzip
 import io
 import os
@@ -383,6 +384,7 @@ def of_runs(tests, room):
         "", "5 migrations, 3 of them at a load of 4 to 4:", "", "| Migrations of | 7.2.22 |", "| --- | --- |"])
     wanted = "| recorded, 1 processor, `spread`, the switch in pre-copy's first round | 2 clean, 1 faulty, 2 not judged |"
     tests.wants("and its table", wanted in read(runs.PAGE), True)
+    of_earlier_folders(tests, f"{room}/earlier", made)
     results_file = f"{room}/cut/results"
     os.makedirs(os.path.dirname(results_file))
     folders.take(os.path.dirname(results_file), ())
@@ -394,6 +396,23 @@ def of_runs(tests, room):
         tests.wants("where it is", said.partition(": ")[0], f"{results_file}:{line}")
     tests.wants("written once more, nothing is added", (made("0", f"{room}/seen", "--write"), len(linux_results.results_in(runs.KEPT)), wanted in read(runs.PAGE)), (0, 5, True))
     tests.wants("without runs the table of those that are kept", (made("0", f"{room}/none", "--write"), wanted in read(runs.PAGE)), (0, True))
+
+
+def of_earlier_folders(tests, folder, made):
+    """A folder that an interrupted run left is made anew, unless another process records into it; one that no recorder made stays."""
+    run = f"{folder}/0000"
+    for it in (folder, run):
+        folders.take(it, ())
+    with open(f"{run}/verdict", "w", encoding="ascii") as out:
+        out.write("of an interrupted run")
+    with open(f"{run}/{folders.MARK}", encoding="ascii") as mark:
+        folders.HELD.pop(os.path.realpath(run)).close()
+        fcntl.flock(mark, fcntl.LOCK_EX)
+        tests.wants("a run into the folder of one that is under way", (made("1", folder, "--", "0"), read(f"{run}/verdict")), (2, "of an interrupted run"))
+    tests.wants("a run into the folder of one that was interrupted", (made("1", folder, "--", "0"), read(f"{run}/verdict")), (0, ""))
+    os.makedirs(f"{folder}/0001")
+    open(f"{folder}/0001/mine", "w").close()
+    tests.wants("a run into a folder of a user", (made("1", folder, "--", "0"), os.listdir(f"{folder}/0001")), (2, ["mine"]))
 
 
 def of_kept_results(tests):
