@@ -1,5 +1,6 @@
 """Numbers in the words of a command line."""
 import argparse
+import math
 
 
 def number(text, least):
@@ -11,6 +12,17 @@ def number(text, least):
 def from_0(text):
     """Returns a number of 0 or more."""
     return number(text, 0)
+
+
+def seconds(text):
+    """Returns a number of seconds, 0 or more."""
+    try:
+        value = float(text)
+    except ValueError:
+        value = math.nan
+    if not 0 <= value < math.inf:
+        raise argparse.ArgumentTypeError(f"'{text}' is not a number of 0 or more")
+    return value
 
 
 def above_0(text):

@@ -10,7 +10,6 @@ Each message is handed over whole, after it is written down, under one lock. The
 import contextlib
 import socket
 import threading
-import time
 
 from page_server import Answers, Requests, Status, Strange
 from relay_faults import fault_of
@@ -44,7 +43,7 @@ class Relay:
         self.fault = fault_of(plan, before, self.tell)
         self.requests, self.answers = Requests(header), Answers(header)
         self.lock, self.stored, self.complaint, self.is_delaying = threading.Lock(), 0, None, False
-        self.is_cut = False
+        self.is_cut, self.is_ended = False, threading.Event()
         self.last, self.repeats = None, 0  # what was asked last, and how often in a row before
         self.threads = [threading.Thread(target=self.guarded, args=(work, *ends), daemon=True)
                         for work, ends in ((self.up, (pager, server)), (self.down, (server, pager)))]
@@ -88,8 +87,8 @@ class Relay:
             self.is_delaying = bool(answers)
         try:
             for answer in answers:
-                if self.delay:
-                    time.sleep(self.delay)
+                if self.is_ended.wait(self.delay):
+                    break
                 with self.lock:
                     given = self.told(answer)
                     if given is not None:
@@ -115,6 +114,7 @@ class Relay:
 
     def end(self):
         """Ends both connections. Nothing is recorded after this."""
+        self.is_ended.set()
         for one in (self.pager, self.server):
             shut(one, socket.SHUT_RDWR)
         for thread in self.threads:

@@ -10,7 +10,8 @@ from machine import DEAD, Machine
 from qmp import Gone, Refused
 from relay import PRECOPY_ENDED, CutPlan, Relay, Window
 
-TOO_LONG = ("it took more than", "gave up: the guest does not walk")  # the beginnings of messages about a time limit
+GAVE_UP = "gave up: "
+TOO_LONG = ("it took more than", f"{GAVE_UP}the guest does not walk")  # the beginnings of messages about a time limit
 SECONDS_TO_END = 2  # within which a target whose load failed ends, if it does
 QEMUS_DOWNTIME = 300  # milliseconds: QEMU's own limit, where no other is asked for
 
@@ -121,8 +122,8 @@ class Migration:
             self.target = start("target", self.target_emulator, "-incoming", "defer")
             self.source = start("source", self.source_emulator)
             self.migrate()
-        except Gone as fault:
-            self.remark(f"gave up: {fault}")
+        except (Gone, Refused) as fault:
+            self.remark(f"{GAVE_UP}{fault}")
         finally:
             self.outcome.waited = round(max((machine.waited() for machine in self.machines), default=0.0), 1)
             self.end_machines()

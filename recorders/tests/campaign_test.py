@@ -10,11 +10,13 @@ import time
 from dataclasses import asdict, replace
 from types import SimpleNamespace
 
+import folders
 import results
 import series
 from faults import NEED_CUT
 from kinds import Plan, plan_from_text, plan_of
 from plans import DRAWN, random_plan
+from qmp import Refused
 from results import Result, outcome_in_words, result_from_text
 from run import Migration, Outcome
 
@@ -169,10 +171,32 @@ def wait_for(path, is_there):
 def of_words(tests):
     """A series of no migrations is no command: nothing would be wrong in it."""
     for words in (["qemu/campaign", "0"], ["qemu/campaign", "2", "--jobs", "0"], ["qemu/compare", "x", "--runs", "0"], ["qemu/both_sides", "--tries", "0"],
-                  ["qemu/direct", "live", "--tries", "-1"], ["criu/campaign", "0"], ["criu/campaign", "2", "--jobs", "x"], ["qemu/linux_runs", "-5", "x"]):
-        least = 0 if "qemu/linux_runs" in words else 1  # (of no runs it writes the table of those before)
+                  ["qemu/direct", "live", "--tries", "-1"], ["criu/campaign", "0"], ["criu/campaign", "2", "--jobs", "x"], ["qemu/linux_runs", "-5", "x"],
+                  *(["qemu/migrate", "x", option, number] for option in ("--pre", "--pace", "--warm", "--skip", "--multifd") for number in ("-1", "nan")),
+                  ["qemu/migrate", "x", "--cut", "-2"], ["criu/migrate", "x", "--delay", "-5"], ["criu/migrate", "x", "--after", "-5"],
+                  ["qemu/linux", "x", "--recorded", "-1"], ["qemu/linux", "x", "--limit", "inf"], ["qemu/linux", "x", "--skip", "-1"]):
+        least = 0 if words[0] in ("qemu/linux_runs", "qemu/migrate", "criu/migrate", "qemu/linux") else 1  # (of no runs linux_runs writes the table of those before)
         ran = subprocess.run([sys.executable, "-B", f"{RECORDERS}/{words[0]}", *words[1:]], capture_output=True, text=True)
         tests.wants(f"the words {' '.join(words)}", (ran.returncode, ran.stdout, f"is not a number of {least} or more" in ran.stderr), (2, "", True))
+    for words, wanted in ((["qemu/migrate", "x", "--writes", "17"], "--writes is 16 at most"), (["qemu/migrate", "x", "--pace", "4294967296"], "--pace less than 4294967296"),
+                          (["criu/migrate", "x", "--delay", "3600001"], "--delay is 3600000 at most")):
+        ran = subprocess.run([sys.executable, "-B", f"{RECORDERS}/{words[0]}", *words[1:]], capture_output=True, text=True)
+        tests.wants(f"the words {' '.join(words)}", (ran.returncode, ran.stdout, wanted in ran.stderr), (2, "", True))
+
+
+def of_a_refusal(tests):
+    """What a QEMU refuses is told, and is no traceback."""
+    def refuse():
+        raise Refused("migrate-set-parameters: Parameter 'multifd-channels' expects a value between 1 and 255")
+
+    with tempfile.TemporaryDirectory() as room:
+        one, said = Migration.__new__(Migration), []
+        one.plan, one.folder, one.outcome, one.say, one.machines, one.migrate, one.room = Plan(), room, Outcome(), said.append, [], refuse, folders.Room()
+        one.machine_class, one.source_emulator, one.target_emulator = (lambda *_: SimpleNamespace(waited=lambda: 0.0, end=lambda is_well: "")), *[SimpleNamespace(path="")] * 2
+        one.record(None, "pc", {"source": (), "target": ()})
+        one.room.end()
+    told = ["gave up: migrate-set-parameters: Parameter 'multifd-channels' expects a value between 1 and 255"]
+    tests.wants("what is told", (said, one.outcome.remarks, one.outcome.is_whole), (told, told, False))
 
 
 def run(tests):
@@ -183,3 +207,4 @@ def run(tests):
     of_a_guest_that_stands_still(tests)
     of_the_limit(tests)
     of_the_end_of_a_series(tests)
+    of_a_refusal(tests)

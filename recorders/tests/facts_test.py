@@ -461,6 +461,8 @@ def of_what_is_not_put_in(tests):
         told, status = migrated(recorder, {**files, "relay.log": log + files["relay.log"]}, remarks, *words)
         found = re.search("^Put in: (.*)$", told, re.MULTILINE)
         tests.wants(f"what is told of {words} with {log}", (found and found[1], status), wanted)
+    told, _ = migrated(recorder, files, ["gave up: migrate: no room"])
+    tests.wants("why the recorder gave up, with --quiet", "\nThe recorder gave up: migrate: no room\n" in told, True)
 
 
 def migrated(recorder, files, remarks, *words):

@@ -8,6 +8,7 @@ import time
 from criu_plans import BASE, plan_of
 from page_relay import Relay
 from page_server import NARROW, PAGE_BYTES, WIDE, Answers, Message, Requests, Status, Strange, header_of
+from plain import wait_until
 from relay_faults import fault_of
 
 OF = 0x3e8
@@ -153,20 +154,24 @@ def of_relay(tests):
 
 
 def of_ended_relay(tests):
-    """A relay that is ended hands no more answers over, however many have come."""
-    with tempfile.TemporaryDirectory() as folder:
-        (pager, ours), (server, theirs) = socket.socketpair(), socket.socketpair()
-        relay = Relay(folder, WIDE, ours, theirs, plan_of("live", pages=64, delay=50), b"")
-        pager.sendall(b"".join(get(page, 1).to_bytes(WIDE) for page in range(40)))
-        server.recv(WIDE.size * 40, socket.MSG_WAITALL)
-        server.sendall(b"".join(add(page, 1).to_bytes(WIDE) for page in range(40)))
-        pager.recv(1)
-        began = time.monotonic()
-        relay.end()
-        tests.wants("it ends at once", time.monotonic() - began < 1.5, True)
-        tests.wants("and all its threads", [thread.is_alive() for thread in relay.threads], [False, False])
-        pager.close()
-        server.close()
+    """A relay that is ended hands no more answers over, however many have come, and does not wait until the next one would be handed over."""
+    for delay in (50, 20_000):
+        with tempfile.TemporaryDirectory() as folder:
+            (pager, ours), (server, theirs) = socket.socketpair(), socket.socketpair()
+            relay = Relay(folder, WIDE, ours, theirs, plan_of("live", pages=64, delay=delay), b"")
+            pager.sendall(b"".join(get(page, 1).to_bytes(WIDE) for page in range(40)))
+            server.recv(WIDE.size * 40, socket.MSG_WAITALL)
+            server.sendall(b"".join(add(page, 1).to_bytes(WIDE) for page in range(40)))
+            if delay < 1000:
+                pager.recv(1)
+            else:
+                wait_until(lambda relay=relay: relay.is_delaying)
+            began = time.monotonic()
+            relay.end()
+            tests.wants(f"it ends at once, with a delay of {delay} ms", time.monotonic() - began < 1.5, True)
+            tests.wants("and all its threads", [thread.is_alive() for thread in relay.threads], [False, False])
+            pager.close()
+            server.close()
 
 
 def of_strange_relay(tests):
