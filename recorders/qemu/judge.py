@@ -50,6 +50,10 @@ class Verdict:
     def is_clean(self):
         return self.line == "clean, yes" and not self.restart
 
+    def of_cut_logs(self):
+        """Returns what is to be said of logs that were cut, since a side did not come to its end."""
+        return f"The logs may end early: {self.left_out} records were left out, and the verdict is on the others"
+
     def status(self, is_whole):
         """Returns the status of a recorder: 0 if the session is clean, and both sides came to the end. If they did not, the logs are cut."""
         return 0 if self.is_clean and is_whole else 1

@@ -96,27 +96,46 @@ def of_a_log_that_ends_early(tests):
             tests.wants(f"the verdict on a log without an end, {is_whole}", criu_judge.judged(room, is_whole).line, wanted)
 
 
-def of_what_is_not_put_in(tests):
-    """A clean migration in which a fault was to be put in, and was not, is told as such."""
+def migrated(files, outcome, *words):
+    """What the recorder writes of a migration that ended so, of which these files are left; and its status."""
     loader = importlib.machinery.SourceFileLoader("criu_migrate", f"{os.path.dirname(os.path.abspath(kept.__file__))}/migrate")
     recorder = importlib.util.module_from_spec(importlib.util.spec_from_loader(loader.name, loader))
     loader.exec_module(recorder)
+    with tempfile.TemporaryDirectory() as room:
+        def run():
+            for name, data in files.items():
+                with open(f"{room}/{name}", "wb") as out:
+                    out.write(data)
+            return outcome
+
+        made = mock.Mock(return_value=SimpleNamespace(run=run))
+        given = mock.patch.object(sys, "argv", ["migrate", "live", room, "--quiet", *words])
+        with given, mock.patch.object(recorder, "Migration", made), mock.patch.object(sys, "stdout", io.TextIOWrapper(io.BytesIO())) as out:
+            status = recorder.main()
+            out.seek(0)
+            return out.read(), status
+
+
+def of_what_is_left_out(tests):
+    """Of a migration that did not come to its end it is told how many records are left out: those that tell of one that is not there."""
+    files = kept.files_of("hang")
+    session = session_of(files)
+    before = sum(map(len, session.logs.values()))
+    session.cut()
+    left_out = before - sum(map(len, session.logs.values()))
+    told, status = migrated(files, Outcome("waits", "hangs", 0))
+    tests.wants("what is told of a hang", (f"\nThe logs may end early: {left_out} records were left out, and the verdict is on the others\n" in told, status), (True, 1))
+    told, status = migrated(kept.files_of("live"), Outcome(0, 0, 0))
+    tests.wants("and of one that came to its end", ("left out" in told, status), (False, 0))
+
+
+def of_what_is_not_put_in(tests):
+    """A clean migration in which a fault was to be put in, and was not, is told as such."""
     files = kept.files_of("live")
     for words, log, wanted in (((), b"", (None, 0)), (("--fault", "flip"), b"", ("flip not reached", 4)), (("--fault", "flip"), b"fault flip 1000\n", (None, 0)),
                                (("--fault", "flip", "--plain"), b"", ("flip not reached", 4))):
-        with tempfile.TemporaryDirectory() as room:
-            def run(room=room, log=log):
-                for name, data in {**files, "relay.log": log + files["relay.log"]}.items():
-                    with open(f"{room}/{name}", "wb") as out:
-                        out.write(data)
-                return Outcome(0, 0, 0)
-
-            made = mock.Mock(return_value=SimpleNamespace(run=run))
-            given = mock.patch.object(sys, "argv", ["migrate", "live", room, "--quiet", *words])
-            with given, mock.patch.object(recorder, "Migration", made), mock.patch.object(sys, "stdout", io.TextIOWrapper(io.BytesIO())) as out:
-                status = recorder.main()
-                out.seek(0)
-                told = re.search("^Put in: (.*)$", out.read(), re.MULTILINE)
+        told, status = migrated({**files, "relay.log": log + files["relay.log"]}, Outcome(0, 0, 0), *words)
+        told = re.search("^Put in: (.*)$", told, re.MULTILINE)
         tests.wants(f"what is told of {words} with {log}", (told and told[1], status), wanted)
 
 
@@ -287,6 +306,7 @@ def run(tests):
     of_files_that_end_early(tests)
     of_a_log_that_ends_early(tests)
     of_what_is_not_put_in(tests)
+    of_what_is_left_out(tests)
     of_hang(tests)
     of_cut(tests)
     of_repeats(tests)
