@@ -1,12 +1,17 @@
 """Plans of lazy migrations, the table of what became of them, and what the recorder of CRIU says where it cannot record."""
+import importlib.machinery
+import importlib.util
 import os
 import random
 import subprocess
 import sys
 import tempfile
 from dataclasses import replace
+from types import SimpleNamespace
+from unittest import mock
 
 import criu_build
+import folders
 import roots
 from criu_campaign import DRAWN, Result, random_plan, table
 from criu_plans import FAULTS, IN_LIBRARY, KINDS, plan_from_text, plan_of
@@ -98,8 +103,27 @@ def of_words(tests, room):
             os.environ["POSTCOPY_ROOTS"] = before
 
 
+def of_a_folder_of_a_user(tests, room):
+    """A folder that no recorder made stays as it is: its migration is told as not judged, and the others are made."""
+    path = f"{os.path.dirname(os.path.abspath(criu_build.__file__))}/campaign"
+    loader = importlib.machinery.SourceFileLoader("criu_campaign_command", path)
+    campaign = importlib.util.module_from_spec(importlib.util.spec_from_loader(loader.name, loader))
+    loader.exec_module(campaign)
+    os.makedirs(f"{room}/00000")
+    open(f"{room}/00000/mine", "w").close()
+
+    def take(plan, folder, _):
+        return SimpleNamespace(run=lambda: folders.take(folder, ["session"], "criu"))
+
+    with mock.patch.object(campaign, "Migration", take):
+        result = campaign.record(plan_of("live", criu="sid"), f"{room}/00000")
+    tests.wants("what is told", (result.verdict, result.is_clean, os.listdir(f"{room}/00000")),
+                (f"not judged: {room}/00000 is not empty, and was not made by this recorder: name a new or an empty folder", False, ["mine"]))
+
+
 def run(tests):
     of_plans(tests)
     of_results(tests)
     with tempfile.TemporaryDirectory() as room:
         of_words(tests, room)
+        of_a_folder_of_a_user(tests, f"{room}/campaign")
