@@ -51,8 +51,9 @@ class Root:
 # Where roots are
 
 def cache(name):
-    """Returns a folder in the user's cache for things that are made once."""
-    return f"{os.environ.get('XDG_CACHE_HOME') or os.path.expanduser('~/.cache')}/postcopy/{name}"
+    """Returns a folder in the user's cache for things that are made once. A cache that is no whole path is none, as the launcher has it."""
+    top = os.environ.get("XDG_CACHE_HOME", "")
+    return f"{top if os.path.isabs(top) else os.path.expanduser('~/.cache')}/postcopy/{name}"
 
 
 def built_in(sources):

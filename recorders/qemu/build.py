@@ -7,6 +7,7 @@ import shutil
 import struct
 import subprocess
 
+from files import naming
 from roots import Missing, built_in, make_folder
 
 HERE = os.path.dirname(os.path.abspath(__file__))
@@ -116,5 +117,5 @@ def rom_for(plan, rom, path):
     with open(rom, "rb") as file:
         bytes_of_rom = file.read()
     settings = struct.pack("<6I", plan.pages, plan.words, plan.writes, plan.pace, plan.flush, plan.cpus)
-    with open(path, "wb") as file:
+    with naming(path), open(path, "wb") as file:
         file.write(settings + bytes_of_rom[len(settings):])

@@ -11,6 +11,7 @@ import subprocess
 import tempfile
 
 import build
+from files import naming, write
 from releases import opened
 from roots import Missing, cache
 
@@ -69,7 +70,7 @@ def take_out(package, name, folder):
     with opened(package) as archive:
         for member in archive:
             if FILES[name].fullmatch(member.name) and member.isreg():
-                with open(f"{folder}/{name}", "wb") as out:
+                with naming(f"{folder}/{name}"), open(f"{folder}/{name}", "wb") as out:
                     shutil.copyfileobj(archive.extractfile(member), out)
     if not os.path.exists(f"{folder}/{name}"):
         raise Missing(f"{os.path.basename(package)} has no {name}")
@@ -89,13 +90,12 @@ def get(say):
         with tempfile.TemporaryDirectory() as room:
             os.chmod(room, 0o755)
             names = {"vmlinuz": kernel_package(), "busybox": BUSYBOX}
-            with open(f"{folder}.new/packages", "w", encoding="ascii") as kept:
-                for name, package in names.items():
-                    say(f"download: {package}")
-                    file = download(package, room)
-                    say(f"unpack: {os.path.basename(file)}, {os.path.getsize(file) >> 10} KiB")
-                    take_out(file, name, f"{folder}.new")
-                    kept.write(f"{os.path.basename(file)}\n")
+            for name, package in names.items():
+                say(f"download: {package}")
+                file = download(package, room)
+                say(f"unpack: {os.path.basename(file)}, {os.path.getsize(file) >> 10} KiB")
+                take_out(file, name, f"{folder}.new")
+                write(f"{folder}.new/packages", f"{os.path.basename(file)}\n", "a")
         os.rename(f"{folder}.new", folder)
     return folder
 
@@ -122,7 +122,7 @@ def read(path):
 def build_initramfs(busybox, path):
     """Makes the initramfs from busybox, the workload and the first process."""
     program, folder = stat.S_IFREG | 0o755, (stat.S_IFDIR | 0o755, b"")
-    with open(path, "wb") as out:
+    with naming(path), open(path, "wb") as out:
         out.write(initramfs({
             "bin": folder, "dev": folder, "bin/busybox": (program, read(busybox)), "bin/sh": (stat.S_IFLNK | 0o777, b"busybox"),
             "init": (program, read(f"{HERE}/init")), "work": (program, read(build.build_work()))}))

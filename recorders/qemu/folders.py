@@ -4,7 +4,6 @@ Nothing is removed from a folder that was not made here. A folder that was made 
 recorder writes are replaced in it. Those of a recording, which MARK lists, are replaced by a recording of another recorder too.
 A process that has taken a folder keeps it until it ends: two recordings at once would each have files of the other.
 """
-import contextlib
 import errno
 import fcntl
 import os
@@ -16,6 +15,7 @@ import sys
 import tempfile
 
 import build
+from files import write
 
 MARK = ".postcopy-recording"
 ON_MARK = "This folder was made by recorders/%s, which replaces its own files in it when it records into it again.\n"
@@ -69,8 +69,7 @@ def take(folder, files=FILES, recorder="qemu"):
         hold(folder)
         is_recording, earlier = PLAN in files, listed(folder)
         clear(folder, {*files, *earlier} if is_recording else files)
-        with open(f"{folder}/{MARK}", "w", encoding="ascii") as mark:
-            mark.write(ON_MARK % recorder + "".join(f"{name}\n" for name in (files if is_recording else earlier)))
+        write(f"{folder}/{MARK}", ON_MARK % recorder + "".join(f"{name}\n" for name in (files if is_recording else earlier)))
     except OSError as fault:
         raise NotOurs(f"{folder} cannot be recorded into: {fault.strerror}") from None
 
@@ -86,21 +85,6 @@ def end_in_order():
     for number in (signal.SIGHUP, signal.SIGTERM):
         if signal.getsignal(number) == signal.SIG_DFL:
             signal.signal(number, lambda number, _: sys.exit(128 + number))
-
-
-@contextlib.contextmanager
-def naming(path):
-    """Has a fault name this file, if it names none, as where the disk is full."""
-    try:
-        yield
-    except OSError as fault:
-        raise OSError(fault.errno, fault.strerror, fault.filename or path) from None
-
-
-def write(path, text, how="w"):
-    """Writes a text to a file, or with "a" adds it. A fault names the file."""
-    with naming(path), open(path, how, encoding="utf-8") as out:
-        out.write(text)
 
 
 def status_of(name, main):

@@ -6,7 +6,7 @@ import subprocess
 import sys
 
 from convert import recording_in
-from folders import write
+from files import write
 from records import Hole
 from witness import witness
 

@@ -10,7 +10,7 @@ from typing import Optional
 
 import dialect
 from convert import recording_in
-from folders import write
+from files import write
 from records import Hole
 from results import markdown, was_put_in
 from witness import pages_that_differ

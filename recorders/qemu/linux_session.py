@@ -13,7 +13,7 @@ import build
 import judge
 from contents import Contents
 from convert import Recording
-from folders import naming
+from files import naming
 from postcopy.records import LARGE
 from records import Hole
 from source_side import SourceSide

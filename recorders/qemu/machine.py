@@ -7,7 +7,7 @@ import threading
 import time
 
 from dialect import PC_RAM
-from folders import write
+from files import write
 from qmp import Gone, Hangs, Qmp, Refused
 from roots import die_with_parent
 

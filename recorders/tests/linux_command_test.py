@@ -14,6 +14,7 @@ import tempfile
 from types import SimpleNamespace
 from unittest import mock
 
+import build
 import debian
 import dialect
 import folders
@@ -22,7 +23,7 @@ import linux_results
 import linux_run
 from campaign_test import Clock
 from judge import Verdict
-from kinds import Plan
+from kinds import Plan, plan_of
 from linux_results import Result, result_from_text
 from linux_test import BASE, CELLS, HALT, LOG, PAGES, made, write
 from qmp import Gone
@@ -250,6 +251,12 @@ def of_packages(tests, room):
         said = tests.refuses("where there is no network", Missing, lambda: debian.get(lambda line: None))
         tests.wants("why, and nothing is left of it", ("no network" in said, os.path.exists(f"{room}/cache/postcopy/linux")), (True, False))
         program(f"{room}/bin/apt-get", f'echo "$*" >> {room}/asked', f'[ -e {room}/tried ] || {{ touch {room}/tried; exit 100; }}', f'cp {room}/"$3"_*.deb .')
+        os.makedirs(f"{room}/full")
+        for name, act in (("vmlinuz", lambda path: debian.take_out(f"{room}/linux-image-9_1_amd64.deb", "vmlinuz", os.path.dirname(path))),
+                          ("guest.bin", lambda path: build.rom_for(plan_of("live"), f"{room}/linux-image-9_1_amd64.deb", path))):
+            os.symlink("/dev/full", f"{room}/full/{name}")
+            said = tests.refuses(f"a full disk for {name}", OSError, lambda name=name, act=act: act(f"{room}/full/{name}"))
+            tests.wants(f"which file it is, for {name}", said, f"[Errno 28] No space left on device: '{room}/full/{name}'")
         told = []
         folder = debian.get(told.append)
         tests.wants("what is there", {name: read(f"{folder}/{name}") for name in os.listdir(folder)},

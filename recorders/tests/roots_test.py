@@ -34,6 +34,8 @@ def of_places(tests):
         tests.wants("in the user's cache", roots.path(PLAIN), "/cache/postcopy/roots/plain")
     with environment(POSTCOPY_ROOTS=None, XDG_CACHE_HOME=None, HOME="/home/me"):
         tests.wants("where no other is named", roots.folder(), "/home/me/.cache/postcopy/roots")
+    with environment(POSTCOPY_ROOTS=None, XDG_CACHE_HOME="cache", HOME="/home/me"):
+        tests.wants("where the cache is no whole path", (roots.folder(), roots.cache("qemu")), ("/home/me/.cache/postcopy/roots", "/home/me/.cache/postcopy/qemu"))
     with environment(POSTCOPY_ROOTS="/elsewhere"):
         tests.wants("where it is asked for", roots.path(PLAIN), "/elsewhere/plain")
 
