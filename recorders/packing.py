@@ -3,6 +3,8 @@ import io
 import lzma
 import tarfile
 
+from files import replace
+
 
 def pack(folder, names, path):
     """Packs these files of a folder into the file `path`."""
@@ -14,8 +16,7 @@ def pack(folder, names, path):
             member = tarfile.TarInfo(name)
             member.size = len(data)
             archive.addfile(member, io.BytesIO(data))
-    with open(path, "wb") as out:
-        out.write(lzma.compress(packed.getvalue(), preset=9 | lzma.PRESET_EXTREME))
+    replace(path, lzma.compress(packed.getvalue(), preset=9 | lzma.PRESET_EXTREME))
 
 
 def unpacked(path, names):

@@ -10,6 +10,7 @@ import sys
 
 HERE = os.path.dirname(os.path.abspath(__file__))
 sys.path[:0] = [HERE, f"{HERE}/../qemu", f"{HERE}/..", f"{HERE}/../../bindings/python"]
+from files import replace  # noqa: E402
 from packing import pack, unpacked  # noqa: E402
 
 RECORDINGS = f"{HERE}/recordings"
@@ -36,9 +37,7 @@ def keep(folder, name):
     found = expected() if os.path.exists(f"{RECORDINGS}/expected") else {}
     with open(f"{folder}/session", encoding="ascii") as session, open(f"{folder}/verdict", encoding="ascii") as verdict:
         found[name] = hash_of(session.read()), verdict.read().rstrip("\n")
-    with open(f"{RECORDINGS}/expected", "w", encoding="ascii") as out:
-        for name, (digest, verdict) in sorted(found.items()):
-            print(name, digest, verdict, file=out)
+    replace(f"{RECORDINGS}/expected", "".join(f"{name} {digest} {verdict}\n" for name, (digest, verdict) in sorted(found.items())).encode())
 
 
 if __name__ == "__main__":

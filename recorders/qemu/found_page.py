@@ -1,4 +1,5 @@
 """Parts of pages that a command writes, between two marks that name it."""
+from files import replace
 
 
 def marks(command):
@@ -15,5 +16,4 @@ def put(page, text, both):
 def write(path, text, both):
     with open(path, encoding="utf-8") as file:
         page = put(file.read(), text, both)
-    with open(path, "w", encoding="utf-8") as file:
-        file.write(page)
+    replace(path, page.encode())

@@ -10,7 +10,7 @@ from typing import Optional
 
 import dialect
 from convert import recording_in
-from files import write
+from files import replace, write
 from records import Hole
 from results import markdown, was_put_in
 from witness import pages_that_differ
@@ -137,8 +137,7 @@ def results_in(path):
 
 
 def write_results(path, results):
-    with open(path, "w", encoding="utf-8") as out:
-        out.writelines(f"{result.to_text()}\n" for result in results)
+    replace(path, "".join(f"{result.to_text()}\n" for result in results).encode())
 
 
 def heading(results):

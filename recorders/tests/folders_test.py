@@ -324,6 +324,19 @@ def of_packing(tests, room):
                           (("to-pack", "/dev/full"), (1, "", "pack.py: /dev/full: No space left on device\n")),
                           (("--out", "to-pack/plan.json", "other"), (1, "", "pack.py: to-pack/plan.json: Input format not supported by decoder\n"))):
         tests.wants(f"pack.py {' '.join(words)}", told(*words), wanted)
+    with open(f"{room}/small", "rb") as file:
+        small = file.read()
+    os.chmod(f"{room}/small", 0o640)
+    names, limits = sorted(os.listdir(room)), resource.getrlimit(resource.RLIMIT_FSIZE)
+    resource.setrlimit(resource.RLIMIT_FSIZE, (10, limits[1]))
+    try:
+        tests.wants("pack.py without room", [told("to-pack", name) for name in ("small", "other")],
+                    [(1, "", f"pack.py: {name}: File too large\n") for name in ("small", "other")])
+    finally:
+        resource.setrlimit(resource.RLIMIT_FSIZE, limits)
+    with open(f"{room}/small", "rb") as file:
+        tests.wants("the file of before, and no other", (file.read() == small, sorted(os.listdir(room))), (True, names))
+    tests.wants("once more, with room", (told("to-pack", "small"), modes_of(f"{room}/small")), ((0, "", ""), 0o640))
     fill(f"{room}/of-linux", (*pack.FILES, *pack.OF_LINUX))
     tests.wants("pack.py of a Linux guest", (told("of-linux", "of-it"), told("--out", "of-it", "out-of-linux"), held(f"{room}/out-of-linux")),
                 ((0, "", ""), (0, "", ""), held(f"{room}/of-linux")))
