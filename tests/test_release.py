@@ -11,6 +11,7 @@ import glob
 import hashlib
 import os
 import re
+import resource
 import shlex
 import shutil
 import subprocess
@@ -267,6 +268,19 @@ def test_removal_without_a_right(room):
     same("what is told", said, f"tools/install: kept {prefix}/share: Permission denied\ntools/install: kept {prefix}, which is not empty\n")
     same("the status, and what stays", (status, folders_below(prefix), files_below(prefix)), (1, [".", "share"], []))
     os.chmod(prefix, 0o755)
+
+
+@pytest.mark.quick
+@pytest.mark.cases(3)
+def test_wheel_without_room(room):
+    """A wheel that cannot be written: that is told, and the one of before stays."""
+    words = sys.executable, "-B", f"{TOP}/bindings/python/wheel_of_library.py", f"{room}/wheels"
+    wheel = run(*words).strip()
+    before = read(f"{room}/wheels/{wheel}", "rb")
+    said = ran(*words, preexec_fn=lambda: resource.setrlimit(resource.RLIMIT_FSIZE, (1000, resource.RLIM_INFINITY)))
+    same("what is told, and the status", said, (f"wheel_of_library: {room}/wheels/{wheel}: File too large\n", 1))
+    same("the wheel of before, and no other", (read(f"{room}/wheels/{wheel}", "rb") == before, os.listdir(f"{room}/wheels")), (True, [wheel]))
+    same("a folder that is none", ran(*words[:-1], "/dev/null/wheels"), ("wheel_of_library: /dev/null/wheels: Not a directory\n", 1))
 
 
 # Man pages and completions.

@@ -7,7 +7,9 @@ The library is that of the checkout: where a source was changed, tools/library b
 name, as manylinux_2_34_x86_64; where none is given, it is that of the machine.
 """
 import base64
+import contextlib
 import hashlib
+import io
 import os
 import re
 import subprocess
@@ -67,17 +69,39 @@ def build_wheel(wheel_directory, config_settings=None, metadata_directory=None, 
     rows.append(f"{info}/RECORD,,\n")
     files[f"{info}/RECORD"] = "".join(rows).encode()
     wheel = f"{name}-{version}-{tag}.whl"
-    os.makedirs(wheel_directory, exist_ok=True)
-    with zipfile.ZipFile(f"{wheel_directory}/{wheel}", "w", zipfile.ZIP_DEFLATED) as made:
+    packed = io.BytesIO()
+    with zipfile.ZipFile(packed, "w", zipfile.ZIP_DEFLATED) as made:
         for file, data in files.items():
             # (no time of its own, so that one library gives one wheel)
             entry = zipfile.ZipInfo(file)
             entry.compress_type, entry.external_attr = zipfile.ZIP_DEFLATED, 0o100644 << 16
             made.writestr(entry, data)
+    os.makedirs(wheel_directory, exist_ok=True)
+    put(f"{wheel_directory}/{wheel}", packed.getvalue())
     return wheel
 
 
-if __name__ == "__main__":
-    if len(sys.argv) not in (2, 3):
+def put(path, data):
+    """Writes a file, which gets all of the bytes or stays as it was."""
+    part = f"{path}.{os.getpid()}"
+    try:
+        with open(part, "wb") as file:
+            file.write(data)
+        os.replace(part, path)
+    except OSError as fault:
+        with contextlib.suppress(OSError):
+            os.unlink(part)
+        raise OSError(fault.errno, fault.strerror, path) from None
+
+
+def main(words):
+    if len(words) not in (1, 2):
         sys.exit(__doc__)
-    print(build_wheel(sys.argv[1], platform=sys.argv[2] if len(sys.argv) == 3 else None))
+    try:
+        print(build_wheel(words[0], platform=words[1] if len(words) == 2 else None))
+    except OSError as fault:
+        sys.exit(f"wheel_of_library: {fault.filename or 'standard output'}: {fault.strerror}")
+
+
+if __name__ == "__main__":
+    main(sys.argv[1:])
