@@ -19,6 +19,18 @@ def write(path, text, how="w"):
         out.write(text)
 
 
+def lines_of(path, read, what):
+    """Returns what `read` makes of each line of a file. Raises ValueError, with the line, if one is no such text, as where it is not whole."""
+    found = []
+    with open(path, encoding="utf-8") as lines:
+        for number, line in enumerate(lines, 1):
+            try:
+                found.append(read(line))
+            except (KeyError, TypeError, ValueError):
+                raise ValueError(f"{path}:{number}: this line is no {what}, or not whole") from None
+    return found
+
+
 def replace(path, data):
     """Writes bytes to a file, which gets all of them or stays as it was. A device or a pipe is written in place."""
     if os.path.exists(path) and not os.path.isfile(path):

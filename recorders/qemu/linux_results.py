@@ -10,7 +10,7 @@ from typing import Optional
 
 import dialect
 from convert import recording_in
-from files import replace, write
+from files import lines_of, replace, write
 from records import Hole
 from results import markdown, was_put_in
 from witness import pages_that_differ
@@ -126,14 +126,7 @@ def results_in(path):
     """Returns the results that a file has, a line each. Raises ValueError, with the line, if one is none."""
     if not os.path.exists(path):
         return []
-    found = []
-    with open(path, encoding="utf-8") as lines:
-        for number, line in enumerate(lines, 1):
-            try:
-                found.append(result_from_text(line))
-            except (ValueError, TypeError):
-                raise ValueError(f"{path}:{number}: this line is no result of linux_runs, or not whole") from None
-    return found
+    return lines_of(path, result_from_text, "result of linux_runs")
 
 
 def write_results(path, results):

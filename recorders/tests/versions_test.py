@@ -26,8 +26,9 @@ import qmp
 import releases
 import run as migration
 from emulator import Emulator
+from files import lines_of
 from kinds import plan_of
-from results import Result
+from results import Result, result_from_text
 
 QEMU = f"{os.path.dirname(os.path.dirname(os.path.abspath(__file__)))}/qemu"
 
@@ -322,6 +323,16 @@ def of_what_was_found(tests, room):
         os.makedirs(f"{room}/{name}")
         with open(f"{room}/{name}/results", "w", encoding="utf-8") as out:
             out.writelines(f"{result.to_text()}\n" for result in some)
+    with open(f"{room}/one/results", "rb") as whole, open(f"{room}/cut", "wb") as out:
+        out.write(whole.read()[:-5])
+    os.makedirs(f"{room}/short")
+    os.rename(f"{room}/cut", f"{room}/short/results")
+    with open(f"{room}/other-form", "w", encoding="ascii") as out:
+        out.write("{}\n")
+    said = tests.refuses("another object", ValueError, lambda: lines_of(f"{room}/other-form", result_from_text, "result"))
+    tests.wants("which line that is", said, f"{room}/other-form:1: this line is no result, or not whole")
+    said = tests.refuses("results that are not whole", ValueError, lambda: found.read(f"{room}/short"))
+    tests.wants("which line it is", said, f"{room}/short/results:2: this line is no result of a campaign, or not whole")
     tests.wants("what campaigns left", found.read(f"{room}/one") + found.read(f"{room}/other"), made)
     tests.wants("the tables", found.tables(made).splitlines(), [
         "6 migrations, 2 of them clean, at a load of 0 to 21; 1 were not recorded, and stand in no column:", "",
