@@ -9,6 +9,7 @@ import itertools
 import os
 import socket
 import stat
+import subprocess
 import sys
 import tarfile
 import tempfile
@@ -184,6 +185,13 @@ def qmp_of_a_late_one(path, waited):
             thread.join()
 
 
+def of_no_roots(tests, room):
+    """Where there is no root, that is told, and how one is made."""
+    done = subprocess.run([sys.executable, "-B", f"{QEMU}/versions"], capture_output=True, text=True, env={**os.environ, "XDG_CACHE_HOME": room})
+    wanted = f"versions: no QEMU of another release is there. This makes a root with one, by debootstrap, in {room}/postcopy/qemu:\n    recorders/qemu/versions trixie\n"
+    tests.wants("what is told", (done.returncode, done.stdout, done.stderr), (3, "", wanted))
+
+
 def of_one_that_hangs(tests, room):
     path = f"{room}/monitor"
     with socket.socket(socket.AF_UNIX) as listener:
@@ -347,7 +355,7 @@ def of_what_was_found(tests, room):
 
 
 def run(tests):
-    for of_them in (of_what_is_lacking, of_roots, of_one_that_hangs, of_the_forwarder, of_comparisons, of_a_full_disk, of_what_was_found):
+    for of_them in (of_what_is_lacking, of_roots, of_no_roots, of_one_that_hangs, of_the_forwarder, of_comparisons, of_a_full_disk, of_what_was_found):
         with tempfile.TemporaryDirectory() as room:
             of_them(tests, room)
     of_the_table(tests)
