@@ -270,6 +270,15 @@ def test_removal_without_a_right(room):
     os.chmod(prefix, 0o755)
 
 
+@pytest.mark.cases(2)
+def test_library_without_room(tree):
+    """A library that cannot be put into a checkout: that is told, and no part of it stays."""
+    said, status = ran(f"{tree}/tools/library", restore_signals=False, preexec_fn=lambda: resource.setrlimit(resource.RLIMIT_FSIZE, (1000, resource.RLIM_INFINITY)))
+    out = f"{tree}/crates/postcopy_c/out"
+    same("what is told, and the status", (said.splitlines()[-1], status), (f"tools/library: {out}/libpostcopy.a could not be written", 1))
+    same("what is there", os.listdir(out), [])
+
+
 @pytest.mark.quick
 @pytest.mark.cases(3)
 def test_wheel_without_room(room):
