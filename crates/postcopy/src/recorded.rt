@@ -10,7 +10,7 @@ use std::rt::Files;
 // Returns whether a path names the file with a recording's name in a recorder's folder.
 fn is_name_of_recording(path: &str) -> bool {
     let path = path.as_bytes();
-    path == b"recording-name" || path.ends_with(b"/recording-name")
+    path == b"recording-name".as_slice() || path.ends_with(b"/recording-name")
 }
 
 // Returns whether a name leads to a recorder's file, as far as it can be known. Only a regular file is opened.
