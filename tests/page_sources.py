@@ -2,7 +2,6 @@
 import glob
 import os
 import re
-import subprocess
 from fnmatch import fnmatch
 
 from page_text import TOP, read
@@ -16,10 +15,13 @@ WORDS_IN = ("*.rt", "*.antt", "*.py", "*.c", "*.h", "*.rs", "*.toml", "*.in", "p
 
 
 def tree():
-    """Each file of the repository, new ones with it, and each folder."""
-    words = ["git", "ls-files", "--cached", "--others", "--exclude-standard"]
-    files = subprocess.run(words, cwd=TOP, stdout=subprocess.PIPE, text=True, check=True).stdout.split("\n")
-    files = {it for it in files if it and os.path.exists(f"{TOP}/{it}")}
+    """Each file of the repository, but those that .gitignore names, and each folder. (A checkout may have no git, and an archive has none.)"""
+    ignored = [it if it.startswith("/") else f"*/{it}" for it in read(".gitignore").split()]
+    files = set()
+    for at, folders, names in os.walk(TOP):
+        place = at[len(TOP):]
+        folders[:] = [it for it in folders if it != ".git" and not any(fnmatch(f"{place}/{it}/", pattern) for pattern in ignored)]
+        files |= {f"{place}/{it}"[1:] for it in names if it != ".git" and not any(fnmatch(f"{place}/{it}", pattern) for pattern in ignored)}
     folders = {"/".join(it.split("/")[:depth]) for it in files for depth in range(1, it.count("/") + 1)}
     return files, folders
 

@@ -4,6 +4,7 @@ import subprocess
 
 import pytest
 from needed import can_have
+from page_sources import tree
 
 TOP = os.path.dirname(os.path.dirname(os.path.abspath(__file__)))
 # What each reads, by the ending of a name or by the first line; and the packages of Debian that have it.
@@ -15,8 +16,7 @@ LINTERS = {
 
 def files(endings, interpreters):
     """The files of the repository in a language, but those that a test is about."""
-    words = ["git", "ls-files", "--cached", "--others", "--exclude-standard"]
-    for name in subprocess.run(words, cwd=TOP, stdout=subprocess.PIPE, text=True, check=True).stdout.splitlines():
+    for name in tree()[0]:
         path = f"{TOP}/{name}"
         if os.path.isfile(path) and not os.path.islink(path) and not name.startswith(("shipped/", "tests/cases/")):
             with open(path, "rb") as file:

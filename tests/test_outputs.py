@@ -218,7 +218,6 @@ CAUSES = {
 }
 
 
-@pytest.mark.quick
 @pytest.mark.cases(32)
 def test_causes(program, texts, refusing):
     """The words on a file that is not opened or read, and on an output that is not written, are those on the error of the system."""

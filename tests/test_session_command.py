@@ -333,7 +333,6 @@ def test_refused_calls_of_an_audit(program, room, refusing):
     refuse_memory(run, words, plain, growths)
 
 
-@pytest.mark.quick
 @pytest.mark.cases(20)
 def test_failed_late(program, room, refusing):
     """What is written of a longer text before a read fails is its beginning, and so where a file is shorter than it was. Nothing is
