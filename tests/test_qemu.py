@@ -1,9 +1,9 @@
 """Migrations between two QEMUs of this machine, recorded and judged: each kind, and faults that have to be found.
 
 A verdict, or an end of a QEMU, other than expected is a failure; nothing is tried again, and the folder is kept. A few of the
-cases are run, and where QEMU is not installed it is installed, if that is possible within two minutes; where it is not, they are
-left out. So is a migration that this machine was too slow for, so that it did not come to what was planned. With --all each case is
-run, and Linux guests too, by the QEMU of --qemu, and what did not come to that is a failure; what is expected of a newer QEMU than 7.2 is told by its version.
+cases are run, and where QEMU is not there, and may not be installed, they are left out. So is a migration that this machine was too
+slow for, so that it did not come to what was planned. With --all each case is run, and Linux guests too, by the QEMU of --qemu, and
+what did not come to that is a failure; what is expected of a newer QEMU than 7.2 is told by its version.
 """
 import json
 import os
@@ -20,8 +20,9 @@ TOP = os.path.dirname(os.path.dirname(os.path.abspath(__file__)))
 sys.path[:0] = [f"{TOP}/recorders/qemu", f"{TOP}/recorders"]
 import build
 from emulator import Emulator
+from needed import can_have
 
-INSTALL_SECONDS = 120
+NEEDED = ("qemu-system-x86_64:qemu-system-x86", "gcc:gcc,libc6-dev", "ld:binutils")
 CLEAN, DONE = "clean, yes", "source completed, target completed"
 
 # A name, the words of `migrate`, and patterns of what the audit and what QEMU have to say.
@@ -72,23 +73,6 @@ IN_GATE = ("live", "left", "preempt", "preempt-recovery", "flip")
 pytestmark = pytest.mark.qemu
 
 
-def install():
-    """Installs what is missing. Answers whether it is there then."""
-    if not shutil.which("apt-get") or os.geteuid() != 0:
-        return False
-    until = time.monotonic() + INSTALL_SECONDS
-    for words in (["update"], ["install", "-y", "--no-install-recommends", *build.PACKAGES.split()]):
-        try:
-            done = subprocess.run(["apt-get", *words], stdout=subprocess.DEVNULL, stderr=subprocess.DEVNULL,
-                                  stdin=subprocess.DEVNULL, env=dict(os.environ, DEBIAN_FRONTEND="noninteractive"),
-                                  timeout=max(until - time.monotonic(), 1))
-        except subprocess.TimeoutExpired:
-            return False
-        if done.returncode:
-            return False
-    return True
-
-
 def what_is_missing(qemu, may_install):
     """Words for what this machine lacks, or None."""
     try:
@@ -97,7 +81,7 @@ def what_is_missing(qemu, may_install):
         return None
     except build.Missing as fault:
         missing = str(fault)
-    return what_is_missing(qemu, False) if may_install and install() else missing
+    return what_is_missing(qemu, False) if may_install and can_have(*NEEDED) else missing
 
 
 def too_slow(folder):
