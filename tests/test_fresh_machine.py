@@ -50,6 +50,18 @@ def sources(root, tmp_path_factory):
     return {"clone": clone, "archive": archive}
 
 
+def without_modules(machine):
+    """The quick tests without xdist, and without pytest besides: they run one by one, or nothing is tested, and it is told what to install."""
+    xdist = "mv /usr/lib/python3/dist-packages/*xdist* /tmp && tests/quick -k test_gate"
+    pytest_too = "mv /usr/lib/python3/dist-packages/pytest /tmp && tests/quick"
+    install = "tools/need: nothing was installed; to install what is missing: apt-get install --no-install-recommends"
+    alone, nothing = machine(xdist, pytest_too)
+    same("what is told without xdist", alone[0].splitlines()[:2], [f"{install} python3-pytest-xdist", "tests/pytest: there is no xdist, so the tests run one by one"])
+    same("the tests without xdist", (alone[1], " 0 failed" in alone[0]), ("0", True))
+    same("what is told without pytest", nothing, (f"{install} python3-pytest python3-pytest-xdist\ntests/pytest: there is no pytest, so nothing is tested; "
+                                                  "'tests/pytest --install' asks whether to install it\n", "2"))
+
+
 @pytest.mark.cases(5)
 @pytest.mark.parametrize("user", (0, SOMEBODY), ids=("superuser", "somebody"))
 @pytest.mark.parametrize("source", ("clone", "archive"))
@@ -57,15 +69,21 @@ def test_fresh_machine(root, sources, source, user, pytestconfig):
     is_whole = pytestconfig.getoption("--all") or (source, user) == ("archive", SOMEBODY)
     quick, workers = ("tests/quick", "2") if is_whole else (FEW, "1")
     blocks = [(command, shown) for command, shown, _ in commands_of(read("README.md")) if command not in NOT_RUN]
-    words = [sys.executable, "-B", fresh_machine.__file__, root, sources[source], str(user), "dpkg -l", *(command for command, _ in blocks), quick, "dpkg -l", "cat /asked"]
-    ran = subprocess.run(words, stdin=subprocess.DEVNULL, capture_output=True, text=True, env={**os.environ, "PYTEST_XDIST_AUTO_NUM_WORKERS": workers})
-    *told, rest = ran.stdout.split("\0")
-    same("what the machine tells", (rest + ran.stderr, ran.returncode, len(told)), ("", 0, 2 * (len(blocks) + 4)))
-    before, *others, after, asked = zip(told[::2], told[1::2])
+
+    def machine(*commands):
+        """What the commands write on a machine of their own, each with its status."""
+        words = [sys.executable, "-B", fresh_machine.__file__, root, sources[source], str(user), *commands]
+        ran = subprocess.run(words, stdin=subprocess.DEVNULL, capture_output=True, text=True, env={**os.environ, "PYTEST_XDIST_AUTO_NUM_WORKERS": workers})
+        *told, rest = ran.stdout.split("\0")
+        same("what the machine tells", (rest + ran.stderr, ran.returncode, len(told)), ("", 0, 2 * len(commands)))
+        return list(zip(told[::2], told[1::2]))
+
+    before, *others, last, after, asked = machine("dpkg -l", *(command for command, _ in blocks), quick, "dpkg -l", "cat /asked")
     for (command, shown), (output, status) in zip(blocks, others):
         same(f"what is shown of {command}", (is_shown(shown, output.splitlines()), status), (True, "0"))
-    output, status = others[-1]
-    if not same(f"the status of {quick}", status, "0"):
-        print(output)
+    if not same(f"the status of {quick}", last[1], "0"):
+        print(last[0])
     same("what is installed in the end", after, before)
     same("what apt-get was asked for", asked, ("", "0"))
+    if (source, user) == ("archive", 0):
+        without_modules(machine)
