@@ -134,6 +134,9 @@ def test_installation(prefix, room):
     same("what is installed", files_below(prefix), sorted([*wanted, "share/postcopy/installed"]))
     same("what is installed below DESTDIR", files_below(f"{root}/usr"), sorted(re.sub("^lib/", "lib/here/", it) for it in wanted))
     same("what is below DESTDIR", os.listdir(root), ["usr"])
+    run(f"{TOP}/tools/install", "/usr/local", env={**os.environ, "DESTDIR": f"{room}/local"})
+    fish = [f"etc/fish/completions/{os.path.basename(it)}" for it in wanted if it.endswith(".fish")]
+    same("what of /usr/local is elsewhere below DESTDIR", [it for it in files_below(f"{room}/local") if not it.startswith("usr/local/")], fish)
     same("the pkg-config file", read(f"{root}/usr/lib/here/pkgconfig/postcopy.pc").split("\n")[:2], ["prefix=/usr", "libdir=/usr/lib/here"])
     modes = {it: os.stat(f"{prefix}/{it}").st_mode & 0o777 for it in wanted}
     same("what may be run", sorted(it for it, mode in modes.items() if mode != 0o644),
@@ -389,6 +392,27 @@ def test_completions(prefix, commands, name, offered):
         # (each help tells -h, or has it without telling)
         same(f"what {name} offers behind {typed!r}", sorted(hits - {"-h"}), sorted(options - {"-h"}))
     same(f"the file that {name} offers", [os.path.basename(it.rstrip("/")) for it in found.get(file, "").split("\n") if it], ["pkgconfig"])
+
+
+@pytest.mark.cases(4)
+def test_fish_of_debian():
+    """fish finds the completions in /usr/local, with XDG_DATA_DIRS and without, and nothing stays of them. (The folders are empty ones, in memory.)"""
+    if not can_have("fish:fish") or shutil.which("fish") != "/usr/bin/fish":
+        pytest.skip("there is no fish of Debian's")
+    if ran("unshare", "-rm", "mount", "-t", "tmpfs", "none", "/usr/local")[1]:
+        pytest.skip("no process can have mounts of its own here")
+    asked = "; ".join(f"complete -C '{it}'; echo" for it in ("postcopy a", "postcopy-session --w"))
+    script = """
+        mount -t tmpfs none /usr/local && mount -t tmpfs none /etc/fish && "$0" /usr/local || exit
+        for dirs in -uXDG_DATA_DIRS XDG_DATA_DIRS=/usr/local/share:/usr/share; do env "$dirs" fish -c "$1" 2> /dev/null; done
+        "$0" --uninstall /usr/local && find /usr/local /etc/fish
+    """
+    env = {**os.environ, "HOME": "/nonexistent", "PATH": f"/usr/local/bin:{os.environ['PATH']}"}
+    *offered, stays = re.sub("\t.*", "", run("unshare", "-rm", "sh", "-c", script, f"{TOP}/tools/install", asked, env=env, cwd="/")).split("\n\n")
+    same("how often something is offered", len(offered), 4)
+    for found, wanted in zip(offered, (["audit"], ["--window", "--windows"]) * 2):
+        same(f"whether {wanted} is offered", [it for it in found.split("\n") if it in ("audit", "--window", "--windows")], wanted)
+    same("what stays", stays.split(), ["/usr/local", "/etc/fish"])
 
 
 # A release.
