@@ -655,8 +655,8 @@ class Faults:
         self.tests.same("a folder whose name begins as a kind of failure", (ran.stderr, ran.returncode), (f"session: {place}/file of none: no such file or directory\n", 2))
         ran = self.session("file of none", cwd=place)
         self.tests.same("such a folder beside it", (ran.stderr, ran.returncode), ("session: file of none: no such file or directory\n", 2))
-        for name in ("bin", "share/postcopy/python"):
-            os.makedirs(f"{place}/prefix/{name}")
+        os.makedirs(f"{place}/prefix/bin")
+        shutil.copytree(f"{TOP}/share/postcopy/python", f"{place}/prefix/share/postcopy/python")
         shutil.copy(f"{TOP}/recorders/session", f"{place}/prefix/bin/postcopy-session")
         shutil.copytree(f"{TOP}/bindings/python/postcopy", f"{place}/prefix/share/postcopy/python/postcopy")
         os.symlink(self.command, f"{place}/prefix/bin/postcopy")

@@ -2,11 +2,14 @@
 import glob
 import json
 import os
+import random
 import re
 import shutil
 import signal
 import subprocess
+import sys
 import time
+import unicodedata
 import xml.etree.ElementTree as ElementTree
 from urllib.parse import unquote
 
@@ -15,14 +18,25 @@ from cases import same
 from sarif_shape import faults
 
 TOP = os.path.dirname(os.path.dirname(os.path.realpath(__file__)))
-SCRIPT = f"{TOP}/share/bin/postcopy-annotate"
+SCRIPT, REPORT, SESSION = f"{TOP}/share/bin/postcopy-annotate", f"{TOP}/share/bin/postcopy-report", f"{TOP}/recorders/session"
 
 # Names that a form writes otherwise than they stand, or that a program would take for an option.
 NAMES = ("plain", "a:b,c%d", "<&\">'", "-dash", "two words", "\u00e9")
 CONTENTS = {"clean": "handover", "early": "early-access", "knot": "circle-of-receipts", "shape": "wrong-shape", "refused": "leading-zero"}
 
+# What no output has as it is, by Unicode's table, and a letter of each other kind.
+ODD = dict.fromkeys(it for it in map(chr, range(sys.maxunicode + 1)) if unicodedata.category(it) in ("Cc", "Cf", "Zl", "Zp"))
+EVEN = "aZ0 .,:;%&<>'\"\\#?=\u00a0\u00e9\u0301\u05d0\u4e00\ue000\U0001f600"
 
 pytestmark = pytest.mark.quick
+
+
+def odd_names(count, size):
+    """So many names of files, with so many odd characters each, among others: each odd one, and others at random."""
+    chance = random.Random(7)
+    odd = [*ODD][1:]  # (no name has the first)
+    letters = odd + chance.choices([*odd, "\ufffe", "\uffff", "\udc80", "\udcff"], k=size * count - len(odd))
+    return ["n" + "".join(chance.sample(letters[at::count] + chance.choices(EVEN, k=4), size + 4)) for at in range(count)]
 
 
 class Tests:
@@ -183,6 +197,46 @@ class Tests:
         self.same("names in SARIF", places, list(names))
         self.same("a name that is not there", self.told("no\nthing", "clean")[1], '"no\\u000athing": not judged: no such file or directory\n')
 
+    def no_odd_character(self, what, text):
+        self.same(f"odd characters in {what}", sorted({it for it in text.replace("\n", "") if it in ODD or it in "\ufffe\uffff"}), [])
+
+    def thousand_names(self):
+        """Names with odd characters, in each form: none is told as it is, and the name is read back."""
+        names = odd_names(1000, 3)
+        for name in names:
+            os.symlink(f"{TOP}/tests/cases/complete-four-empty-logs/session", f"{self.room}/{name}")
+        def back(told):
+            return [json.loads(it) if it.startswith('"') else it for it in told]
+        told = {form: self.told("--complete-pages", "--as", form, *names) for form in ("lines", "github", "junit", "sarif")}
+        for form, (status, output, errors) in told.items():
+            self.same(f"the status and the errors of {form}", (status, errors), (1, ""))
+            self.no_odd_character(form, output)
+        self.same("names in lines", back(it.partition(": incomplete: ")[0] for it in told["lines"][1].splitlines()), names)
+        files = re.findall("^::error file=([^,:]*),title=incomplete::", told["github"][1], re.M)
+        self.same("names in annotations", back(re.sub("%(25|2C|3A)", lambda it: chr(int(it[1], 16)), it) for it in files), names)
+        self.same("names in a JUnit report", back(it.get("name") for it in ElementTree.fromstring(told["junit"][1].encode())), names)
+        results = json.loads(told["sarif"][1])["runs"][0]["results"]
+        uris = [it["locations"][0]["physicalLocation"]["artifactLocation"]["uri"] for it in results]
+        self.same("names in SARIF", [unquote(it, errors="surrogateescape") for it in uris], names)
+        noted = self.told(*names)
+        self.no_odd_character("notes", noted[2])
+        self.same("names in notes", back(it.partition(": note: ")[0] for it in noted[2].splitlines()), names)
+        run, = json.loads(self.told("--as", "sarif", *names)[1])["runs"]
+        notices = [it["message"]["text"] for it in run["invocations"][0]["toolExecutionNotifications"]]
+        self.no_odd_character("notifications", "\n".join(notices))
+        self.same("names in notifications", back(it.partition(": note: ")[0] for it in notices), names)
+
+    def other_scripts(self):
+        """What the scripts tell of files and folders that are not there, of wrong words, and of a program that is none: no odd character."""
+        for name in odd_names(6, 40):
+            for script, words in ((SCRIPT, (name,)), (REPORT, (name, "-o", "report")), (SESSION, (name,)), (SESSION, (name, "-o", f"{name}/{name}"))):
+                for more in ((), (f"--{name}",)):
+                    child = subprocess.run([sys.executable, script, *words, *more], cwd=self.room, stdin=subprocess.DEVNULL, capture_output=True,
+                                           env={**os.environ, "POSTCOPY": self.program if not more else f"./{name}"})
+                    what = f"what {os.path.basename(script)} tells of {ascii((words, more))}"
+                    self.same(f"whether something is said: {what}", (child.returncode > 0, bool(child.stdout + child.stderr)), (True, True))
+                    self.no_odd_character(what, child.stdout.decode() + child.stderr.decode())
+
     def meanings(self):
         """Each reason has its words in SARIF."""
         with open(f"{TOP}/docs/ANSWERS.md", encoding="utf-8") as file:
@@ -293,6 +347,7 @@ class Tests:
 @pytest.mark.parametrize("part", (
     pytest.param(Tests.each, marks=pytest.mark.cases(86)), pytest.param(Tests.many, marks=pytest.mark.cases(12)),
     pytest.param(Tests.calls, marks=pytest.mark.cases(8)), pytest.param(Tests.outputs, marks=pytest.mark.cases(4)), pytest.param(Tests.odd_names, marks=pytest.mark.cases(3)),
+    pytest.param(Tests.thousand_names, marks=pytest.mark.cases(16)), pytest.param(Tests.other_scripts, marks=pytest.mark.cases(96)),
     pytest.param(Tests.meanings, marks=pytest.mark.cases(1)), pytest.param(Tests.incomplete, marks=pytest.mark.cases(23)),
     pytest.param(Tests.refused, marks=pytest.mark.cases(4)), pytest.param(Tests.wrong_words, marks=pytest.mark.cases(3)),
     pytest.param(Tests.streams, marks=pytest.mark.cases(8)), pytest.param(Tests.ended, marks=pytest.mark.cases(5)), pytest.param(Tests.noted, marks=pytest.mark.cases(6))),
