@@ -1,6 +1,7 @@
-"""The parser of the migration stream, on bytes made by hand."""
+"""The parser of the migration stream, on bytes made by hand; and the cells of a page."""
 import struct
 
+import contents
 import stream
 from streams import (CONFIGURATION, END, EOS, HEADER, answer, bitmap, command, discard, footer, name, package, page, reader,
                      request, section_part, section_start, sizes, zeros)
@@ -28,7 +29,20 @@ def down(data, is_resumed=False):
     return taken(stream.items(stream.Tap(reader(data)), is_resumed))
 
 
+def of_cells(tests):
+    """The guest's words are a page's cells. Each byte behind them changes the last cell, each otherwise, and no other one."""
+    for words in (1, 8, 511):
+        page = struct.pack("<512Q", *range(1, words + 1), *[0] * (512 - words))
+        cells = [f"{word:016x}" for word in range(1, words + 1)]
+        tests.wants(f"the cells of {words} words", contents.cells_of(page, words), "".join(cells))
+        changed = [contents.cells_of(page[:at] + b"\1" + page[at + 1:], words) for at in range(8 * words, 4096)]
+        tests.wants("all but the last stay", {it[:-16] for it in changed}, {"".join(cells[:-1])})
+        tests.wants("the last is another for each byte", len({cells[-1], *(it[-16:] for it in changed)}), 1 + 4096 - 8 * words)
+    tests.wants("a page of 512 words has nothing behind them", contents.cells_of(struct.pack("<512Q", *range(512)), 512), "".join(f"{it:016x}" for it in range(512)))
+
+
 def run(tests):
+    of_cells(tests)
     items = down(WHOLE)
     tests.wants("no byte is lost", b"".join(item.raw for item in items), WHOLE)
     pages = [(item.block, item.offset, item.is_zero, item.names_block) for item in items if isinstance(item, stream.Page)]
