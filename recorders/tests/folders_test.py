@@ -16,6 +16,7 @@ import time
 from types import SimpleNamespace
 from unittest import mock
 
+import files
 import folders
 import judge
 import lazy_migration
@@ -290,9 +291,22 @@ def of_a_strange_name(tests, room):
     """A recording is judged in a folder whose name is no text."""
     folder = f"{room}/a, b %d\n" + os.fsdecode(b"\xff")
     os.mkdir(folder)
-    shutil.copy(f"{os.path.dirname(os.path.dirname(HERE))}/examples/handover/session", folder)
+    shutil.copy(f"{os.path.dirname(os.path.dirname(HERE))}/examples/qemu-live/session", folder)
     tests.wants("the verdict in a folder with a strange name", judge.verdict_line(folder), "clean, yes")
     tests.wants("what was found is left there", sorted(os.listdir(folder)), ["certificate", "report", "session"])
+
+
+def of_a_link(tests, room):
+    """A file behind a link is replaced in its own folder, and the link stays."""
+    for name in ("links", "files"):
+        os.mkdir(f"{room}/{name}")
+    folders.write(f"{room}/files/results", "before")
+    os.chmod(f"{room}/files/results", 0o640)
+    os.symlink("../files/results", f"{room}/links/results")
+    files.replace(f"{room}/links/results", b"after")
+    with open(f"{room}/files/results", "rb") as file:
+        tests.wants("the file", (file.read(), modes_of(file.name), os.listdir(f"{room}/files")), (b"after", 0o640, ["results"]))
+    tests.wants("the link", (os.readlink(f"{room}/links/results"), os.listdir(f"{room}/links")), ("../files/results", ["results"]))
 
 
 def of_packed(tests, room):
@@ -369,5 +383,6 @@ def run(tests):
         of_a_relay_on_a_full_disk(tests, room)
         of_what_cannot_be_written(tests, room)
         of_a_strange_name(tests, room)
+        of_a_link(tests, room)
         of_packed(tests, room)
         of_packing(tests, room)
