@@ -11,6 +11,7 @@ from types import SimpleNamespace
 from unittest import mock
 
 import criu_build
+import criu_judge
 import folders
 import roots
 from criu_campaign import DRAWN, Result, random_plan, table
@@ -70,6 +71,14 @@ def of_results(tests):
     ])
 
 
+def of_what_was_put_in(tests, room):
+    """A fault is put in by the relay, which tells it in its log, or by the library, which tells it in that of the process."""
+    for relay, log, wanted in (("up get 2 0\n", "p place 0 0\np earlier\n", False), ("fault flip 3\n", "p place 0 0\n", True), ("up get 2 0\n", "s halted\np early 3\n", True)):
+        for name, text in (("relay.log", relay), ("log", log)):
+            folders.write(f"{room}/{name}", text)
+        tests.wants(f"put in: {relay!r} {log!r}", criu_judge.was_put_in(room), wanted)
+
+
 def of_words(tests, room):
     """What the commands say of wrong words, of a folder with somebody's files, and where there is no CRIU."""
     def said(command, *words, **environment):
@@ -125,5 +134,6 @@ def run(tests):
     of_plans(tests)
     of_results(tests)
     with tempfile.TemporaryDirectory() as room:
+        of_what_was_put_in(tests, room)
         of_words(tests, room)
         of_a_folder_of_a_user(tests, f"{room}/campaign")
