@@ -2,6 +2,7 @@
 import glob
 import os
 import select
+import signal
 import subprocess
 import threading
 import time
@@ -154,9 +155,17 @@ class Machine:
             pass
 
     def last_error(self):
-        with open(self.errors) as file:
+        """Returns the assertion that failed, or the last line of what it said, or its status."""
+        with open(self.errors, encoding="utf-8", errors="replace") as file:
             lines = file.read().splitlines()
-        return lines[-1] if lines else f"status {self.process.poll()}, and it said nothing"
+        failed = [line for line in lines if "Assertion" in line]
+        return (failed or lines or [f"status {self.process.poll()}, and it said nothing"])[-1]
+
+    def how_it_ended(self):
+        """Returns how its process ended, and its last words."""
+        status = self.process.poll()
+        how = "aborted" if status == -signal.SIGABRT else f"was killed by signal {-status}" if status < 0 else "exited"
+        return f"{how}: {self.last_error()}"
 
     def end(self, is_well):
         """Ends QEMU, and reads everything that it recorded. Returns why something of this is lost, or nothing. (A QEMU that is not well would

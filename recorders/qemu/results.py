@@ -11,7 +11,7 @@ BUSY = "not at its end on a busy machine"
 # The names of a migration's ends in the table. Any other end is there in QEMU's words.
 ENDS = (
     ("source waits for itself", "Cannot resume if there is no paused migration"),
-    ("target aborted", "target ENDED.*Assertion .* failed"),
+    ("target aborted", "target ENDED.*; target(:| aborted:) [^;]*Assertion .* failed"),
     ("target ended: `Operation not permitted`", "target ENDED.*loadvm failed during postcopy: -1: .*Operation not permitted"),
     ("target ended while it loaded", "target ENDED.*(load of migration failed|loadvm failed)"),
     ("target failed while it loaded", "no recovery: source [a-z-]+, target failed$"),
@@ -20,11 +20,14 @@ ENDS = (
     ("source hangs", "source HANGS"),
     ("target failed by itself", "the target went to"),
     ("pre-copy came to its end", "gave up: pre-copy: (completed|device)"),
+    ("pre-copy failed", "gave up: pre-copy: failed"),
     ("not at its end within its limit", "it took more than"),
 )
 
-# The word for a recording that is not judged.
-UNJUDGED = (("no post-copy", "there was no post-copy"), ("lost stack", "are no event"))
+# Why a recording is not judged, and the word for it.
+NO_POSTCOPY = "there was no post-copy"
+UNFINISHED = "the migration did not come to its end: "  # and how it ended
+UNJUDGED = (("no post-copy", NO_POSTCOPY), ("lost stack", "are no event"))
 
 
 @dataclass
@@ -37,6 +40,7 @@ class Result:
     version: str = ""        # of QEMU, or of both
     is_cut_missed: bool = False  # whether it ended before a planned cut
     load: float = 0.0        # of the machine, after the migration: how many processes wanted to run
+    death: str = ""          # how a QEMU ended by itself, in its words: the source, or else the target
 
     def to_text(self):
         return json.dumps({**asdict(self), "plan": json.loads(self.plan.to_text())})
@@ -61,11 +65,25 @@ class Result:
             return f"`{self.verdict.split()[-1]}`"
         if self.end == BUSY:
             return BUSY
-        if self.verdict.startswith("not judged"):
-            return next((name for name, words in UNJUDGED if words in self.verdict), "not judged")
         if self.is_clean:
             return "cut not reached" if self.is_cut_missed else "clean"
-        return self.end if self.verdict == "clean, yes" else self.reason
+        if self.is_unfinished:
+            return self.end
+        if self.verdict.startswith("not judged"):
+            return next((name for name, words in UNJUDGED if words in self.verdict), "not judged")
+        return self.reason
+
+    @property
+    def is_unfinished(self):
+        """Returns whether the end says what became of it: a QEMU died, hangs, or failed in pre-copy, or what was recorded until then is right."""
+        is_right = self.verdict.startswith(("clean", "incomplete", f"not judged: {UNFINISHED}"))
+        is_in_precopy = NO_POSTCOPY in self.verdict and self.end.endswith(("hangs", "failed"))
+        return self.outcome != "completed" and is_right or self.is_by_death or is_in_precopy
+
+    @property
+    def is_by_death(self):
+        """Returns whether all else followed from the death of a QEMU: of the source, or of the target in pre-copy."""
+        return bool(self.death) and (self.death.startswith("source") or NO_POSTCOPY in self.verdict)
 
     @property
     def is_clean(self):
@@ -74,8 +92,12 @@ class Result:
     @property
     def end(self):
         """Returns the name of the end, or the message about it."""
-        names = (name for name, form in ENDS if re.search(form, self.outcome))
-        return self.outcome if self.outcome == "completed" else next(names, re.sub(r"\d+", "N", self.outcome))
+        if self.outcome == "completed":
+            return self.outcome
+        known = next((name for name, form in ENDS if re.search(form, self.outcome)), "")
+        if self.death and (self.is_by_death or not known):
+            return name_of(self.death)
+        return known or re.sub(r"\d+", "N", self.outcome)
 
     @property
     def is_settled(self):
@@ -94,6 +116,11 @@ class Result:
         parts += [f"cut at {' '.join(map(str, plan.cuts))}"] if plan.cuts else []
         parts += [] if self.fault == "-" else [self.fault]
         return "; ".join([f"{', '.join(parts)}: {self.verdict}", *([self.restart] if self.restart else []), self.outcome])
+
+
+def name_of(death):
+    """Returns how a QEMU died, without its name and the place in its source."""
+    return re.sub(r"(?<=: )(\S*qemu-system-\S*: |.*(?=Assertion ))", "", death)
 
 
 def result_from_text(text):
@@ -117,7 +144,8 @@ def result_of(plan, folder, done):
     outcome, made = json.loads(read(f"{folder}/outcome.json")), json.loads(read(f"{folder}/plan.json"))
     version = " to ".join(dict.fromkeys([made["source_version"], made["target_version"]]))
     is_cut_missed = any("cut not reached" in remark for remark in outcome["remarks"])
-    return Result(plan, verdict, outcome_in_words(outcome), was_put_in(folder), read(f"{folder}/restart").strip(), version, is_cut_missed)
+    return Result(plan, verdict, outcome_in_words(outcome), was_put_in(folder), read(f"{folder}/restart").strip(), version, is_cut_missed,
+                  death=min(outcome["deaths"], default=""))
 
 
 def was_put_in(folder):
@@ -145,7 +173,7 @@ def rows(head, counts):
 
 def markdown(lines):
     """Returns a Markdown table. The first line is its head."""
-    head, *rest = lines
+    head, *rest = [[cell.replace("|", "\\|") for cell in line] for line in lines]
     return "\n".join(f"| {' | '.join(line)} |".replace("|  ", "| ") for line in [head, ["---"] * len(head), *rest])
 
 

@@ -34,6 +34,7 @@ class Outcome:
     seconds: float = 0.0
     waited: float = 0.0  # seconds for which a thread of a QEMU has waited for a processor
     remarks: list = field(default_factory=list)
+    deaths: list = field(default_factory=list)  # which of them ended by itself, and how, in its words
     lost: list = field(default_factory=list)  # why something of what they recorded is in no file
     stands_still: bool = False  # whether the guest did less at the target than it was waited for
 
@@ -41,6 +42,19 @@ class Outcome:
     def is_whole(self):
         """Returns whether both came to the end, so that the logs must be whole."""
         return self.source == self.target == "completed" and not self.lost
+
+    @property
+    def death(self):
+        """Returns how one of them ended, or nothing. If both did, it is the source: the target ends with it, and not the other way round."""
+        return min(self.deaths, default="")
+
+    @property
+    def ended(self):
+        """Returns how the migration ended, or what of its recording is lost; or nothing, if it is whole."""
+        if self.is_whole:
+            return ""
+        why = [self.death, *self.lost, *(remark for remark in self.remarks if remark.startswith(GAVE_UP))]
+        return next(filter(None, why), self.line())
 
     @property
     def is_success(self):
@@ -124,6 +138,9 @@ class Migration:
             self.migrate()
         except (Gone, Refused) as fault:
             self.remark(f"{GAVE_UP}{fault}")
+            if any(machine.migration() in DEAD for machine in self.machines):
+                self.ask_both()
+                self.look_at_ends()
         finally:
             self.outcome.waited = round(max((machine.waited() for machine in self.machines), default=0.0), 1)
             self.end_machines()
@@ -287,10 +304,14 @@ class Migration:
         self.say("recovered")
         return True
 
+    def ask_both(self):
+        """Asks both QEMUs where the migration stands."""
+        self.outcome.source, self.outcome.target = self.source.migration(), self.target.wait_for(ENDS, 3)
+
     def finish(self):
         """Asks both QEMUs what is needed at the end."""
         plan, outcome = self.plan, self.outcome
-        outcome.source, outcome.target = self.source.migration(), self.target.wait_for(ENDS, 3)
+        self.ask_both()
         try:
             if plan.paused and outcome.target == "completed":
                 self.target("cont")
@@ -300,23 +321,30 @@ class Migration:
                 self.at_end()
         except (Gone, Refused) as fault:
             self.remark(f"target: {fault}")
-        if outcome.target in ("failed", "ended"):
-            self.target.wait_for_end(SECONDS_TO_END)
-        outcome.target = self.end_of(self.target, outcome.target)
         try:
             outcome.requests = self.source("query-migrate").get("ram", {}).get("postcopy-requests", 0)
         except (Gone, Refused) as fault:
             self.remark(f"source: {fault}")
-        outcome.source = self.end_of(self.source, outcome.source)
+        self.look_at_ends()
         self.say(outcome.line())
 
     def at_end(self):
         """Does what must be done while the guest is stopped at the target."""
 
+    def look_at_ends(self):
+        """Looks whether the QEMUs have ended by themselves. A target whose load failed does so soon."""
+        outcome = self.outcome
+        if outcome.target == "failed":
+            self.target.wait_for_end(SECONDS_TO_END)
+        outcome.target, outcome.source = self.end_of(self.target, outcome.target), self.end_of(self.source, outcome.source)
+
     def end_of(self, machine, status):
         """Returns how a QEMU ended: ENDED if the process has ended, HANGS if it does not answer, or otherwise what it says."""
+        if machine.migration() == "ended":
+            machine.wait_for_end(SECONDS_TO_END)
         if not machine.is_running():
-            self.remark(f"{machine.name}: {machine.last_error()}")
+            self.outcome.deaths.append(f"{machine.name} {machine.how_it_ended()}")
+            self.remark(self.outcome.deaths[-1])
             return "ENDED"
         if machine.hangs:
             self.remark(f"{machine.name}: it runs, and does not answer")

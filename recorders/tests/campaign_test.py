@@ -1,5 +1,6 @@
 """Plans of a campaign, and the table of what became of them."""
 import itertools
+import json
 import os
 import random
 import signal
@@ -9,6 +10,7 @@ import tempfile
 import time
 from dataclasses import asdict, replace
 from types import SimpleNamespace
+from unittest import mock
 
 import folders
 import results
@@ -79,6 +81,7 @@ def of_results(tests):
                         ("target ended while it loaded", "source postcopy-paused, target ENDED; target: qemu-system-x86_64: load of migration failed: "
                          "Input/output error"),
                         ("target aborted", "source completed, target ENDED; target: qemu-system-x86_64: util/yank.c:107: Assertion `it' failed."),
+                        ("target ended while it loaded", "source ENDED, target ENDED; target: load of migration failed; source: Assertion `it' failed."),
                         ("pre-copy came to its end", "source none, target none; gave up: pre-copy: device; pre-copy came to its end"),
                         ("target hangs", "source postcopy-paused, target HANGS; target: it runs, and does not answer"),
                         ("not at its end within its limit", "source postcopy-active, target postcopy-active; it took more than 30 s"),
@@ -95,6 +98,65 @@ def of_results(tests):
     busy = "gave up: the guest does not walk; the machine was busy: QEMU had no processor for 31 of 41 s"
     tests.wants("in a word: what the machine was too busy for, and a fault all the same", [
         Result(plan, verdict, busy).in_a_word for verdict in ("not judged: there was no post-copy", "faulty line 7 read")], [results.BUSY, "`read`"])
+
+
+def of_deaths(tests):
+    """A QEMU that died is the end of its migration, in its words: a source at any time, since the target ends with it, and a target in
+    pre-copy. Of post-copy's other ends each has its name."""
+    unjudged, cut = "not judged: there was no post-copy: the state was never handed over in a package", "incomplete page 7"
+    unfinished = "not judged: the migration did not come to its end: target aborted"
+    failed = "qemu-system-x86_64: ../../system/physmem.c:864: tlb_reset_dirty_range_all: Assertion `block == qemu_get_ram_block(end - 1) || !x' failed."
+    source, target, killed = f"source aborted: {failed}", "target exited: qemu-system-x86_64: load of migration failed: Invalid argument", "target was killed by signal 9: status -9"
+    name = "source aborted: Assertion `block == qemu_get_ram_block(end - 1) || !x' failed."
+    both, alone = f"source ENDED, target ENDED; gave up: pre-copy: ended; {target}; {source}", "source active, target ENDED; gave up: pre-copy: failed"
+    for verdict, outcome, death, wanted in (
+            (unjudged, both, source, name), (cut, both, source, name), ("not judged: the guest's bytes c2 are no event", both, source, name),
+            (unjudged, f"{alone}; {target}", target, "target exited: load of migration failed: Invalid argument"), (unjudged, f"{alone}; {killed}", killed, killed),
+            (cut, f"source postcopy-paused, target ENDED; {target}", target, "target ended while it loaded"),
+            (cut, f"source postcopy-paused, target ENDED; {killed}", killed, killed), (unfinished, f"source completed, target ENDED; target aborted: {failed}",
+                                                                                    f"target aborted: {failed}", "target aborted"),
+            (cut, "source postcopy-active, target HANGS; target: it runs, and does not answer", "", "target hangs"),
+            (unjudged, "source HANGS, target setup; source: it runs, and does not answer", "", "source hangs"),
+            (cut, "source postcopy-active, target postcopy-paused; no recovery: migrate: Cannot resume if there is no paused migration", "", "source waits for itself"),
+            (unjudged, "source none, target none; gave up: pre-copy: completed", "", "no post-copy"),
+            (unjudged, "source none, target none; gave up: pre-copy: failed", "", "pre-copy failed"), ("incomplete done", "completed", "", "incomplete done"),
+            ("shape line 7 phases", both, "", "shape phases"), ("faulty line 7 early", both, source, "`early`")):
+        result = Result(Plan(), verdict, outcome, death=death)
+        tests.wants(f"in a word: {verdict}; {outcome}", (result.in_a_word, result.is_clean, result.is_settled), (wanted, False, False))
+        tests.wants("as a text and back", result_from_text(result.to_text()), result)
+    tests.wants("in a table", results.markdown([["What"], [name]]).splitlines()[-1], "| source aborted: Assertion `block == qemu_get_ram_block(end - 1) \\|\\| !x' failed. |")
+
+
+def of_a_recorder_that_fails(tests):
+    """A recorder that fails behind its verdict is told, whatever that verdict is."""
+    whole, died = Outcome("completed", "completed"), Outcome("ENDED", "ENDED", deaths=["target exited: it", "source aborted: it"])
+    plan = Plan(source_version="10.0.13", target_version="10.0.13")
+    for status, said, outcome, wanted in ((0, "", whole, ("clean, yes", True, "")), (1, "Traceback:\nOSError: no room\n", whole, ("not judged: the recorder ended with OSError: no room", False, "")),
+                                          (-9, "", whole, ("not judged: the recorder ended with nothing", False, "")), (0, "", died, ("clean, yes", False, "source aborted: it"))):
+        with tempfile.TemporaryDirectory() as folder:
+            for name, text in (("verdict", "clean, yes\n"), ("outcome.json", json.dumps(asdict(outcome))), ("plan.json", plan.to_text())):
+                folders.write(f"{folder}/{name}", text)
+            result = results.result_of(plan, folder, SimpleNamespace(returncode=status, stderr=said))
+        tests.wants(f"the result of one with status {status}", (result.verdict, result.is_clean, result.death), wanted)
+
+
+def of_an_end_in_precopy(tests):
+    """Both QEMUs end before anything is moved: how each did is told, and what it said. (The program is asked nothing else here.)"""
+    with tempfile.TemporaryDirectory() as room:
+        qemu, folder, said = f"{room}/qemu", f"{room}/made", []
+        folders.write(qemu, "#!/bin/sh\nunset LD_PRELOAD\n[ $2 = target ] || { echo \"it: Assertion \\`one' failed.\" >&2; echo more >&2; kill -ABRT $$; }\n"
+                      "echo 'load of migration failed' >&2; exit 1\n")
+        os.chmod(qemu, 0o755)
+        emulator = SimpleNamespace(path=qemu, version_text="10.0.13")
+        one = Migration(plan_of("live", limit=1.0), folder, said.append, [emulator, emulator])
+        one.prepare, one.build, one.put_guest = lambda library: ("pc", {"source": (), "target": ()}), lambda: "library", lambda: None
+        with mock.patch("build.require_tools"):
+            outcome = one.run()
+        deaths = ["source aborted: it: Assertion `one' failed.", "target exited: load of migration failed"]
+        tests.wants("how they ended", (outcome.source, outcome.target, sorted(outcome.deaths), outcome.ended, outcome.is_whole), ("ENDED", "ENDED", deaths, deaths[0], False))
+        tests.wants("what is told, and kept", (set(deaths) < set(said), json.loads(results.read(f"{folder}/outcome.json"))["deaths"]), (True, outcome.deaths))
+        tests.wants("in a word", Result(one.plan, "not judged: there was no post-copy", outcome_in_words(asdict(outcome)), death=outcome.death).in_a_word,
+                    "source aborted: Assertion `one' failed.")
 
 
 def of_a_busy_machine(tests):
@@ -192,7 +254,7 @@ def of_a_refusal(tests):
     with tempfile.TemporaryDirectory() as room:
         one, said = Migration.__new__(Migration), []
         one.plan, one.folder, one.outcome, one.say, one.machines, one.migrate, one.room = Plan(), room, Outcome(), said.append, [], refuse, folders.Room()
-        one.machine_class, one.source_emulator, one.target_emulator = (lambda *_: SimpleNamespace(waited=lambda: 0.0, end=lambda is_well: "")), *[SimpleNamespace(path="")] * 2
+        one.machine_class, one.source_emulator, one.target_emulator = (lambda *_: SimpleNamespace(waited=lambda: 0.0, end=lambda is_well: "", migration=lambda: "none")), *[SimpleNamespace(path="")] * 2
         one.record(None, "pc", {"source": (), "target": ()})
         one.room.end()
     told = ["gave up: migrate-set-parameters: Parameter 'multifd-channels' expects a value between 1 and 255"]
@@ -203,6 +265,9 @@ def run(tests):
     of_words(tests)
     of_plans(tests)
     of_results(tests)
+    of_deaths(tests)
+    of_a_recorder_that_fails(tests)
+    of_an_end_in_precopy(tests)
     of_a_busy_machine(tests)
     of_a_guest_that_stands_still(tests)
     of_the_limit(tests)

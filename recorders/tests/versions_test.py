@@ -214,8 +214,8 @@ def of_one_that_hangs(tests, room):
     one.outcome, one.say = migration.Outcome(), lambda line: None
     tests.wants("how it ended", (one.end_of(hanging, "hangs"), one.outcome.remarks), ("HANGS", ["target: it runs, and does not answer"]))
     hanging.is_running = lambda: False
-    hanging.last_error = lambda: "load of migration failed"
-    tests.wants("one that ended", one.end_of(hanging, "hangs"), "ENDED")
+    hanging.how_it_ended = lambda: "exited: load of migration failed"
+    tests.wants("one that ended", (one.end_of(hanging, "hangs"), one.outcome.deaths), ("ENDED", ["target exited: load of migration failed"]))
 
 
 def of_the_forwarder(tests, room):
