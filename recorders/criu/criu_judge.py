@@ -13,15 +13,15 @@ def session_of(folder, is_whole):
     return session, left_out
 
 
-def judged(folder, is_whole=True):
-    """Judges a recording, and writes what was found to its folder."""
+def judged(folder, ended=""):
+    """Judges a recording, and writes what was found to its folder. `ended` says how the migration ended, if it did not come to its end."""
     try:
-        session, left_out = session_of(folder, is_whole)
+        session, left_out = session_of(folder, not ended)
         judge.write(f"{folder}/session", session.text())
     except (Hole, OSError) as fault:
         verdict = judge.Verdict(f"not judged: {fault}")
     else:
-        verdict = judge.Verdict(judge.complete_line(folder), session, left_out)
+        verdict = judge.Verdict(judge.verdict_line(folder, ended), session, left_out)
     judge.write(f"{folder}/verdict", verdict.line + "\n")
     return verdict
 

@@ -35,6 +35,11 @@ class Outcome:
     def is_whole(self):
         return (self.dump, self.lazy_pages, self.restore) == (0, 0, 0) and not self.remarks
 
+    @property
+    def ended(self):
+        """Returns how the migration ended, if it is not whole; otherwise nothing."""
+        return "" if self.is_whole else str(self)
+
     def __str__(self):
         ends = [f"{name} {'not started' if end is None else 'ended' if end == 0 else end if isinstance(end, str) else f'failed ({end})'}"
                 for name, end in (("dump", self.dump), ("lazy-pages", self.lazy_pages), ("restore", self.restore))]

@@ -8,6 +8,7 @@ import sys
 from convert import recording_in
 from files import write
 from records import Hole
+from results import UNFINISHED
 from witness import witness
 
 NOT_RUN = 127  # the status of a program that cannot be run, as a shell has it
@@ -69,16 +70,16 @@ def session_of(folder, is_whole, is_from_halt):
     return session, 0
 
 
-def judge(folder, is_whole=True, is_from_halt=False):
-    """Judges a recording, and writes what was found to its folder. If both QEMUs came to the end, it has to tell of a whole migration."""
+def judge(folder, ended="", is_from_halt=False):
+    """Judges a recording, and writes what was found to its folder. `ended` says how the migration ended, if it did not come to its end."""
     restart = restart_of(folder)
     try:
-        session, left_out = session_of(folder, is_whole, is_from_halt)
+        session, left_out = session_of(folder, not ended, is_from_halt)
         write(f"{folder}/session", session.text())
     except (Hole, OSError) as fault:
         verdict = Verdict(f"not judged: {fault}")
     else:
-        verdict = Verdict(complete_line(folder) if is_whole or restart else verdict_line(folder), session, left_out)
+        verdict = Verdict(verdict_line(folder, ended), session, left_out)
     verdict.restart = restart
     if verdict.restart:
         write(f"{folder}/restart", verdict.restart.line() + "\n")
@@ -94,24 +95,19 @@ def restart_of(folder):
         return None  # the verdict says so
 
 
-def verdict_line(folder):
-    report, _ = ask(folder, "audit", "session")
+def verdict_line(folder, ended=""):
+    """Returns the verdict on a session as a line. It is `incomplete ..` if the session is clean and does not tell of a whole migration. A
+    migration that did not come to its end has no certificate, whatever its session tells: `ended` says how it ended."""
+    report, _ = ask(folder, "audit", "--complete", "session")
+    first, _, certificate = report.partition("\n")
+    if first == "clean" and ended:
+        first = f"not judged: {UNFINISHED}{ended}"
+        report = f"{first}\n"
     write(f"{folder}/report", report)
-    first = report.split("\n", 1)[0]
     if first != "clean":
         return first or "not judged: the program said nothing"
-    certificate, _ = ask(folder, "certify", "session")
     write(f"{folder}/certificate", certificate)
-    return f"clean, {ask(folder, 'check', 'session', 'certificate')[0].strip()}"
-
-
-def complete_line(folder):
-    """Returns the verdict as a line. It is `incomplete ..` if the session is clean, but does not tell of a whole migration."""
-    line = verdict_line(folder)
-    if not line.startswith("clean, "):
-        return line
-    whole = ask(folder, "audit", "--complete", "--quiet", "session")[0].strip()
-    return line if whole == "clean" else whole or "not judged: the program does not say whether the session tells of a whole migration"
+    return f"clean, {ask(folder, 'check', '--complete', 'session', 'certificate')[0].strip()}"
 
 
 def explain_and_draw(folder, *options, session="session"):

@@ -19,7 +19,7 @@ def main():
     folder, *names = sys.argv[1:]
     emulators = {name: Emulator(name) for name in names}
     outcome = Migration(plan_from_text(sys.stdin.read()), folder, lambda line: None, [emulators[name] for name in names]).run()
-    judge.judge(folder, outcome.is_whole)
+    judge.judge(folder, outcome.ended)
 
 
 if __name__ == "__main__":

@@ -48,8 +48,8 @@ def of_plans(tests):
 
 def of_results(tests):
     whole, hung = Outcome(0, 0, 0), Outcome("waits", "hangs", 0)
-    tests.wants("CRIU came to its end", (whole.is_whole, str(whole)), (True, "dump ended, lazy-pages ended, restore ended"))
-    tests.wants("it did not", (hung.is_whole, str(hung)), (False, "dump waits, lazy-pages hangs, restore ended"))
+    tests.wants("CRIU came to its end", (whole.is_whole, str(whole), whole.ended), (True, "dump ended, lazy-pages ended, restore ended", ""))
+    tests.wants("it did not", (hung.is_whole, str(hung), hung.ended), (False, *["dump waits, lazy-pages hangs, restore ended"] * 2))
     tests.wants("it did, and something is to be said of it", Outcome(0, 0, 0, ["a remark"]).is_whole, False)
     failed = Outcome(1, remarks=["the process was not dumped"])
     tests.wants("it failed", str(failed), "dump failed (1), lazy-pages not started, restore not started; the process was not dumped")

@@ -30,7 +30,7 @@ def session_of(files, **others):
 def verdict_of(session):
     with tempfile.TemporaryDirectory() as room:
         judge.write(f"{room}/session", session.text())
-        return judge.complete_line(room)
+        return judge.verdict_line(room)
 
 
 def reason_of(session):
@@ -74,9 +74,9 @@ def of_files_that_end_early(tests):
 
 
 def of_a_log_that_ends_early(tests):
-    """The log's last line says how long it is. Where it does not, the migration is not judged as a whole one, and what is left of one that
-    is not whole is judged."""
-    files, (digest, verdict) = kept.files_of("live"), kept.expected()["live"]
+    """The log's last line says how long it is. Where it does not, nothing is judged; and of a migration that did not come to its end nothing
+    is clean, also where the log tells of a whole one."""
+    files, digest = kept.files_of("live"), kept.expected()["live"][0]
     plan = replace(plan_from_text(files["plan.json"].decode()), log_has_end=True)
     whole = {**files, "plan.json": plan.to_text().encode(), "log": files["log"] + b"end %d\n" % len(files["log"])}
     tests.wants("a log with an end", kept.hash_of(session_of(whole).text()), digest)
@@ -92,8 +92,10 @@ def of_a_log_that_ends_early(tests):
         for file, data in {**whole, "log": whole["log"][:last + 1]}.items():
             with open(f"{room}/{file}", "wb") as out:
                 out.write(data)
-        for is_whole, wanted in ((True, "not judged: log: its end is missing"), (False, verdict)):
-            tests.wants(f"the verdict on a log without an end, {is_whole}", criu_judge.judged(room, is_whole).line, wanted)
+        unfinished = "not judged: the migration did not come to its end: dump waits"
+        for ended, wanted in (("", "not judged: log: its end is missing"), ("dump waits", unfinished)):
+            tests.wants(f"the verdict on a log without an end, {ended}", criu_judge.judged(room, ended).line, wanted)
+        tests.wants("there is no certificate", os.path.exists(f"{room}/certificate"), False)
 
 
 def migrated(files, outcome, *words):
@@ -146,11 +148,11 @@ def of_hang(tests):
             for file, data in kept.files_of(name).items():
                 with open(f"{room}/{file}", "wb") as out:
                     out.write(data)
-            verdict = criu_judge.judged(room, is_whole=False)
+            verdict = criu_judge.judged(room, "dump waits")
             waited, missing = criu_judge.waited_for(room), int(verdict.line.split()[-1])
             tests.wants(f"{name}: the process waits for a page", len(waited), 1)
             tests.wants(f"{name}: of all that is absent this is not the first", missing <= waited[0], True)
-            tests.wants(f"{name}: as far as it goes nothing is wrong", judge.verdict_line(room), "clean, yes")
+            tests.wants(f"{name}: as far as it goes nothing is wrong", judge.ask(room, "audit", "--quiet", "session"), ("clean\n", 0))
             tests.wants(f"{name}: it is explained", f"Page {missing} was owed" in judge.explain_and_draw(room, "--complete"), True)
             tests.wants(f"{name}: and drawn", os.path.getsize(f"{room}/picture.svg") > 1000, True)
             with open(f"{room}/verdict", encoding="ascii") as line:

@@ -28,6 +28,8 @@ TOP = os.path.dirname(os.path.dirname(os.path.dirname(os.path.abspath(__file__))
 RECORDINGS = f"{TOP}/recorders/qemu/recordings"
 EXAMPLES = {"example-live": "qemu-live", "example-preempt": "qemu-preempt", "lost-write": "qemu-lost-write"}
 WINDOW = ("11.1-both-ran", "qemu-both-ran", 51, 56)  # from the halt, the first and the last page
+DIED = "source completed, target ENDED"
+UNFINISHED = f"not judged: the migration did not come to its end: {DIED}"
 
 
 def kept():
@@ -46,10 +48,10 @@ def session_of(files, source_side=SourceSide, target_side=TargetSide):
     return recording.session()
 
 
-def verdict_of(session):
+def verdict_of(session, ended=""):
     with tempfile.TemporaryDirectory() as room:
         judge.write(f"{room}/session", session.text())
-        return judge.verdict_line(room)
+        return judge.verdict_line(room, ended)
 
 
 def reason_of(session):
@@ -184,7 +186,7 @@ WRONG_FILES = (
 WRONG_SIDES = (
     ("pages of zeros", "live", {"source_side": ZerosLate}, "knot"),
     ("the read that the halt came into", "10.0-live", {"target_side": FirstAsAnyOther}, "faulty early"),
-    ("that the source starts its guest again", "11.1-both-ran", {"source_side": NotBack}, "clean, yes"),
+    ("that the source starts its guest again", "11.1-both-ran", {"source_side": NotBack}, "incomplete page 55"),
     ("the write that the halt came into", "11.1-both-ran", {"source_side": NotBack, "target_side": FirstAsAnyOther}, "faulty early"),
     ("a request that is made a second time", "recovery", {"target_side": SecondRequestJoins}, "shape named"),
 )
@@ -357,7 +359,7 @@ def judged(files):
         for name, data in files.items():
             with open(f"{room}/{name}", "wb") as out:
                 out.write(data)
-        verdict = judge.judge(room, is_whole=False)
+        verdict = judge.judge(room, DIED)
         with open(f"{room}/restart", encoding="ascii") as file:
             return verdict, file.read()
 
@@ -417,25 +419,27 @@ def of_a_target_that_ends_early(tests):
     told, runs, stops = files["target.raw"], *(files["target.raw"].rindex(f"vm_state_notify running {it} ".encode()) for it in (1, 0))
     tests.wants("the guest runs at the target before it is stopped", runs < stops, True)
     for left in (stops, stops - 1, (runs + 2 * stops) // 3):
-        for is_whole, wanted in ((True, "not judged: target.raw: its end is missing"), (False, "clean, yes")):
+        for ended, wanted in (("", "not judged: target.raw: its end is missing"), (DIED, UNFINISHED)):
             with tempfile.TemporaryDirectory() as room:
                 for name, data in {**files, "target.raw": told[:left]}.items():
                     with open(f"{room}/{name}", "wb") as out:
                         out.write(data)
-                tests.wants(f"{left} of {len(told)} bytes of target.raw, {is_whole}", judge.judge(room, is_whole).line, wanted)
+                tests.wants(f"{left} of {len(told)} bytes of target.raw, {ended}", judge.judge(room, ended).line, wanted)
 
 
 def of_statuses(tests):
     """What ends early is no success, though what is left is clean; nor is a migration of which QEMU says that it came to its end, and
-    whose logs do not tell that each page came."""
+    whose logs do not tell that each page came; nor one whose source started its guest again, whatever the program says of it."""
+    again = judge.Verdict("clean, yes", restart=convert.Restart(False, 7, 0, 0))
+    tests.wants("a source that goes on beside a clean session", (again.is_clean, again.status(True)), (False, 1))
     files = files_of("example-live")
     with tempfile.TemporaryDirectory() as room:
         for name, data in files.items():
             with open(f"{room}/{name}", "wb") as out:
                 out.write(data)
-        for is_whole, line, status in ((True, "clean, yes", 0), (False, "clean, yes", 1)):
-            verdict = judge.judge(room, is_whole)
-            tests.wants(f"a recording where both came to the end: {is_whole}", (verdict.line, verdict.status(is_whole)), (line, status))
+        for ended, line, status in (("", "clean, yes", 0), (DIED, UNFINISHED, 1)):
+            verdict = judge.judge(room, ended)
+            tests.wants(f"a recording of one that ended: {ended}", (verdict.line, verdict.status(not ended)), (line, status))
         with open(f"{room}/source.raw", "wb") as out:
             out.write(replaced(files["source.raw"], (b"source_return_path_thread_shut 0x0\n", b"")))
         verdict = judge.judge(room)
@@ -452,27 +456,46 @@ def of_statuses(tests):
         tests.wants("where there is no program", (verdict.line, verdict.status(True), told.getvalue()), ("not judged: the program said nothing", 1, wanted))
 
 
+def of_a_side_that_died(tests):
+    """Where a QEMU did not come to its end nothing is green: neither what was recorded until then, nor a session that tells of a whole
+    migration, as where the target aborts behind the last page."""
+    recorder, files = command("migrate"), files_of("example-live")
+    placed = [match.end() for match in re.finditer(rb"uffd place [^\n]*\n", files["target.raw"])]
+    died = Outcome("completed", "ENDED", deaths=["target aborted: Assertion `it' failed."])
+    for left, outcome, wanted in ((None, Outcome("completed", "completed"), ("clean", "clean, yes", True, 0)),
+                                  (None, died, ("not", f"not judged: the migration did not come to its end: {died.death}", False, 1)),
+                                  (placed[5], died, ("incomplete", "incomplete page", False, 1))):
+        with tempfile.TemporaryDirectory() as room:
+            told, status = migrated(recorder, {**files, "target.raw": files["target.raw"][:left]}, outcome, room=room)
+            with open(f"{room}/verdict", encoding="utf-8") as verdict, open(f"{room}/report", encoding="utf-8") as report:
+                found = report.read().split()[0], re.sub(r"(?<=page) \d+$", "", verdict.read().rstrip("\n")), os.path.exists(f"{room}/certificate"), status
+        tests.wants(f"what is left of one of which {left} bytes are told, {outcome.line()}", found, wanted)
+        tests.wants("what is said of the side", f"\nThe {died.death}\n" in told, outcome is died)
+
+
 def of_what_is_not_put_in(tests):
     """A clean migration in which a fault or a cut was to be put in, and was not, is told as such."""
     recorder, files = command("migrate"), files_of("example-live")
     for words, log, remarks, wanted in (
             ((), b"", [], (None, 0)), (("--fault", "flip"), b"", [], ("flip not reached", 4)), (("--fault", "flip"), b"fault flip 3\n", [], (None, 0)),
             (("--cut", "9"), b"", ["1 cut not reached"], ("1 cut not reached", 4)), (("--cut", "9"), b"", [], (None, 0))):
-        told, status = migrated(recorder, {**files, "relay.log": log + files["relay.log"]}, remarks, *words)
+        told, status = migrated(recorder, {**files, "relay.log": log + files["relay.log"]}, Outcome("completed", "completed", remarks=remarks), *words)
         found = re.search("^Put in: (.*)$", told, re.MULTILINE)
         tests.wants(f"what is told of {words} with {log}", (found and found[1], status), wanted)
-    told, _ = migrated(recorder, files, ["gave up: migrate: no room"])
+    told, _ = migrated(recorder, files, Outcome("completed", "completed", remarks=["gave up: migrate: no room"]))
     tests.wants("why the recorder gave up, with --quiet", "\nThe recorder gave up: migrate: no room\n" in told, True)
 
 
-def migrated(recorder, files, remarks, *words):
-    """What the recorder writes of a migration that both QEMUs say they completed, of which these files are left; and its status."""
-    with tempfile.TemporaryDirectory() as room:
+def migrated(recorder, files, outcome, *words, room=None):
+    """What the recorder writes of a migration that ended so, of which these files are left; and its status."""
+    with tempfile.TemporaryDirectory() as other:
+        room = room or other
+
         def run():
             for name, data in files.items():
                 with open(f"{room}/{name}", "wb") as out:
                     out.write(data)
-            return Outcome("completed", "completed", remarks=remarks)
+            return outcome
 
         of_qemu = mock.patch.multiple(recorder, Emulator=mock.Mock(NAME="any"), Migration=mock.Mock(return_value=SimpleNamespace(run=run)))
         given = mock.patch.object(sys, "argv", ["migrate", "live", room, "--quiet", *words])
@@ -487,7 +510,7 @@ def of_a_long_log(tests):
     recorder, files = command("migrate"), files_of("example-live")
     for most, words, wanted in ((1 << 20, (), False), (100, (), True), (100, ("--from-halt",), False)):
         with mock.patch.object(convert, "SMALL", convert.SMALL._replace(records=most)):
-            told, status = migrated(recorder, files, [], *words)
+            told, status = migrated(recorder, files, Outcome("completed", "completed"), *words)
         tests.wants(f"with room for {most} records {words}", ("begins with the memory at the halt" in told, status), (wanted, 0))
 
 
@@ -515,7 +538,7 @@ def of_a_strange_stream(tests):
 
 
 def of_ends(tests):
-    """Recordings that end early, as when a QEMU ends: what is left is judged, or it is told what it lacks."""
+    """Recordings that end early, as when a QEMU ends: what is left is judged, and is not clean, or it is told what it lacks."""
     files = files_of("recovery")
     for name in ("source.raw", "target.raw", "relay.log"):
         seen = set()
@@ -527,8 +550,8 @@ def of_ends(tests):
                 seen.add("hole")
                 continue
             session.cut()
-            seen.add(reason_of(session))
-        tests.wants(f"verdicts where {name} ends early", seen, {"hole", "clean, yes"})
+            seen.add(verdict_of(session, DIED).split()[0])
+        tests.wants(f"verdicts where {name} ends early", seen | {"not"}, {"hole", "incomplete", "not"})
 
 
 def of_moments(tests):
@@ -562,6 +585,7 @@ def run(tests):
     of_an_end_that_is_missing(tests)
     of_a_target_that_ends_early(tests)
     of_statuses(tests)
+    of_a_side_that_died(tests)
     of_what_is_not_put_in(tests)
     of_a_long_log(tests)
     of_the_last_of_the_source(tests)
