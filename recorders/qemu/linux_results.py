@@ -12,7 +12,7 @@ import dialect
 from convert import recording_in
 from files import lines_of, replace, write
 from records import Hole
-from results import markdown, was_put_in
+from results import markdown, name_of, was_put_in
 from witness import pages_that_differ
 
 FILE = "result.json"
@@ -25,6 +25,7 @@ PLAIN = "pre-copy alone"
 NO_POSTCOPY = "not judged: there was no post-copy"
 NOT_REACHED = ", not reached"
 MANY = 30
+GREEN = ("clean", "nothing lost", "nothing lost in pre-copy")
 BARE = ("nothing lost", "lost pages", "something wrong")
 RUIN = ("clean", "faulty", "incomplete", "not judged", *BARE, *(f"{word} in pre-copy" for word in BARE))
 
@@ -46,12 +47,11 @@ class Result:
     word: str = ""       # what became of it, where this alone is known
     is_precopy: bool = False  # whether pre-copy alone was asked for
     stands_still: Optional[bool] = None  # whether the guest stood still at the target; None where nobody looked
+    death: str = ""      # how a QEMU ended by itself, in its words
 
     def to_text(self):
-        fields = asdict(self)
-        if self.stands_still is None:  # (so the line of an earlier result stays as it was)
-            del fields["stands_still"]
-        return json.dumps(fields)
+        later = {"stands_still": None, "death": ""}  # (the line of an earlier result stays as it was)
+        return json.dumps({name: value for name, value in asdict(self).items() if name not in later or value != later[name]})
 
     @property
     def in_a_word(self):
@@ -60,17 +60,33 @@ class Result:
         if self.is_bare:
             return self.word_of_bare
         if self.verdict.startswith("not judged"):
-            return "not judged"
+            return self.not_judged
         return "clean" if self.verdict == "clean, yes" else self.verdict.split(" ")[0]
 
     @property
     def word_of_bare(self):
         """Returns what became of a bare migration. If post-copy was asked for and pre-copy came to its end before it, the word says so."""
         is_known = self.lost is not None and self.verdict in ("", NO_POSTCOPY)
-        if not (is_known or self.is_wrong_at_target):
-            return "not judged"
+        if not (is_known or self.lost or self.is_wrong_at_target):
+            return self.not_judged
         word = "lost pages" if self.lost else "something wrong" if self.says or self.stands_still else "nothing lost"
         return word + " in pre-copy" * (self.verdict == NO_POSTCOPY)
+
+    @property
+    def not_judged(self):
+        """Returns what became of a migration that is not judged: how a QEMU died, if one did."""
+        return name_of(self.death) if self.death else "not judged"
+
+    @property
+    def status(self):
+        """Returns the status of `linux` for a migration that came to its end."""
+        if self.is_bare:
+            return {"not judged": 4, "nothing lost in pre-copy": 4, "nothing lost": 0}.get(self.in_a_word, 1)
+        if self.verdict.startswith("not judged"):
+            return 4
+        if self.verdict != "clean, yes" or self.is_wrong_at_target:
+            return 1
+        return 4 if self.fault.endswith(NOT_REACHED) else 0
 
     @property
     def is_wrong_at_target(self):
@@ -105,7 +121,7 @@ def what_guest_says(folder):
     return lines
 
 
-def result_of(folder, workload, is_bare, verdict, seconds, stands_still=False):
+def result_of(folder, workload, is_bare, verdict, seconds, stands_still=False, death=""):
     """Returns the result of the migration in a folder, and writes it there."""
     recording = recording_in(folder)
     plan, lost = recording.plan, None
@@ -117,7 +133,7 @@ def result_of(folder, workload, is_bare, verdict, seconds, stands_still=False):
     fault = plan.fault and (plan.fault if was_put_in(folder) else plan.fault + NOT_REACHED)
     result = Result(plan.source_version, is_bare, plan.cpus, workload, plan.pre_pages <= plan.pages, fault, verdict, lost,
                     what_guest_says(folder), round(seconds, 1), round(os.getloadavg()[0], 1), time.strftime("%Y-%m-%dT%H:%M:%S", time.gmtime()),
-                    is_precopy=plan.is_precopy, stands_still=stands_still)
+                    is_precopy=plan.is_precopy, stands_still=stands_still, death=death)
     write(f"{folder}/{FILE}", f"{result.to_text()}\n")
     return result
 
@@ -155,6 +171,6 @@ def table(results):
         cells = []
         for version in versions:
             words = [result.in_a_word for result in results if (result.row, result.version) == (row, version)]
-            cells.append(", ".join(f"{words.count(word)} {word}" for word in RUIN if word in words))
+            cells.append(", ".join(f"{words.count(word)} {word}" for word in (*RUIN, *sorted(set(words) - set(RUIN))) if word in words))
         lines.append([row, *cells])
     return markdown([["Migrations of", *versions], *lines])

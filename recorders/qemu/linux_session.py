@@ -16,6 +16,7 @@ from convert import Recording
 from files import naming
 from postcopy.records import LARGE
 from records import Hole
+from results import UNFINISHED
 from source_side import SourceSide
 from stream import PAGE_BYTES
 from target_side import TargetSide
@@ -214,36 +215,24 @@ class LinuxRecording(Recording):
         return found
 
 
-def verdict_line(folder):
-    """Returns the verdict on a session of a whole migration, as a line. The certificate is that of the report: a session of a gigabyte is
-    read twice."""
-    report, _ = judge.ask(folder, "audit", "--complete", "session")
-    judge.write(f"{folder}/report", report)
-    first, _, certificate = report.partition("\n")
-    if first != "clean":
-        return first or "not judged: the program said nothing"
-    judge.write(f"{folder}/certificate", certificate)
-    return f"clean, {judge.ask(folder, 'check', '--complete', 'session', 'certificate')[0].strip()}"
-
-
-def judged(folder, is_whole, ended, say=lambda line: None):
+def judged(folder, ended="", say=lambda line: None):
     """Judges a recording, and writes what was found to its folder. There is no verdict if the self-test fails, or if the migration did not
-    come to its end; `ended` says how it ended. Returns the Verdict, and the SelfTest or None."""
+    come to its end: `ended` says how it ended then. Returns the Verdict, and the SelfTest or None."""
     found, faults = None, []
     try:
         found = LinuxRecording(folder).write_session()
         faults = list(found.faults())
     except (Hole, OSError, ValueError) as fault:
         faults = [str(fault)]
-    if not is_whole:  # which is why anything else is missing
-        faults = [f"the migration did not come to its end: {ended}"]
+    if ended:  # which is why anything else is missing
+        faults = [f"{UNFINISHED}{ended}"]
     if faults:
         verdict = judge.Verdict(f"not judged: {'; '.join(faults)}")
     else:
         say(f"self-test: {found.line()}")
         judge.write(f"{folder}/self-test", found.line() + "\n")
         say("judges")
-        verdict = judge.Verdict(verdict_line(folder))
+        verdict = judge.Verdict(judge.verdict_line(folder))
     judge.write(f"{folder}/verdict", verdict.line + "\n")
     return verdict, found
 

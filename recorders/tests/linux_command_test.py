@@ -210,6 +210,12 @@ def of_a_guest_that_stands_still(tests):
             result = result_from_text(read(f"{folder}/result.json"))
         tests.wants(f"what is told of it, {stands_still} {is_bare}", (found, result.in_a_word, result.stands_still, "it stands still at the target" in said.getvalue()),
                     (status, word, stands_still, stands_still))
+    for halt, wanted in ((HALT, "not judged"), (HALT.with_cells({7: 1}), "lost pages")):
+        with tempfile.TemporaryDirectory() as folder:
+            write(made(halt=halt), folder)
+            with contextlib.redirect_stdout(io.StringIO()):
+                status = linux.found_bare(folder, Outcome("postcopy-paused", "HANGS"), linux.words().parse_args([folder]), 1.0)
+            tests.wants(f"a bare one that did not come to its end: {wanted}", (status, result_from_text(read(f"{folder}/result.json")).in_a_word), (4, wanted))
     tests.wants("an earlier result, of which nobody knows", Result("7.2.22", True, 2, "busy", True, "", "", 0, []).stands_still, None)
 
 
@@ -305,7 +311,7 @@ os.makedirs(folder)
 for name in ("session", "halt.mem", "verdict"):
     open(f"{folder}/{name}", "w").close()
 with open(f"{folder}/result.json", "w") as out:
-    out.write(%r if status == 0 else %r)
+    out.write(%r if status != 1 else %r)
 sys.exit(status)
 """
 
@@ -324,15 +330,19 @@ def of_a_guest_that_does_not_boot(tests, room):
     """Where the recorder gave up, the verdict says why, and not what was missing for that."""
     linux = command("linux")
     parser = linux.words()
-    gave_up = "gave up: the guest did not boot within 600 s; it said: nothing"
-    for words, wanted in ((["--bare"], f"not judged: {gave_up}"), ([], f"not judged: the migration did not come to its end: {gave_up}")):
+    gave_up, died = "gave up: the guest did not boot within 600 s; it said: nothing", "source exited: no such machine"
+    for words, deaths, wanted, word in (
+            (["--bare"], [], f"not judged: {gave_up}", "not judged"), ([], [], f"not judged: the migration did not come to its end: {gave_up}", "not judged"),
+            (["--bare"], [died], f"not judged: {died}", died), ([], [died], f"not judged: the migration did not come to its end: {died}", died)):
         asked = parser.parse_args([room, *words])
         plan = linux.plan_of_words(parser, asked)
         write({"plan.json": plan.to_text().encode(), **dict.fromkeys(("relay.log", "relay.pages", "source.raw", "target.raw"), b"")}, room)
-        outcome = Outcome(remarks=["0.1 s", gave_up])
+        outcome = Outcome(remarks=["0.1 s", gave_up], deaths=deaths)
         with contextlib.redirect_stdout(io.StringIO()):
             status = linux.found_bare(room, outcome, asked, 1.0) if words else linux.found_recorded(room, outcome, asked, 1.0, lambda line: None)
-        tests.wants(f"what is told of it {words}", (status, result_from_text(read(f"{room}/result.json")).verdict), (4, wanted))
+        result = result_from_text(read(f"{room}/result.json"))
+        tests.wants(f"what is told of it {words} {deaths}", (status, result.verdict, result.in_a_word), (4, wanted, word))
+        tests.wants("in the table", linux_results.table([result]).splitlines()[-1].split(" | ")[-1], f"1 {word} |")
 
 
 def of_a_guest_that_says_what_is_wrong(tests, room):
@@ -379,6 +389,8 @@ def of_runs(tests, room):
 
     tests.wants("the statuses", [made("2", f"{room}/seen", "--", "0"), made("1", f"{room}/seen", "--keep", "--", "1"), made("1", f"{room}/seen", "--", "3"),
                                  made("0", f"{room}/seen", "--write"), made("1", room, "--", "0")], [0, 0, 3, 0, 2])
+    tests.wants("one whose recorder fails behind its verdict", (made("1", f"{room}/failed", "--", "9"), [
+        (one.in_a_word, one.verdict) for one in linux_results.results_in(f"{room}/failed/results")]), (0, [("not judged", "not judged: the recorder ended with status 9")]))
     with mock.patch.object(runs, "time", Clock()):
         tests.wants("where the minutes are over before the last was made", made("3", f"{room}/late", "--minutes", "0.02", "--", "0"), 3)
     tests.wants("with no minutes at all", (made("3", f"{room}/never", "--minutes", "0", "--", "0"), len(linux_results.results_in(f"{room}/never/results"))), (3, 0))

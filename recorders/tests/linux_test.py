@@ -127,10 +127,10 @@ def write(files, folder):
             out.write(data)
 
 
-def verdict_of(files, is_whole=True):
+def verdict_of(files, ended=""):
     with tempfile.TemporaryDirectory() as folder:
         write(files, folder)
-        return linux_session.judged(folder, is_whole, "source failed, target ENDED")[0].line
+        return linux_session.judged(folder, ended)[0].line
 
 
 def reason_of(files):
@@ -141,7 +141,7 @@ def of_one_by_hand(tests):
     """The session of the recording made by hand, line by line."""
     with tempfile.TemporaryDirectory() as folder:
         write(made(), folder)
-        verdict, found = linux_session.judged(folder, True, "")
+        verdict, found = linux_session.judged(folder)
         with open(f"{folder}/session", encoding="ascii") as file:
             lines = [re.sub("0{100,}", "0..", line) for line in file.read().splitlines()]
         left = sorted(set(os.listdir(folder)) & {"guest.lines", "self-test", "report", "certificate"})
@@ -186,7 +186,7 @@ def of_a_page_that_is_given_up(tests):
     have = TARGET_RAW.replace("uffd have 0 0\n", "uffd have 0 0\nuffd have 3 0\n")
     with tempfile.TemporaryDirectory() as folder:
         write(made(target=seen, target_raw=have), folder)
-        verdict, _ = linux_session.judged(folder, True, "")
+        verdict, _ = linux_session.judged(folder)
         with open(f"{folder}/session", encoding="ascii") as file:
             looks = [line for line in file if line.startswith("see ")]
     tests.wants("a look that showed it shows what came before it", (verdict.line, looks), ("clean, yes", ["see 3\n", "see 7\n", "see 11\n"]))
@@ -198,7 +198,7 @@ def of_the_page_that_is_shown(tests):
     for what, files, page, first in (("clean", made(), 1, "clean"), ("faulty", made(**wrong), 2, "faulty")):
         with tempfile.TemporaryDirectory() as folder:
             write(files, folder)
-            verdict, _ = linux_session.judged(folder, True, "")
+            verdict, _ = linux_session.judged(folder)
             words, shown = linux_session.explain_and_draw(folder, verdict.is_clean)
             tests.wants(f"the page that is shown of one that is {what}", (shown, words.split()[0], read(f"{folder}/explained") == words, read(f"{folder}/picture.svg")[:4]),
                         (page, first, True, "<svg"))
@@ -270,9 +270,9 @@ def of_the_self_test(tests):
         with mock.patch.object(linux_session.build, "build_guest_log", lambda: out.name):
             tests.wants("a program that is killed while it makes the guest's log", verdict_of(made()),
                         "not judged: the guest's log: the program that makes it ended with the status -9")
-    tests.wants("a migration that did not end", verdict_of(made(), is_whole=False),
+    tests.wants("a migration that did not end", verdict_of(made(), "source failed, target ENDED"),
                 "not judged: the migration did not come to its end: source failed, target ENDED")
-    tests.wants("one of which there is no session either", verdict_of({**made(), "source.accesses": b"", "target.raw": b""}, is_whole=False),
+    tests.wants("one of which there is no session either", verdict_of({**made(), "source.accesses": b"", "target.raw": b""}, "source failed, target ENDED"),
                 "not judged: the migration did not come to its end: source failed, target ENDED")
 
 
@@ -293,7 +293,7 @@ def of_recordings(tests):
     for name, digest, wanted in kept():
         with tempfile.TemporaryDirectory() as folder:
             unpack(f"{RECORDINGS}/{name}.tar.xz", folder)
-            verdict, _ = linux_session.judged(folder, True, "")
+            verdict, _ = linux_session.judged(folder)
             with open(f"{folder}/session", "rb") as file:
                 tests.wants(f"the session of {name}, byte for byte", hashlib.sha256(file.read()).hexdigest(), digest)
             tests.wants(f"the verdict of {name}", verdict.line, wanted)
@@ -305,7 +305,7 @@ def of_accesses_that_are_nowhere(tests):
         unpack(f"{RECORDINGS}/frames.tar.xz", folder)
         with open(f"{folder}/target.counts", "a", encoding="ascii") as out:
             out.write("unlocated 1\n")
-        tests.wants("a recording that lacks an access", linux_session.judged(folder, True, "")[0].line, "not judged: target: unlocated 1")
+        tests.wants("a recording that lacks an access", linux_session.judged(folder)[0].line, "not judged: target: unlocated 1")
 
 
 def of_the_example(tests):
@@ -323,12 +323,12 @@ def of_a_cut(tests):
     """A recording of which some pages are cut has the session of their window."""
     with tempfile.TemporaryDirectory() as folder:
         write(made(), folder)
-        linux_session.judged(folder, True, "")
+        linux_session.judged(folder)
         for first, count in ((0, 4), (0, 1), (1, 2), (2, 2), (3, 1)):
             window, _ = judge.ask(folder, "window", "session", str(first), str(count))
             out = f"{folder}/{first}-{count}"
             linux_cut.Cut(folder, first, count, out).make()
-            verdict, _ = linux_session.judged(out, True, "")
+            verdict, _ = linux_session.judged(out)
             with open(f"{out}/session", encoding="ascii") as file:
                 tests.wants(f"{count} pages from {first} on", (file.read() == window, verdict.line), (True, "clean, yes"))
 
@@ -379,7 +379,7 @@ def of_frames_that_are_missing(tests):
                 out.write(left)
             with open(f"{folder}/{side}.counts", "a", encoding="ascii") as out:
                 out.write(f"records {len(left) // 16}\n")
-        verdict, found = linux_session.judged(folder, True, "")
+        verdict, found = linux_session.judged(folder)
         tests.wants("there is no verdict", verdict.line.startswith("not judged: the source's memory at the halt is not what was recorded"), True)
 
 
