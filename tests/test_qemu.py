@@ -5,10 +5,12 @@ cases are run, and where QEMU is not there, and may not be installed, they are l
 slow for, so that it did not come to what was planned. With --all each case is run, and Linux guests too, by the QEMU of --qemu, and
 what did not come to that is a failure; what is expected of a newer QEMU than 7.2 is told by its version.
 """
+import glob
 import json
 import os
 import re
 import shutil
+import signal
 import subprocess
 import sys
 import tempfile
@@ -19,8 +21,10 @@ import pytest
 TOP = os.path.dirname(os.path.dirname(os.path.abspath(__file__)))
 sys.path[:0] = [f"{TOP}/recorders/qemu", f"{TOP}/recorders"]
 import build
+from dialect import RUNS
 from emulator import Emulator
 from needed import can_have
+from pipe import text_of
 
 NEEDED = ("qemu-system-x86_64:qemu-system-x86", "gcc:gcc,libc6-dev", "ld:binutils")
 CLEAN, DONE = "clean, yes", "source completed, target completed"
@@ -43,7 +47,7 @@ FAULTS = [
 ]
 # Ends of QEMU, those of 7.2. What is left of the logs is judged; a target whose load has failed may start the guest before it ends.
 # That guest may have lost its own stack with the other pages, and then it tells what is no event.
-LEFT = "clean, yes|faulty line [0-9]+ (read|early)"
+LEFT = "incomplete .*|faulty line [0-9]+ (read|early)"
 ENDS = [
     ("keep", ["live", "--flush", "--fault", "keep"], LEFT, "source postcopy-[a-z]*, target (ENDED|failed|postcopy-paused)"),
     ("twice", ["live", "--flush", "--fault", "twice"], LEFT, "source postcopy-[a-z]*, target (ENDED|failed|postcopy-paused)"),
@@ -51,7 +55,12 @@ ENDS = [
     ("started-after-failed-load", ["recovery", "--flush", "--pages", "64", "--cpus", "2", "--writes", "15", "--pace", "20000", "--warm", "200",
                                    "--pre-pages", "80", "--cut", "-1", "--linger", "100"],
      f"{LEFT}|not judged: the guest's bytes .*", "source postcopy-(active|paused), target (ENDED|failed)"),
-    ("cut-behind-last-page", ["recovery", "--flush", "--pages", "64", "--cut", "55"], CLEAN, "source postcopy-active, target postcopy-paused"),
+    ("cut-behind-last-page", ["recovery", "--flush", "--pages", "64", "--cut", "55"], "incomplete page [0-9]+", "source postcopy-active, target postcopy-paused"),
+]
+# A side that is killed: which, once what is told in its file, and patterns of what the audit and what QEMU have to say.
+KILLED = [
+    ("target", RUNS, "incomplete page [0-9]+", "source postcopy-[a-z]*, target ENDED"),
+    ("source", "ram_save_page ", "not judged: there was no post-copy: .*", "source ENDED, target ENDED"),
 ]
 CASES = KINDS + FAULTS + ENDS
 # An unmodified Linux guest, by recorders/qemu/linux: a name, its words, and patterns of what the audit has to say and of the status.
@@ -107,8 +116,8 @@ def run(case, qemu, room, is_in_gate):
     name, words, *wanted = case
     verdict, outcome = wanted_of(name, Emulator(qemu).version, *wanted)
     folder = f"{room}/{name}{STRANGE}"
-    began = time.monotonic()
-    done = subprocess.run([f"{TOP}/recorders/qemu/migrate", *words, "--qemu", qemu, "--quiet", folder], stdout=subprocess.PIPE, text=True)
+    began, less = time.monotonic(), ["--after", "500"] if is_in_gate else []
+    done = subprocess.run([f"{TOP}/recorders/qemu/migrate", *words, *less, "--qemu", qemu, "--quiet", folder], stdout=subprocess.PIPE, text=True)
     said = dict(re.findall(r"^(QEMU|The audit) says: (.*)$", done.stdout, re.MULTILINE))
     status = 0 if (said.get("The audit"), said.get("QEMU")) == (CLEAN, DONE) else 1
     is_right = bool(re.fullmatch(verdict, said.get("The audit", "")) and re.fullmatch(outcome, said.get("QEMU", ""))) and done.returncode == status
@@ -137,6 +146,8 @@ def pytest_generate_tests(metafunc):
     is_all = metafunc.config.getoption("--all")
     if metafunc.function is test_linux:
         cases = LINUX if is_all else LINUX[:1]  # which tells that all are left out
+    elif metafunc.function is test_killed:
+        cases = KILLED if is_all else KILLED[:1]
     else:
         cases = [it for it in CASES if is_all or it[0] in IN_GATE]
     metafunc.parametrize("case", cases, ids=[it[0] for it in cases])
@@ -148,6 +159,40 @@ def test_qemu(qemu, program, pytestconfig, monkeypatch, case):
     is_right, line = run(case, qemu, room, not pytestconfig.getoption("--all"))
     assert is_right, line
     shutil.rmtree(room)
+
+
+def process_of(side, folder):
+    """The number of the process of a QEMU that runs in a folder."""
+    for path in glob.glob("/proc/[0-9]*"):
+        try:
+            with open(f"{path}/cmdline", "rb") as words:
+                if b"-name\0%s\0" % side.encode() in words.read() and os.path.samefile(f"{path}/cwd", folder):
+                    return int(os.path.basename(path))
+        except OSError:
+            pass  # it has ended, or is somebody else's
+    raise AssertionError(f"no {side} runs in {folder}")
+
+
+def test_killed(qemu, program, monkeypatch, case):
+    """A side that is killed leaves nothing green."""
+    monkeypatch.setenv("POSTCOPY", program)
+    side, moment, verdict, outcome = case
+    folder = f"{tempfile.mkdtemp(prefix='qemu-')}/killed"
+    words = [f"{TOP}/recorders/qemu/migrate", "live", "--flush", "--warm", "200", "--pace", "20000", "--post-bandwidth", "100000", "--qemu", qemu, "--quiet", folder]
+    with subprocess.Popen(words, stdout=subprocess.PIPE, text=True) as recorder:
+        raw = f"{folder}/{side}.raw"
+        while recorder.poll() is None:
+            if os.path.exists(raw):
+                with open(raw, "rb") as told:
+                    if moment in text_of(told.read()):
+                        os.kill(process_of(side, folder), signal.SIGKILL)
+                        break
+            time.sleep(0.02)
+        said = recorder.stdout.read()
+    found = dict(re.findall(r"^(QEMU|The audit) says: (.*)$", said, re.MULTILINE))
+    assert re.fullmatch(verdict, found["The audit"]) and re.fullmatch(outcome, found["QEMU"]), f"{said}\n  kept in {folder}"
+    assert (recorder.returncode, f"\nThe {side} was killed by signal 9: " in said, os.path.exists(f"{folder}/certificate")) == (1, True, False), folder
+    shutil.rmtree(os.path.dirname(folder))
 
 
 def test_linux(qemu, program, pytestconfig, monkeypatch, case):
