@@ -13,6 +13,7 @@ from unittest import mock
 import criu_build
 import criu_judge
 import folders
+import kept
 import roots
 from criu_campaign import DRAWN, Result, random_plan, table
 from criu_plans import FAULTS, IN_LIBRARY, KINDS, plan_from_text, plan_of
@@ -112,8 +113,9 @@ def of_words(tests, room):
             os.environ["POSTCOPY_ROOTS"] = before
 
 
-def of_a_folder_of_a_user(tests, room):
-    """A folder that no recorder made stays as it is: its migration is told as not judged, and the others are made."""
+def of_a_campaign(tests, room):
+    """A folder that no recorder made stays as it is: its migration is told as not judged, and the others are made. Of one that did not come to
+    its end nothing is clean."""
     path = f"{os.path.dirname(os.path.abspath(criu_build.__file__))}/campaign"
     loader = importlib.machinery.SourceFileLoader("criu_campaign_command", path)
     campaign = importlib.util.module_from_spec(importlib.util.spec_from_loader(loader.name, loader))
@@ -124,6 +126,19 @@ def of_a_folder_of_a_user(tests, room):
     def take(plan, folder, _):
         return SimpleNamespace(run=lambda: folders.take(folder, ["session"], "criu"))
 
+    def hang(plan, folder, _):
+        def run():
+            os.makedirs(folder)
+            for name, data in kept.files_of("live").items():
+                with open(f"{folder}/{name}", "wb") as out:
+                    out.write(data)
+            return Outcome("waits", "hangs", 0)
+        return SimpleNamespace(run=run)
+
+    with mock.patch.object(campaign, "Migration", hang):
+        result = campaign.record(plan_of("live", criu="sid"), f"{room}/00001")
+    tests.wants("one that hangs behind its last page", (result.verdict.startswith("not judged: the migration did not come to its end: dump waits"), result.end,
+                os.path.exists(f"{room}/00001/certificate")), (True, "dump waits, lazy-pages hangs, restore ended", False))
     with mock.patch.object(campaign, "Migration", take):
         result = campaign.record(plan_of("live", criu="sid"), f"{room}/00000")
     tests.wants("what is told", (result.verdict, result.is_clean, os.listdir(f"{room}/00000")),
@@ -136,4 +151,4 @@ def run(tests):
     with tempfile.TemporaryDirectory() as room:
         of_what_was_put_in(tests, room)
         of_words(tests, room)
-        of_a_folder_of_a_user(tests, f"{room}/campaign")
+        of_a_campaign(tests, f"{room}/campaign")

@@ -129,6 +129,9 @@ def of_what_is_left_out(tests):
     tests.wants("what is told of a hang", (f"\nThe logs may end early: {left_out} records were left out, and the verdict is on the others\n" in told, status), (True, 1))
     told, status = migrated(kept.files_of("live"), Outcome(0, 0, 0))
     tests.wants("and of one that came to its end", ("left out" in told, status), (False, 0))
+    told, status = migrated(kept.files_of("live"), Outcome("waits", "hangs", 0))
+    unfinished = "not judged: the migration did not come to its end: dump waits, lazy-pages hangs, restore ended"
+    tests.wants("a hang behind the last page", (f"\nThe audit says: {unfinished}\n" in told, status), (True, 1))
 
 
 def of_what_is_not_put_in(tests):

@@ -12,6 +12,7 @@ from unittest import mock
 
 import convert
 import judge
+import one
 from dialect import Moments
 from pack import unpacked
 from pipe import Access, InFlight, Pipe
@@ -471,6 +472,12 @@ def of_a_side_that_died(tests):
                 found = report.read().split()[0], re.sub(r"(?<=page) \d+$", "", verdict.read().rstrip("\n")), os.path.exists(f"{room}/certificate"), status
         tests.wants(f"what is left of one of which {left} bytes are told, {outcome.line()}", found, wanted)
         tests.wants("what is said of the side", f"\nThe {died.death}\n" in told, outcome is died)
+    with tempfile.TemporaryDirectory() as room:
+        plan = io.StringIO(files["plan.json"].decode())
+        with mock.patch.object(sys, "stdin", plan), mock.patch.object(sys, "argv", ["one.py", room, "any", "any"]), of_qemu(one, files, room, died):
+            one.main()
+        with open(f"{room}/verdict", encoding="utf-8") as verdict:
+            tests.wants("the same in a campaign", (verdict.read().startswith("not judged: the migration did not come"), os.path.exists(f"{room}/certificate")), (True, False))
 
 
 def of_what_is_not_put_in(tests):
@@ -486,20 +493,23 @@ def of_what_is_not_put_in(tests):
     tests.wants("why the recorder gave up, with --quiet", "\nThe recorder gave up: migrate: no room\n" in told, True)
 
 
+def of_qemu(recorder, files, room, outcome):
+    """In the place of the QEMUs of a recorder: a migration that ended so, of which these files are left."""
+    def run():
+        for name, data in files.items():
+            with open(f"{room}/{name}", "wb") as out:
+                out.write(data)
+        return outcome
+
+    return mock.patch.multiple(recorder, Emulator=mock.Mock(NAME="any"), Migration=mock.Mock(return_value=SimpleNamespace(run=run)))
+
+
 def migrated(recorder, files, outcome, *words, room=None):
     """What the recorder writes of a migration that ended so, of which these files are left; and its status."""
     with tempfile.TemporaryDirectory() as other:
         room = room or other
-
-        def run():
-            for name, data in files.items():
-                with open(f"{room}/{name}", "wb") as out:
-                    out.write(data)
-            return outcome
-
-        of_qemu = mock.patch.multiple(recorder, Emulator=mock.Mock(NAME="any"), Migration=mock.Mock(return_value=SimpleNamespace(run=run)))
         given = mock.patch.object(sys, "argv", ["migrate", "live", room, "--quiet", *words])
-        with of_qemu, given, mock.patch.object(sys, "stdout", io.TextIOWrapper(io.BytesIO())) as out:
+        with of_qemu(recorder, files, room, outcome), given, mock.patch.object(sys, "stdout", io.TextIOWrapper(io.BytesIO())) as out:
             status = recorder.main()
             out.seek(0)
             return out.read(), status
