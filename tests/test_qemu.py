@@ -173,24 +173,32 @@ def process_of(side, folder):
     raise AssertionError(f"no {side} runs in {folder}")
 
 
-def test_killed(qemu, program, monkeypatch, case):
+def kill(side, moment, folder, recorder):
+    """Kills a side once its file tells of a moment. Answers whether it did before the recorder ended."""
+    while recorder.poll() is None:
+        if os.path.exists(f"{folder}/{side}.raw"):
+            with open(f"{folder}/{side}.raw", "rb") as told:
+                if moment in text_of(told.read()):
+                    os.kill(process_of(side, folder), signal.SIGKILL)
+                    return True
+        time.sleep(0.02)
+    return False
+
+
+def test_killed(qemu, program, pytestconfig, monkeypatch, case):
     """A side that is killed leaves nothing green."""
     monkeypatch.setenv("POSTCOPY", program)
     side, moment, verdict, outcome = case
     folder = f"{tempfile.mkdtemp(prefix='qemu-')}/killed"
     words = [f"{TOP}/recorders/qemu/migrate", "live", "--flush", "--warm", "200", "--pace", "20000", "--post-bandwidth", "100000", "--qemu", qemu, "--quiet", folder]
     with subprocess.Popen(words, stdout=subprocess.PIPE, text=True) as recorder:
-        raw = f"{folder}/{side}.raw"
-        while recorder.poll() is None:
-            if os.path.exists(raw):
-                with open(raw, "rb") as told:
-                    if moment in text_of(told.read()):
-                        os.kill(process_of(side, folder), signal.SIGKILL)
-                        break
-            time.sleep(0.02)
+        is_killed = kill(side, moment, folder, recorder)
         said = recorder.stdout.read()
+    if not is_killed and not pytestconfig.getoption("--all") and (why := too_slow(folder)):
+        pytest.skip(why)
     found = dict(re.findall(r"^(QEMU|The audit) says: (.*)$", said, re.MULTILINE))
-    assert re.fullmatch(verdict, found["The audit"]) and re.fullmatch(outcome, found["QEMU"]), f"{said}\n  kept in {folder}"
+    is_right = re.fullmatch(verdict, found.get("The audit", "")) and re.fullmatch(outcome, found.get("QEMU", ""))
+    assert is_right, f"{said}\n  wanted {verdict}; {outcome}\n  kept in {folder}"
     assert (recorder.returncode, f"\nThe {side} was killed by signal 9: " in said, os.path.exists(f"{folder}/certificate")) == (1, True, False), folder
     shutil.rmtree(os.path.dirname(folder))
 
