@@ -20,8 +20,8 @@ mod taking;
 mod why;
 
 pub use answer::{
-    ACCEPTED, Answer, Fault, Given, REFUSED, STANDARD_OUTPUT, USAGE, given, given_alone, refused,
-    remark, status_where, tell, written,
+    ACCEPTED, Answer, Fault, Given, MEMORY, REFUSED, STANDARD_OUTPUT, USAGE, given, given_alone,
+    refused, remark, status_where, tell, written,
 };
 pub use closing::Closable;
 pub use console::Console;

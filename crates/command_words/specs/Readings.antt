@@ -3,9 +3,16 @@ use Rattle.std.specs.Prelude.{◌≡◌, ◌<◌, ◌≤◌, List, [], Option, N
 use Rattle.clap.specs.Words.{Row, Text, kind_of, subcommand_of}
 use Rattle.clap.specs.declared.error.Error.{Error}
 use Rattle.command_words.specs.declared.requests.Invocation.{Invocation}
+use Rattle.command_words.specs.declared.requests.Intent.{Intent}
 use Rattle.command_words.specs.declared.requests.Targets.{Targets}
 use Rattle.command_words.specs.Table.{folders_of, job_of, several_of}
-use Rattle.command_words.specs.Words.{IsKindFor, answer_kind, asked_in, clash_in, error_kinds, folders_in, postcopy_words, several_in, target_names, targets_in}
+use Rattle.command_words.specs.Words.{IsKindFor, answer_kind, asked, asked_in, clash_in, error_kinds, folders_asked, folders_in, postcopy_words, several_asked, several_in, target_names, targets_in}
+
+-- this is what the words ask for
+pub record IsAsked (words : List Text) (intent : Option Intent) : Type 0 where
+  pub job : option_and_then job_of intent ≡ asked words
+  pub several : option_and_then several_of intent ≡ several_asked words
+  pub folders : option_and_then folders_of intent ≡ folders_asked words
 
 -- the files are those that a command and its arguments name for what is written, and the kind is that of its answer
 pub record AreTargetsIn (given : Option (Text × List Row)) (targets : Targets) : Type 0 where

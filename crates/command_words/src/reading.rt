@@ -56,10 +56,10 @@ pub fn read_words<'a>(alloc: Global, words: &'a [&'a str]) -> Result<Reading<'a>
 }
 
 impl<'a> Reading<'a> {
-    ghost use Rattle.std.specs.Prelude.{◌≡◌, ◌<◌, ◌≤◌, IfErr, IfOk, None, Ok, OnOk, [], false, length, option_and_then};
+    ghost use Rattle.std.specs.Prelude.{◌≡◌, ◌<◌, ◌≤◌, IfErr, IfOk, None, Ok, OnOk, [], false, length, option_and_then, option_map};
     ghost use Rattle.clap.specs.Words.{kind_of};
     ghost use Rattle.command_words.specs.Table.{folders_of, job_of, several_of};
-    ghost use Rattle.command_words.specs.Readings.{AreTargets};
+    ghost use Rattle.command_words.specs.Readings.{AreTargets, IsAsked};
     ghost use Rattle.command_words.specs.Words.{AreAccepted, AreRefused, IsKindFor, asked, clashing, error_kinds, folders_asked, several_asked, target_names};
 
     /// Returns what the words ask for, or `None` if they are the program's own name alone, or not even that. The error
@@ -76,6 +76,18 @@ impl<'a> Reading<'a> {
         match self.found {
             Ok(found) => Ok(found.intent),
             Err(error) => Err(error),
+        }
+    }
+
+    /// Returns what the words ask for, if it is anything, for who looks at it before it is done.
+    pub fn asks(&self) -> Option<&Intent<'a>>
+        ensures accepted { AreAccepted self.now → IsAsked self.now (option_map (λ intent. intent.now) result) }
+        ensures bare { length self.now ≤ 1 → result ≡ None }
+        ensures refused { AreRefused self.now → result ≡ None }
+    {
+        match &self.found {
+            Ok(found) => found.intent.as_ref(),
+            Err(_) => None,
         }
     }
 

@@ -26,6 +26,7 @@ mod words;
 pub use placing::push_at;
 pub use quoting::push_quote;
 pub use refused::{Misread, Refused, WideWanted};
+pub use special::{RECORDERS_FILE, text_begun};
 
 /// Why a text is refused.
 #[derive(Drop)]

@@ -125,6 +125,21 @@ const LONE: [&[u8]; 4] = [
 /// The beginning of the first line of a recorder's file.
 const RECORDS: &[u8] = b"postcopy-records ";
 
+/// What one of the files is that recorders leave in a folder, with its article.
+pub const RECORDERS_FILE: &str = "a file of a recorder";
+
+/// Returns what a text is that begins with these bytes, with its article, if it is a text that commands read and that tells a
+/// migration, or a file that a recorder left. Any version of it is one.
+pub fn text_begun(front: &[u8]) -> Option<&'static str> {
+    if front.starts_with(RECORDS) {
+        return Some(RECORDERS_FILE);
+    }
+    match Kind::of(front) {
+        Some(kind) => Some(kind.words()),
+        None => None,
+    }
+}
+
 /// Returns the output of an audit, or the recorder's file, that a text is, if it begins with this line.
 fn output(line: &[u8], wanted: Kind) -> Option<Special> {
     if line.starts_with(RECORDS) {
