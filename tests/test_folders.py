@@ -1,6 +1,7 @@
 """A folder with files of recorders in the place of a session: a command answers as of the text that `session` writes of it"""
 import os
 import random
+import shutil
 import subprocess
 
 import pytest
@@ -60,7 +61,7 @@ def test_as_the_text(run, room):
 
 
 @pytest.mark.quick
-@pytest.mark.cases(4)
+@pytest.mark.cases(13)
 def test_no_session(run, room):
     """What is missing is told, and there is no verdict; of several, the others are judged."""
     whole, _, lacking = folders_of(room)
@@ -73,8 +74,16 @@ def test_no_session(run, room):
     same("several", (told.returncode, told.stdout.splitlines()[:1]), (3, [f"{whole}: clean"]))
     os.mkdir(f"{room}/none")
     told = run("explain", "none")
-    wanted = f"session: none: there is no file of a recorder, PARTY.PROCESS.N\nfile none\nnone: {UNREAD}\n"
-    same("a folder without files of recorders", (told.returncode, told.stdout, told.stderr), (3, "", wanted))
+    none, wanted = "session: none: there is no file of a recorder, PARTY.PROCESS.N\n", f"file none\nnone: {UNREAD}\n"
+    same("a folder without files of recorders", (told.returncode, told.stdout, told.stderr), (3, "", none + wanted))
+    run("session", whole, "-o", "none/session")
+    for command, *more in (("audit",), ("explain",), ("draw",), ("certify",), ("window", "0", "1"), ("check", whole), ("replay", whole)):
+        told = run(command, "none", *more)
+        same(f"{command} of a folder with a session", (told.returncode, told.stdout, told.stderr), (3, "", f"{none}session: none: it has a file session: to read that, name none/session\n{wanted}"))
+    told = run("audit", "none/", whole)
+    same("several", (told.returncode, told.stdout.splitlines()[:1], "to read that, name none/session\n" in told.stderr), (3, [f"{whole}: clean"], True))
+    shutil.copy(f"{lacking}/guest.1.0", f"{room}/none")
+    same("a folder with a session and a file of a recorder", "to read that" in run("audit", "none").stderr, False)
 
 
 NOTHING = "session: nothing was written: repair this, or use session --cut to write what is left\n"

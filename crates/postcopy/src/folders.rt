@@ -1,6 +1,6 @@
 //! Folders in the place of sessions: a folder is the session of the files that recorders left in it.
 
-use command_texts::{Console, Fault};
+use command_texts::{Console, Fault, write_shown};
 use commands::Lacking;
 use migration_types::Session;
 use process_io::Disk;
@@ -8,8 +8,9 @@ use session_commands::{gather_session, perform_session};
 use std::alloc::{AllocError, Global};
 use std::fs::File;
 use std::io;
-use std::io::{Cursor, ErrorKind, Read};
-use text_access::TextSource;
+use std::io::{Cursor, ErrorKind, Read, Write};
+use surveyed_logs::read_file_name;
+use text_access::{TextSource, write_whole};
 
 /// A file, or the text of the session of a folder.
 #[derive(Drop)]
@@ -41,6 +42,39 @@ fn has(words: &[&str], name: &str) -> bool {
     words.iter().any(|word| *word == name)
 }
 
+// Returns the name of the session's text in a folder that has one, and no file of a recorder, as far as it can be known.
+fn session_in(
+    disk: &Disk<'_, HostRuntime>,
+    alloc: Global,
+    folder: &str,
+) -> io::Result<Option<String>> {
+    for name in &disk.names(alloc, folder)? {
+        if read_file_name(name.as_bytes()).is_some() {
+            return Ok(None);
+        }
+    }
+    let end = if folder.ends_with('/') { "" } else { "/" };
+    let name = format!(in alloc; "{folder}{end}session")?;
+    let _text = disk.text(name.as_str())?;
+    Ok(Some(name))
+}
+
+// Reports how the session's text in a folder is named, if the folder has one and no file of a recorder.
+fn tell_session_in<E: Write>(
+    disk: &Disk<'_, HostRuntime>,
+    alloc: Global,
+    folder: &str,
+    errors: &mut E,
+) {
+    let Ok(Some(name)) = session_in(disk, alloc, folder) else {
+        return;
+    };
+    let begun = write_whole(errors, b"session: ") && write_shown(errors, folder);
+    if begun && write_whole(errors, b": it has a file session: to read that, name ") {
+        let _ = write_shown(errors, name.as_str()) && write_whole(errors, b"\n");
+    }
+}
+
 // Returns the text of the session of the files in a folder. The errors say what it lacks.
 fn text_of(rt: &HostRuntime, disk: &Disk<'_, HostRuntime>, folder: &str) -> io::Result<Vec<u8>> {
     let mut console = Console {
@@ -55,7 +89,10 @@ fn text_of(rt: &HostRuntime, disk: &Disk<'_, HostRuntime>, folder: &str) -> io::
         Ok(0) => Ok(console.output),
         // The text is held, so its output fails only if memory runs out.
         Err(Fault::Memory | Fault::Output(_, _)) => Err(io::Error::from(ErrorKind::OutOfMemory)),
-        Ok(_) | Err(_) => Err(io::Error::from(ErrorKind::InvalidData)),
+        Ok(_) | Err(_) => {
+            tell_session_in(disk, rt.alloc(), folder, &mut console.errors);
+            Err(io::Error::from(ErrorKind::InvalidData))
+        }
     }
 }
 
