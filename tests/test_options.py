@@ -9,6 +9,7 @@ import itertools
 import json
 import os
 import re
+import shutil
 import subprocess
 
 import pytest
@@ -125,10 +126,40 @@ def test_options(program, room):
 @pytest.mark.cases(5)
 def test_words_that_are_not_utf_8(program):
     """The first of them is told, by its number and its first bytes."""
-    for words, number, shown in (((b"\xff",), 1, r'"\xff"'), ((b"audit", b"a\xffb"), 2, r'"a\xffb"'), ((b"audit", b"\xc3\xa9", b"\xe9 ", b"\xff"), 3, r'"\xe9 "'),
+    for words, number, shown in (((b"\xff",), 1, r'"\xff"'), ((b"audit", b"a\xffb"), 2, r'"a\xffb"'), ((b"check", b"\xc3\xa9", b"\xe9 ", b"\xff"), 3, r'"\xe9 "'),
                                  ((b"audit", b"x" * 255 + b"\xff"), 2, f'"{"x" * 60}"..'), ((b"audit", b"x" * 1000 + b"\xff"), 2, f'"{"x" * 60}"..')):
         ran = subprocess.run([program, *words], stdin=subprocess.DEVNULL, capture_output=True)
         same(f"{words}", (ran.returncode, ran.stdout, ran.stderr), (2, b"", f"error: word {number} is not UTF-8: {shown}\n".encode()))
+
+
+@pytest.mark.quick
+@pytest.mark.cases(13)
+def test_a_name_that_is_not_utf_8(program, room):
+    """Of several sessions, one whose name is not UTF-8 is told as a file that cannot be read, and the others are judged. No file whose name
+    looks like it is read in its place, and none is written."""
+    def run(*words):
+        ran = subprocess.run([program, *words], cwd=room, stdin=subprocess.DEVNULL, capture_output=True)
+        return ran.returncode, ran.stdout, ran.stderr
+
+    for name in (b"a", b"caf\xe9", "caf\ufffd".encode(), b"cafe9", b"caf\\xe9", b"caf", b"caf?"):
+        shutil.copy(SESSIONS[0].encode(), os.path.join(room.encode(), name))
+    before = sorted(os.listdir(room.encode()))
+    told = b'file "caf\\u0000e9"\n"caf\\u0000e9": the system does not take this name\n'
+    clean = run("audit", "--quiet", "a")[1]
+    is_clean = int(clean == b"clean\n")
+    wanted = b"a: " + clean
+    same("behind another", run(b"audit", b"a", b"caf\xe9"), (3, wanted + b"%d of 2 sessions are clean\n" % is_clean, told))
+    same("before others", run(b"audit", b"caf\xe9", *[b"a"] * 24), (3, wanted * 24 + b"%d of 25 sessions are clean\n" % (24 * is_clean), told))
+    same("as objects", run(b"audit", b"--format", b"json", b"a", b"caf\xe9")[::2], (3, told))
+    same("into a file", run(b"audit", b"a", b"caf\xe9", b"-o", b"new"), (3, wanted + b"%d of 2 sessions are clean\n" % is_clean, told))
+    other = b'file "\\u0000c3\\u0000a9\\u0000ff\\u001b"\n"\\u0000c3\\u0000a9\\u0000ff\\u001b": the system does not take this name\n'
+    same("two of them", run(b"audit", b"caf\xe9", b"a", b"\xc3\xa9\xff\x1b"), (3, wanted + b"%d of 3 sessions are clean\n" % is_clean, told + other))
+    for words in ((b"audit", b"caf\xe9"), (b"explain", b"caf\xe9"), (b"check", b"a", b"caf\xe9"), (b"session", b"a", b"caf\xe9"), (b"audit", b"a", b"a", b"-o", b"caf\xe9"),
+                  (b"audit", b"a", b"caf\xe9", b"--output=caf\xe9"), (b"audit\xe9", b"a", b"a")):
+        number = next(number for number, word in enumerate(words, 1) if b"\xe9" in word)
+        status, output, errors = run(*words)
+        same(f"{words}", (status, output, errors.startswith(b"error: word %d is not UTF-8: " % number)), (2, b"", True))
+    same("no other files", sorted(os.listdir(room.encode())), before)
 
 
 # What the help says of each word and each option of a command.

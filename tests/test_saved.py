@@ -25,18 +25,20 @@ RECORDING = b"postcopy-session 1\npages 1\ncells 1\ninit 0\n"
 # What is told where the lines of a window and its session are to go to one file.
 ONE_FILE = b"error: --lines and --output name one file\n"
 
-# What is told where a recorder's file would be written over.
-RECORDED = b"error: %s names a file of a recorder: remove it first, or name another\n"
+# What is told where an input would be written over, and where something else would be that is there.
+READ = b"error: %s names a file that the command reads: name another\n"
+THERE = b"error: %s names %s: remove it first, or name another\n"
+RECORDED = b"a file of a recorder"
 
 # Where bindings/c/tests/refusing.c tells how many calls there were.
 COUNTS = 99
 
 
 class Run:
-    """The program in a room of its own, and the library that refuses calls."""
+    """The program in a room of its own, the library that refuses calls, and how many races are run."""
 
-    def __init__(self, program, room, library):
-        self.program, self.room, self.library = program, room, library
+    def __init__(self, program, room, library, races=300):
+        self.program, self.room, self.library, self.races = program, room, library, races
 
     def __call__(self, *words, stdin=b"", at=None, **more):
         child = subprocess.run([self.program, *words], cwd=at or self.room, input=stdin, capture_output=True, **more)
@@ -139,6 +141,7 @@ def who_owns_it(run):
     yield "over another's file", run(*steps_words("-o", "old")), (0, b"", b"")
     found = os.stat(f"{run.room}/old")
     yield "another's file", (found.st_uid, found.st_gid, stat.S_IMODE(found.st_mode)), (12345, 23456, 0o640)
+    run.put("old", b"what was there\n")
     os.chown(f"{run.room}/old", os.geteuid(), 23456)
     yield "over a file of one's own, of another group", run(*steps_words("-o", "old")), (0, b"", b"")
     found = os.stat(f"{run.room}/old")
@@ -178,6 +181,73 @@ def a_name_that_is_not_given(run):
     yield "no other files there", os.listdir(f"{run.room}/all"), ["old"]
 
 
+def a_strangers_link(run):
+    """In a folder that all may write to, such as /tmp, a link is followed only if it belongs to the user or to the folder's owner."""
+    if os.geteuid() != 0:
+        return
+    os.mkdir(f"{run.room}/all")
+    refused = (3, b"", b"output\n%s: permission denied\n")
+    for mode, folder, link, is_followed in ((0o1777, 0, 65534, False), (0o1777, 12345, 65534, False), (0o1777, 12345, 12345, True), (0o1777, 12345, 0, True),
+                                            (0o777, 0, 65534, True), (0o1755, 0, 65534, True), (0o1775, 0, 65534, True)):
+        os.chmod(f"{run.room}/all", mode)
+        os.chown(f"{run.room}/all", folder, folder)
+        for name, leads_to in (("link", "../victim"), ("to-none", "../none"), ("again", "link")):
+            run.put("victim", b"as it was\n")
+            for at in ("link", name):
+                if os.path.lexists(f"{run.room}/all/{at}"):
+                    os.remove(f"{run.room}/all/{at}")
+                os.symlink(leads_to if at == name else "../victim", f"{run.room}/all/{at}")
+                os.chown(f"{run.room}/all/{at}", link, link, follow_symlinks=False)
+            found = run(*steps_words("-o", f"all/{name}"))
+            file = "none" if name == "to-none" else "victim"
+            what = f"a link {name} of {link} in a folder of {folder} with the mode {mode:o}"
+            yield what, found, (0, b"", b"") if is_followed else (refused[0], refused[1], refused[2] % f"all/{name}".encode())
+            yield f"behind {what}", (run.has(file) or b"")[:9], b"postcopy-" if is_followed else b"" if file == "none" else b"as it was"
+            if run.has("none"):
+                os.remove(f"{run.room}/none")
+
+
+def swapped(run, **more):
+    """What comes of a report over a file of another user's, in that user's folder, and who owns a file of the superuser's then."""
+    folder = f"{run.room}/theirs"
+    if os.path.lexists(f"{folder}/report"):
+        os.remove(f"{folder}/report")
+    run.put("theirs/report", b"as it was\n")
+    os.chown(f"{folder}/report", 65534, 65534)
+    os.chown(f"{run.room}/victim", 0, 0)
+    found = run("audit", "--quiet", f"{TOP}/examples/handover/session", "-o", "theirs/report", **more)
+    victim = os.stat(f"{run.room}/victim")
+    return found, (victim.st_uid, victim.st_gid, stat.S_IMODE(victim.st_mode), run.has("victim"))
+
+
+def a_swapped_draft(run):
+    """Whoever owns the folder of a file can put a link in the place of what is written to it: nothing of what the link leads to changes."""
+    if os.geteuid() != 0:
+        return
+    os.mkdir(f"{run.room}/theirs")
+    os.chown(f"{run.room}/theirs", 65534, 65534)
+    run.put("victim", b"the superuser's\n")
+    os.chmod(f"{run.room}/victim", 0o600)
+    kept = (0, 0, 0o600, b"the superuser's\n")
+    env = {"LD_PRELOAD": run.library, "SWAPPED": f"{run.room}/victim"}
+    yield "a draft that is swapped at once", swapped(run, env=env), ((0, b"", b""), kept)
+    yield "the link that took its place", os.readlink(f"{run.room}/theirs/report"), f"{run.room}/victim"
+    racer = f"{run.room}/racer"
+    subprocess.run(["cc", "-O2", "-o", racer, f"{TOP}/bindings/c/tests/swapping.c"], check=True)
+    os.chmod(run.room, 0o755)
+    racing = subprocess.Popen([racer, f"{run.room}/theirs", f"{run.room}/victim"], user=65534, group=65534, extra_groups=[])
+    try:
+        for turn in range(run.races):
+            found, victim = swapped(run)
+            yield f"a race, turn {turn}", (found[0] in (0, 3), victim), (True, kept)
+    finally:
+        racing.kill()
+        racing.wait()
+    for name in os.listdir(f"{run.room}/theirs"):
+        if os.path.islink(f"{run.room}/theirs/{name}"):
+            os.remove(f"{run.room}/theirs/{name}")
+
+
 def a_link(run):
     """A link to a file stays, and the file that it leads to gets the text; so does a new file where a link leads to none."""
     text = run(*steps_words())[1]
@@ -210,15 +280,14 @@ def many_links(run):
 
 def two_writers(run):
     """Two that write one file at once: the file has the text of one of them, and each ends well."""
-    long = b"".join(b"w 0 0 0 %d\n" % value for value in range(40_000))
     texts = []
-    for name, number in (("a", 1), ("b", 2)):
-        run.put(name, RECORDING + b"guest %d\n" % (40_000 + number) + long + b"w 0 0 0 0\n" * number + b"source 0\nlink 0\npager 0\nend\n")
-        status, text, _ = run("window", name, "0", "1")
+    for name, guest in (("a", b"guest 0\n"), ("b", b"guest 1\nw 0 0 0 1\n")):
+        run.put(name, RECORDING.replace(b"pages 1\n", b"pages 40000\n") + guest + b"source 0\nlink 0\npager 0\nend\n")
+        status, text, _ = run("audit", name)
         texts.append(text)
-        yield f"the window of {name}", (status, len(text) > 500_000), (0, True)
+        yield f"the report on {name}", (status, len(text) > 500_000), (0, True)
     for turn in range(30):
-        writers = [subprocess.Popen([run.program, "window", "-o", "shared", name, "0", "1"], cwd=run.room) for name in ("a", "b")]
+        writers = [subprocess.Popen([run.program, "audit", "-o", "shared", name], cwd=run.room, stderr=subprocess.DEVNULL) for name in ("a", "b")]
         yield f"two writers, turn {turn}", [writer.wait() for writer in writers], [0, 0]
         yield f"the file of two writers, turn {turn}", run.has("shared") in texts, True
 
@@ -242,8 +311,8 @@ def two_names(run):
     yield "two files", run("window", "--lines", "lines", "-o", "session", "recording", "0", "1"), (0, b"", b"")
     yield "the session", run.has("session"), session
     yield "its lines", run.has("lines"), b"".join(b"%d\n" % line for line in range(1, session.count(b"\n") + 1))
-    yield "the same name in two folders", run("window", "--lines", "folder/session", "-o", "session", "recording", "0", "1"), (0, b"", b"")
-    yield "the lines in another folder", run.has("folder/session"), run.has("lines")
+    yield "the same name in two folders", run("window", "--lines", "folder/both", "-o", "both", "recording", "0", "1"), (0, b"", b"")
+    yield "the lines in another folder", run.has("folder/both"), run.has("lines")
 
 
 def a_limit_on_files(run):
@@ -267,18 +336,23 @@ def lines_of_nothing(run):
 
 
 def refused_memory(run):
-    """Where a growth is refused, whichever it is, alone or with all after it, nothing goes to standard output in place of the file."""
+    """Where a growth is refused, whichever it is, alone or with all after it, nothing goes to standard output in place of the file, and no
+    file gets a part."""
     run.put("recording", RECORDING + b"guest 0\nsource 0\nlink 0\npager 0\nend\n")
-    for words, names in ((steps_words("-o", "new"), ["new"]), (("window", "--lines", "lines", "-o", "new", "recording", "0", "1"), ["lines", "new"])):
-        run(*words)
+    window = ("window", "--lines", "lines", "recording", "0", "1")
+    for words, names in ((steps_words("-o", "new"), ["new"]), ((*window, "-o", "new"), ["lines", "new"]), (window, ["lines"])):
+        plain = run(*words)[1]
         wanted, old = [run.has(name) for name in names], [b"as it was\n"] * len(names)
+        for name in names:
+            run.put(name, b"as it was\n")
         growths, statuses = run.refusing("-", *words)[1], set()
         for first, last in ((first, last) for first in range(1, growths + 1) for last in (first, 9999999)):
             for name in names:
                 run.put(name, b"as it was\n")
             (status, output, errors), _ = run.refusing(f"memory {first} {last} memory", *words)
             told = {0: b"", 3: b"output\nstandard output: out of memory\n", 4: b"out of memory\n"}
-            yield f"growths {first} to {last} of {words[0]}", (output, errors, [run.has(name) for name in names]), (b"", told.get(status), old if status else wanted)
+            found = (output, errors, [run.has(name) for name in names])
+            yield f"growths {first} to {last} of {words[0]}", found, (b"" if status else plain, told.get(status), old if status else wanted)
             statuses.add(status)
         yield f"the statuses of {words[0]}", statuses >= {0, 4}, True
 
@@ -299,7 +373,9 @@ def a_folder_without_memory(run):
     folder, statuses = recorded(run, "whole", 50), set()
     for words in (("session", folder, "-o", "new"), ("audit", folder)):
         plain = run(*words)
+        run.put("new", b"as it was\n")
         for n in range(1, run.refusing("-", *words)[1] + 1):
+            run.put("new", b"as it was\n")
             found, _ = run.refusing(f"memory {n} {n} memory", *words)
             yield f"growth {n} of {words[0]}", found in (plain, (4, b"", b"out of memory\n")), True
             statuses.add(found[0])
@@ -365,30 +441,113 @@ def recorded(run, folder, pages):
 def a_recorders_file(run):
     """No answer is written over a file of a recorder, by whatever name, as where the session's own was left out."""
     folder = recorded(run, "whole", 3)
-    guest = run.has(f"{folder}/guest.1.0")
-    session = run("session", folder)[1]
-    run.put("recording", session)
+    guest, told = run.has(f"{folder}/guest.1.0"), (2, b"", THERE % (b"--output", RECORDED))
+    run.put("recording", run("session", folder)[1])
     run.put("cut", b"postcopy-records 1")
     os.symlink(f"{folder}/guest.1.0", f"{run.room}/link")
     for words in (("session", folder), ("audit", folder), ("explain", folder), steps_words(), ("window", "recording", "0", "1")):
         for name in (f"{folder}/guest.1.0", f"./{folder}/../{folder}/guest.1.0", "link", "cut"):
-            yield f"{words[0]} over {name}", run(*words, "-o", name), (2, b"", RECORDED % b"--output")
+            yield f"{words[0]} over {name}", run(*words, "-o", name), told
     os.mkdir(f"{run.room}/named")
     run.put("named/recording-name", b"one\n")
+    os.symlink("named/recording-name", f"{run.room}/to-the-name")
     for words in (("session", folder), ("audit", folder)):
-        for place, name in ((run.room, "named/recording-name"), (f"{run.room}/named", "recording-name")):
+        for place, name in ((run.room, "named/recording-name"), (f"{run.room}/named", "recording-name"), (run.room, "to-the-name")):
             target = os.path.relpath(f"{run.room}/{folder}", place)
-            yield f"{words[0]} over {name}", run(words[0], target, "-o", name, at=place), (2, b"", RECORDED % b"--output")
+            yield f"{words[0]} over {name}", run(words[0], target, "-o", name, at=place), told
     yield "the recording's name", run.has("named/recording-name"), b"one\n"
     yield "a name that only ends so", run("session", folder, "-o", "named/a-recording-name"), (0, b"", b"")
+    for name, text in (("guest.1.0", b""), ("machine.23.456", b""), ("lane.1.0", bytes(100))):
+        run.put(f"named/{name}", text)
+        os.symlink(f"named/{name}", f"{run.room}/begun")
+        for begun in (f"named/{name}", "begun"):
+            yield f"over {begun}, which is {name} before its first line", (run("audit", folder, "-o", begun), run.has(begun)), (told, text)
+        os.remove(f"{run.room}/begun")
+    for name, text in (("guest.1", b""), ("guests.1.0", b""), ("guest.1.0.txt", b""), ("guest.2.0", b"clean\n"), ("new", b"")):
+        run.put(f"named/{name}", text)
+        yield f"over {name}, which is no recorder's", run("audit", folder, "-o", f"named/{name}"), (0, b"", b"")
     shutil.rmtree(f"{run.room}/named")
-    yield "the table of lines", run("window", "recording", "0", "1", "--lines", "link"), (2, b"", RECORDED % b"--lines")
+    os.remove(f"{run.room}/to-the-name")
+    yield "the table of lines", run("window", "recording", "0", "1", "--lines", "link"), (2, b"", THERE % (b"--lines", RECORDED))
     yield "the recorder's file", run.has(f"{folder}/guest.1.0"), guest
     yield "another", run.has("cut"), b"postcopy-records 1"
     yield "no new files", sorted(os.listdir(run.room)), ["cut", "link", "recording", folder]
-    for name, text in (("session", session), ("short", b"postcopy-records "), ("none", b""), ("another", b"postcopy-recorded 1\n")):
-        run.put(name, text)
-        yield f"over {name}", (run("session", folder, "-o", name), run.has(name)), ((0, b"", b""), session)
+
+
+# What begins as a text does that tells of a migration, in each of its versions and in one to come, and what it is told as.
+BEGUN = ((b"session 1", b"a session"), (b"session 2", b"a session"), (b"session 3", b"a session"), (b"session 4", b"a session"),
+         (b"certificate 1", b"a certificate"), (b"certificate 2", b"a certificate"), (b"certificate 3", b"a certificate"), (b"runs 1", b"a text of runs"),
+         (b"script 1", b"a script"), (b"script 2", b"a script"), (b"events 1", b"a list of events"), (b"records 1", RECORDED), (b"records 2", RECORDED))
+
+# What may be replaced: what commands tell, and what is no text of theirs.
+REPLACED = (b"", b"\n", b"clean\npostcopy-certificate 1\n", b"faulty line 13 early\npostcopy-runs 1\n", b"shape line 9 phases\n", b"incomplete halt\n", b"yes\n",
+            b'{"verdict":"clean"}\n', b"<svg xmlns", b"1\n2\n3\n", b"postcopy-recorded 1\n", b"postcopy-session", b" postcopy-session 1\n")
+
+
+def a_text_that_is_there(run):
+    """A text that tells of a migration stays, whoever would write over it: its first line says what it is."""
+    shutil.copy(f"{TOP}/examples/handover/session", f"{run.room}/session")
+    shutil.copy(f"{TOP}/examples/handover/certificate", f"{run.room}/certificate")
+    shutil.copy(SCRIPT, f"{run.room}/script")
+    commands = (("audit", "session"), ("audit", "session", "session"), ("explain", "session"), ("certify", "session"), ("draw", "session"), ("check", "session", "certificate"),
+                ("replay", "session", "certificate"), ("migrate", "script"), ("window", "session", "0", "1"), steps_words())
+    for number, (begun, what) in enumerate(BEGUN):
+        text = b"postcopy-" + begun + b"\nmine\n"
+        run.put("there", text)
+        for words in (commands[number % len(commands)], commands[0]):
+            yield f"{words} over {begun}", (run(*words, "-o", "there"), run.has("there")), ((2, b"", THERE % (b"--output", what)), text)
+        found = run("window", "session", "0", "1", "--lines", "there", "-o", "new")
+        yield f"lines over {begun}", (found, run.has("there"), run.has("new")), ((2, b"", THERE % (b"--lines", what)), text, None)
+    for words in commands:
+        run.put("there", b"postcopy-session 1")
+        yield f"{words} over a session", (run(*words, "-o", "there"), run.has("there")), ((2, b"", THERE % (b"--output", b"a session")), b"postcopy-session 1")
+    for text in REPLACED:
+        run.put("there", text)
+        yield f"over {text}", (run("audit", "--quiet", "session", "-o", "there"), run.has("there")), ((0, b"", b""), b"clean\n")
+        run.put("there", text)
+        yield f"lines over {text}", (run("window", "session", "0", "1", "--lines", "there")[0], run.has("there")[:4]), (0, b"1\n2\n")
+
+
+def inputs_of(words):
+    """Words with the option for an output before or behind them, in each form, and the option that is told: for each word of them that is
+    a letter, which names a file that they read."""
+    forms = (("-o", "{}"), ("-o{}",), ("--output", "{}"), ("--output={}",))
+    if words[0] == "window":
+        forms += (("--lines", "{}"), ("--lines={}",))
+    for name in (it for it in words if len(it) == 1 and it.isupper()):
+        for form in forms:
+            yield (*words, *form), name, b"--lines" if "lines" in form[0] else b"--output"
+            yield (words[0], *form, *words[1:]), name, b"--lines" if "lines" in form[0] else b"--output"
+
+
+def an_input(run):
+    """What a command reads stays, by whatever link it is named: nothing is read, and nothing written. What stands in it is never looked at."""
+    for name in "ABCD":
+        run.put(name, b"the user's own " + name.encode())
+    os.mkdir(f"{run.room}/folder")
+    for name in "AB":
+        os.symlink(name, f"{run.room}/link-{name}")
+        os.symlink(f"../link-{name}", f"{run.room}/folder/again-{name}")
+        os.link(f"{run.room}/{name}", f"{run.room}/hard-{name}")
+    before = {name: run.has(name) for name in os.listdir(run.room) if name != "folder"}
+    for words in (("audit", "A"), ("audit", "C", "A", "B"), ("audit", "--format", "json", "A"), ("explain", "A"), ("explain", "--lines", "B", "A"), ("certify", "A"),
+                  ("draw", "A"), ("draw", "A", "B"), ("check", "A", "B"), ("replay", "A", "B"), ("steps", "A", "B"), ("migrate", "A"), ("window", "A", "0", "1"),
+                  ("session", "A"), ("session", "B", "A")):
+        for asked, name, option in inputs_of(words):
+            yield f"{asked} of {name}", run(*(it.format(name) for it in asked)), (2, b"", READ % option)
+        for name in (it for it in words if it in ("A", "B")):
+            for other in (f"./{name}", f"folder/../{name}", f"{run.room}/{name}", f"link-{name}", f"folder/again-{name}", f"hard-{name}"):
+                yield f"{words} over {other}", run(*words, "-o", other), (2, b"", READ % b"--output")
+                yield f"{words} of {other}", run(*(other if it == name else it for it in words), "-o", name), (2, b"", READ % b"--output")
+    yield "the window's lines by a link", run("window", "A", "0", "1", "--lines", "folder/again-A", "-o", "new"), (2, b"", READ % b"--lines")
+    for words in (("audit", "none"), ("audit", "./none"), ("check", "A", "folder/../none")):
+        yield f"{words} of what is not there", run(*words, "-o", "none"), (2, b"", READ % b"--output")
+    for words in (("audit", "-"), ("audit", "/dev/stdin"), ("check", "B", "-"), ("window", "/dev/fd/0", "0", "1")):
+        with open(f"{run.room}/A", "rb") as file:
+            child = subprocess.run([run.program, *words, "-o", "hard-A"], cwd=run.room, stdin=file, capture_output=True)
+        yield f"{words} of standard input", (child.returncode, child.stdout, child.stderr), (2, b"", READ % b"--output")
+    yield "what is there", {name: run.has(name) for name in os.listdir(run.room) if name != "folder"}, before
+    yield "a device", run("audit", "/dev/null", "-o", "/dev/null"), (1, b"", run("audit", "/dev/null")[2])
 
 
 def least_memory(run, *words):
@@ -396,6 +555,7 @@ def least_memory(run, *words):
     def is_enough(mebibytes):
         def limit():
             resource.setrlimit(resource.RLIMIT_AS, (mebibytes << 20, mebibytes << 20))
+        run.put("new", b"as it was\n")
         return run(*words, preexec_fn=limit)[0] == 0
 
     low, high = 0, 256
@@ -448,6 +608,7 @@ def a_write_that_fails(run):
     """Where one write of a long answer fails, whichever it is, and those after it do not, the file stays as it was."""
     folder = recorded(run, "long", 20000)
     plain, found = run("session", folder, "-o", "new"), run.has("new")
+    run.put("new", b"as it was\n")
     _, (_, _, writes, *_) = run.counted("-", "session", folder, "-o", "new")
     yield "the writes of a long answer", (plain, writes > 3), ((0, b"", b""), True)
     for number in range(1, writes + 1):
@@ -480,7 +641,7 @@ def a_long_answer_in_little_memory(run):
     """A long answer that goes to a file takes hardly more memory than one that goes to standard output."""
     folder = recorded(run, "long", 100000)
     plain, saved = least_memory(run, "session", folder), least_memory(run, "session", folder, "-o", "new")
-    size = os.path.getsize(f"{run.room}/new") >> 20
+    size = len(run("session", folder)[1]) >> 20
     yield f"{plain} and {saved} MiB for a text of {size} MiB", saved <= plain + 4 < plain + size // 2 < 256, True
 
 
@@ -509,8 +670,8 @@ def other_commands(run):
     yield "no file of no session", run.has("new"), None
 
 
-ALL = (a_new_file, an_old_file, the_users_own, who_may_read, who_owns_it, whose_group_it_is, a_name_that_is_not_given, a_link, many_links, two_writers, two_names, a_limit_on_files, lines_of_nothing, refused_memory,
-       one_file_without_memory, a_folder_without_memory, a_refused_script, no_text, no_place, a_device, a_recorders_file, a_long_answer, a_write_that_fails, a_long_answer_that_gets_no_name, a_long_list,
+ALL = (a_new_file, an_old_file, the_users_own, who_may_read, who_owns_it, whose_group_it_is, a_name_that_is_not_given, a_strangers_link, a_swapped_draft, a_link, many_links, two_writers, two_names, a_limit_on_files, lines_of_nothing, refused_memory,
+       one_file_without_memory, a_folder_without_memory, a_refused_script, no_text, no_place, a_device, a_recorders_file, a_text_that_is_there, an_input, a_long_answer, a_write_that_fails, a_long_answer_that_gets_no_name, a_long_list,
        a_long_answer_in_little_memory,
        a_migration, other_commands)
 
@@ -520,8 +681,8 @@ LEAST = {other_commands: 28, a_link: 14, two_writers: 62, two_names: 23, who_may
 
 
 @pytest.mark.parametrize("tested", [pytest.param(it, marks=pytest.mark.cases(LEAST.get(it, 1)), id=it.__name__) for it in ALL])
-def test_saved(program, room, refusing, tested):
-    for case in tested(Run(program, room, refusing)):
+def test_saved(program, room, refusing, pytestconfig, tested):
+    for case in tested(Run(program, room, refusing, 10_000 if pytestconfig.getoption("--all") else 300)):
         same(*case)
     left = [name for _, _, names in os.walk(room) for name in names if name.startswith(".")]
     if left:

@@ -191,13 +191,13 @@ def cut_by_the_recorders(tests, judged):
             continue
         folder, size = f"by-{number}", max(1, pages_of(text) // 2)
         files_of(SessionText(text), f"{tests.room}/{folder}", 2, random.Random(3))
-        ran = script(tests, folder, "--recording", "--cut", "-o", "recording")
-        tests.same(f"the recording of the files of {what}", (ran.stdout, ran.returncode, tests.has("recording")), ("", 0, text))
+        ran = script(tests, folder, "--recording", "--cut", "-o", f"recording-{number}")
+        tests.same(f"the recording of the files of {what}", (ran.stdout, ran.returncode, tests.has(f"recording-{number}")), ("", 0, text))
         ran = script(tests, folder, "--windows", str(size), "--cut", "-o", f"{folder}/windows")
         tests.same(f"the windows of the files of {what}", (ran.stdout, ran.returncode), ("", 0))
         for name in os.listdir(f"{tests.room}/{folder}/windows"):
             first, last = map(int, name.split("-"))
-            cut = tests.run("window", "recording", first, last - first + 1)[0]
+            cut = tests.run("window", f"recording-{number}", first, last - first + 1)[0]
             tests.same(f"the window {name} of the files of {what}", cut, tests.has(f"{folder}/windows/{name}"))
 
 
@@ -258,6 +258,7 @@ def wrong_words(tests):
         tests.same(f"the files of window {words}", (tests.has("kept"), tests.has("table")), ("as it was\n", "as it was\n"))
     told, lines = window(text, 1, 2)
     for words in (("recording", "1", "2", "-o", "new"), ("recording", "+1", "02", "--output", "new"), ("-o", "new", "recording", "1", "2")):
+        tests.put("new", "as it was\n")
         tests.same(f"window {words}", tests.run("window", *words), ("", "", 0))
         tests.same(f"the file of window {words}", tests.has("new"), told)
     tests.same("lines for a device", tests.run("window", "recording", 1, 2, "--lines", "/dev/null"), (told, "", 0))

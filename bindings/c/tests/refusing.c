@@ -11,6 +11,9 @@
    one fails too. The next line that it writes ends the count: ahead of it goes a line 'growths <all> refused <failed>', and the
    next byte that it reads of standard input is 1 where one failed, and else 0.
 
+   SWAPPED names a file: where the program makes a file that was not there, a link to this one takes its place at once, as somebody who
+   may write to the folder could do it.
+
    Calls of all threads are counted together. At the end it writes, to descriptor 99, how many calls of each there were, and how
    many of them were refused. */
 #define _GNU_SOURCE
@@ -31,6 +34,7 @@ enum { WHOLE, SHORT = -1, NONE = -2 };
 static const char *const names[CALLS] = {"memory", "read", "write", "open", "thread"};
 static _Atomic long count[CALLS], refused;
 static long first, last;
+static const char *swapped;
 static int chosen = CALLS, how;
 static _Atomic int running;
 
@@ -55,6 +59,7 @@ static void find(void *at, const char *name) {
 __attribute__((constructor)) static void begin(void) {
     char call[16] = "", kind[16] = "";
     const char *words = getenv("REFUSING");
+    swapped = getenv("SWAPPED");
     find(&real_malloc, "malloc");
     find(&real_realloc, "realloc");
     find(&real_read, "read");
@@ -172,7 +177,9 @@ int open(const char *name, int flags, ...) {
     va_end(more);
     int met = fate(OPEN);
     if (met > 0) return errno = met, -1;
-    return real_open(name, flags, mode);
+    int file = real_open(name, flags, mode), error = errno;
+    if (file >= 0 && (flags & O_EXCL) && swapped && (unlink(name) || symlink(swapped, name))) abort();
+    return errno = error, file;
 }
 
 int pthread_create(pthread_t *thread, const pthread_attr_t *how, void *(*body)(void *), void *given) {

@@ -17,20 +17,20 @@
 //! does: the rest is dropped.
 #![tactic(auto)]
 
-ghost use Rattle.std.specs.Prelude.{◌≤◌};
+ghost use Rattle.std.specs.Prelude.{◌≡◌};
 
 mod folders;
-mod recorded;
 
 use crate::folders::WithFolders;
-use crate::recorded::refuse_recorded;
-use command_texts::{Closable, Console, Fault, USAGE, tell};
+use command_texts::{Closable, Console, Fault, MEMORY, USAGE, tell};
 use commands::{Reading, Targets, read_words, run};
-use process_io::{Disk, Saved, put, refuse_targets, slices, tell_wrong_word, words};
+use process_io::{
+    Disk, Saved, has_wrong_word, put, refuse_targets, slices, tell_wrong_word, words,
+};
 use std::alloc::Global;
-use std::io;
-use std::io::{ErrorKind, Input, Write};
+use std::io::{Input, Write};
 use std::net::{Net, TcpListener, TcpStream};
+use std::os::fd::AsFd;
 use std::process::ExitCode;
 use std::random::RandomSource;
 use std::rt::{Env, Files};
@@ -38,13 +38,10 @@ use std::sync::Wait;
 use std::thread::Threads;
 use text_access::TextSource;
 
-// Reports why the words could not be read.
-fn refuse_words<R: Env, E: Write>(rt: &R, alloc: Global, error: &io::Error, errors: &mut E) -> u8
-    ensures { (2 ≤ result) × (result ≤ 4) }
+// Reports which word is not UTF-8.
+fn refuse_words<R: Env, E: Write>(rt: &R, alloc: Global, errors: &mut E) -> u8
+    ensures { result ≡ 2 }
 {
-    if error.kind() == ErrorKind::OutOfMemory {
-        return tell(Fault::Memory, errors);
-    }
     tell_wrong_word(rt, alloc, errors);
     USAGE
 }
@@ -88,6 +85,7 @@ fn answer_into<R, S: TextSource, O: Write, E: Write>(
 where
     R: Threads + Wait + Sync + Net<Listener = TcpListener, Stream = TcpStream> + Files + Input,
     R: RandomSource,
+    R::File: AsFd,
     R::Reader: Send,
 {
     let mut text = Saved::new(rt, alloc, targets.output);
@@ -95,6 +93,8 @@ where
     let status = answer(rt, alloc, texts, reading, &mut text, errors, &mut table);
     match put(rt, alloc, targets, status, text, &table, output) {
         Ok(()) => status,
+        // (that memory ran out is told once)
+        Err(Fault::Memory) if status == MEMORY => status,
         Err(fault) => tell(fault, errors),
     }
 }
@@ -111,16 +111,14 @@ fn answer_to<R, S: TextSource, O: Write, E: Write>(
 where
     R: Threads + Wait + Sync + Net<Listener = TcpListener, Stream = TcpStream> + Files + Input,
     R: RandomSource,
+    R::File: AsFd,
     R::Reader: Send,
 {
     let targets = reading.targets();
     if targets.lines.is_none() && targets.output.is_none() {
         return answer(rt, alloc, texts, reading, output, errors, &mut None);
     }
-    if let Some(status) = refuse_targets(rt, alloc, targets, errors) {
-        return status;
-    }
-    match refuse_recorded(rt, targets, errors) {
+    match refuse_targets(rt, alloc, &reading, errors) {
         Some(status) => status,
         None => answer_into(rt, alloc, texts, reading, targets, output, errors),
     }
@@ -129,9 +127,8 @@ where
 fn main(rt: HostRuntime) -> ExitCode {
     let alloc = rt.alloc();
     let mut errors = rt.stderr();
-    let words = match words(&rt) {
-        Ok(words) => words,
-        Err(error) => return ExitCode::from(refuse_words(&rt, alloc, &error, &mut errors)),
+    let Ok(words) = words(&rt, alloc) else {
+        return ExitCode::from(tell(Fault::Memory, &mut errors));
     };
     let Ok(words) = slices(alloc, words.as_slice()) else {
         return ExitCode::from(tell(Fault::Memory, &mut errors));
@@ -144,6 +141,7 @@ fn main(rt: HostRuntime) -> ExitCode {
     };
     let mut output = Closable::new(rt.stdout());
     ExitCode::from(match read_words(alloc, words) {
+        Ok(reading) if has_wrong_word(words, &reading) => refuse_words(&rt, alloc, &mut errors),
         Ok(reading) => answer_to(&rt, alloc, &texts, reading, &mut output, &mut errors),
         Err(_) => tell(Fault::Memory, &mut errors),
     })

@@ -1,12 +1,15 @@
-//! What the program has of the system: its words, the texts of files, and the files that an answer goes to.
+//! What the program has of the system: its words, the texts of files, and the files that an answer
+//! goes to.
 #![tactic(auto)]
 
 mod arguments;
 mod files;
 mod putting;
+mod refusing;
 mod saving;
 
-pub use arguments::{slices, tell_wrong_word, words};
+pub use arguments::{has_wrong_word, slices, tell_wrong_word, words};
 pub use files::Disk;
-pub use putting::{put, refuse_targets};
+pub use putting::put;
+pub use refusing::refuse_targets;
 pub use saving::Saved;

@@ -1,11 +1,12 @@
 //! Where an answer goes: to the output, or to the files that the words name for it.
 
-use crate::saving::{Draft, Saved, is_one_file};
-use command_texts::{Fault, STANDARD_OUTPUT, USAGE, tell};
+use crate::saving::{Draft, Saved};
+use command_texts::{Fault, STANDARD_OUTPUT};
 use command_words::{AnswerKind, Targets};
 use std::alloc::Global;
 use std::io;
 use std::io::{ErrorKind, Write};
+use std::os::fd::AsFd;
 use std::random::RandomSource;
 use std::rt::Files;
 use text_access::cause_of;
@@ -25,7 +26,10 @@ fn draft<'a, R: Files + RandomSource>(
     alloc: Global,
     name: &'a str,
     text: &[u8],
-) -> Result<Draft, Fault<'a>> {
+) -> Result<Draft, Fault<'a>>
+where
+    R::File: AsFd,
+{
     match Draft::new(rt, alloc, name, text) {
         Ok(draft) => Ok(draft),
         Err(error) => Err(put_fault(name, &error)),
@@ -42,11 +46,14 @@ fn keep<'a, R: Files>(rt: &R, name: &'a str, draft: Draft) -> Result<(), Fault<'
 
 // Writes an answer that goes to no file to the output. It may be in a draft by then.
 fn write<'a, R: Files + RandomSource, O: Write>(
-    text: &Saved<'a, R>,
+    text: &mut Saved<'a, R>,
     output: &mut O,
-) -> Result<(), Fault<'a>> {
-    if let Some((name, error)) = text.fault() {
-        return Err(put_fault(name, error));
+) -> Result<(), Fault<'a>>
+where
+    R::File: AsFd,
+{
+    if let Some(error) = text.fault() {
+        return Err(put_fault(text.name(), error));
     }
     match text.write_to(output) {
         Ok(()) => Ok(()),
@@ -60,9 +67,13 @@ fn keep_or_write<'a, R: Files + RandomSource, O: Write>(
     name: Option<&'a str>,
     text: Saved<'a, R>,
     output: &mut O,
-) -> Result<(), Fault<'a>> {
+) -> Result<(), Fault<'a>>
+where
+    R::File: AsFd,
+{
     let Some(name) = name else {
-        let written = write(&text, output);
+        let mut text = text;
+        let written = write(&mut text, output);
         text.discard();
         return written;
     };
@@ -81,7 +92,10 @@ fn put_answer<'a, R: Files + RandomSource, O: Write>(
     text: Saved<'a, R>,
     table: &Option<Vec<u8>>,
     output: &mut O,
-) -> Result<(), Fault<'a>> {
+) -> Result<(), Fault<'a>>
+where
+    R::File: AsFd,
+{
     let (Some(name), Some(table)) = (targets.lines, table) else {
         return keep_or_write(rt, targets.output, text, output);
     };
@@ -121,39 +135,13 @@ pub fn put<'a, R: Files + RandomSource, O: Write>(
     text: Saved<'a, R>,
     table: &Option<Vec<u8>>,
     output: &mut O,
-) -> Result<(), Fault<'a>> {
+) -> Result<(), Fault<'a>>
+where
+    R::File: AsFd,
+{
     if is_part(targets, status) {
         text.discard();
         return Ok(());
     }
     put_answer(rt, alloc, targets.at(status), text, table, output)
-}
-
-// Returns whether the two files that the words name are the same file, as far as it can be known.
-fn are_one<R: Files>(rt: &R, alloc: Global, targets: Targets<'_>) -> io::Result<bool> {
-    match (targets.lines, targets.output) {
-        (Some(lines), Some(output)) => is_one_file(rt, alloc, lines, output),
-        _ => Ok(false),
-    }
-}
-
-// Reports that the two files that the words name are the same file.
-fn tell_one_file<E: Write>(errors: &mut E) -> u8 {
-    let _ = errors.write_all(b"error: --lines and --output name one file\n");
-    USAGE
-}
-
-/// Returns the status for files that the words name, if they are refused: they are the same file, or memory ran out.
-pub fn refuse_targets<R: Files, E: Write>(
-    rt: &R,
-    alloc: Global,
-    targets: Targets<'_>,
-    errors: &mut E,
-) -> Option<u8> {
-    match are_one(rt, alloc, targets) {
-        Ok(true) => Some(tell_one_file(errors)),
-        Err(error) if error.kind() == ErrorKind::OutOfMemory => Some(tell(Fault::Memory, errors)),
-        // If it cannot be known, the writing fails and says so.
-        Ok(false) | Err(_) => None,
-    }
 }

@@ -1,9 +1,11 @@
 //! Files that get the whole answer, or stay as they were.
 
+use command_texts::STANDARD_OUTPUT;
 use std::alloc::{AllocError, Global};
 use std::fs::{self, Metadata, OpenFile, OpenOptions, Permissions};
-use std::io::{self, ErrorKind, Write};
-use std::os::unix::fs::{MetadataExt, OpenOptionsExt, PermissionsExt, chown};
+use std::io::{self, ErrorKind, Read, Seek, SeekFrom, Write};
+use std::os::fd::AsFd;
+use std::os::unix::fs::{MetadataExt, OpenOptionsExt, PermissionsExt, fchown};
 use std::path::PathBuf;
 use std::random::RandomSource;
 use std::rt::Files;
@@ -20,15 +22,18 @@ const NEW_MODE: u32 = 0o666;
 /// The permission bits of a mode.
 const MODE_BITS: u32 = 0o777;
 
+/// The bits of a folder that all may write to, and where each removes their own files alone, such as `/tmp`.
+const SHARED_BITS: u32 = 0o1002;
+
 /// The most bytes that are held of a text which is to get a name.
 const MOST_HELD: usize = 1_048_576;
 
-// Where a name leads.
+/// Where a name leads.
 #[derive(Drop)]
-enum Destination {
-    // To a regular file, or to none yet. The name is no link.
+pub(crate) enum Destination {
+    /// To a regular file, or to none yet. The name is no link.
     Named(PathBuf, Option<Metadata>),
-    // To something that is written in place: a device, a pipe, a folder, or an open file of a process.
+    /// To something that is written in place: a device, a pipe, a folder, or an open file of a process.
     Fixed,
 }
 
@@ -40,8 +45,37 @@ fn is_of_process<F: Files>(files: &F, link: &Metadata) -> bool {
     }
 }
 
-// Returns where a name leads, after all links are followed.
-fn destination_of<F: Files>(files: &F, alloc: Global, name: &str) -> io::Result<Destination> {
+// Returns the system's data on a folder. The name of the current folder is empty.
+fn folder_data<F: Files>(files: &F, folder: &str) -> io::Result<Metadata> {
+    fs::metadata(files, if folder == "" { "." } else { folder })
+}
+
+// Returns whether the process's user owns a file, as far as it can be known.
+fn is_own<F: Files>(files: &F, file: &Metadata) -> bool {
+    match fs::metadata(files, "/proc/self") {
+        Ok(found) => found.uid() == file.uid(),
+        Err(_) => false,
+    }
+}
+
+// Returns whether a link is followed, by the rule that the system has where `fs.protected_symlinks` is set: in a folder that
+// all may write to, such as `/tmp`, only if it belongs to the process's user or to the folder's owner. Nobody else can put
+// another link in the place of such a one.
+fn may_follow<F: Files>(files: &F, at: &PathBuf, link: &Metadata) -> io::Result<bool> {
+    let Some(folder) = at.parent() else {
+        return Ok(true);
+    };
+    let folder = folder_data(files, folder.as_str())?;
+    let is_shared = folder.mode() & SHARED_BITS == SHARED_BITS;
+    Ok(!is_shared || link.uid() == folder.uid() || is_own(files, link))
+}
+
+/// Returns where a name leads, after all links are followed.
+pub(crate) fn destination_of<F: Files>(
+    files: &F,
+    alloc: Global,
+    name: &str,
+) -> io::Result<Destination> {
     let mut at = PathBuf::from_str(alloc, name)?;
     for _ in 0..MOST_LINKS {
         let found = match fs::symlink_metadata(files, at.as_str()) {
@@ -57,21 +91,24 @@ fn destination_of<F: Files>(files: &F, alloc: Global, name: &str) -> io::Result<
         if !found.is_symlink() || is_of_process(files, &found) {
             return Ok(Destination::Fixed);
         }
+        if !may_follow(files, &at, &found)? {
+            return Err(io::Error::from(ErrorKind::PermissionDenied));
+        }
         let leads_to = files.read_link(alloc, at.as_str())?;
         at = at.with_file_name(alloc, leads_to.as_str())?;
     }
     Err(io::Error::from(ErrorKind::FilesystemLoop))
 }
 
-// Returns whether two names are those of the same folder. The name of the current folder is empty.
+// Returns whether two names are those of the same folder.
 fn is_one_folder<F: Files>(files: &F, one: &str, other: &str) -> io::Result<bool> {
-    let one = fs::metadata(files, if one == "" { "." } else { one })?;
-    let other = fs::metadata(files, if other == "" { "." } else { other })?;
+    let one = folder_data(files, one)?;
+    let other = folder_data(files, other)?;
     Ok(one.dev() == other.dev() && one.ino() == other.ino())
 }
 
-// Returns whether two names, which are no links, are the same name in the same folder.
-fn is_one_name<F: Files>(files: &F, one: &PathBuf, other: &PathBuf) -> io::Result<bool> {
+/// Returns whether two names, which are no links, are the same name in the same folder.
+pub(crate) fn is_one_name<F: Files>(files: &F, one: &PathBuf, other: &PathBuf) -> io::Result<bool> {
     if one.file_name() != other.file_name() {
         return Ok(false);
     }
@@ -126,6 +163,7 @@ fn created<F: Files + RandomSource>(
     for _ in 0..MOST_NAMES {
         let draft = draft_name(alloc, name, random_number(files)?)?;
         let opened = OpenOptions::new()
+            .read(true)
             .write(true)
             .create_new(true)
             .mode(mode)
@@ -139,25 +177,21 @@ fn created<F: Files + RandomSource>(
     Err(io::Error::from(ErrorKind::AlreadyExists))
 }
 
-// Gives a draft the owner and the group of the file that it replaces. If the process may not, it tries the group alone.
-fn keep_owner<F: Files>(files: &F, draft: &PathBuf, old: &Metadata, new: &Metadata) {
+// Gives an open file the owner and the group of the file that it replaces. If the process may not, it tries the group
+// alone. (By its name it could be another file by then: who owns the folder can put a link there.)
+fn keep_owner<W: OpenFile + AsFd>(file: &W, old: &Metadata, new: &Metadata) {
     if old.uid() == new.uid() && old.gid() == new.gid() {
         return;
     }
     let group = Some(old.gid());
-    if chown(files, draft.as_str(), Some(old.uid()), group).is_err() {
-        let _ = chown(files, draft.as_str(), None, group);
+    if fchown(file, Some(old.uid()), group).is_err() {
+        let _ = fchown(file, None, group);
     }
 }
 
-// Gives a draft the mode of the file that it replaces, and its owner, as far as possible.
-fn keep_access<F: Files>(
-    files: &F,
-    draft: &PathBuf,
-    file: &F::File,
-    old: &Metadata,
-) -> io::Result<()> {
-    keep_owner(files, draft, old, &file.metadata()?);
+// Gives an open file the mode of the file that it replaces, and its owner, as far as possible.
+fn keep_access<W: OpenFile + AsFd>(file: &W, old: &Metadata) -> io::Result<()> {
+    keep_owner(file, old, &file.metadata()?);
     let mode = old.mode() & MODE_BITS;
     if file.metadata()?.mode() & MODE_BITS == mode {
         return Ok(());
@@ -189,14 +223,17 @@ fn begin_draft_file<F: Files + RandomSource>(
     alloc: Global,
     name: PathBuf,
     old: &Option<Metadata>,
-) -> io::Result<DraftFile<F::File>> {
+) -> io::Result<DraftFile<F::File>>
+where
+    F::File: AsFd,
+{
     let mode = match old {
         Some(old) => old.mode() & MODE_BITS,
         None => NEW_MODE,
     };
     let (draft, file) = created(files, alloc, &name, mode)?;
     if let Some(old) = old {
-        if let Err(error) = keep_access(files, &draft, &file, old) {
+        if let Err(error) = keep_access(&file, old) {
             let _ = fs::remove_file(files, draft.as_str());
             return Err(error);
         }
@@ -230,10 +267,10 @@ fn finish_draft_file<F: Files>(
     }
 }
 
-// Writes a file to an output.
-fn copy_file<F: Files, O: Write>(files: &F, name: &PathBuf, output: &mut O) -> io::Result<()> {
-    let mut file = fs::open(files, name.as_str())?;
-    io::copy(&mut file, output)?;
+// Writes an open file to an output, from its beginning.
+fn copy_file<W: Read + Seek, O: Write>(file: &mut W, output: &mut O) -> io::Result<()> {
+    file.seek(SeekFrom::Start(0))?;
+    io::copy(file, output)?;
     Ok(())
 }
 
@@ -254,7 +291,10 @@ impl Draft {
         alloc: Global,
         name: &str,
         text: &[u8],
-    ) -> io::Result<Draft> {
+    ) -> io::Result<Draft>
+    where
+        F::File: AsFd,
+    {
         match destination_of(files, alloc, name)? {
             Destination::Named(name, old) => {
                 let part = begin_draft_file(files, alloc, name, &old)?;
@@ -304,7 +344,10 @@ pub struct Saved<'a, F: Files> {
     fault: Option<io::Error>,
 }
 
-impl<'a, F: Files + RandomSource> Saved<'a, F> {
+impl<'a, F: Files + RandomSource> Saved<'a, F>
+where
+    F::File: AsFd,
+{
     /// Returns an empty text that is to get this name, if there is one.
     pub fn new(files: &'a F, alloc: Global, name: Option<&'a str>) -> Self {
         Saved {
@@ -379,12 +422,14 @@ impl<'a, F: Files + RandomSource> Saved<'a, F> {
         }
     }
 
-    /// Returns the name that the text was to get, and what kept it from being written, if something did.
-    pub(crate) fn fault(&self) -> Option<(&'a str, &io::Error)> {
-        match (self.name, &self.fault) {
-            (Some(name), Some(fault)) => Some((name, fault)),
-            _ => None,
-        }
+    /// Returns the name that the text was to get, or that of the output.
+    pub(crate) fn name(&self) -> &'a str {
+        self.name.unwrap_or(STANDARD_OUTPUT)
+    }
+
+    /// Returns what kept the text from being written, if something did.
+    pub(crate) fn fault(&self) -> Option<&io::Error> {
+        self.fault.as_ref()
     }
 
     /// Removes the text, which gets no name.
@@ -395,15 +440,18 @@ impl<'a, F: Files + RandomSource> Saved<'a, F> {
     }
 
     /// Writes the text to an output.
-    pub(crate) fn write_to<O: Write>(&self, output: &mut O) -> io::Result<()> {
-        if let Some(part) = &self.part {
-            copy_file(self.files, &part.draft, output)?;
+    pub(crate) fn write_to<O: Write>(&mut self, output: &mut O) -> io::Result<()> {
+        if let Some(part) = &mut self.part {
+            copy_file(&mut part.file, output)?;
         }
         output.write_all(self.held.as_slice())
     }
 }
 
-impl<F: Files + RandomSource> Write for Saved<'_, F> {
+impl<F: Files + RandomSource> Write for Saved<'_, F>
+where
+    F::File: AsFd,
+{
     fn write(&mut self, buf: &[u8]) -> io::Result<usize> {
         if self.fault.is_some() {
             return Ok(buf.len());
