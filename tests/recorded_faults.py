@@ -557,6 +557,7 @@ class Faults:
         for name in ("kept.part", ".kept.part"):
             os.symlink("victim", f"{place}/{name}")
         self.put(f"{place}/victim", "mine\n")
+        self.put(f"{place}/kept", "as it was\n")
         self.session(folder, "-o", f"{place}/kept")
         self.tests.same("what somebody planted", self.has(f"{place}/victim"), "mine\n")
         self.put(f"{place}/kept", "as it was\n")
@@ -590,6 +591,7 @@ class Faults:
             self.tests.same("an output that is full", (ran.returncode, ran.stderr), (2, "session: standard output: No space left on device\n"))
             ran = self.session(folder, *words, preexec_fn=lambda: os.close(1))
             self.tests.same("an output that is closed", (ran.returncode, ran.stdout, ran.stderr), (2, "", "session: standard output: it is closed, or not open for this\n"))
+            self.put(f"{place}/kept", "as it was\n")
             ran = self.session(folder, "-o", f"{place}/kept", *words, preexec_fn=lambda: os.closerange(0, 3))
             self.tests.same("a file where all else is closed", (ran.returncode, self.has(f"{place}/kept")), (0, wanted))
         self.of_two_writers(place)
@@ -597,15 +599,16 @@ class Faults:
         self.of_programs(folder, place, wanted)
 
     def of_two_writers(self, place):
-        """Two at once: the file is what one of them wrote."""
+        """Two at once: the file is what one of them wrote. The other may find it there, and then writes nothing."""
         long = [*MOVED["guest"], *["r 0 0 0 5"] * 30000]
         folders = self.recording(), self.recording(guest=long)
         texts = [self.session(folder).stdout for folder in folders]
         for _ in range(3):
             env = {**os.environ, "POSTCOPY": self.command}
-            writers = [subprocess.Popen([sys.executable, f"{TOP}/recorders/session", folder, "-o", f"{place}/shared"], env=env) for folder in folders]
-            statuses = [writer.wait() for writer in writers]
-            self.tests.same("two writers", (statuses, self.has(f"{place}/shared") in texts), ([0, 0], True))
+            writers = [subprocess.Popen([sys.executable, f"{TOP}/recorders/session", folder, "-o", f"{place}/shared"], env=env, stderr=subprocess.DEVNULL) for folder in folders]
+            statuses = {writer.wait() for writer in writers}
+            self.tests.same("two writers", (0 in statuses, statuses <= {0, 2}, self.has(f"{place}/shared") in texts), (True, True, True))
+            os.remove(f"{place}/shared")
         self.tests.same("two writers leave nothing", [name for name in os.listdir(place) if re.match(r"\.(session|postcopy-session)", name)], [])
 
     def of_ended_scripts(self):
@@ -618,7 +621,8 @@ class Faults:
         for name in ("by/0-0", "by/1-1", "one", "all"):
             wanted[name] = self.has(f"{place}/{name}")
         for number in range(12):
-            shutil.rmtree(f"{place}/by", ignore_errors=True)
+            shutil.rmtree(place)
+            os.makedirs(place)
             words = (("--windows", "1", "-o", f"{place}/by"), ("--window", "0-0", "-o", f"{place}/one"), ("-o", f"{place}/all"))[number % 3]
             ran = subprocess.Popen([sys.executable, f"{TOP}/recorders/session", longer, *words], env={**os.environ, "POSTCOPY": self.command}, stderr=subprocess.PIPE)
             time.sleep(0.06 + 0.03 * number)

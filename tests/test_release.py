@@ -39,7 +39,7 @@ INSTALLED = f"""
     share/fish/vendor_completions.d/postcopy-report.fish share/fish/vendor_completions.d/postcopy-session.fish
     share/man/man1/postcopy.1 share/man/man1/postcopy-annotate.1 share/man/man1/postcopy-report.1 share/man/man1/postcopy-session.1
     share/man/man3/postcopy.3 share/man/man5/postcopy.5
-    share/postcopy/postcopy.html share/postcopy/postcopy_record.c share/postcopy/python/postcopy_names.py {" ".join(f"share/postcopy/python/postcopy/{it}.py" for it in MODULES)}
+    share/postcopy/postcopy.html share/postcopy/postcopy_record.c share/postcopy/python/postcopy_names.py share/postcopy/python/postcopy_outputs.py {" ".join(f"share/postcopy/python/postcopy/{it}.py" for it in MODULES)}
     share/zsh/site-functions/_postcopy
 """
 

@@ -90,7 +90,7 @@ def test_known_sessions(program, room):
 
 
 @pytest.mark.quick
-@pytest.mark.cases(19)
+@pytest.mark.cases(36)
 def test_outputs(program, room):
     """A text goes to the file of -o. If nothing is written, the file stays; what cannot be read is told with its name."""
     beside = Beside(room, program)
@@ -98,8 +98,11 @@ def test_outputs(program, room):
     wanted = beside.by_command(folder).stdout
     name = f"{room}/session"
     same("a text in its file", (beside.by_command(folder, "-o", name).returncode, beside.has(name)), (0, wanted))
+    ran = beside.by_command(folder, "-o", name)
+    same("a session that is there", (ran.returncode, ran.stdout, beside.has(name)), (2, "", wanted))
+    beside.put(name, "as it was\n")
     ran = beside.by_command("-o", name, lacking)
-    same("a file that stays", (ran.returncode, ran.stdout, beside.has(name)), (1, "", wanted))
+    same("a file that stays", (ran.returncode, ran.stdout, beside.has(name)), (1, "", "as it was\n"))
     ran = beside.by_command("--cut", lacking, "-o", name)
     same("a text that is cut in its file", (ran.returncode, ran.stdout, beside.has(name) == wanted), (0, "", False))
     same("the text of a whole recording, cut", beside.by_command("--cut", folder).stdout, wanted)
@@ -110,11 +113,18 @@ def test_outputs(program, room):
         ran = beside.by_command(*words)
         same(what, (ran.returncode, ran.stdout, ran.stderr), (3, "", f"file {words[0]}\n{words[0]}: {why}\n"))
     beside.put(f"{folder}/recording-name", "told\n")
-    for file in (f"{folder}/guest.1.0", f"{folder}/recording-name"):
-        kept, why = beside.has(file), f"session: {file} is a file of a recorder: remove it first, or name another file behind -o\n"
+    for file, text in (("there", "postcopy-session 2\n"), ("by/0-0", "postcopy-session 1\n"), ("cert", "postcopy-certificate 3\n"), ("lane.1.0", "")):
+        os.makedirs(f"{room}/by", exist_ok=True)
+        beside.put(f"{room}/{file}", text)
+    os.symlink(f"{folder}/recording-name", f"{room}/link")
+    for file, what in ((f"{folder}/guest.1.0", "a file of a recorder"), (f"{folder}/recording-name", "a file of a recorder"), (f"{room}/link", "a file of a recorder"),
+                       (f"{room}/lane.1.0", "a file of a recorder"), (f"{room}/there", "a session"), (f"{room}/cert", "a certificate")):
+        kept, why = beside.has(file), f"session: {file} is {what}: remove it first, or name another file behind -o\n"
         for words in ((), ("--cut",), ("--recording",), ("--window", "0-0")):
             ran = run_script(beside.command, folder, *words, "-o", file)
-            same(f"an output onto a file of a recorder {words}", (ran.returncode, ran.stdout, ran.stderr, beside.has(file)), (2, "", why, kept))
+            same(f"an output onto {what} {words}", (ran.returncode, ran.stdout, ran.stderr, beside.has(file)), (2, "", why, kept))
+    ran = run_script(beside.command, folder, "--windows", "1", "-o", f"{room}/by")
+    same("a window onto a session", (ran.returncode, ran.stdout, os.listdir(f"{room}/by"), beside.has(f"{room}/by/0-0")), (2, "", ["0-0"], "postcopy-session 1\n"))
     for words in ((), ("-o", "/dev/null"), ("--window", "0-0")):
         ran = run_script(beside.command, folder, *words, preexec_fn=lambda: resource.setrlimit(resource.RLIMIT_FSIZE, (10, 10)))
         same(f"a temporary folder without room {words}", (ran.returncode, ran.stdout, ran.stderr), (2, "", f"session: {tempfile.gettempdir()}: the file would be too large\n"))

@@ -101,12 +101,17 @@ def tests_of_refusals(room):
         same(f"the report that was there, with {what}", (read(f"{room}/out.html"), os.listdir(room)), (b"as it was", ["out.html"]))
     os.remove(f"{room}/out.html")
     for name, was in (("out.html", read(session)), ("out.html", read(example("handover", "certificate")[0])), ("out.html", b"faulty line 32 altered\n"),
-                      ("out.html", b"clean\n"), ("out.html", b"incomplete page 7\n"), ("guest.1.0", b"postcopy-records 1\n"), ("recording-name", b"told\n")):
+                      ("out.html", b"clean\n"), ("out.html", b"incomplete page 7\n"), ("guest.1.0", b"postcopy-records 1\n"), ("guest.1.0", b""), ("recording-name", b"told\n")):
         write(f"{room}/{name}", was)
         ran = subprocess.run([SCRIPT, "--page", PAGE, session, "-o", name], cwd=room, stdin=subprocess.DEVNULL, capture_output=True)
         same(f"{was[:20]} in the report's place", (ran.returncode, ran.stdout, ran.stderr.startswith(f"postcopy-report: {name} is a session or another text of postcopy".encode())), (3, b"", True))
         same("what was there", (read(f"{room}/{name}"), os.listdir(room)), (was, [name]))
         os.remove(f"{room}/{name}")
+    write(f"{room}/told", b"as it was\n")
+    for name in ("told", "./told"):
+        ran = subprocess.run([SCRIPT, "--page", PAGE, session, "told", "-o", name], cwd=room, stdin=subprocess.DEVNULL, capture_output=True)
+        same(f"what is to be read, by {name}", (ran.returncode, ran.stderr, read(f"{room}/told")), (3, f"postcopy-report: {name} is to be read: name another REPORT behind -o\n".encode(), b"as it was\n"))
+    os.remove(f"{room}/told")
 
 
 def tests_of_outputs(room):
