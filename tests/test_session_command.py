@@ -89,8 +89,22 @@ def test_known_sessions(program, room):
                 beside.session(folder, *words)
 
 
+def shared_links(room):
+    """Links to a file that stand in a folder that all may write to, with what comes of a text that goes there: of another user's link, which
+    only the superuser can make, and of one's own."""
+    os.mkdir(f"{room}/all")
+    os.chmod(f"{room}/all", 0o1777)
+    for name in ("theirs", "own") if os.geteuid() == 0 else ("own",):
+        with open(f"{room}/old", "w", encoding="ascii") as file:
+            file.write("as it was\n")
+        os.symlink("../old", f"{room}/all/{name}")
+        if name == "theirs":
+            os.chown(f"{room}/all/{name}", 65534, 65534, follow_symlinks=False)
+        yield f"{room}/all/{name}", (0, "", False) if name == "own" else (2, f"session: {room}/all/{name}: Permission denied\n", True)
+
+
 @pytest.mark.quick
-@pytest.mark.cases(36)
+@pytest.mark.cases(37)
 def test_outputs(program, room):
     """A text goes to the file of -o. If nothing is written, the file stays; what cannot be read is told with its name."""
     beside = Beside(room, program)
@@ -125,6 +139,9 @@ def test_outputs(program, room):
             same(f"an output onto {what} {words}", (ran.returncode, ran.stdout, ran.stderr, beside.has(file)), (2, "", why, kept))
     ran = run_script(beside.command, folder, "--windows", "1", "-o", f"{room}/by")
     same("a window onto a session", (ran.returncode, ran.stdout, os.listdir(f"{room}/by"), beside.has(f"{room}/by/0-0")), (2, "", ["0-0"], "postcopy-session 1\n"))
+    for name, wanted in shared_links(room):
+        ran = run_script(beside.command, folder, "-o", name)
+        same(f"an output by the link {name}", (ran.returncode, ran.stderr, beside.has(f"{room}/old") == "as it was\n"), wanted)
     for words in ((), ("-o", "/dev/null"), ("--window", "0-0")):
         ran = run_script(beside.command, folder, *words, preexec_fn=lambda: resource.setrlimit(resource.RLIMIT_FSIZE, (10, 10)))
         same(f"a temporary folder without room {words}", (ran.returncode, ran.stdout, ran.stderr), (2, "", f"session: {tempfile.gettempdir()}: the file would be too large\n"))
