@@ -588,8 +588,9 @@ def redirected(program, words, how):
 # Words, with the name of the input that is not there, no file, or a standard input that cannot be read.
 NO_FILE, FOLDER = "no such file or directory", "it is a directory"
 
-# Why a folder with no files of recorders is no session, and the line before that.
-NO_SESSION, NO_RECORDING = "its files make no session", "session: {}: there is no file of a recorder, PARTY.PROCESS.N\n"
+# Why a folder with no files of recorders, but a file `session`, is no session, and the lines before that.
+NO_SESSION = "its files make no session"
+NO_RECORDING = "session: {0}: there is no file of a recorder, PARTY.PROCESS.N\nsession: {0}: it has a file session: to read that, name {0}/session\n"
 
 # Words of which a text is not read, the name that is told, and why, where it is not the standard input that fails.
 UNREAD = (
