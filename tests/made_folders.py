@@ -148,8 +148,9 @@ def texts(rng, count):
 # Spreading a session over files.
 
 
-def machine_records(rng, made, session):
-    """The records of the machine's log: the pages that are told in any order, zeros among them now and then."""
+def machine_records(rng, made, session, has_lane):
+    """The records of the machine's log: the pages that are told in any order, zeros among them now and then. Recorders of before did not
+    tell whether the lane has a log."""
     pages, cells = (int(line.split(" ")[1]) for line in session.head[1:3])
     initial = [line.split(" ")[1:] for line in session.head[4:]]
     told = {int(page) for page, _ in initial}
@@ -168,7 +169,8 @@ def machine_records(rng, made, session):
     records = [f"page {page} {contents}" for page, contents in initial]
     if rng.random() < 0.4:
         rng.shuffle(records)
-    records.insert(rng.choice((0, 0, rng.randrange(len(records) + 1))), f"pages {pages} {cells}")
+    lane = rng.choice(("", f" {int(has_lane)}", f" {int(has_lane)}"))
+    records.insert(rng.choice((0, 0, rng.randrange(len(records) + 1))), f"pages {pages} {cells}{lane}")
     return records
 
 
@@ -241,7 +243,7 @@ def recording_of_text(rng, text):
         elif of == "lane" and rng.random() < 0.1:
             logs.setdefault("lane", [])
             made.did.append("empty lane")
-    for log, records in {"machine": machine_records(rng, made, session), **logs}.items():
+    for log, records in {"machine": machine_records(rng, made, session, "lane" in logs), **logs}.items():
         spread(rng, made, log, records)
     for number in range(made.folders):
         if rng.random() < 0.15:
@@ -832,13 +834,30 @@ def other_machine(made):
 
 
 @damage
+def other_lane(made):
+    """The machine's log tells of a lane with a log, and there is none, or the other way round."""
+    def change(texts_, at):
+        texts_[at] = f"{' '.join(texts_[at].split(' ')[:3])} {int(not made.of('lane'))}"
+
+    return told_otherwise(made, change)
+
+
+@damage
+def lost_lane(made):
+    """No file of the lane's log is there."""
+    lane = made.of("lane")
+    made.files = [it for it in made.files if it.party != "lane"]
+    return lane
+
+
+@damage
 def wrong_machine(made):
     """The machine's pages or cells are none, or beyond the limits."""
     pages, cells = made.machine
 
     def change(texts_, at):
         texts_[at] = made.rng.choice(("pages 0 1", "pages 1 0", "pages 5 1000", "pages 10000000000 1", f"pages 0{pages} {cells}", f"pages {pages}",
-                                      f"pages {pages} {cells} 1", f"pages {pages} 0{cells}"))
+                                      f"pages {pages} {cells} 2", f"pages {pages} {cells} 01", f"pages {pages} {cells} 1 1", f"pages {pages} 0{cells}"))
 
     return told_otherwise(made, change)
 

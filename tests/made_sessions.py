@@ -88,7 +88,7 @@ def run_script(program, *words, **more):
 def called(session):
     """The recorder's calls that a session's records are: the party, the call and its words."""
     pages, cells = (line.split(" ")[1] for line in session.head[1:3])
-    yield "machine", "machine", [pages, cells]
+    yield "machine", "machine_with_lane" if "lane" in session.told() else "machine", [pages, cells]
     for line in session.head[4:]:
         yield "machine", "initial", line.split(" ")[1:]
     for log in session.told():

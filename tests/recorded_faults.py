@@ -99,6 +99,7 @@ class Faults:
         self.of_two_recordings()
         self.of_words()
         self.of_machines()
+        self.of_lanes()
         self.of_children()
         self.of_python()
         self.of_dropped()
@@ -263,7 +264,7 @@ class Faults:
             ("a page that is told twice", ["pages 2 1", *["page 1 0000000000000007"] * 2], f"{place % (6, 2)}: what page 1 holds at first is told twice, beside {place % (5, 1)}"),
             ("a page past the last", ["page 2 0000000000000007", "pages 2 1"], f"{place % (4, 0)}: there is no page 2: the machine has 2 pages, from 0 on"),
             ("a page of two cells", ["pages 2 1", f"page 1 {'0' * 31}7"], f"{place % (5, 1)}: contents of 2 cells, where a page of the machine has 1"),
-            ("another record", ["pages 2 1", "cells 1"], f"{place % (5, 1)}: found 'cells 1'; expected 'pages PAGES CELLS' or 'page PAGE CONTENTS'"),
+            ("another record", ["pages 2 1", "cells 1"], f"{place % (5, 1)}: found 'cells 1'; expected 'pages PAGES CELLS LANE' or 'page PAGE CONTENTS'"),
             ("no machine", ["page 1 0000000000000007"], f"FOLDER/machine.1.0: no record tells how many pages there are: {call}"),
             ("no file of the machine", None, f"there is no file of the machine's log, which tells how many pages there are: {call}"),
         ):
@@ -275,6 +276,24 @@ class Faults:
         self.told("a folder of an odd name", self.session(odd), 2, odd[:-6] + "\\n\\x1b[0m\\x85: there is no file of a recorder, PARTY.PROCESS.N")
         self.told("a folder whose name is no text", self.session(odd + "\udcff"), 2, odd[:-6] + "\\n\\x1b[0m\\x85\\udcff: the name of this folder is not UTF-8")
         self.wants("an empty folder", folder, 2, "FOLDER: there is no file of a recorder, PARTY.PROCESS.N")
+
+    def of_lanes(self):
+        """A lane's log of which the machine's log tells has a file, which may have no records; recorders of before did not tell."""
+        def recording(told, lane):
+            return self.recording(machine=[f"pages 2 1{told}", MOVED["machine"][1]], lane=lane)
+
+        call = "postcopy_record_machine_with_lane, or Log.machine_with_lane"
+        lost = f"lane: there is no file of its log, of which the machine's log tells ({call})"
+        untold = f"lane: the machine's log tells that it has no log: where it has one, call {call}"
+        for told, lane, said in (
+            (" 1", None, lost), (" 0", [], untold), (" 0", ["down 2"], untold),
+            (" 1", text_of_file("lane", ["0 down 2"]), f"lane: FOLDER/lane.1.0 has no end: {ENDLESS}"),
+            (" 1", text_of_file("lane", [], last="end 1"), "lane: record 0 is missing"),
+        ):
+            self.wants(f"a machine{told} and a lane {lane!r}", recording(told, lane), 1, said)
+        for told, lane, version in ((" 1", [], 2), (" 1", ["down 2"], 2), ("", ["down 2"], 2), ("", None, 1), (" 0", None, 1)):
+            ran = self.session(recording(told, lane))
+            self.tests.same(f"a machine{told} and a lane {lane}", (ran.returncode, ran.stderr, ran.stdout[:18]), (0, "", f"postcopy-session {version}"))
 
     def of_children(self):
         """Forked children: none hangs, none records, and none does anything to its parent's files."""

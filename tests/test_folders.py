@@ -191,5 +191,5 @@ def test_messages_beside_a_file_of_the_link(program, room):
 def test_faults(program, room):
     """Recordings with faults: what keeps them from being a session is told once."""
     beside = BesideItsText(room, program, [("audit",)])
-    for run in (beside.of_whole_ones, beside.of_lost_files, beside.of_slips, beside.of_two_recordings, beside.of_machines):
+    for run in (beside.of_whole_ones, beside.of_lost_files, beside.of_slips, beside.of_two_recordings, beside.of_machines, beside.of_lanes):
         run()

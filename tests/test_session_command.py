@@ -69,8 +69,32 @@ class Beside(Faults):
 @pytest.mark.cases(200)
 def test_faults(program, room):
     beside = Beside(room, program)
-    for run in (beside.of_whole_ones, beside.of_lost_files, beside.of_slips, beside.of_two_recordings, beside.of_words, beside.of_machines):
+    for run in (beside.of_whole_ones, beside.of_lost_files, beside.of_slips, beside.of_two_recordings, beside.of_words, beside.of_machines, beside.of_lanes):
         run()
+
+
+def whole_recordings():
+    """The logs of a recording whose link has a log, or none, and whose lane has none, one that nobody takes a packet of, or one that the pager
+    takes the page of."""
+    for got, page, both in (("got 0", "got 1", ["down 1", "down 2"]), ("got-sent 1", "got-sent 2", None)):
+        for lane, taken in ((None, page), ([], page), (["down 2"], page), (["down 2"], "pull 0"), (None, "pull-sent 2")):
+            yield {**MOVED, "machine": [f"pages 2 1 {int(lane is not None)}", MOVED["machine"][1]], "lane": lane,
+                   "link": both if taken == page else both and both[:1], "pager": [got, "ready", taken, MOVED["pager"][3]]}
+
+
+@pytest.mark.quick
+@pytest.mark.cases(370)
+def test_lost_logs(program, room):
+    """Whichever logs have lost all of their files, that is told."""
+    beside = Beside(room, program, has_script=False)
+    for logs in whole_recordings():
+        same("a whole recording", beside.session(beside.recording(**logs)).returncode, 0)
+        there = [log for log, records in logs.items() if records is not None]
+        for number in range(1, 2 ** len(there)):
+            lost = [log for at, log in enumerate(there) if number >> at & 1]
+            left = beside.recording(**{**logs, **dict.fromkeys(lost)}) if len(lost) < len(there) else beside.folder()
+            os.makedirs(left, exist_ok=True)
+            same(f"the loss of {', '.join(lost)}", beside.session(left).returncode > 0, True)
 
 
 @pytest.mark.cases(500)
@@ -247,7 +271,8 @@ def test_control_characters(program, room):
 # What is quoted: texts that are just short enough to be quoted whole, or just too long, and what a quotation escapes.
 QUOTED = (*(length * "x" for length in (56, 57, 58, 59, 60, 61, 120)), *(f"{(length - 2) * 'x'}'\\" for length in (59, 60, 61)),
           "it's", 'say"no"', "it's\"no\"", "a\\b", "a\tb", "\x1b\x7f")
-CELLS = ("pages 2 513", "pages 2 999", "pages 2 1000", "pages 0 513", "pages 0 1", "pages 2 0")
+CELLS = ("pages 2 513", "pages 2 999", "pages 2 1000", "pages 0 513", "pages 0 1", "pages 2 0",
+         "pages 2 513 0", "pages 2 513 1", "pages 2 513 2", "pages 2 1 2", "pages 2 1 01", "pages 2 1 ", "pages 2 1 1 1", "pages 2 0 1")
 
 
 @pytest.mark.quick

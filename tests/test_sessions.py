@@ -57,10 +57,12 @@ SENTENCES = {
     "a compressed file": rf"{PATHS}\.\w+ is compressed, and is not read: unpack it first",
     "no files": r"\S+(, \S+)*: there is no file of a recorder, PARTY.PROCESS.N",
     "no file of the machine": "there is no file of the machine's log, .*",
-    "no record of the machine's": rf"{PLACE}: found .*; expected 'pages PAGES CELLS' or 'page PAGE CONTENTS'",
+    "no record of the machine's": rf"{PLACE}: found .*; expected 'pages PAGES CELLS LANE' or 'page PAGE CONTENTS'",
     "two machines": rf"{PLACE}: a second '.*', beside {PLACE}: '.*'",
     "a page twice": rf"{PLACE}: what page \d+ holds at first is told twice, beside {PLACE}",
     "no machine": rf"{PATHS}(, {PATHS})*: no record tells how many pages there are: .*",
+    "no file of the lane": r"lane: there is no file of its log, of which the machine's log tells \(.*\)",
+    "a lane of which nothing is told": r"lane: the machine's log tells that it has no log: where it has one, call .*",
     "a first page outside": rf"{PLACE}: there is no page \d+: the machine has \d+ pages, from 0 on",
     "a first page of other cells": rf"{PLACE}: contents of \d+ cells, where a page of the machine has \d+",
     "no word": rf"{PLACE}, .*: the \w+'s log has no record .*",
@@ -244,7 +246,7 @@ def refusals_of_other_records(words):
 # A record whose text is empty: the model refuses its line, and the program refuses the record where it takes it, not behind a number that is
 # missing. And contents of more cells than a page may have: the program takes no such record, and the model tells of it at last.
 NO_TEXT, TEXTS = re.compile(r"\S+:\d+: found '\d+ ', which is no record: .*"), re.compile("(0|[1-9][0-9]{0,9}) (.*)", re.ASCII)
-MANY_CELLS = re.compile(rf"{re.escape(PREFIX)}{PLACE}: found 'page .*'; expected 'pages PAGES CELLS' or 'page PAGE CONTENTS'\n")
+MANY_CELLS = re.compile(rf"{re.escape(PREFIX)}{PLACE}: found 'page .*'; expected 'pages PAGES CELLS LANE' or 'page PAGE CONTENTS'\n")
 
 
 def has_many_cells(path):
@@ -330,7 +332,7 @@ def test_form(tests):
     for number, text in enumerate(small_known_texts()[:40]):
         folder, session = f"form-{number}", SessionText(text)
         pages, cells = (line.split(" ")[1] for line in session.head[1:3])
-        texts = {"machine": [f"pages {pages} {cells}", *session.head[4:]], **session.logs}
+        texts = {"machine": [f"pages {pages} {cells} {int('lane' in session.told())}", *session.head[4:]], **session.logs}
         calls = {party: [] for party in ("machine", *session.told())}
         for party, call, fields in called(session):
             calls[party].append((call, [[int(it[at:at + 16], 16) for at in range(0, len(it), 16)] if len(it) % 16 == 0 else int(it) for it in fields]))

@@ -538,7 +538,7 @@ void postcopy_log_close(postcopy_log *log)
 
 #define OF(party) (1u << (party))
 
-/* Calls of no number, of one, two and four, and of a page's contents. */
+/* Calls of no number, of one, two and four, of a page's contents, and of the machine, whose lane has a log or not. */
 #define APPEND(parties, word, count, ...) { return append(log, parties, (struct record){word, count, {__VA_ARGS__}, 0, NULL, 0}); }
 #define CALL_0(call, parties, word) \
     uint32_t postcopy_record_##call(postcopy_log *log) APPEND(parties, word, 0, 0)
@@ -549,13 +549,17 @@ void postcopy_log_close(postcopy_log *log)
 #define CALL_4(call, parties, word) \
     uint32_t postcopy_record_##call(postcopy_log *log, uint32_t one, uint32_t two, uint32_t three, uint64_t four) \
         APPEND(parties, word, 4, one, two, three, four)
+#define CALL_MACHINE(call, lane) \
+    uint32_t postcopy_record_##call(postcopy_log *log, uint32_t pages, uint32_t cells) \
+        APPEND(OF(MACHINE), "pages", 3, pages, cells, lane)
 #define CALL_PAGE(call, parties, word) \
     uint32_t postcopy_record_##call(postcopy_log *log, uint32_t page, const uint64_t *contents, size_t cells) \
     { \
         return append(log, parties, (struct record){word, 1, {page}, 1, contents, cells}); \
     }
 
-CALL_2(machine, OF(MACHINE), "pages")
+CALL_MACHINE(machine, 0)
+CALL_MACHINE(machine_with_lane, 1)
 CALL_PAGE(initial, OF(MACHINE), "page")
 CALL_4(read, OF(GUEST), "r")
 CALL_4(write, OF(GUEST), "w")

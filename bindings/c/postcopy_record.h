@@ -35,7 +35,7 @@ typedef struct postcopy_log postcopy_log;
    it. */
 #define POSTCOPY_LOST UINT32_MAX
 
-/* Opens the log of a party, "guest", "source", "link", "lane" or "pager", or "machine" for the first two calls below. Its
+/* Opens the log of a party, "guest", "source", "link", "lane" or "pager", or "machine" for the first three calls below. Its
    files are made in the folder, which is made if it does not exist. `first` is the number of the first record: 0, or if another
    process handed the log over (the guest's, after the halt) what postcopy_log_hand_over returned there. Returns NULL, with errno,
    if it fails: EINVAL if there is no such party, or `first` is POSTCOPY_LOST; EBADMSG if the folder's file recording-name does not
@@ -65,8 +65,9 @@ const char *postcopy_log_recording(const postcopy_log *log);
 int postcopy_recording_join(const char *folder, const char *recording);
 
 /* The machine: the number of pages, and of 64-bit cells in each; and the initial contents of a page that does not begin as
-   zeros. */
+   zeros. If the lane has a log, the second call replaces the first, so that nobody can lose that log unseen. */
 uint32_t postcopy_record_machine(postcopy_log *machine, uint32_t pages, uint32_t cells);
+uint32_t postcopy_record_machine_with_lane(postcopy_log *machine, uint32_t pages, uint32_t cells);
 uint32_t postcopy_record_initial(postcopy_log *machine, uint32_t page, const uint64_t *contents, size_t cells);
 
 /* The guest. A vcpu is 0 to 63. `ready` and `placement` are numbers from the pager's log. */

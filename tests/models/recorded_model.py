@@ -39,7 +39,10 @@ _HEAD = ("postcopy-records 1", "recording ([A-Za-z0-9_.-]{1,64})", "log %s (0|[1
 _TOLD = ("'postcopy-records 1': no recorder of this release wrote it", "'recording NAME'", "'log %s FIRST OPENING'")
 _LINE = re.compile("(0|[1-9][0-9]{0,9}) (.+)", re.ASCII)
 _LAST = re.compile("(end|next|lost) (0|[1-9][0-9]{0,9})", re.ASCII)
-_MACHINE = re.compile("pages ([1-9][0-9]{0,19}) ([1-9][0-9]{0,2})|page (0|[1-9][0-9]{0,19}) ((?:[0-9a-f]{16})+)", re.ASCII)
+_MACHINE = re.compile("pages ([1-9][0-9]{0,19}) ([1-9][0-9]{0,2})(?: [01])?|page (0|[1-9][0-9]{0,19}) ((?:[0-9a-f]{16})+)", re.ASCII)
+
+# The calls that tell that the lane has a log.
+_LANE_CALL = "postcopy_record_machine_with_lane, or Log.machine_with_lane"
 
 
 class Unfit(ValueError):
@@ -233,7 +236,7 @@ def _machine(log: Optional[_Log]) -> Tuple[Session, List[str]]:
     for number, text in sorted(log.texts.items()):
         match = _MACHINE.fullmatch(text)
         if match is None or int(match[1] or 0) >= 2**63 or int(match[3] or 0) >= 2**64:
-            raise Unfit(f"{log.place(number)}: found {_quoted(text)}; expected 'pages PAGES CELLS' or 'page PAGE CONTENTS'")
+            raise Unfit(f"{log.place(number)}: found {_quoted(text)}; expected 'pages PAGES CELLS LANE' or 'page PAGE CONTENTS'")
         if match[2] and int(match[2]) > MOST_CELLS:
             raise Unfit(f"{log.place(number)}: {match[2]} cells are too many: a page has at most {MOST_CELLS}")
         if match[1] and pages is not None:
@@ -244,7 +247,7 @@ def _machine(log: Optional[_Log]) -> Tuple[Session, List[str]]:
             raise Unfit(f"{log.place(number)}: what page {match[3]} holds at first is told twice, beside {log.place(told[int(match[3])])}")
     if pages is None:
         raise Unfit(f"{', '.join(log.paths)}: no record tells how many pages there are: postcopy_record_machine, or Log.machine")
-    session = Session(*map(int, log.texts[pages].split(" ")[1:]))
+    session = Session(*map(int, log.texts[pages].split(" ")[1:3]))
     for page, number in told.items():
         contents = log.texts[number].rpartition(" ")[2]
         wrong = _wrong(session, "page", page) or _wrong(session, "contents", contents)
@@ -254,6 +257,15 @@ def _machine(log: Optional[_Log]) -> Tuple[Session, List[str]]:
             session.initial[page] = contents
     missing = log.missing()[1]
     return session, [*log.lacks(), *([f"machine: {missing}: pages whose contents are not told are taken for zeros"] if missing else [])]
+
+
+def _lane(machine: _Log, lane: Optional[_Log]) -> Iterator[str]:
+    """The message about a lane with a log of which the machine's log does not tell, or the other way round. Recorders of before did not tell."""
+    told = next(text for text in machine.texts.values() if text.startswith("pages ")).split(" ")[3:]
+    if told == ["1"] and lane is None:
+        yield f"lane: there is no file of its log, of which the machine's log tells ({_LANE_CALL})"
+    elif told == ["0"] and lane is not None:
+        yield f"lane: the machine's log tells that it has no log: where it has one, call {_LANE_CALL}"
 
 
 def _wrong(session: Session, field: str, value: object) -> str:
@@ -309,6 +321,7 @@ def recording_of(folders: Iterable[str]) -> Tuple[Session, List[str]]:
     read."""
     logs = _read(folders)
     session, said = _machine(logs.get("machine"))
+    said += _lane(logs["machine"], logs.get("lane"))
     session.has_lane = "lane" in logs
     for name in LOGS:
         said += _records(session, logs.get(name, _Log(name)))

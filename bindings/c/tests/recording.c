@@ -55,7 +55,9 @@ static const struct {
     call_1 *one;
     call_2 *two;
 } calls[] = {
-    {"machine", NULL, NULL, postcopy_record_machine},     {"release", NULL, NULL, postcopy_record_release},
+    {"machine", NULL, NULL, postcopy_record_machine},
+    {"machine_with_lane", NULL, NULL, postcopy_record_machine_with_lane},
+    {"release", NULL, NULL, postcopy_record_release},
     {"miss", NULL, NULL, postcopy_record_miss},           {"halt", postcopy_record_halt, NULL, NULL},
     {"resume", NULL, postcopy_record_resume, NULL},       {"see", NULL, postcopy_record_see, NULL},
     {"halted", NULL, postcopy_record_halted, NULL},       {"state", postcopy_record_state, NULL, NULL},

@@ -75,7 +75,7 @@ def _name_recording(folder: Folder, given: Optional[str] = None) -> str:
 
 
 class Log:
-    """The log of a party: "guest", "source", "link", "lane" or "pager", or "machine" for the first two calls.
+    """The log of a party: "guest", "source", "link", "lane" or "pager", or "machine" for the first three calls.
 
     The folder is made if it does not exist. If it is None, nothing is recorded, and all calls return LOST. `first` is the number of
     the first record: 0, or if another process handed the log over (the guest's, after the halt) what hand_over returned there. If
@@ -253,8 +253,12 @@ class Log:
     # The machine.
 
     def machine(self, pages: int, cells: int) -> int:
-        """The number of pages, and of 64-bit cells in each."""
-        return self._append("machine", "pages", pages, cells)
+        """The number of pages, and of 64-bit cells in each, if the lane has no log."""
+        return self._append("machine", "pages", pages, cells, 0)
+
+    def machine_with_lane(self, pages: int, cells: int) -> int:
+        """Replaces `machine` if the lane has a log, so that nobody can lose that log unseen."""
+        return self._append("machine", "pages", pages, cells, 1)
 
     def initial(self, page: int, contents: Iterable[int]) -> int:
         """The initial contents of a page that does not begin as zeros."""

@@ -1,5 +1,5 @@
 -- The files of recorders, log by log, and what they lack.
-use Rattle.std.specs.Prelude.{◌≡◌, ℕ, List, [], Option, map, flat_map, string_bytes, sum_by}
+use Rattle.std.specs.Prelude.{◌≡◌, ◌≢◌, ℕ, Bool, true, false, List, [], Option, Some, None, map, flat_map, string_bytes, sum_by}
 use Rattle.std.specs.List.{AllZip}
 use Rattle.migration_types.specs.declared.records.LogName.{LogName}
 use Rattle.migration_types.specs.declared.records.LogName.TheVariants.{Guest, Source, Link, Lane, Pager}
@@ -66,3 +66,10 @@ pub record LacksNothing (log : FoundLog) (count : ℕ) : Type 0 where
 -- nothing of a log is lost: its files lack nothing, and have each record that they tell of
 abbrev pub HasAll : FoundLog → Type 0
 HasAll log = LacksNothing log (records_in log)
+
+-- The lane's log has a file exactly if the machine's log tells that there is one, where it tells that. (Another log whose files are all
+-- lost has no record, which is told.)
+abbrev pub IsLaneAsTold : Option Bool → FoundLog → Type 0
+IsLaneAsTold None lane = Unit {0}
+IsLaneAsTold (Some true) lane = lane.names.items ≢ []
+IsLaneAsTold (Some false) lane = lane.names.items ≡ []

@@ -14,4 +14,4 @@ pub use found::{FoundFiles, FoundLog, FoundLogs, find_files};
 pub use lacks::find_hole;
 pub use machines::describe;
 pub use surveys::find_logs;
-pub use telling::{check_logs, tell_logs, tell_machine};
+pub use telling::{check_logs, tell_lane, tell_logs, tell_machine};

@@ -1,18 +1,21 @@
 //! What the logs lack by their files, told before anything is written.
 
-ghost use Rattle.std.specs.Prelude.{◌≡◌, None, OnOk};
+ghost use Rattle.std.specs.Prelude.{◌≡◌, ◌≢◌, [], None, OnOk};
 ghost use Rattle.migration_types.specs.declared.records.LogName.{LogName as Log};
 ghost use Rattle.session_words.specs.Telling.{SaysUnless};
-ghost use Rattle.found_logs.specs.Logs.{log_in, HasAll};
+ghost use Rattle.found_logs.specs.Logs.{log_in, HasAll, IsLaneAsTold};
 
 use crate::found::{FoundLog, FoundLogs};
 use crate::lacks::{Hole, count_of, find_hole, tell_lacks, tell_missing};
 use machine_logs::Description;
 use migration_types::LogName;
 use recorded_files::{Front, Party};
-use session_words::Stop;
-use std::alloc::Global;
+use session_words::{Piece, Stop, line_on, push_message, push_sentence};
+use std::alloc::{AllocError, Global};
 use text_access::TextSource;
+
+/// The calls that tell that the lane has a log.
+const LANE_CALL: &str = "postcopy_record_machine_with_lane, or Log.machine_with_lane";
 
 /// The parties in the order of the names of their files.
 static PARTIES: [Party; 6] = [
@@ -87,6 +90,38 @@ pub fn tell_machine<S: TextSource>(
     let known = hole_in(machine);
     tell_log(said, alloc, texts, Party::Machine, log, known)?;
     Ok(())
+}
+
+/// Adds that the lane's log has no file, or that the machine's log does not tell of it.
+fn push_lane(said: &mut Vec<u8>, alloc: Global, form: &str) -> Result<(), AllocError>
+    ensures { OnOk result (said.new.items ≢ []) }
+{
+    let mut line = line_on(alloc, Party::Of(LogName::Lane), 0)?;
+    push_sentence(&mut line, alloc, form, &[Piece::Text(LANE_CALL)])?;
+    push_message(said, line.as_slice())
+}
+
+/// Adds what is said where the lane's log has files and the machine's log tells that there is none, or the other way round.
+pub fn tell_lane(
+    said: &mut Vec<u8>,
+    alloc: Global,
+    has_lane: Option<bool>,
+    lane: &FoundLog,
+) -> Result<(), AllocError>
+    ensures { OnOk result (SaysUnless said.old.items said.new.items (IsLaneAsTold has_lane lane.now)) }
+{
+    let Some(has_lane) = has_lane else {
+        return Ok(());
+    };
+    if has_lane == !lane.is_empty() {
+        return Ok(());
+    }
+    let form = if has_lane {
+        "there is no file of its log, of which the machine's log tells ({})"
+    } else {
+        "the machine's log tells that it has no log: where it has one, call {}"
+    };
+    push_lane(said, alloc, form)
 }
 
 /// Adds what is said of each log. Returns how many records of each come before the first number that no record has.

@@ -1,7 +1,7 @@
 pub mod Contents
 pub mod Entries
 pub mod Rising
-pub mod Sizes
+pub mod Outlines
 pub mod Ties
 pub mod Toldpages
 pub mod Yielding

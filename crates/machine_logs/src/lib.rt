@@ -7,5 +7,5 @@ mod machine_lines;
 mod machine_log;
 
 pub use describing::{DescribeFault, Description};
-pub use machine_lines::MachineRec;
+pub use machine_lines::{MachineRec, Outline};
 pub use machine_log::{MachineEntry, MachineLog, MachineLogFault};

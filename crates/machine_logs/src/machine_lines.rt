@@ -1,38 +1,83 @@
 //! The records of the machine's log.
 
-ghost use Rattle.std.specs.Prelude.{◌≡◌, ◌≢◌, ◌≤◌, ◌++◌, ◌∷◌, ℕ, IfSome, IfNone, IfOk, IfErr};
+ghost use Rattle.std.specs.Prelude.{◌≡◌, ◌≢◌, ◌≤◌, ◌++◌, ◌∷◌, ℕ, Bool, Option, IfSome, IfNone, IfOk, IfErr};
 ghost use Rattle.std.specs.Fmt.{decimal};
 ghost use Rattle.migration_types.specs.Limits.{most_cells};
 ghost use Rattle.session_grammar.specs.Records.{page_text};
-ghost use Rattle.recordings.specs.Recordings.{IsCount};
 ghost use Rattle.recordings.specs.declared.wide.WideInit.{WideInit as Wide};
-ghost use Rattle.machine_logs.specs.Machine.{machine_line, IsMachineRec, IsToldPage};
+ghost use Rattle.machine_logs.specs.Machine.{cells_text, lane_digit, machine_line, outline_text, IsMachineRec, IsOutline, IsToldPage};
 ghost use Rattle.machine_logs.specs.declared.machine_lines.MachineRec.{MachineRec as Rec};
+ghost use Rattle.machine_logs.specs.declared.machine_lines.Outline.{Outline as Outlined};
 
 use migration_types::MOST_CELLS;
 use recordings::{BEYOND, WideInit};
 use session_grammar::{PAGES_KEY, read_page_contents};
 use std::alloc::Global;
-use text_lines::{FaultKind, after_key, number_then, read_some};
+use text_lines::{FaultKind, after_key, is_line, number_then, read_some};
 
 const PAGE_KEY: &[u8] = b"page ";
 
 /// The digits of a cell.
 const CELL: usize = 16;
 
+/// What is told of a machine as a whole.
+#[derive(Clone, Copy, Debug, PartialEq, Eq)]
+pub struct Outline {
+    /// How many pages it has.
+    pub pages: u64,
+    /// How many cells a page has.
+    pub cells: u32,
+    /// Whether the recording has a log of the lane. Recorders of before do not tell that.
+    pub has_lane: Option<bool>,
+}
+
 /// A record of the machine's log.
 #[derive(Drop)]
 pub enum MachineRec {
-    /// How many pages the machine has, and how many cells a page has.
-    Pages { pages: u64, cells: u32 },
+    /// What is told of the whole.
+    Pages(Outline),
     /// What a page holds at first, which may be zeros.
     Page(WideInit),
 }
 
-/// Returns how many pages there are, and how many cells a page has, if a text is these two.
-fn read_sizes(text: &[u8]) -> Option<(u64, u32)>
-    ensures found { IfSome result (λ a. (1 ≤ a.0) × IsCount a.0 × (1 ≤ a.1) × (a.1 ≤ most_cells) × (text.now ≡ decimal a.0 ++ 32 ∷ decimal a.1)) }
-    ensures none { IfNone result ((p c : ℕ) → 1 ≤ p → IsCount p → 1 ≤ c → c ≤ most_cells → text.now ≢ decimal p ++ 32 ∷ decimal c) }
+/// Returns whether there is a log of the lane, if a text is the digit that tells that.
+fn read_lane(text: &[u8]) -> Option<bool>
+    ensures found { IfSome result (λ has. text.now ≡ lane_digit has) }
+    ensures none { IfNone result ((has : Bool) → text.now ≢ lane_digit has) }
+{
+    if is_line(text, b"1") {
+        return Some(true);
+    }
+    if is_line(text, b"0") {
+        return Some(false);
+    }
+    None
+}
+
+/// Returns how many cells a page has, and whether there is a log of the lane, if a text tells these.
+fn read_cells(text: &[u8]) -> Option<(u32, Option<bool>)>
+    ensures found { IfSome result (λ a. (1 ≤ a.0) × (a.0 ≤ most_cells) × (text.now ≡ cells_text a.0 a.1)) }
+    ensures none { IfNone result ((c : ℕ) (lane : Option Bool) → 1 ≤ c → c ≤ most_cells → text.now ≢ cells_text c lane) }
+{
+    if let Ok(cells) = read_some(text, b"", MOST_CELLS) {
+        return Some((cells, None));
+    }
+    let Some((cells, text)) = number_then(text, u64::from(MOST_CELLS)) else {
+        return None;
+    };
+    if cells == 0 {
+        return None;
+    }
+    match read_lane(text) {
+        Some(has_lane) => Some((cells as u32, Some(has_lane))),
+        None => None,
+    }
+}
+
+/// Returns what is told of the whole, if a text tells it.
+fn read_outline(text: &[u8]) -> Option<Outline>
+    ensures found { IfSome result (λ o. IsOutline o × (text.now ≡ outline_text o)) }
+    ensures none { IfNone result ((o : Outlined) → IsOutline o → text.now ≢ outline_text o) }
 {
     let Some((pages, rest)) = number_then(text, BEYOND - 1) else {
         return None;
@@ -40,9 +85,13 @@ fn read_sizes(text: &[u8]) -> Option<(u64, u32)>
     if pages == 0 {
         return None;
     }
-    match read_some(rest, b"", MOST_CELLS) {
-        Ok(cells) => Some((pages, cells)),
-        Err(_) => None,
+    match read_cells(rest) {
+        Some((cells, has_lane)) => Some(Outline {
+            pages,
+            cells,
+            has_lane,
+        }),
+        None => None,
     }
 }
 
@@ -73,8 +122,8 @@ impl MachineRec {
         ensures refused { IfErr result (λ kind. kind ≢ FaultKind.Memory → (r : Rec) → IsMachineRec r → line.now ≢ machine_line r) }
     {
         if let Some(text) = after_key(line, PAGES_KEY) {
-            return match read_sizes(text) {
-                Some((pages, cells)) => Ok(MachineRec::Pages { pages, cells }),
+            return match read_outline(text) {
+                Some(outline) => Ok(MachineRec::Pages(outline)),
                 None => Err(FaultKind::Form),
             };
         }

@@ -17,7 +17,7 @@ use Rattle.recorded_files.specs.declared.lines.Party.{Party}
 use Rattle.machine_logs.specs.declared.describing.Description.{Description}
 use Rattle.walked_logs.specs.Walks.{Bytes, HasNoHole, IsRecordingOf}
 use Rattle.written_recordings.specs.Written.{text_of}
-use Rattle.found_logs.specs.Logs.{known_in, log_in, log_of, Describe, HasAll}
+use Rattle.found_logs.specs.Logs.{known_in, log_in, log_of, Describe, HasAll, IsLaneAsTold}
 use Rattle.found_logs.specs.declared.found.FoundLog.{FoundLog}
 use Rattle.found_logs.specs.declared.found.FoundLogs.{FoundLogs}
 use Rattle.session_facts.specs.Written.{is_pull, IsLateRelease, IsWrittenFront, NeedsLarge}
@@ -84,11 +84,12 @@ pub record LeavesNothing {machine : WideMachine} {initial : List WideInit} {byte
 
 -- ---- what is lost
 
--- Nothing of what the recorders wrote is lost: no log of a party lacks anything, no number is missing in the machine's, and nothing
--- of what the files make is left out.
+-- Nothing of what the recorders wrote is lost: no log of a party lacks anything, no number is missing in the machine's, the lane has a
+-- log exactly if the machine's tells that, and nothing of what the files make is left out.
 pub record LosesNothing {files : List ℕ → Option (List ℕ)} {logs : FoundLogs} {machine : WideMachine} {initial : List WideInit} {front : Front} (chosen : IsChosen files logs machine initial front) : Type 0 where
   pub has_all : (party : Party) → HasAll (log_of logs party)
   pub no_hole : chosen.described.d.behind ≡ None
+  pub lane : IsLaneAsTold chosen.described.d.has_lane logs.lane
   pub leaves : LeavesNothing chosen.made front
 
 -- ---- the text

@@ -21,7 +21,7 @@ use crate::recording::FileRecording;
 use crate::walk_stops::{check_facts, walk_stop, write_stop};
 use command_texts::{ACCEPTED, REFUSED};
 use command_words::Lacking;
-use found_logs::{FoundLogs, check_logs, describe, tell_logs, tell_machine};
+use found_logs::{FoundLogs, check_logs, describe, tell_lane, tell_logs, tell_machine};
 use migration_types::{LogName, Size, Version};
 use recorded_files::Front;
 use recordings::{Visitor, WideInit, WideMachine};
@@ -310,6 +310,7 @@ pub(crate) fn know<S: TextSource, V: Visitor>(
     let description = describe(alloc, texts, &logs.machine)?;
     let mut said = Vec::new(alloc);
     tell_machine(&mut said, alloc, texts, &logs.machine, &description)?;
+    tell_lane(&mut said, alloc, description.has_lane, &logs.lane)?;
     let expected = tell_logs(&mut said, alloc, texts, logs)?;
     let machine = WideMachine {
         version: Version::Two,

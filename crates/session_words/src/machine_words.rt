@@ -8,7 +8,7 @@ use recorded_files::Party;
 use session_grammar::PAGES_KEY;
 use std::alloc::{AllocError, Global};
 use text_access::TextSource;
-use text_lines::{after_key, number_then, read_decimal};
+use text_lines::{after_key, is_line, number_then, read_decimal};
 
 /// Appends that the machine has no page of this number, and how many pages it has.
 pub fn push_no_page(
@@ -40,10 +40,19 @@ pub fn push_other_cells(
     )
 }
 
+/// Returns the number of cells in what follows the number of pages. It may be followed by whether the lane has a log.
+fn cells_told(text: &[u8]) -> Option<u64> {
+    match number_then(text, u64::MAX) {
+        Some((cells, lane)) if is_line(lane, b"0") || is_line(lane, b"1") => Some(cells),
+        Some(_) => None,
+        None => read_decimal(text),
+    }
+}
+
 /// Returns how many cells a record tells, if it tells of pages with more of them than a page may have.
 fn many_cells(text: &[u8]) -> Option<u64> {
     let (pages, rest) = number_then(after_key(text, PAGES_KEY)?, u64::MAX)?;
-    let cells = read_decimal(rest)?;
+    let cells = cells_told(rest)?;
     if pages > 0 && cells > u64::from(MOST_CELLS) && cells < 1000 {
         Some(cells)
     } else {
@@ -63,7 +72,7 @@ fn push_no_record(out: &mut Vec<u8>, alloc: Global, text: &[u8]) -> Result<(), A
         None => push_sentence(
             out,
             alloc,
-            "found {}; expected 'pages PAGES CELLS' or 'page PAGE CONTENTS'",
+            "found {}; expected 'pages PAGES CELLS LANE' or 'page PAGE CONTENTS'",
             &[Piece::Quoted(text)],
         ),
     }

@@ -325,6 +325,18 @@ log machine 0 0
 2 pages 9 1
 ";
 
+static NO_LANE: &[u8] = b"postcopy-records 1
+recording a
+log machine 0 0
+2 pages 9 1 0
+";
+
+static LANE: &[u8] = b"postcopy-records 1
+recording a
+log machine 0 0
+2 pages 9 1 1
+";
+
 /// Takes a file of the machine's log.
 fn take(alloc: Global, log: &mut MachineLog, bytes: &'static [u8]) -> Result<(), MachineLogFault> {
     match FileReader::open(alloc, Party::Machine, bytes) {
@@ -382,6 +394,19 @@ fn describes_a_machine_whose_pages_rise(rt: HostRuntime) {
     assert!(rt;
         found.init[1].page == 3 && found.init[1].cells.as_slice() == [0u64, 0xab].as_slice()
     );
+}
+
+/// Recorders of before did not tell whether the lane has a log.
+#[test]
+fn describes_a_machine_and_its_lane(rt: HostRuntime) {
+    let alloc = rt.alloc();
+    for (bytes, has_lane) in [(NO_LANE, Some(false)), (LANE, Some(true)), (PAGES, None)] {
+        let Some(found) = described(alloc, bytes, b"") else {
+            assert!(rt; false);
+            return;
+        };
+        assert!(rt; found.pages == 9 && found.cells == 1 && found.has_lane == has_lane);
+    }
 }
 
 #[test]

@@ -20,8 +20,9 @@ returns g c =
         whole = λ none.
             let seen = h.whole none in
             let others = c.in_ok-expected.ensures seen.0 in
-            let machine = c.in_ok-tell_machine.ensures others.0 in
-            record { has_all = each_party c.args.logs.now machine.1.0 others.1; no_hole = machine.1.1; leaves = seen.1 };
+            let lane = c.in_ok-tell_lane.ensures others.0 in
+            let machine = c.in_ok-tell_machine.ensures lane.0 in
+            record { has_all = each_party c.args.logs.now machine.1.0 others.1; no_hole = machine.1.1; lane = lane.1; leaves = seen.1 };
       },
       h.met,
     )
