@@ -23,7 +23,7 @@ RECEIPTS = {"link": (("source", "ask"), ("pager", "got")), "lane": (("pager", "p
 TAILS = (b"", b"", b"", b"\0" * 100, b"7 rea", b"7 r 0 0 0 1\0\0", b"\0\0w 1 2 3 4\n\0", b"end 5", b"\0end 5\n")
 
 # What stands beside the files of recorders and is none.
-OTHERS = ("recording-name", "recording-name.5", "guest.1", "guest.1.x", "Guest.1.0", "guest.1.0.old", "guest..0", "guest.1.0~", "guests.1.0", ".guest.1.0", "pager.1.-1",
+OTHERS = ("recording-name.5", "guest.1", "guest.1.x", "Guest.1.0", "guest.1.0.old", "guest..0", "guest.1.0~", "guests.1.0", ".guest.1.0", "pager.1.-1",
           "guest.\u0663.0", "notes", "link.1.0 ", "lane.1.0x", "machine.1.0.zip", "guest.1.0\udcff", "pager.1.0\n", "guest.1.gz", "lane.1.0.gz.1", "link.1.x.xz",
           ".gz", "source.1.0..gz", "pager.1.0gz", "lane.1.0.gz.xz")
 
@@ -248,6 +248,8 @@ def recording_of_text(rng, text):
     for number in range(made.folders):
         if rng.random() < 0.15:
             made.others[number] = {other: b"postcopy-records 7\n" for other in rng.sample(OTHERS, 3)}
+        if rng.random() < 0.5:
+            made.others.setdefault(number, {})["recording-name"] = b"made\n"
     if rng.random() < 0.2:
         made.words = [rng.choice(("%s", "./%s", "%s/", "%s/.", ".//%s//")) for _ in range(made.folders)]
     return made
@@ -831,6 +833,14 @@ def other_machine(made):
         texts_[at] = f"pages {made.rng.choice((1, 2, pages + 1))} {made.rng.choice((cells, cells, cells + 1))}"
 
     return told_otherwise(made, change)
+
+
+@damage
+def other_name_of_a_folder(made):
+    """A folder has the name of another recording, or of none."""
+    folder = made.others.setdefault(made.rng.randrange(made.folders), {})
+    folder["recording-name"] = made.rng.choice((b"other\n", b"mad\n", b"made \n", b"\nmade\n", b"", b"made\0\n", b"x" * 20000))
+    return True
 
 
 @damage

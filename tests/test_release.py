@@ -26,7 +26,7 @@ from needed import can_have
 TOP = os.path.dirname(os.path.dirname(os.path.realpath(__file__)))
 SCRIPTS = {"postcopy-session": "recorders/session", "postcopy-annotate": "share/bin/postcopy-annotate", "postcopy-report": "share/bin/postcopy-report"}
 NOBODY = 65534  # a user without rights
-MODULES = ("__init__", "_outputs", "recorder", "records", "sessions", "testing")
+MODULES = ("__init__", "recorder", "records", "sessions", "testing")
 
 # What stands under a prefix, where the version is 1.2.3.
 INSTALLED = f"""

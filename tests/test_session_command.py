@@ -150,7 +150,7 @@ def test_outputs(program, room):
     ):
         ran = beside.by_command(*words)
         same(what, (ran.returncode, ran.stdout, ran.stderr), (3, "", f"file {words[0]}\n{words[0]}: {why}\n"))
-    beside.put(f"{folder}/recording-name", "told\n")
+    beside.put(f"{folder}/recording-name", "made\n")
     for file, text in (("there", "postcopy-session 2\n"), ("by/0-0", "postcopy-session 1\n"), ("cert", "postcopy-certificate 3\n"), ("lane.1.0", "")):
         os.makedirs(f"{room}/by", exist_ok=True)
         beside.put(f"{room}/{file}", text)
@@ -171,6 +171,30 @@ def test_outputs(program, room):
         same(f"a temporary folder without room {words}", (ran.returncode, ran.stdout, ran.stderr), (2, "", f"session: {tempfile.gettempdir()}: the file would be too large\n"))
     same("no folder", beside.by_command().returncode, 2)
     same("a word that is no option", beside.by_command(lacking, "--whole").returncode, 2)
+
+
+@pytest.mark.quick
+@pytest.mark.cases(17)
+def test_names_of_folders(program, room):
+    """A folder with the name of another recording than its files have is told as files of two recordings are, and not what stands there."""
+    beside = Beside(room, program, has_script=False)
+    folder, secret = beside.recording(), f"{room}/secret"
+    name, why = f"{folder}/recording-name", "it is read several times and has to be the same each time, as a pipe is not"
+    for text in ("made\n", "made", "other\n", "mad\n", "\n", ""):
+        beside.put(name, text)
+        for words in ((), ("--cut",)):
+            same(f"a folder with the name {text!r} {words}", beside.session(folder, *words).returncode == 0, text.strip() == "made")
+    ran = subprocess.run([program, "audit", folder], capture_output=True, encoding="utf-8", timeout=60, check=False)
+    same("its audit", (ran.returncode, ran.stdout, f"session: {name} names another recording, and " in ran.stderr), (3, "", True))
+    beside.put(secret, "a secret\n")
+    os.remove(name)
+    os.symlink(secret, name)
+    ran = beside.session(folder)
+    same("a link to a secret", (ran.returncode, "secret" in ran.stderr), (2, False))
+    os.remove(name)
+    os.mkfifo(name)
+    ran = beside.by_command(folder)
+    same("a pipe", (ran.returncode, ran.stdout, ran.stderr), (3, "", f"file {name}\n{name}: {why}\n"))
 
 
 @pytest.mark.cases(4)

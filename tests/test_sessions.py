@@ -41,6 +41,7 @@ WHY = "(" + "|".join((
     rf"{PLACE}, .*, names record \d+ of the \w+'s log, which is (not there|left out too)", "records? .* missing")) + ")"
 SENTENCES = {
     "two recordings": rf"{PATHS} is of the recording \S+, and {PATHS} of the recording \S+: these are two recordings, .*",
+    "another name": rf"\S+/recording-name names another recording, and {PATHS} is of the recording \S+: these are two recordings, .*",
     "two ends": rf"{PATHS}:\d+: a second end of the \w+'s log from record \d+ on, beside {PATHS}:\d+: two recordings are in one folder, .*",
     "an end below a record": rf"{PATHS}:\d+: found '(end|next) \d+', where the \w+'s log has a record \d+",
     "two beginnings": rf"{PATHS}:3: found 'log .*', where {PATHS} begins with record \d+",

@@ -72,6 +72,14 @@ class _Name:
                         "which has its own session (a folder at a second machine is given the name: postcopy_recording_join, or join)")
         self.name, self.path = name, path
 
+    def check(self, path: str) -> None:
+        """Compares the name of a folder, which this file has."""
+        with open(path, "rb") as file:
+            name = file.readline().rstrip(b"\n")
+        if self.name and name != self.name.encode():
+            raise Unfit(f"{path} names another recording, and {self.path} is of the recording {self.name}: these are two recordings, each of "
+                        "which has its own session (a folder at a second machine is given the name: postcopy_recording_join, or join)")
+
 
 class _Part:
     """The part of a log that a process wrote after it opened the log."""
@@ -223,6 +231,9 @@ def _read(folders: Iterable[str]) -> Dict[str, _Log]:
             match = _FILE.fullmatch(name)
             if match:
                 logs.setdefault(match[1], _Log(match[1])).read(os.path.join(folder, name), match[2], recording)
+    for folder, names in listed.items():
+        if "recording-name" in names:
+            recording.check(os.path.join(folder, "recording-name"))
     if not logs:
         raise Unfit(f"{', '.join(listed)}: there is no file of a recorder, PARTY.PROCESS.N")
     return logs

@@ -9,11 +9,12 @@ ghost use Rattle.found_logs.specs.Found.{AreFound, IsFoundIn};
 ghost use Rattle.found_logs.specs.inner.Finding.{GetsFile, IsReadAs, TakesFile, Under};
 
 use crate::faults::{Surveying, file_stop};
-use crate::found::{FoundFile, FoundFiles, FoundLog, FoundLogs, none};
+use crate::found::{FoundFile, FoundFiles, FoundLog, FoundLogs, joined, none};
 use migration_types::LogName;
 use recorded_files::{FileReader, Party};
-use session_words::{Piece, Stop, add, open_text, sentence};
+use session_words::{Piece, Stop, add, line_of, open_text, sentence};
 use std::alloc::{AllocError, Global};
+use std::io::ErrorKind;
 use surveyed_logs::{Onlooker, Surveyed, survey};
 use text_access::TextSource;
 
@@ -23,6 +24,9 @@ struct Recording {
     name: Vec<u8>,
     path: String,
 }
+
+/// The file of a folder that names its recording.
+const NAME_FILE: &str = "recording-name";
 
 /// Returns the words on a file of another recording.
 fn other_words(
@@ -66,6 +70,69 @@ fn take_name(
         name: copy,
         path: String::from_str(alloc, path)?,
     });
+    Ok(())
+}
+
+/// Returns the words on a file that names another recording.
+fn other_name_words(
+    alloc: Global,
+    recording: &Recording,
+    path: &str,
+) -> Result<Vec<u8>, AllocError> {
+    sentence(
+        alloc,
+        "{} names another recording, and {} is of the recording {}: these are two recordings, each of which has its own \
+         session (a folder at a second machine is given the name: postcopy_recording_join, or join)",
+        &[
+            Piece::Text(path),
+            Piece::Text(recording.path.as_str()),
+            Piece::Bytes(recording.name.as_slice()),
+        ],
+    )
+}
+
+/// Returns whether there is no file under a name.
+fn is_gone<S: TextSource>(texts: &S, path: &str) -> bool {
+    if !texts.stays(path) {
+        return false;
+    }
+    match texts.text(path) {
+        Ok(_) => false,
+        Err(error) => error.kind() == ErrorKind::NotFound,
+    }
+}
+
+/// Checks that a folder does not name another recording than its files do. It may name none.
+fn check_name<S: TextSource>(
+    alloc: Global,
+    texts: &S,
+    folder: &str,
+    recording: &Recording,
+) -> Result<(), Stop> {
+    let path = joined(alloc, folder, NAME_FILE)?;
+    if is_gone(texts, path.as_str()) {
+        return Ok(());
+    }
+    let name = line_of(alloc, texts, path.as_str(), 1)?;
+    if name.as_slice() == recording.name.as_slice() {
+        return Ok(());
+    }
+    Err(Stop::Unfit(other_name_words(alloc, recording, path.as_str())?))
+}
+
+/// Checks that no folder names another recording than the files do, if a file has a name.
+fn check_names<S: TextSource>(
+    alloc: Global,
+    texts: &S,
+    folders: &[&str],
+    recording: &Option<Recording>,
+) -> Result<(), Stop> {
+    let Some(recording) = recording else {
+        return Ok(());
+    };
+    for place in 0..folders.len() {
+        check_name(alloc, texts, folders[place], recording)?;
+    }
     Ok(())
 }
 
@@ -207,10 +274,11 @@ fn survey_file<S: TextSource, O: Onlooker>(
     Ok(())
 }
 
-/// Reads each file to its end. Returns the files of each log, with what each says but for its records.
+/// Reads each file of the folders that were named to its end. Returns the files of each log, with what each says but for its records.
 fn survey_files<S: TextSource, O: Onlooker>(
     alloc: Global,
     texts: &S,
+    named: &[&str],
     files: &[FoundFile],
     onlooker: &mut O,
 ) -> Result<FoundLogs, Stop>
@@ -221,6 +289,7 @@ fn survey_files<S: TextSource, O: Onlooker>(
     for file in files {
         survey_file(alloc, texts, file, &mut logs, &mut recording, onlooker)?;
     }
+    check_names(alloc, texts, named, &recording)?;
     Ok(logs)
 }
 
@@ -229,7 +298,8 @@ fn survey_files<S: TextSource, O: Onlooker>(
 ///
 /// # Errors
 ///
-/// There is no file, a file was not read or is none of a recorder's, the files are of two recordings, or memory runs out.
+/// There is no file, a file was not read or is none of a recorder's, the files are of two recordings, a folder has the name of another
+/// one, or memory runs out.
 pub fn find_logs<S: TextSource, O: Onlooker>(
     alloc: Global,
     texts: &S,
@@ -242,5 +312,5 @@ pub fn find_logs<S: TextSource, O: Onlooker>(
     if found.files.is_empty() {
         return Err(none(alloc, folders)?);
     }
-    survey_files(alloc, texts, found.files.as_slice(), onlooker)
+    survey_files(alloc, texts, folders, found.files.as_slice(), onlooker)
 }
