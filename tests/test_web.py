@@ -501,7 +501,7 @@ def test_refusals(page, room):
     web_reports.tests_of_refusals(room)
 
 
-@pytest.mark.cases(5)
+@pytest.mark.cases(6)
 def test_outputs(page, room):
     web_reports.tests_of_outputs(room)
 

@@ -144,6 +144,10 @@ def tests_of_outputs(room):
     told, status = put_out("/dev/stdout")
     same("a report to standard output", (told == wanted, status), (True, 0))
     same("the files beside the reports", sorted(os.listdir(room)), ["link", "pipe", "report.html", "target"])
+    with open(f"{room}/gone", "w+") as gone:
+        os.remove(gone.name)
+        ran = subprocess.run([SCRIPT, "--page", PAGE, session, "-o", f"/dev/fd/{gone.fileno()}"], cwd=room, pass_fds=[gone.fileno()], capture_output=True)
+    same("a report by a link that the system alone can follow", (ran.returncode, b"No such file" in ran.stderr, len(os.listdir(room))), (3, True, 4))
 
 
 def tests_of_words():

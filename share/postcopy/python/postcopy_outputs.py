@@ -38,7 +38,10 @@ def leads_to(name: str) -> str:
         folder = os.stat(os.path.dirname(path) or ".")
         if folder.st_mode & SHARED == SHARED and os.lstat(path).st_uid not in (folder.st_uid, os.geteuid()):
             raise PermissionError(errno.EACCES, os.strerror(errno.EACCES), name)
-        path = os.path.join(os.path.dirname(path), os.readlink(path))
+        target = os.path.join(os.path.dirname(path), os.readlink(path))
+        if os.path.exists(path) and not os.path.exists(target):  # an open file of a process, which has no name any more
+            raise FileNotFoundError(errno.ENOENT, os.strerror(errno.ENOENT), name)
+        path = target
     raise OSError(errno.ELOOP, os.strerror(errno.ELOOP), name)
 
 
