@@ -114,7 +114,7 @@ def tests_of_picture(browser, url):
     same("the picture's size by a button", round(browser.run(width) / first, 2), 1.25)
     browser.run("document.getElementById('fit').click(); document.getElementById('keys').click()")
     browser.press("+", "n")
-    same("keys that are switched off", (browser.run(width), browser.text("#topic")), (first, "fault 6 of 7: page 7"))
+    same("keys that are switched off", (browser.run(width), browser.text("#topic")), (first, "fault 1 of 7: page 7"))
     browser.run("document.getElementById('keys').click()")
 
 
@@ -138,17 +138,32 @@ def tests_of_faults(browser, room, program):
     browser.choose(session)
     wanted = [[page, line, reason] for page, line, reason in re.findall(r"^page (\d+) line (\d+) (\S+)$", words_of(program, "audit", "--all", session), re.M)]
     same("the faults, by line", browser.run(rows), sorted(wanted, key=lambda it: int(it[1])))
+    going = "delete document.body.dataset.done; document.getElementById(arguments[0]).click()"
+
+    def gone(button, times):
+        """The topics of the faults that a button leads to, one after another."""
+        found = []
+        for _ in range(times):
+            browser.run(going, button)
+            browser.settle()
+            found.append(browser.text("#topic"))
+        return found
+    topics = [f"fault {place} of 7: page {page}" for place, (page, _, _) in enumerate(sorted(wanted, key=lambda it: int(it[1])), 1)]
+    same("the faults, one after another", gone("next-fault", 8), [*topics[1:], *topics[:2]])
+    same("the faults, backwards", gone("previous-fault", 2), [topics[0], topics[6]])
     sort = "const head = [...document.querySelectorAll('#fault-heads th')][arguments[0]]; head.querySelector('button').click(); return head.ariaSort"
     same("how they are sorted", [browser.run(sort, 0), browser.run(rows)], ["ascending", wanted])
     same("how they are sorted then", [browser.run(sort, 0), browser.run(rows)], ["descending", wanted[::-1]])
+    same("the faults, one after another, as they are sorted then", [browser.text("#topic"), *gone("next-fault", 2)], ["fault 1 of 7: page 8", "fault 2 of 7: page 7", "fault 3 of 7: page 5"])
     same("the faults, by reason", [browser.run(sort, 2), browser.run(rows)], ["ascending", sorted(wanted, key=lambda it: (it[2], int(it[1])))])
     filtered = "const it = document.getElementById('filter'); it.value = arguments[0]; it.oninput(); return document.getElementById('fault-count').textContent"
     same("a filter", [browser.run(filtered, "altered"), browser.run(rows)], ["3 of 7 faults", [it for it in sorted(wanted, key=lambda it: int(it[1])) if it[2] == "altered"]])
+    same("the faults that the filter shows, one after another", gone("next-fault", 4), [f"fault {place} of 7: page {page}" for place, page in ((1, 1), (2, 3), (3, 8), (1, 1))])
     same("a filter with a number", [browser.run(filtered, "altered 3"), browser.run(rows)], ["1 of 7 faults", [it for it in wanted if it[0] == "3"]])
     browser.run(sort, 1)
     browser.run("delete document.body.dataset.done; document.querySelector('#fault-list button').click()")
     browser.settle()
-    same("the fault that is chosen", (browser.text("#topic"), browser.run("return document.querySelector('#fault-list [aria-current=true]')?.textContent")), ("fault 3 of 7: page 3", "2996"))
+    same("the fault that is chosen", (browser.text("#topic"), browser.run("return document.querySelector('#fault-list [aria-current=true]')?.textContent")), ("fault 6 of 7: page 3", "2996"))
     browser.choose(*example("wrong-shape"))
     same("the fault of a shape", browser.run(rows), [["–", "22", "second-send"]])
     browser.choose(*example("handover"))

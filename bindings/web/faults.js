@@ -45,6 +45,7 @@ function listFaults(faults) {
 function sortBy(by) {
   sorting = { by, isDown: sorting.by === by && !sorting.isDown };
   showFaults();
+  if (about) nameTopic();
 }
 
 function showFaults() {
@@ -70,6 +71,6 @@ function goToFaulty({ page, line }) {
 
 // Marks the fault that is told of.
 function showCurrentFault() {
-  const line = about?.faults[placeOf(about.page)]?.line ?? (about && about.page === undefined ? about.line : 0);
+  const line = (about && faultOf(about.page)?.line) ?? (about && about.page === undefined ? about.line : 0);
   for (const row of at("fault-list").children) row.querySelector("button").setAttribute("aria-current", +row.dataset.line === line);
 }

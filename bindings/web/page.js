@@ -347,7 +347,7 @@ async function tell(it, current) {
   if (!drawn || !current()) return;
   listFaults(faultsOf(answer.firstLine, faults));
   showTopics(it, answer.line, faults);
-  const fault = faults[placeOf()];
+  const fault = faultOf();
   await showMore(it, fault?.page, answer.line, fault?.reason, current);
 }
 

@@ -2,7 +2,7 @@
 // page.js, and stands before it.
 "use strict";
 
-// What the words and the picture are about: the report, or the page of a number. `place` tells from which fault one goes to the next.
+// What the words and the picture are about: the report, or the page of a number. `fault` is that from which one goes to the next.
 
 let about;
 
@@ -10,19 +10,20 @@ let about;
 const faultsIn = (bytes) =>
   [...new TextDecoder().decode(bytes).matchAll(/^page (\d+) line (\d+) (\S+)$/gm)].map(([, page, line, reason]) => ({ page: +page, line: +line, reason }));
 
-// Which of the faults is that of the page, or that which the report names; -1 where none is.
-const placeOf = (page) => about.faults.findIndex((it) => (page === undefined ? it.line === about.line : it.page === page));
+// Which of the faults is that of the page, or that which the report names, where one is.
+const faultOf = (page) => about.faults.find((it) => (page === undefined ? it.line === about.line : it.page === page));
 
+// (the faults are counted as the list has them)
 function nameTopic() {
-  const { faults, page } = about, place = placeOf(page), named = page === undefined ? "" : `page ${page}`;
-  at("topic").textContent = place >= 0 && faults.length > 1 ? `fault ${place + 1} of ${faults.length}: page ${faults[place].page}` : named;
+  const { faults, page } = about, fault = faultOf(page), named = page === undefined ? "" : `page ${page}`;
+  at("topic").textContent = fault && faults.length > 1 ? `fault ${sorted(faults).indexOf(fault) + 1} of ${faults.length}: page ${fault.page}` : named;
   at("page").value = page ?? "";
   showCurrentFault();
 }
 
 function showTopics(session, line, faults) {
   about = { session, line, faults };
-  about.place = placeOf();
+  about.fault = faultOf();
   for (const it of ["previous-fault", "next-fault"]) at(it).hidden = faults.length < 2;
   at("about").hidden = false;
   nameTopic();
@@ -30,16 +31,16 @@ function showTopics(session, line, faults) {
 
 // Tells of a page, or of the report, in words and as a picture.
 async function tellOf(page) {
-  const mine = ++judging, current = () => mine === judging, { session, faults, place } = about, found = placeOf(page);
-  about.place = found < 0 ? place : found;
+  const mine = ++judging, current = () => mine === judging, { session } = about, fault = faultOf(page);
+  about.fault = fault ?? about.fault;
   delete document.body.dataset.done;
   const asks = page === undefined ? ["explain", "draw"] : ["explain_page", "draw_page"];
   const { failure, texts } = await ask("answers", session.file, { asks, topic: page, say: sayingOf(session, "Finding out what happened", current) });
   if (failure && current()) at("topic").textContent = `It could not be told: ${failure.words}.`;
   const [told, drawn] = current() && !failure ? asks.map((it) => texts[it]) : [];
-  const line = faults[found]?.line ?? (page === undefined ? about.line : 0);
+  const line = fault?.line ?? (page === undefined ? about.line : 0);
   if (drawn) await showTold(page, told, drawn, line);
-  if (drawn) await showMore(session, page ?? faults[found]?.page, line, faults[found]?.reason, current);
+  if (drawn) await showMore(session, page ?? fault?.page, line, fault?.reason, current);
   await judgeOthers(current);
   finish(current);
 }
@@ -56,14 +57,15 @@ async function showTold(page, told, drawn, line) {
 
 // What was asked for last was stopped: the page goes on with what it shows.
 function stayAtTopic() {
-  const found = placeOf(about.page);
-  if (found >= 0) about.place = found;
+  about.fault = faultOf(about.page) ?? about.fault;
   nameTopic();
 }
 
-// Tells of the page with the next fault, or with the one before; the first comes after the last.
+// Tells of the page with the next fault, or with the one before, among those that the list shows and in its order; the first comes after
+// the last.
 function goToFault(step) {
-  const { faults, place } = about;
-  tellOf(faults[(place + step + faults.length) % faults.length].page);
+  const all = step < 0 ? sorted(about.faults).reverse() : sorted(about.faults), behind = all.indexOf(about.fault) + 1;
+  const [next] = filtered([...all.slice(behind), ...all.slice(0, behind)]);
+  if (next) tellOf(next.page);
 }
 
