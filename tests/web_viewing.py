@@ -18,6 +18,8 @@ return { page: [document.documentElement.scrollWidth, innerWidth, innerHeight], 
   heads: [...root.querySelectorAll('.head')].map((it) => ({ ...place(it), name: it.textContent })),
   columns: ['left', 'middle', 'right'].map((it) => place(document.getElementById(it))), paper: colour(document.body, 'backgroundColor') }"""
 
+# The fields whose placeholder is wider than they are.
+CUT = """return [...document.querySelectorAll('[placeholder]')].filter((it) => { it.value = it.placeholder; const isCut = it.scrollWidth > it.clientWidth; it.value = ''; return isCut }).map((it) => it.id)"""
 
 # The arrows, each by the lines of the boxes that its ends touch, and the rows whose arrow comes from no row.
 ARROWS = """const root = document.getElementById('picture').shadowRoot, svg = root.querySelector('.arrows'), { left, top, width, height } = svg.getBoundingClientRect(), count = svg.viewBox.baseVal.height;
@@ -66,6 +68,7 @@ def tests_of_places(browser, url, look):
                 same(f"the boxes that are cut {what}", (out, len(found["boxes"]) > 10), ([], True))
                 hidden = [it["name"] for it in found["heads"] if not is_within(it, found["frame"])]
                 same(f"the heads that are out of view {what}, at the {'end' if at_end else 'beginning'}", (hidden, len(found["heads"])), ([], 4))
+            same(f"the placeholders that are cut {what}", browser.run(CUT), [])
             pale = [it["line"] for it in found["boxes"] if contrast(it["ink"], it["paper"]) < 4.5]
             same(f"the boxes that are hard to read {what}", pale, [])
             left, middle, right = found["columns"]
