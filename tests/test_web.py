@@ -296,7 +296,7 @@ def tests_of_large(browser, room, program):
     large = write(f"{room}/large", text)
     wanted = words_of(program, "audit", large).split("\n")[0]
     same("the program on a large session", wanted, "clean")
-    browser.run("document.getElementById('files').value = ''; delete document.body.dataset.done; window.most = 0;"
+    browser.run("delete document.body.dataset.done; window.most = 0;"
                 "window.ticks = setInterval(() => { const now = performance.now(); window.most = Math.max(window.most, now - (window.last ?? now)); window.last = now }, 10)")
     browser.type("#files", large)
     browser.settle()
@@ -307,7 +307,7 @@ def tests_of_large(browser, room, program):
     browser.fill("#line", lines)
     browser.wait_for(lambda: browser.run("return document.querySelector('#lines li:last-child')?.textContent") == "end", "its last line is not shown")
     same("the number of its lines", browser.text("#extent").split(",")[0], f"of {lines}")
-    browser.run("judged([...document.getElementById('files').files].map((file) => ({ file }))); setTimeout(() => document.getElementById('stop').click(), 20)")
+    browser.run("judged(handed.map(({ file }) => ({ file }))); setTimeout(() => document.getElementById('stop').click(), 20)")
     browser.wait_for(lambda: browser.text("#verdict h2") == "Stopped.", "it is not stopped")
     is_shown(browser, "a session, after one that was stopped", example("stale-page"), "bad", "Not safe.")
 

@@ -39,8 +39,8 @@ class Browser:
         self.run("const it = document.querySelector(arguments[0]); it.value = arguments[1]; it.onchange()", selector, value)
 
     def choose(self, *files):
-        """Chooses files, and waits for what the page shows of them."""
-        self.run("document.getElementById('files').value = ''; delete document.body.dataset.done")
+        """Chooses files, which may be those that were chosen before, and waits for what the page shows of them."""
+        self.run("delete document.body.dataset.done")
         self.type("#files", "\n".join(files))
         self.settle()
 

@@ -367,7 +367,6 @@ const examples = JSON.parse(at("data").textContent);
 function judgeExample() {
   const it = examples.find(({ name }) => location.hash === `#${name}`);
   if (!it) return;
-  at("files").value = "";
   const certificate = it.certificate === undefined ? [] : [{ file: new File([it.certificate], "certificate") }];
   judged([{ file: new File([it.session], "session"), name: `session of the example ${it.name}` }, ...certificate]);
   at("verdict").scrollIntoView({ block: "nearest" });
@@ -415,11 +414,14 @@ function listen() {
     event.preventDefault();
     at("choose").classList.remove("over");
     const files = droppedFiles(event.dataTransfer);
-    if (!files.length) return;
-    at("files").value = "";
-    judgeFiles(files);
+    if (files.length) judgeFiles(files);
   });
-  at("files").onchange = () => at("files").files.length && judgeFiles([...at("files").files].map((file) => ({ file })));
+  at("files").onchange = () => {
+    const files = [...at("files").files].map((file) => ({ file }));
+    // (the same file, chosen again, is another choice)
+    at("files").value = "";
+    if (files.length) judgeFiles(files);
+  };
   at("stop").onclick = endWork;
   at("next-fault").onclick = () => goToFault(1);
   at("previous-fault").onclick = () => goToFault(-1);
