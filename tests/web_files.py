@@ -1,9 +1,13 @@
 """Tests of the files that are handed to the page: which of them is judged, and what is told of the others."""
+import gzip
 import os
 import re
+import subprocess
 
 from cases import count, same
 from web_checks import example, is_shown, read, rows_drawn, rows_shown, says, squeezed, words_of, write
+
+from postcopy.recorder import Log
 
 IS_LISTED = "return document.getElementById('sessions').hidden ? null : [...document.querySelectorAll('#list tr')].map((it) => [it.className, [...it.cells].map((cell) => cell.textContent).join(': ')])"
 WATCH = "addEventListener('unhandledrejection', () => { document.body.dataset.rejected = 'yes' })"
@@ -45,15 +49,57 @@ def tests_of_reading(browser, room):
     browser.wait_for(lambda: "left could not be read: " in browser.text("#extent"), "nothing is said of a text that is gone")
 
 
+def tests_of_choosing_again(browser, room):
+    """A file that is chosen again, or dropped, is read again."""
+    again = f"{room}/again"
+    for name, kind in (("handover", "good"), ("stale-page", "bad"), ("handover", "good")):
+        is_shown(browser, f"a file that has become {name}", [write(again, read(example(name)[0]))], kind, "again")
+    browser.drop(write(again, read(example("stale-page")[0])))
+    says(browser, "a file that was recorded anew, dropped", "bad", "again")
+
+
 def tests_of_folder(browser, room):
-    folder = f"{room}/a folder"
-    os.makedirs(folder, exist_ok=True)
-    write(f"{folder}/session", read(example("stale-page")[0]))
-    is_shown(browser, "a session, before a folder", example("handover"), "good", "Safe.")
+    """The files of a folder are taken, and of the folders in it; those of a recorder are told of as one."""
+    folder, recording = f"{room}/a folder", f"{room}/a 'recording'"
+    os.makedirs(f"{folder}/below/empty")
+    write(f"{folder}/session", read(example("handover")[0]))
+    write(f"{folder}/below/session", read(example("stale-page")[0]))
+    Log(recording, "guest").close()
+    write(f"{recording}/pager.7.0", b"")
+    browser.drop_folder(recording)
+    said = "a 'recording' has a recorder's files, which are no sessions: postcopy session 'a '\\''recording'\\''' -o session makes the session of them."
+    same("what is said of a recorder's folder", browser.run("return [...document.getElementById('verdict').children].map((it) => it.textContent)"), ["There is no session.", said])
+    browser.drop(*example("handover"), *(f"{recording}/{it}" for it in os.listdir(recording)))
+    says(browser, "a session, with a recorder's files", "good", "Safe.", "A recorder's files are no sessions: postcopy session FOLDER -o session makes the session of their folder.")
+    same("the list of a session with a recorder's files", listed(browser), None)
+    os.rename(recording, f"{folder}/recording")
     browser.drop_folder(folder)
-    says(browser, "a folder", "odd", "There is no session.", "a folder is a folder, and is not read")
-    browser.drop(*example("stale-page"))
-    says(browser, "a session, after a folder", "bad", "Not safe.")
+    says(browser, "a folder", "bad", "Not safe.", "a folder/below/session", "a folder/below/empty is a folder without files.", "a folder/recording has a recorder's files")
+    same("the sessions of a folder", sorted(said.partition(":")[0] for _, said in listed(browser)), ["a folder/below/session", "a folder/session"])
+
+
+def tests_of_refused(browser, room, program):
+    """What is said of a text that is no session is what the program says."""
+    for name, text in (("a.gz", gzip.compress(b"")), ("empty", b""), ("words", b"# Words\n"), ("zero", read(example("leading-zero")[0]))):
+        file = write(f"{room}/{name}", text)
+        said = subprocess.run([program, "audit", file], stdin=subprocess.DEVNULL, capture_output=True, text=True).stderr.splitlines()[0]
+        _, line, column, why = said.split(":", 3)
+        is_shown(browser, name, [file], "odd", "This is not a session.", f"Line {line}, column {column}:{why}.")
+
+
+# Names, and how they are shown: as they are, or with characters that are not seen or turn others as a string of JSON.
+QUOTED = {'plain é\\"': 'plain é\\"', '"quoted"': r'"\"quoted\""', "\x1b[31m\x9f": r'"\u001b[31m\u009f"', "safe\u202e\u2066": r'"safe\u202e\u2066"',
+          "\u2028\u2029é": r'"\u2028\u2029é"', "\\\u00ad\U000e0041": r'"\\\u00ad\udb40\udc41"'}
+
+
+def tests_of_quoted(browser, room):
+    """How names are shown: in the verdict, in the title, and in the list."""
+    files = [write(f"{room}/{it}", read(example("handover")[0])) for it in QUOTED]
+    for file, shown in zip(files, QUOTED.values()):
+        browser.drop(file)
+        same(f"how {shown} is shown", (browser.text("#verdict p"), browser.run("return document.title")), (shown, f"postcopy: {shown}"))
+    browser.drop(*files)
+    same("how names are listed", [said for _, said in listed(browser)], [f"{it}: Safe." for it in QUOTED.values()])
 
 
 def tests_of_sessions(browser, room, program):
@@ -77,7 +123,7 @@ def tests_of_sessions(browser, room, program):
     says(browser, "three sessions", "bad", "cannot all have happened", "third")
     same("the kinds of three sessions", [it for it, _ in listed(browser)], ["odd", "good", "bad"])
     choose_listed(browser, 0)
-    says(browser, "one of them that is none", "odd", "This is not a session.", "fourth", "line 7")
+    says(browser, "one of them that is none", "odd", "This is not a session.", "fourth", "Line 7")
 
 
 def tests_of_companions(browser, room, program):
@@ -138,7 +184,10 @@ def tests_of_address(browser, url):
 def run_all(browser, room, program, url):
     browser.run(WATCH)
     tests_of_reading(browser, room)
+    tests_of_choosing_again(browser, room)
     tests_of_folder(browser, room)
+    tests_of_refused(browser, room, program)
+    tests_of_quoted(browser, room)
     tests_of_sessions(browser, room, program)
     tests_of_companions(browser, room, program)
     tests_of_memory(browser, room)

@@ -251,9 +251,11 @@ async function judged(files) {
   handed = [];
   listSessions();
   show(worded("", "Reading .."));
-  const found = await Promise.all(files.map(handedOver));
+  const found = await opened(files);
   if (mine !== judging) return;
-  handed = found;
+  handed = withoutRecords(found);
+  const named = sessions().length === 1 ? sessions() : handed;
+  document.title = `postcopy: ${named.length === 1 ? named[0].name : `${named.length} files`}`;
   document.body.classList.toggle("shown", sessions().length > 0);
   listSessions();
   const dear = sessions().flatMap((it) => costWords(it) ?? []);
@@ -378,11 +380,32 @@ function judgeFiles(files) {
   judged(files);
 }
 
-// The files that are dropped, and which of them are folders.
+// The files that are dropped, and of a folder what tells the files in it. (Chromium reads no entry of a page that is a file, but handles.)
 const droppedFiles = ({ items }) => [...items].filter(({ kind }) => kind === "file").map((it) => {
-  const file = it.getAsFile(), entry = it.webkitGetAsEntry?.();
-  return { file, name: file?.name ?? entry?.name, isFolder: entry?.isDirectory };
+  const file = it.getAsFile(), entry = it.webkitGetAsEntry?.(), name = file?.name ?? entry?.name;
+  if (!entry?.isDirectory) return { file, name };
+  const handle = it.getAsFileSystemHandle?.().catch(() => undefined);
+  return { name, entries: async () => ((await handle) ? inHandle(await handle, name) : inEntry(entry, name)) };
 });
+
+// What is in a folder: each file by its way from there.
+async function inHandle(handle, within) {
+  const found = [];
+  for await (const [last, it] of handle.entries()) {
+    const name = `${within}/${last}`;
+    found.push(it.kind === "directory" ? { name, entries: () => inHandle(it, name) } : { name, within, take: () => it.getFile() });
+  }
+  return found;
+}
+
+async function inEntry(entry, within) {
+  const reader = entry.createReader(), found = [];
+  for (let more; (more = await new Promise((done, failed) => reader.readEntries(done, failed))).length; ) found.push(...more);
+  return found.map((it) => {
+    const name = `${within}/${it.name}`;
+    return it.isDirectory ? { name, entries: () => inEntry(it, name) } : { name, within, take: () => new Promise((done, failed) => it.file(done, failed)) };
+  });
+}
 
 // What is judged or told is stopped, and nothing more is asked.
 function endWork() {

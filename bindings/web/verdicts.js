@@ -64,6 +64,9 @@ const REASONS = {
   18: "a page is placed over the guest's release at the target",
 };
 
+// The kinds of reports, by the first words of their first lines.
+const KINDS_BY_WORD = { clean: "CLEAN", incomplete: "CLEAN", faulty: "FAULTY", knot: "KNOT", shape: "SHAPE", "session-text": "SESSION_TEXT" };
+
 const mib = (length) => (length < 1 << 20 ? `${Math.ceil(length / 1024)} KiB` : `${(length / (1 << 20)).toFixed(1)} MiB`);
 
 // A verdict in words: its colour, which says whether it is good, bad or neither, what it says first, and more sentences.
@@ -82,9 +85,19 @@ function verdictOn({ kind, line, reason, lack, isUsed, ...refusal }) {
   const why = REASONS[reason];
   if (kind === "CLEAN") return lack ? verdictOnLack(lack) : worded(colour, head, isUsed ? FOUND : UNUSED);
   if (kind === "SESSION_TEXT") {
-    return worded(colour, head, `No text of a session goes on as this file does at line ${line}, or it ends there too early.`, whyRefused(refusal));
+    return worded(colour, head, refusal.why ? `Line ${line}, column ${refusal.column}: ${refusal.why}.` : `Its text is refused at line ${line}.`);
   }
   return worded(colour, head, sentence, why ? `${why[0].toUpperCase()}${why.slice(1)}: line ${line}.` : line ? `The first of them: line ${line}.` : "");
+}
+
+// The verdict on a session that a report has not, by what was said first of it when the report was made. Nothing was, where it was not
+// judged.
+function verdictOnLeft(says) {
+  const [, word, line, reason] = says.match(/^(\S+)(?: line (\d+) ?(.*))?/) ?? [], kind = KINDS_BY_WORD[word];
+  if (!kind) return worded("odd", "Not judged.");
+  const { colour, head, sentences } = verdictOn({ kind, line, reason: NUMBERS[reason], lack: word === "incomplete" ? says : "" });
+  // (of a clean one it is not known whether its guest used a page)
+  return worded(colour, head, ...(says === "clean" ? [] : sentences));
 }
 
 function verdictOnFailure({ isMemory, words }, { file }) {
