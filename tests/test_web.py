@@ -6,8 +6,8 @@ What the page finds in the records is compared there with the text, the program'
 natively, by random calls under sanitizers, and its product, beside that of the machine. The build of the page has to stop at a module
 with anything that it does not know. postcopy-report has to put into the page what it is given, or to say what it leaves out. And in a
 headless Chromium the page is handed sessions of each verdict, one and several at a time, certificates, files that are none or cannot be
-read, and a large one, is looked at in windows of four sizes and in two looks, is read by the keyboard, is opened as a report, and may
-ask for nothing; in Firefox it is handed the same, but for the large one. What lacks a command that cannot be installed here is left out.
+read, and a large one, is looked at in windows of four sizes and in two looks, is read by the keyboard, is opened and saved as a report,
+and may ask for nothing; in Firefox it is handed the same, but for the large one. What lacks a command that cannot be installed here is left out.
 """
 import base64
 import glob
@@ -75,7 +75,7 @@ UNKNOWN = {
 
 # What a script may send by, or lead elsewhere, or have foreign words run.
 WAYS_OUT = (r"\b(?:fetch|XMLHttpRequest|WebSocket\w*|WebTransport|EventSource|RTC\w+|sendBeacon|importScripts|import|eval|Function|innerHTML|outerHTML(?!}`;$)"
-            r"|insertAdjacentHTML|setHTML\w*|srcdoc|src|action|submit|ping|serviceWorker|SharedWorker)\b|\bopen\(|\bwrite\(|navigation|navigator"
+            r"|insertAdjacentHTML|setHTML\w*|srcdoc|preconnect|prefetch|prerender|iframe|rel|relList|src|action|submit|ping|serviceWorker|SharedWorker)\b|\bopen\(|\bwrite\(|navigation|navigator"
             r"|location(?!\.hash ===|\.href\.split)")
 
 
@@ -414,9 +414,12 @@ def tests_of_chromium(room, program):
         web_viewing.tests_of_forced_colours(browser)
         web_viewing.tests_of_tree(browser)
         web_reports.tests_of_reports(browser, room, program)
-        web_reports.tests_of_button(browser, room, url)
+        web_reports.tests_of_saving(browser, room, url)
+        web_reports.tests_of_large_reports(browser, room, program)
+        web_reports.tests_of_leaving_out(browser, room, url)
         browser.cdp("Emulation.clearDeviceMetricsOverride")
         browser.open(url)
+        web_files.tests_of_memory(browser, room)
         tests_of_large(browser, room, program)
         tests_of_memory(browser, url)
         tests_of_changed_files(browser, url)
@@ -439,6 +442,8 @@ def tests_of_firefox(room, program):
         web_viewing.run_all(browser, room, program, url, lambda scheme: browser.has_look(prefers_color_scheme=scheme))
         count(rows_of(browser.screenshot()) > 200, "the screenshot of Firefox is empty")
         web_reports.tests_of_reports(browser, room, program)
+        web_reports.tests_of_saving(browser, room, url)
+        web_reports.tests_of_large_reports(browser, room, program)
 
 
 def tests_of_text():
@@ -486,12 +491,12 @@ def test_words(page):
     web_reports.tests_of_words()
 
 
-@pytest.mark.cases(36)
+@pytest.mark.cases(25)
 def test_script(page, room):
     web_reports.tests_of_script(room)
 
 
-@pytest.mark.cases(10)
+@pytest.mark.cases(13)
 def test_windows(page, program, room):
     web_reports.tests_of_windows(room, program)
 

@@ -66,6 +66,17 @@ class Browser:
         """Waits until the page is done with the files."""
         self.wait_for(lambda: self.run("return document.body.dataset.done !== undefined"), "the page is not done", seconds)
 
+    def save_report(self, folder, name):
+        """Saves a report as a hand does, into a folder that takes nothing else, and moves it to a name. Tells what the page says then."""
+        self.downloads_into(folder)
+        self.click("#save-report")
+        self.wait_for(lambda: not self.text("#of-report").endswith(".."), "no report is made")
+        said, at = self.text("#of-report"), f"{folder}/report.html"
+        if not said.startswith("There is no report"):
+            self.wait_for(lambda: os.listdir(folder) == ["report.html"] and os.path.getsize(at), "no report is saved")
+            os.replace(at, name)
+        return said
+
     def screenshot(self):
         return base64.b64decode(self.shot())
 
@@ -129,6 +140,13 @@ class Chromium(Browser):
     def type(self, selector, text):
         found = self.call("POST", "/element", {"using": "css selector", "value": selector})[ELEMENT]
         self.call("POST", f"/element/{found}/value", {"text": text})
+
+    def click(self, selector):
+        found = self.call("POST", "/element", {"using": "css selector", "value": selector})[ELEMENT]
+        self.call("POST", f"/element/{found}/click")
+
+    def downloads_into(self, folder):
+        self.cdp("Browser.setDownloadBehavior", behavior="allow", downloadPath=folder)
 
     def act(self, actions):
         self.call("POST", "/actions", {"actions": actions})
@@ -245,6 +263,13 @@ class Firefox(Browser):
         found = self.call("WebDriver:FindElement", using="css selector", value=selector)["value"][ELEMENT]
         self.call("WebDriver:ElementSendKeys", id=found, text=text)
 
+    def click(self, selector):
+        found = self.call("WebDriver:FindElement", using="css selector", value=selector)["value"][ELEMENT]
+        self.call("WebDriver:ElementClick", id=found)
+
+    def downloads_into(self, folder):
+        self.run_inside("Services.prefs.setIntPref('browser.download.folderList', 2); Services.prefs.setStringPref('browser.download.dir', arguments[0])", folder)
+
     def act(self, actions):
         self.call("WebDriver:PerformActions", actions=actions)
 
@@ -259,8 +284,12 @@ class Firefox(Browser):
 
     def has_look(self, prefers_color_scheme="light"):
         """Has the page in a look: of a colour scheme."""
+        self.run_inside("Services.prefs.setIntPref('layout.css.prefers-color-scheme.content-override', arguments[0])", ["dark", "light"].index(prefers_color_scheme))
+
+    def run_inside(self, script, *words):
+        """What a script of the browser's own answers."""
         self.call("Marionette:SetContext", value="chrome")
-        self.run("Services.prefs.setIntPref('layout.css.prefers-color-scheme.content-override', arguments[0])", ["dark", "light"].index(prefers_color_scheme))
+        self.run(script, *words)
         self.call("Marionette:SetContext", value="content")
 
     def drop_folder(self, folder):

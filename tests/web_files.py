@@ -190,6 +190,5 @@ def run_all(browser, room, program, url):
     tests_of_quoted(browser, room)
     tests_of_sessions(browser, room, program)
     tests_of_companions(browser, room, program)
-    tests_of_memory(browser, room)
     same("whether a promise was left rejected", browser.run("return document.body.dataset.rejected ?? 'no'"), "no")
     tests_of_address(browser, url)

@@ -18,6 +18,7 @@ KEPT = re.compile(r'<script type="application/json" id="kept">(.*?)</script>', r
 # Names and contents that would end an element, begin a script or another text, or reach into a terminal.
 HOSTILE = ("</script><script>document.body.dataset.foreign = 1</script>", "<img src=x onerror=\"document.body.dataset.foreign = 1\">", "<svg onload=document.body.dataset.foreign=1>",
            "<!--<script>", "a\nb: clean", "'\"&lt;\\u003c", "\x1b[31m", "\u2028", "${name}$&$1", "__proto__", os.fsdecode(b"not-utf-8-\xff"))
+SHOWN = {"a\nb: clean": r'"a\u000ab: clean"', "\x1b[31m": r'"\u001b[31m"', "\u2028": r'"\u2028"'}
 
 
 def made(room, *words, program="false"):
@@ -27,8 +28,13 @@ def made(room, *words, program="false"):
         os.remove(report)
     ran = subprocess.run([SCRIPT, "--page", PAGE, "--program", program, "-o", report, *words], cwd=room, stdin=subprocess.DEVNULL, capture_output=True)
     text = read(report, "r") if os.path.exists(report) else None
-    entries = [] if text is None else [(it["name"], gzip.decompress(base64.b64decode(it["packed"])) if "packed" in it else None, it.get("word") or it.get("left")) for it in json.loads(KEPT.search(text)[1])]
-    return ran.returncode, ran.stderr.decode(), entries, text
+    return ran.returncode, ran.stderr.decode(), [] if text is None else entries_of(text), text
+
+
+def entries_of(text):
+    """What a report has: of each file the name, the bytes, what is said of it besides, and what the audit says of one that is left out."""
+    entries = json.loads(KEPT.search(text)[1])
+    return [(it["name"], gzip.decompress(base64.b64decode(it["packed"])) if "packed" in it else None, it.get("word") or it.get("left"), it.get("says")) for it in entries]
 
 
 def put(room, name, content):
@@ -42,44 +48,48 @@ def tests_of_script(room):
     """What the script puts into the page, and when it makes none."""
     page, session = read(PAGE, "r"), example("qemu-lost-write")[0]
     status, said, entries, text = made(room, session)
-    same("a report of a session", (status, said, entries), (0, "", [(session, read(session), None)]))
+    same("a report of a session", (status, said, entries), (0, "", [(session, read(session), None, None)]))
     same("the page of a report", KEPT.sub("", text, count=1), KEPT.sub("", page, count=1))
     same("the same report again", made(room, session)[3], text)
     for at, name in enumerate(HOSTILE):
         content = f"{name}\n".encode(errors="surrogateescape") * 3
-        write(f"{room}/content-{at}", content)
-        same(f"a report of hostile contents {at}", made(room, f"content-{at}")[:3], (0, "", [(f"content-{at}", content, None)]))
         status, said, entries, text = made(room, "--", put(room, name, content))
-        same(f"a report of a hostile name {at}", (status, said, entries), (0, "", [(name, content, None)]))
+        same(f"a report of a hostile name and contents {at}", (status, said, entries), (0, "", [(name, content, None, None)]))
         same(f"what it could end {at}", ("<" in KEPT.search(text)[1], text.count("<script"), text.count("</script")), (False, page.count("<script"), page.count("</script")))
+
+
+# So many records more make a session of more than a mebibyte.
+MIB, MORE = 1 << 20, 110_000
 
 
 def large_of(name, more):
     """The text of an example whose guest says once more what it said last, so many times."""
-    text = read(example(name)[0], "r")
-    counted, last = re.search(r"^guest (\d+)\n", text, re.M), re.findall(r"^r .*\n", text.partition("\nsource ")[0] + "\n", re.M)[-1]
-    front, back = text.split("\nsource ", 1)
-    return front.replace(counted[0], f"guest {int(counted[1]) + more}\n", 1) + "\n" + last * more + "source " + back
+    front, back = read(example(name)[0], "r").split("\nsource ", 1)
+    counted, last = re.search(r"^guest (\d+)\n", front, re.M), re.findall(r"^(?:[rw] .*|see .*)$", front, re.M)[-1]
+    return front.replace(counted[0], f"guest {int(counted[1]) + more}\n", 1) + f"\n{last}" * more + f"\nsource {back}"
 
 
 def tests_of_windows(room, program):
-    """Of a large session, windows of its faulty pages are put in, with a word."""
-    large, clean, knot = write(f"{room}/large", large_of("qemu-lost-write", 40_000)), write(f"{room}/clean", large_of("handover", 110_000)), write(f"{room}/knot", large_of("circle-of-receipts", 110_000))
+    """Of a large session, windows of its faulty pages are put in, with a word, and what the audit says of it."""
+    large = write(f"{room}/large", large_of("qemu-lost-write", 40_000))
     status, said, entries, _ = made(room, "--most", "1", "--windows", "2", "large", example("handover")[0], program=program)
     same("the status of a report with windows", status, 1)
-    same("what is said of it", said, f"postcopy-report: large has {os.path.getsize(large) / (1 << 20):.1f} MiB, so the report does not have all of it\n")
-    faults = re.findall(r"^page (\d+) line (\d+) (\S+)$", words_of(program, "audit", "--all", large), re.M)
-    first, second = sorted(((int(line), page, reason) for page, line, reason in faults))[:2]
-    same("the entries of it", [it[0] for it in entries], [f"large, page {first[1]}", f"large, page {second[1]}", "large", example("handover")[0]])
-    for (name, data, word), (line, page, reason) in zip(entries, (first, second)):
+    same("what is said of it", said, f"postcopy-report: large has {os.path.getsize(large) / MIB:.1f} MiB, so the report does not have all of it\n")
+    first, *pages = words_of(program, "audit", "--all", large).splitlines()
+    faults = sorted((int(line), page, reason) for page, line, reason in re.findall(r"^page (\d+) line (\d+) (\S+)$", "\n".join(pages), re.M))
+    same("the entries of it", [(it[0], it[3]) for it in entries], [(f"large, page {faults[0][1]}", None), (f"large, page {faults[1][1]}", None), ("large", first), (example("handover")[0], None)])
+    for (name, data, word, _), (line, page, reason) in zip(entries, faults[:2]):
         same(f"the window {name}", data, words_of(program, "window", large, page, "1").encode())
         here = re.fullmatch(r"faulty line (\d+) (\S+)\n(?s:.*)", words_of(program, "audit", write(f"{room}/seen", data)))
         count(f"page {page} of large alone, as page 0" in word and f"There the fault is line {line} {reason}, which is line {here[1]} here." in word and here[2] == reason, f"what is said of the window {name}: {word}")
-    same("what is said of the other pages", entries[2][1:], (None, f"{len(faults) - 2} more pages of large have a fault, and are not in this report."))
-    for name, first in ((clean, "clean"), (knot, "knot line 10")):
-        status, _, entries, _ = made(room, "--most", "1", os.path.basename(name), program=program)
-        wanted = f"{os.path.basename(name)} has {os.path.getsize(name) / (1 << 20):.1f} MiB, and is not in this report. The audit says of it: {first}."
-        same(f"a large session that is {first}", (status, entries), (1, [(os.path.basename(name), None, wanted)]))
+    count(f"is not in this report but for windows. The audit says of it: {first}. {len(faults) - 2} more of its pages have a fault." in entries[2][2], f"what is said of it: {entries[2]}")
+    # (the verdict is that of the small session; of the last the window is large too)
+    for name, wanted, pages in (("handover", "clean", []), ("circle-of-receipts", "knot line 10", []), ("wrong-shape", f"shape line {MORE + 22} second-send", []), ("early-access", "faulty line 13 early", [1])):
+        write(f"{room}/{name}", large_of(name, MORE))
+        status, _, entries, _ = made(room, "--most", "1", name, program=program)
+        same(f"what the report has of {name}", (status, [(it[0], it[1], it[3]) for it in entries]), (1, [*((f"{name}, page {it}", None, wanted) for it in pages), (name, None, wanted)]))
+    beside = write(f"{room}/beside", read(example("handover", "certificate")[0]) + b" " * MIB)
+    same("what is said of a certificate that is large", made(room, "--most", "1", "beside", program=program)[2], [("beside", None, f"beside has {os.path.getsize(beside) / MIB:.1f} MiB, and is not in this report.", None)])
 
 
 def tests_of_refusals(room):
@@ -162,13 +172,14 @@ def tests_of_words():
 # What it makes, in a browser.
 
 
-def open_report(browser, room, *words, program="false", name="opened.html"):
-    _, _, entries, text = made(room, *words, program=program)
-    place = write(f"{room}/{name}", text)
+def open_report(browser, room, *words, program="false"):
+    opened(browser, write(f"{room}/opened.html", made(room, *words, program=program)[3]))
+
+
+def opened(browser, name):
     browser.open("about:blank")
-    browser.open(f"file://{place}")
+    browser.open(f"file://{name}")
     browser.settle()
-    return entries
 
 
 def tests_of_reports(browser, room, program):
@@ -184,7 +195,7 @@ def tests_of_reports(browser, room, program):
     for at, name in enumerate(names):
         put(room, name, read(example("early-access")[0]) if at % 2 else f"postcopy-session 1\n{name}\n".encode())
     open_report(browser, room, "--", *names)
-    same("the sessions of a hostile report", browser.run("return [...document.querySelectorAll('#list tr')].map((it) => it.cells[0].textContent)"), list(names))
+    same("the sessions of a hostile report", browser.run("return [...document.querySelectorAll('#list tr')].map((it) => it.cells[0].textContent)"), [SHOWN.get(it, it) for it in names])
     same("whether a foreign script ran", browser.run("return [document.body.dataset.foreign ?? 'no', document.images.length, document.querySelectorAll('body svg').length]"), ["no", 0, 0])
     for place in range(len(names)):
         browser.run("delete document.body.dataset.done; document.querySelectorAll('#list button')[arguments[0]].click()", place)
@@ -192,25 +203,68 @@ def tests_of_reports(browser, room, program):
     same("whether a foreign script ran, each being shown", browser.run("return [document.body.dataset.foreign ?? 'no', document.images.length]"), ["no", 0])
     write(f"{room}/large", large_of("qemu-lost-write", 40_000))
     open_report(browser, room, "--most", "1", "--windows", "2", "large", program=program)
-    says(browser, "a window in a report", "bad", "Not safe.", "large, page 7", "This is a window: page 7 of large alone", "5 more pages of large have a fault")
+    says(browser, "a window in a report", "bad", "Not safe.", "large, page 7", "This is a window: page 7 of large alone", "5 more of its pages have a fault")
     write(f"{room}/broken.html", KEPT.sub('<script type="application/json" id="kept">[{"name": "x", "packed": "AAAA"}]</script>', read(PAGE, "r"), count=1))
     browser.open(f"file://{room}/broken.html")
     browser.wait_for(lambda: "This report is not whole." in browser.text("#verdict"), "a report that is cut is not told")
 
 
-def tests_of_button(browser, room, url):
-    """The page saves itself with its sessions: the report has what postcopy-report puts in."""
+def tests_of_saving(browser, room, url):
+    """The page saves itself with what is open in it, as often as one saves a report out of a report; what is not so any more is not saved."""
+    saved, report = f"{room}/saved", f"{room}/saved.html"
+    os.mkdir(saved)
     browser.open("about:blank")
     browser.open(url)
     files = [write(f"{room}/<!--<script>", read(example("early-access")[0])), *example("handover", "session", "certificate")]
     browser.choose(*files)
-    browser.run("window.saved = undefined; const create = URL.createObjectURL; URL.createObjectURL = (it) => { if (it.name === 'report.html') it.text().then((text) => { window.saved = text }); return create.call(URL, it) }; document.getElementById('save-report').click()")
-    browser.wait_for(lambda: browser.run("return window.saved !== undefined"), "no report is saved")
-    saved = browser.run("return window.saved")
-    entries = [(it["name"], gzip.decompress(base64.b64decode(it["packed"]))) for it in json.loads(KEPT.search(saved)[1])]
-    same("what a saved report has", entries, [(os.path.basename(it), read(it)) for it in files])
-    write(f"{room}/saved.html", saved)
-    browser.open(f"file://{room}/saved.html")
-    browser.settle()
+    same("what is said of a report", browser.save_report(saved, report), "The report is saved.")
+    same("what a saved report has", entries_of(read(report, "r")), [(os.path.basename(it), read(it), None, None) for it in files])
+    opened(browser, report)
     says(browser, "a saved report", "bad", "Not safe.", "line 13", "certificate, tried with this session")
+    for name, kind in (("handover", "good"), ("stale-page", "bad"), ("handover", "good")):
+        browser.choose(write(f"{room}/{name}", read(example(name)[0])))
+        browser.save_report(saved, report)
+        opened(browser, report)
+        says(browser, f"a report out of a report, with {name}", kind, name)
+        same("its title", (browser.run("return document.title"), re.search("<title>(.*)</title>", read(report, "r"))[1]), (f"postcopy: {name}",) * 2)
+        same("what it has", entries_of(read(report, "r")), [(name, read(example(name)[0]), None, None)])
+    text = read(report)
+    browser.choose(write(f"{room}/anew", read(example("handover")[0])))
+    write(f"{room}/anew", read(example("stale-page")[0]))
+    said = browser.save_report(saved, report)
+    count(said.startswith("There is no report: "), f"a report of a file that became another one: {said}")
+    same("what was saved of it", (os.listdir(saved), read(report)), ([], text))
+
+
+def tests_of_large_reports(browser, room, program):
+    """What is left out of a report counts: of two sessions of which the large one is red, the report is red, and so is what is saved out of it."""
+    saved, report = f"{room}/saved", f"{room}/saved.html"
+    write(f"{room}/large", large_of("wrong-shape", MORE))
+    write(f"{room}/small", read(example("handover")[0]))
+    open_report(browser, room, "--most", "1", "small", "large", program=program)
+    for what in ("a report", "a report out of it"):
+        says(browser, f"{what} with a large session", "bad", "This session has not the right shape.", "large has 1.0 MiB, and is not in this report. The audit says of it: shape line 110022 second-send.")
+        listed = "return [...document.querySelectorAll('#list tr')].map((it) => [it.className, ...[...it.cells].map((cell) => cell.textContent)])"
+        same(f"the list of {what}", [it[:2] for it in browser.run(listed)], [["good", "small"], ["bad", "large"]])
+        browser.save_report(saved, report)
+        same(f"what is saved of {what}", [(it[0], it[3]) for it in entries_of(read(report, "r"))], [("small", None), ("large", "shape line 110022 second-send")])
+        opened(browser, report)
+
+
+def tests_of_leaving_out(browser, room, url):
+    """The page leaves out what is too large, and has its verdict; it has no report where one would say something else, or has no place."""
+    saved, report = f"{room}/saved", f"{room}/saved.html"
+    browser.open(url)
+    browser.choose(write(f"{room}/large", large_of("wrong-shape", 900_000)), *example("handover", "session", "certificate"))
+    said = browser.save_report(saved, report)
+    count(said.startswith("1 of these files has more than 8.0 MiB"), f"what is said of a large file: {said}")
+    same("what is saved with a large file", [(it[0], it[3]) for it in entries_of(read(report, "r"))], [("large", "shape line 900022 second-send"), ("session", None), ("certificate", None)])
+    opened(browser, report)
+    says(browser, "a report with a large file", "bad", "This session has not the right shape.", "line 900022", "large has 8.6 MiB, and is not in this report. The audit says of it: shape line 900022 second-send.")
+    browser.choose(*example("handover"))
+    browser.run("handed[0].file = new File([arguments[0]], 'session')", read(example("stale-page")[0], "r"))
+    same("a report that would say something else", browser.save_report(saved, report), "There is no report: it would say faulty line 18 stale of session, and here that is clean. Open the files anew.")
+    browser.run("PAGE.querySelector('#kept').id = 'kapt'")
+    same("a report without a place", browser.save_report(saved, report), "There is no report: the page has no place for sessions.")
+    same("what was saved of them", os.listdir(saved), [])
     same("what a saved report complains of", browser.complaints(), [])

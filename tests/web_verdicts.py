@@ -29,7 +29,7 @@ def tests_of_verdicts(browser, room):
     is_shown(browser, "a faulty session", example("stale-page"), "bad", "Not safe.", "line 18", "other contents than it has at the halt")
     is_shown(browser, "a knot", example("circle-of-receipts"), "bad", "cannot all have happened", "line 10")
     is_shown(browser, "a wrong shape", example("wrong-shape"), "bad", "not the right shape", "line 22")
-    is_shown(browser, "no session", example("leading-zero"), "odd", "not a session", "line 7")
+    is_shown(browser, "no session", example("leading-zero"), "odd", "not a session", "Line 7")
     is_shown(browser, "a wrong certificate", example("circle-of-receipts", "certificate", "session"), "bad", "cannot all have happened")
     is_shown(browser, "a session of QEMU", example("qemu-lost-write"), "bad", "Not safe.", "line 2566")
     handover = read(example("handover", "certificate")[0])
@@ -41,7 +41,7 @@ def tests_of_verdicts(browser, room):
     ):
         is_shown(browser, what, [*example("handover"), write(f"{room}/certificate", text)], "good", "Safe.", sentence)
     is_shown(browser, "a file that is none", [write(f"{room}/picture.png", bytes(range(256)) * 40)], "odd", "not a session")
-    is_shown(browser, "an empty file", [write(f"{room}/empty", b"")], "odd", "not a session", "line 1")
+    is_shown(browser, "an empty file", [write(f"{room}/empty", b"")], "odd", "not a session", "Line 1")
     is_shown(browser, "a certificate alone", example("handover", "certificate"), "odd", "There is no session")
     is_shown(browser, "a session with runs", example("replayed", "session", "runs"), "bad", "Not safe.", "In the order of runs ")
 

@@ -6,28 +6,6 @@ const AT = /\b[Ll]ine (\d+)\b(?: \(\w+ \d+\))?/g;
 
 // The worker and its questions.
 
-const bytes = Uint8Array.from(atob(at("module").textContent), (it) => it.charCodeAt(0));
-let worker, asking = 0;
-const waiting = new Map();
-
-function started() {
-  const place = URL.createObjectURL(new Blob([at("worker").textContent], { type: "text/javascript" }));
-  const it = new Worker(place);
-  it.onmessage = ({ data }) => {
-    const { say, done } = waiting.get(data.number) ?? {};
-    if (data.total !== undefined) return say?.(data.done, data.total);
-    waiting.delete(data.number);
-    done?.(data.answer ?? { failure: data.failure });
-  };
-  it.onerror = (event) => {
-    event.preventDefault();
-    const all = [...waiting.values()];
-    waiting.clear();
-    for (const { done } of all) done({ failure: { isMemory: false, words: event.message || "the worker ended" } });
-  };
-  return it;
-}
-
 // The number that the worker knows a file by.
 const numbers = new WeakMap();
 let numbered = 0;
@@ -36,22 +14,50 @@ function numberOf(file) {
   return numbers.get(file);
 }
 
-// The answer of a call on a session, or `failure` in its place. `given` is what the call takes besides: `asks`, the questions of
-// "answers", `topic`, the page or the line that they are about, `beside`, another text, and what is asked of records. `say` is told
-// how many bytes of how many were read.
-function ask(call, file, { say, ...given } = {}) {
-  worker ??= started();
-  return new Promise((done) => {
-    waiting.set(++asking, { say, done });
-    worker.postMessage({ number: asking, call, session: { number: numberOf(file), file }, given, bytes });
-  });
+// The worker of a page, with the page's module. It is started where it is asked first.
+function asker(page) {
+  const textOf = (id) => page.querySelector(`#${id}`).textContent, bytes = unspelled(textOf("module")), waiting = new Map();
+  let worker, asking = 0;
+
+  function started() {
+    const place = URL.createObjectURL(new Blob([textOf("worker")], { type: "text/javascript" }));
+    const it = new Worker(place);
+    it.onmessage = ({ data }) => {
+      const { say, done } = waiting.get(data.number) ?? {};
+      if (data.total !== undefined) return say?.(data.done, data.total);
+      waiting.delete(data.number);
+      done?.(data.answer ?? { failure: data.failure });
+    };
+    it.onerror = (event) => {
+      event.preventDefault();
+      const all = [...waiting.values()];
+      waiting.clear();
+      for (const { done } of all) done({ failure: { isMemory: false, words: event.message || "the worker ended" } });
+    };
+    return it;
+  }
+
+  // The answer of a call on a session, or `failure` in its place. `given` is what the call takes besides: `asks`, the questions of
+  // "answers", `topic`, the page or the line that they are about, `beside`, another text, and what is asked of records. `say` is told
+  // how many bytes of how many were read.
+  function ask(call, file, { say, ...given } = {}) {
+    worker ??= started();
+    return new Promise((done) => {
+      waiting.set(++asking, { say, done });
+      worker.postMessage({ number: asking, call, session: { number: numberOf(file), file }, given, bytes });
+    });
+  }
+
+  function end() {
+    worker?.terminate();
+    worker = undefined;
+    waiting.clear();
+  }
+
+  return { ask, end };
 }
 
-function stop() {
-  worker?.terminate();
-  worker = undefined;
-  waiting.clear();
-}
+const { ask, end: stop } = asker(document);
 
 // How far it is. Screen readers are told where something new is done, and at each quarter of it.
 let toldLast = "";
@@ -241,7 +247,7 @@ function cleared() {
   for (const it of ["story", "about", "drawn", "texts", "bar", "seek", "finds", "orders", "orders-beside", "life", "question"]) at(it).hidden = true;
   for (const it of ["words", "which", "lines"]) at(it).replaceChildren();
   listFaults([]);
-  at("numbers").textContent = "";
+  for (const it of ["numbers", "of-report"]) at(it).textContent = "";
 }
 
 // Judges what was handed over, in place of what was there.
@@ -297,25 +303,32 @@ const firstLineOf = (bytes) => new TextDecoder().decode(bytes.subarray(0, LONGES
 const MOST_AT_ONCE = 1 << 24;
 const OF_VERDICT = ["audit", "missing_pages"], OF_STORY = ["explain", "draw", "audit_all"];
 
+// What a worker answers on a session, and what it says first of it: the first line of the report, or of a clean session the `halt`, the
+// `resume` or the page that is missing.
+async function judgement(ask, file, story = [], how = {}) {
+  const { failure, texts, ...answer } = await ask("answers", file, { asks: [...OF_VERDICT, ...story], ...how });
+  if (failure) return { failure };
+  const firstLine = firstLineOf(texts.audit), lack = answer.kind === "CLEAN" ? firstLineOf(texts.missing_pages) : "";
+  return { texts, answer: { ...answer, lack, firstLine }, says: lack || firstLine };
+}
+
 // Asks for the verdict on a session, and together with it for the story, where there is memory for both.
 async function judge(it, current, story = []) {
   busy(`Reading ${it.name}`);
   if (!shown) show(worded("", `Judging ${it.name} ..`));
-  const how = { say: sayingOf(it, `Judging ${it.name}`, current) };
-  const { failure, texts, ...answer } = await ask("answers", it.file, { asks: [...OF_VERDICT, ...story], ...how });
+  const { failure, texts, answer, says } = await judgement(ask, it.file, story, { say: sayingOf(it, `Judging ${it.name}`, current) });
   if (!current()) return;
   if (failure?.isMemory && story.length) return judge(it, current);
-  // (of a clean session: a `halt`, a `resume` or a page is missing, as a line)
-  const lack = answer.kind === "CLEAN" ? firstLineOf(texts.missing_pages) : "";
-  it.verdict = failure ? verdictOnFailure(failure, it) : verdictOn({ ...answer, lack });
-  it.answer = failure ? undefined : { ...answer, lack, report: new File([texts.audit], "report"), firstLine: firstLineOf(texts.audit) };
+  it.verdict = failure ? verdictOnFailure(failure, it) : verdictOn(answer);
+  it.says = says;
+  it.answer = failure ? undefined : { ...answer, report: new File([texts.audit], "report") };
   if (!failure && story.length) it.told = Object.fromEntries(story.map((name) => [name, texts[name].slice()]));
   sayInList(it);
 }
 
 // Shows the verdict on a session, the words, the picture and the texts, one after another.
 async function tell(it, current) {
-  if (!it.answer) await judge(it, current, it.file.size <= MOST_AT_ONCE ? OF_STORY : []);
+  if (!it.answer && !it.left) await judge(it, current, it.file.size <= MOST_AT_ONCE ? OF_STORY : []);
   if (!current()) return;
   shown = it;
   showInList();
@@ -498,11 +511,7 @@ function canJudge() {
 at("examples").append(...examples.map(({ name, what }) => made("li", {}, made("a", { href: "#" + name, textContent: name }), ": " + what)));
 if (canJudge()) {
   listen();
-  keptFiles().then((kept) => {
-    if (!kept.length) return judgeExample();
-    document.title = `postcopy: ${kept.length === 1 ? kept[0].name : `${kept.length} files`}`;
-    return judged(kept);
-  }, (error) => show(worded("odd", "This report is not whole.", `Its sessions cannot be read: ${error.message}.`)));
+  keptIn(document).then((kept) => (kept.length ? judged(kept) : judgeExample()), (error) => show(worded("odd", "This report is not whole.", `Its sessions cannot be read: ${error.message}.`)));
 } else {
   show(worded("odd", "This browser cannot judge.", "It has no WebAssembly with 64-bit addresses. Chromium has it from 133 on, and Firefox from 134 on."));
   at("files").disabled = true;
