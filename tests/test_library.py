@@ -461,6 +461,9 @@ def compare_refused_lines(postcopy):
     for text, line, column, words in REFUSED_LINES:
         told = postcopy.why(text)
         same(f"why {text} is refused", told and (told.line, told.column, told.why), (line, column, words))
+        for call in (postcopy.check, postcopy.replay):
+            told = call(text, f"{TOP}/examples/handover/certificate")
+            same(f"why {call.__name__} refuses {text}", (told.kind, told.line, told.column, told.why), (postcopy.Kind.SESSION_TEXT, line, column, words))
     same("why a text is not refused", postcopy.why(f"{TOP}/examples/handover/session"), None)
 
 
@@ -705,7 +708,7 @@ def test_limits(postcopy, program):
     compare_limits(postcopy, program)
 
 
-@pytest.mark.cases(len(REFUSED_LINES) + 1)
+@pytest.mark.cases(3 * len(REFUSED_LINES) + 1)
 def test_refused_lines(postcopy):
     compare_refused_lines(postcopy)
 
