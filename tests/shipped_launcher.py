@@ -252,7 +252,7 @@ def tests_of_plants(room):
         same("the library where others are in out/", where, Ran(0, f"{copy}/{SHIPPED}\n".encode(), b""))
         prefix = f"{room.folder}/prefix-{len(path)}"
         same("an installation where others are in out/", run(f"{copy}/tools/install", prefix, path=path).status, 0)
-        for name, file in zip(NAMES, ("bin/postcopy", "lib/libpostcopy.so", "lib/libpostcopy.a")):
+        for name, file in zip(NAMES, ("libexec/postcopy/postcopy", "lib/libpostcopy.so", "lib/libpostcopy.a")):
             same(f"what is installed of {name}", sum_of(f"{prefix}/{file}"), told[name])
     script = "import postcopy, sys; print(postcopy.check(*sys.argv[1:]))"
     example = [f"{room.tree}/examples/handover/{it}" for it in ("session", "certificate")]

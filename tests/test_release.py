@@ -33,6 +33,7 @@ INSTALLED = f"""
     bin/postcopy bin/postcopy-annotate bin/postcopy-report bin/postcopy-session
     include/postcopy.h include/postcopy_record.h
     lib/libpostcopy.a lib/libpostcopy.so lib/libpostcopy.so.1 lib/libpostcopy.so.1.2.3 lib/pkgconfig/postcopy.pc
+    libexec/postcopy/postcopy
     share/bash-completion/completions/postcopy share/bash-completion/completions/postcopy-annotate
     share/bash-completion/completions/postcopy-report share/bash-completion/completions/postcopy-session
     share/fish/vendor_completions.d/postcopy.fish share/fish/vendor_completions.d/postcopy-annotate.fish
@@ -140,7 +141,7 @@ def test_installation(prefix, room):
     same("the pkg-config file", read(f"{root}/usr/lib/here/pkgconfig/postcopy.pc").split("\n")[:2], ["prefix=/usr", "libdir=/usr/lib/here"])
     modes = {it: os.stat(f"{prefix}/{it}").st_mode & 0o777 for it in wanted}
     same("what may be run", sorted(it for it, mode in modes.items() if mode != 0o644),
-         sorted(it for it in wanted if it.startswith("bin/") or it.startswith("lib/libpostcopy.so")))
+         sorted(it for it in wanted if it.startswith(("bin/", "libexec/", "lib/libpostcopy.so"))))
     told_to_the_loader(room)
     removed(f"{room}/where files were")
     interrupted(room)
@@ -170,8 +171,8 @@ def interrupted(room):
     os.makedirs(f"{prefix}/bin")
     with open(f"{prefix}/share/postcopy/installed", "w") as file:
         file.write(f"file {prefix}/b")
-    same("a second installation that fails", stopped_by(prefix, "install", "*/bin/postcopy) ;; *", "exit 1"), 1)
-    same("what it left", files_below(prefix), ["bin/postcopy", "share/postcopy/installed"])
+    same("a second installation that fails", stopped_by(prefix, "install", "*/libexec/postcopy/postcopy) ;; *", "exit 1"), 1)
+    same("what it left", files_below(prefix), ["libexec/postcopy/postcopy", "share/postcopy/installed"])
     same("a removal behind it", (ran(f"{TOP}/tools/install", "--uninstall", prefix)[1], files_below(prefix)), (0, []))
 
 
@@ -293,6 +294,52 @@ def test_wheel_without_room(room):
     same("what is told, and the status", said, (f"wheel_of_library: {room}/wheels/{wheel}: File too large\n", 1))
     same("the wheel of before, and no other", (read(f"{room}/wheels/{wheel}", "rb") == before, os.listdir(f"{room}/wheels")), (True, [wheel]))
     same("a folder that is none", ran(*words[:-1], "/dev/null/wheels"), ("wheel_of_library: /dev/null/wheels: Not a directory\n", 1))
+
+
+# The program of an installation.
+
+SESSION, CERTIFICATE = (f"{TOP}/examples/handover/{it}" for it in ("session", "certificate"))
+
+
+def judges(*program):
+    """Whether a program judges a session of the examples."""
+    return ran(*program, "check", SESSION, CERTIFICATE)
+
+
+def judged(program, room):
+    """The program of an installation: it judges, and an answer that is more than a file may have by the limit of its size is told, and
+    ends it by no signal. The file stays as it was, and no other is there."""
+    same(f"what {program} answers", judges(program), ("yes\n", 0))
+    answer, folder = read(CERTIFICATE, "rb"), f"{room}/limited"
+    os.mkdir(folder)
+    for most in (0, 1, len(answer) // 2, len(answer) - 1, len(answer)):
+        limit = lambda: resource.setrlimit(resource.RLIMIT_FSIZE, (most, resource.RLIM_INFINITY))
+        for words, name in ((("-o", "file"), "file"), ((), "standard output")):
+            with open(f"{folder}/file", "wb") as file:
+                file.write(b"as it was\n")
+            with open(f"{folder}/file", "rb+") as file:
+                child = subprocess.run([program, "certify", SESSION, *words], cwd=folder, stdin=subprocess.DEVNULL, stdout=file if not words else subprocess.PIPE,
+                                       stderr=subprocess.PIPE, preexec_fn=limit)
+            wanted = (0, b"") if most == len(answer) else (3, f"output\n{name}: the file would be too large\n".encode())
+            left = answer if most == len(answer) else b"as it was\n" if words else answer[:most] + b"as it was\n"[most:]
+            same(f"{program} {words} where a file may have {most} bytes", (child.returncode, child.stderr, os.listdir(folder), read(f"{folder}/file", "rb")), (*wanted, ["file"], left))
+    shutil.rmtree(folder)
+
+
+@pytest.mark.quick
+@pytest.mark.cases(15)
+def test_installed_program(prefix, room):
+    """However the installed program is called: by its path, by links, in its folder, by another shell."""
+    judged(f"{prefix}/bin/postcopy", room)
+    os.symlink(f"{prefix}/bin/postcopy", f"{room}/link")
+    os.symlink("link", f"{room}/again")
+    os.symlink(f"{prefix}/bin", f"{room}/folder")
+    for words in ((f"{room}/again",), (f"{room}/folder/postcopy",), *((*shell, f"{prefix}/bin/postcopy") for shell in (("dash",), ("bash", "--posix"), ("busybox", "sh")) if shutil.which(shell[0]))):
+        same(f"what {' '.join(words)} answers", judges(*words), ("yes\n", 0))
+    for words, path in ((("./postcopy", "audit"), os.environ["PATH"]), (("sh", "postcopy", "audit"), os.environ["PATH"]), (("postcopy", "audit"), f"{prefix}/bin:{os.environ['PATH']}"),
+                        (("postcopy", "audit"), f":{os.environ['PATH']}")):
+        said, status = ran(*words, cwd=f"{prefix}/bin", env={**os.environ, "PATH": path})
+        same(f"what {words} tells with {path[:1]} first", (said.split("\n")[3], status), ("Usage: postcopy audit <SESSION>...", 2))
 
 
 # Man pages and completions.
@@ -521,11 +568,6 @@ def test_workflows(tree, room):
     same("the container's sources", os.listdir(f"{room}/Dockerfile"), ["local"])
 
 
-def judges(program):
-    """Whether a program judges a session of the examples."""
-    return ran(program, "check", f"{TOP}/examples/handover/session", f"{TOP}/examples/handover/certificate")
-
-
 @pytest.mark.cases(4)
 def test_archive(release, room):
     """The archive, unpacked anywhere."""
@@ -537,8 +579,8 @@ def test_archive(release, room):
     at = f"{room}/{os.path.basename(name)[:-len('.tar.gz')]}"
     wanted = [*INSTALLED.replace("1.2.3", read("VERSION").strip()).split(), "LICENSE", "CHANGELOG.md"]
     same("what the archive has", files_below(at), sorted(wanted))
-    same("the program of the archive", judges(f"{at}/bin/postcopy"), ("yes\n", 0))
-    same("the program's bytes", read(f"{at}/bin/postcopy", "rb") == read("shipped/x86_64-linux/postcopy", "rb"), True)
+    judged(f"{at}/bin/postcopy", room)
+    same("the program's bytes", read(f"{at}/libexec/postcopy/postcopy", "rb") == read("shipped/x86_64-linux/postcopy", "rb"), True)
     if shutil.which("pkg-config"):
         how = {**os.environ, "PKG_CONFIG_PATH": f"{at}/lib/pkgconfig"}
         found = [os.path.normpath(it[2:]) for it in run("pkg-config", "--cflags", "--libs-only-L", "postcopy", env=how).split()]
@@ -574,8 +616,8 @@ def test_packages(release, room):
     told = "".join(read(it) for it in glob.glob(f"{root}/var/lib/dpkg/info/*.md5sums"))
     same("the digests of what the packages install", sorted(told.splitlines()),
          sorted(f"{hashlib.md5(read(f'{root}/{it}', 'rb')).hexdigest()}  {it}" for it in files if not os.path.islink(f"{root}/{it}")))
-    same("the program that is installed", judges(f"{root}/usr/bin/postcopy"), ("yes\n", 0))
-    for it in ("lib/x86_64-linux-gnu/libpostcopy.so.1", "lib/x86_64-linux-gnu/libpostcopy.a", "bin/postcopy"):
+    judged(f"{root}/usr/bin/postcopy", room)
+    for it in ("lib/x86_64-linux-gnu/libpostcopy.so.1", "lib/x86_64-linux-gnu/libpostcopy.a", "libexec/postcopy/postcopy"):
         same(f"the bytes of {it}", read(f"{root}/usr/{it}", "rb") == read(f"shipped/x86_64-linux/{os.path.basename(it).replace('.so.1', '.so')}", "rb"), True)
     first = {os.path.basename(it): read(it).split("\n")[0] for it in glob.glob(f"{root}/usr/bin/postcopy-*")}
     same("what runs the scripts", first, dict.fromkeys(SCRIPTS, "#!/usr/bin/python3"))

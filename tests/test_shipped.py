@@ -271,11 +271,11 @@ def tests_of_install(room):
     example = [f"{room.tree}/examples/handover/{it}" for it in ("session", "certificate")]
     with read_only(copy):
         same("an installation", run(f"{copy}/tools/install", f"{at}/usr", path=room.plain, user=NOBODY).status, 0)
-        for name, file in zip(NAMES, ("bin/postcopy", "lib/libpostcopy.so", "lib/libpostcopy.a")):
+        for name, file in zip(NAMES, ("libexec/postcopy/postcopy", "lib/libpostcopy.so", "lib/libpostcopy.a")):
             same(f"the installed {name}", sum_of(f"{at}/usr/{file}"), told[name])
         same("the installed program", check(copy, room, f"{at}/usr/bin/postcopy"), YES)
         same("an installation below DESTDIR", run(f"{copy}/tools/install", "/usr", path=room.plain, user=NOBODY, DESTDIR=f"{at}/root").status, 0)
-        same("the program below DESTDIR", sum_of(f"{at}/root/usr/bin/postcopy"), told["postcopy"])
+        same("the program below DESTDIR", sum_of(f"{at}/root/usr/libexec/postcopy/postcopy"), told["postcopy"])
         interpreter = python_for_nobody()
         if interpreter is None:
             leave_out("the package for Python: no user but this one can run Python")
