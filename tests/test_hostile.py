@@ -4,7 +4,7 @@ Texts of each kind are cut after each byte, and have each byte changed and a byt
 digits, are what a reader of 32 or 64 bits would take for the right one, or stand at a limit. Each answer is compared with
 text_judge.py, and, where the text is one, with report_model.py, check_model.py, steps_model.py or what the program says of its
 own answer; and of a text that is refused one line of plain words has to say why, and what it tells as expected must not be
-refused there in its place. Then memory is refused, at each growth in turn, of migrations with threads too, and by limits on the address space;
+refused there in its place. Then memory is refused by limits on the address space (test_refused_growths.py refuses each growth);
 each open, read and write fails in turn, is cut short or interrupted; inputs and outputs are closed, full, or directories; and
 logs, runs and lines have the greatest size. With --all, which takes some minutes, there are more texts and more changes of each
 byte.
@@ -353,7 +353,7 @@ def judged_texts(is_all):
     yield from (("script", script, {"events": ALL_EVENTS}) for script in odd_lanes())
 
 
-# Memory, opens, reads and writes that fail.
+# Opens, reads and writes that fail.
 
 # Folders with texts, words, and what the input has of the folder.
 SHOWN = (
@@ -435,14 +435,8 @@ def refused_in_turn(case):
         return found[:2] == plain[:2] and found.errors != plain.errors and plain.errors.startswith(found.errors)
 
     tries.append(None if runner.ran(words, given, "-") == plain else f"{words} of {folder}: another answer where calls are counted")
-    growths, reads, writes, opens, *_ = runner.counts
-    # What is told beside an answer, why a text is refused or a note, is left out where there is no memory for it.
-    is_told_beside = plain.status < 2 and plain.errors != b""
-    starved, untold = Outcome(4, b"", MEMORY), Outcome(plain.status, plain.output, b"")
-    for n in range(1, growths + 1):
-        # (where a list may do with less room than it asks for first, one refusal changes nothing)
-        same(f"memory {n} {n} memory", starved, plain, *[untold] * is_told_beside)
-        same(f"memory {n} 9999999 memory", starved, *[untold] * is_told_beside)
+    _, reads, writes, opens, *_ = runner.counts
+    starved = Outcome(4, b"", MEMORY)
     inputs = read_in_order(words, names)
     shared = inputs == ["-", "-"]
     # (of a recording it is not told why)
@@ -479,26 +473,6 @@ def refused_in_turn(case):
         same(f"read 1 9999999 {errno.EINTR}", failed(inputs[0], not_whole or "the text comes in too many pieces"))
     if writes:
         same("write 1 9999999 short", plain)
-    return tries
-
-
-def refused_migrations(case):
-    """What is wrong with migrations of an example where each growth is refused in turn, alone or with all after it: for each try
-    what went wrong, or None. Which growth is which varies with the threads, so this goes on until a run has not come to the one."""
-    example, link = case
-    tries, script = [], read(f"examples/{example}/script")
-    for alone in (True, False):
-        n, is_reached = 0, True
-        while is_reached:
-            n += 1
-            refusing = f"memory {n} {n if alone else 9999999} memory"
-            found = runner.ran(f"migrate - --link {link}", script, refusing, seconds=20)
-            is_reached = bool(runner.counts and runner.counts[-1])
-            # (a growth may be what a thread needs)
-            is_well = is_reached and found in (Outcome(4, b"", MEMORY), Outcome(3, b"", b"threads\n"))
-            if (found.status, found.errors) == (0, b""):
-                is_well = runner.ran("", found.output) == Outcome(0, b"yes\n", b"")
-            tries.append(None if is_well else f"migrate {example} over {link} with {refusing}: {str(found)[:200]}")
     return tries
 
 
@@ -846,18 +820,10 @@ def pool(program, room, refusing):
         yield made
 
 
-@pytest.mark.cases(13300)
+@pytest.mark.cases(800)
 def test_refused(program, room, pool, is_all):
-    """Each growth of memory, open, read and write is refused in turn."""
+    """Each open, read and write is refused in turn."""
     for found in pool.map(refused_in_turn, [*SHOWN, *(larger_session(program, f"{room}/larger") if is_all else [])]):
-        for wrong in found:
-            right(wrong)
-
-
-@pytest.mark.cases(1000)
-def test_refused_migrations(pool):
-    migrated = [(example, link) for example in ("migrated", "migrated-over-a-lane") for link in ("memory", "tcp")]
-    for found in pool.map(refused_migrations, migrated):
         for wrong in found:
             right(wrong)
 

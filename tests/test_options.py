@@ -14,6 +14,7 @@ import subprocess
 
 import pytest
 from cases import count, same
+from command_table import listed
 from told_topics import topic_of
 
 TOP = os.path.dirname(os.path.dirname(os.path.realpath(__file__)))
@@ -206,12 +207,6 @@ Exit status:
   3  a file, a link or an output failed
   4  out of memory
 """
-
-
-def listed(told, heading):
-    """What stands in a list of a help, each with the word that it is about."""
-    part = told.partition(f"\n{heading}:\n")[2].partition("\n\n")[0]
-    return [tuple(re.split(r"  +", line.strip(), maxsplit=1)) for line in part.splitlines()]
 
 
 @pytest.mark.quick

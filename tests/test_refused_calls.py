@@ -9,7 +9,7 @@ there has to be no growth. A call that makes its growths again, or that goes on 
 refused, with its right answer.
 
 The tables below have every call that is tried. One that is not made, or that no growth is refused to, has failed, and so
-has one that is made and stands in none. `commands::run` is the program itself, to which test_hostile.py refuses each growth.
+has one that is made and stands in none. `commands::run` is the program itself, to which test_refused_growths.py refuses them.
 
 Packets are cut before each byte and have each byte changed besides, and what a stream answers is compared with a slow reader.
 

@@ -335,53 +335,6 @@ def lines_of_nothing(run):
         yield f"the lines of no session in {output}", run.has("lines"), b"as it was\n"
 
 
-def refused_memory(run):
-    """Where a growth is refused, whichever it is, alone or with all after it, nothing goes to standard output in place of the file, and no
-    file gets a part."""
-    run.put("recording", RECORDING + b"guest 0\nsource 0\nlink 0\npager 0\nend\n")
-    window = ("window", "--lines", "lines", "recording", "0", "1")
-    for words, names in ((steps_words("-o", "new"), ["new"]), ((*window, "-o", "new"), ["lines", "new"]), (window, ["lines"])):
-        plain = run(*words)[1]
-        wanted, old = [run.has(name) for name in names], [b"as it was\n"] * len(names)
-        for name in names:
-            run.put(name, b"as it was\n")
-        growths, statuses = run.refusing("-", *words)[1], set()
-        for first, last in ((first, last) for first in range(1, growths + 1) for last in (first, 9999999)):
-            for name in names:
-                run.put(name, b"as it was\n")
-            (status, output, errors), _ = run.refusing(f"memory {first} {last} memory", *words)
-            told = {0: b"", 3: b"output\nstandard output: out of memory\n", 4: b"out of memory\n"}
-            found = (output, errors, [run.has(name) for name in names])
-            yield f"growths {first} to {last} of {words[0]}", found, (b"" if status else plain, told.get(status), old if status else wanted)
-            statuses.add(status)
-        yield f"the statuses of {words[0]}", statuses >= {0, 4}, True
-
-
-def one_file_without_memory(run):
-    """Where a growth is refused, two names of one file are refused all the same, or memory ran out, and the file stays."""
-    run.put("recording", RECORDING + b"guest 0\nsource 0\nlink 0\npager 0\nend\n")
-    words, told = ("window", "--lines", "./new", "-o", "new", "recording", "0", "1"), {2: ONE_FILE, 4: b"out of memory\n"}
-    growths = run.refusing("-", *words)[1]
-    for first, last in ((first, last) for first in range(1, growths + 1) for last in (first, 9999999)):
-        run.put("new", b"as it was\n")
-        (status, output, errors), _ = run.refusing(f"memory {first} {last} memory", *words)
-        yield f"growths {first} to {last} where both names are of one file", (output, errors, run.has("new")), (b"", told.get(status), b"as it was\n")
-
-
-def a_folder_without_memory(run):
-    """Where a growth is refused, a command on a folder does what it is asked for, or memory ran out: no file is blamed for that."""
-    folder, statuses = recorded(run, "whole", 50), set()
-    for words in (("session", folder, "-o", "new"), ("audit", folder)):
-        plain = run(*words)
-        run.put("new", b"as it was\n")
-        for n in range(1, run.refusing("-", *words)[1] + 1):
-            run.put("new", b"as it was\n")
-            found, _ = run.refusing(f"memory {n} {n} memory", *words)
-            yield f"growth {n} of {words[0]}", found in (plain, (4, b"", b"out of memory\n")), True
-            statuses.add(found[0])
-    yield "the statuses", statuses, {0, 4}
-
-
 def a_refused_script(run):
     run.put("kept", b"as it was\n")
     run.put("no-script", b"nothing\n")
@@ -670,14 +623,14 @@ def other_commands(run):
     yield "no file of no session", run.has("new"), None
 
 
-ALL = (a_new_file, an_old_file, the_users_own, who_may_read, who_owns_it, whose_group_it_is, a_name_that_is_not_given, a_strangers_link, a_swapped_draft, a_link, many_links, two_writers, two_names, a_limit_on_files, lines_of_nothing, refused_memory,
-       one_file_without_memory, a_folder_without_memory, a_refused_script, no_text, no_place, a_device, a_recorders_file, a_text_that_is_there, an_input, a_long_answer, a_write_that_fails, a_long_answer_that_gets_no_name, a_long_list,
+ALL = (a_new_file, an_old_file, the_users_own, who_may_read, who_owns_it, whose_group_it_is, a_name_that_is_not_given, a_strangers_link, a_swapped_draft, a_link, many_links, two_writers, two_names, a_limit_on_files, lines_of_nothing,
+       a_refused_script, no_text, no_place, a_device, a_recorders_file, a_text_that_is_there, an_input, a_long_answer, a_write_that_fails, a_long_answer_that_gets_no_name, a_long_list,
        a_long_answer_in_little_memory,
        a_migration, other_commands)
 
 
 # How many cases each has at least.
-LEAST = {other_commands: 28, a_link: 14, two_writers: 62, two_names: 23, who_may_read: 27, the_users_own: 8, a_new_file: 11, refused_memory: 750, one_file_without_memory: 40, a_device: 6, a_recorders_file: 34, a_long_answer: 11, a_write_that_fails: 13, a_long_answer_that_gets_no_name: 6, a_long_list: 4, a_folder_without_memory: 300}
+LEAST = {other_commands: 28, a_link: 14, two_writers: 62, two_names: 23, who_may_read: 27, the_users_own: 8, a_new_file: 11, a_device: 6, a_recorders_file: 34, a_long_answer: 11, a_write_that_fails: 13, a_long_answer_that_gets_no_name: 6, a_long_list: 4}
 
 
 @pytest.mark.parametrize("tested", [pytest.param(it, marks=pytest.mark.cases(LEAST.get(it, 1)), id=it.__name__) for it in ALL])

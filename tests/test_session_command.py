@@ -350,22 +350,20 @@ def test_lone_halted_that_is_named(program, room):
 # How many bytes of a file are read at a time, and of a text written.
 PIECE = 65536
 
-# What is told where memory is refused, and of a file that a pass does not read to its end.
-MEMORY = (4, b"", b"out of memory\n")
+# What is told of a file that a pass does not read to its end.
 NOT_READ = b"the file was not read to its end, or has changed since"
 
 # What is told of the folder of a recording of which some file has changed before the last pass.
 CHANGED = b"a file of this recording was not read to its end, or has changed since"
 
 
-@pytest.mark.cases(600)
+@pytest.mark.cases(130)
 def test_refused_calls(program, room, refusing):
-    """A read that fails, in any pass, is told with the name of its file, and refused memory as such. Neither makes a session. An
-    interrupted read is made again."""
+    """A read that fails, in any pass, is told with the name of its file, and makes no session. An interrupted read is made again."""
     run, folder = Run(program, room, refusing), Beside(room, program).recording()
     files = {f"{folder}/{name}".encode() for name in os.listdir(folder)}
     for words in (("session", folder), ("session", "--cut", folder)):
-        plain, (growths, reads, *_) = run.counted("-", *words)
+        plain, (_, reads, *_) = run.counted("-", *words)
         same(f"{words}: a whole recording", (plain[0], plain[2][:8]), (0, b""))
         told_of = set()
         for number in range(1, reads + 1):
@@ -378,25 +376,15 @@ def test_refused_calls(program, room, refusing):
         run.put("kept", b"as it was\n")
         found = run.counted(f"read {reads} {reads} {errno.EIO}", *words, "-o", "kept")[0]
         same(f"{words}: the file of an answer whose last read fails", (found[:2], run.has("kept")), ((3, b""), b"as it was\n"))
-        refuse_memory(run, words, plain, growths)
 
 
-def refuse_memory(run, words, plain, growths):
-    """Runs a command with each growth of memory refused in turn, and sometimes all from there on."""
-    for number in range(1, growths + 1):
-        found = run.counted(f"memory {number} {number} memory", *words)[0]
-        count(found in (MEMORY, plain), f"{words}: growth {number} is refused: {found}")
-        if number % 10 == 1:
-            same(f"{words}: no growth from {number} on", run.counted(f"memory {number} 9999999 memory", *words)[0], MEMORY)
-
-
-@pytest.mark.cases(300)
+@pytest.mark.cases(60)
 def test_refused_calls_of_an_audit(program, room, refusing):
     """An audit of a folder reads its files less often than `session`, which writes their text. If a read fails, all are read again, as
     `session` reads them, so that what it tells then is told, and otherwise the answer stays."""
     run, folder = Run(program, room, refusing), Beside(room, program).recording()
     words = ("audit", folder)
-    plain, (growths, reads, *_) = run.counted("-", *words)
+    plain, (_, reads, *_) = run.counted("-", *words)
     same("a whole recording", (plain[0], plain[2][:8]), (0, b""))
     count(reads < run.counted("-", "session", folder)[1][1], f"an audit reads {reads} times")
     behind = b"file %s\n%s: its files make no session\n" % (folder.encode(), folder.encode())
@@ -406,7 +394,6 @@ def test_refused_calls_of_an_audit(program, room, refusing):
         (status, output, errors), _ = run.counted(f"read {number} 9999999 {errno.EIO}", *words)
         name = errors.split(b"\n")[0].removeprefix(b"file ")
         same(f"no read from {number} on", (status, output, errors), (3, b"", b"file %s\n%s: %s\n%s" % (name, name, NOT_READ, behind)))
-    refuse_memory(run, words, plain, growths)
 
 
 @pytest.mark.cases(20)
