@@ -216,6 +216,9 @@ def of_one_that_hangs(tests, room):
     hanging.is_running = lambda: False
     hanging.how_it_ended = lambda: "exited: load of migration failed"
     tests.wants("one that ended", (one.end_of(hanging, "hangs"), one.outcome.deaths), ("ENDED", ["target exited: load of migration failed"]))
+    waited = []
+    late = SimpleNamespace(name="target", hangs=False, migration=lambda: "ended", wait_for_end=waited.append, is_running=lambda: not waited, how_it_ended=lambda: "aborted: it")
+    tests.wants("one that does not answer, as it is about to end", one.end_of(late, "completed"), "ENDED")
 
 
 def of_the_forwarder(tests, room):
