@@ -255,12 +255,12 @@ def tests_of_leaving_out(browser, room, url):
     """The page leaves out what is too large, and has its verdict; it has no report where one would say something else, or has no place."""
     saved, report = f"{room}/saved", f"{room}/saved.html"
     browser.open(url)
-    browser.choose(write(f"{room}/large", large_of("wrong-shape", 900_000)), *example("handover", "session", "certificate"))
+    browser.choose(write(f"{room}/large", b"postcopy-session 1\n" + (b" " * 99 + b"\n") * 90_000), *example("handover", "session", "certificate"))
     said = browser.save_report(saved, report)
     count(said.startswith("1 of these files has more than 8.0 MiB"), f"what is said of a large file: {said}")
-    same("what is saved with a large file", [(it[0], it[3]) for it in entries_of(read(report, "r"))], [("large", "shape line 900022 second-send"), ("session", None), ("certificate", None)])
+    same("what is saved with a large file", [(it[0], it[3]) for it in entries_of(read(report, "r"))], [("large", "session-text line 2"), ("session", None), ("certificate", None)])
     opened(browser, report)
-    says(browser, "a report with a large file", "bad", "This session has not the right shape.", "line 900022", "large has 8.6 MiB, and is not in this report. The audit says of it: shape line 900022 second-send.")
+    says(browser, "a report with a large file", "odd", "This is not a session.", "large has 8.6 MiB, and is not in this report. The audit says of it: session-text line 2.")
     browser.choose(*example("handover"))
     browser.run("handed[0].file = new File([arguments[0]], 'session')", read(example("stale-page")[0], "r"))
     same("a report that would say something else", browser.save_report(saved, report), "There is no report: it would say faulty line 18 stale of session, and here that is clean. Open the files anew.")

@@ -82,9 +82,9 @@ static void look_at_blocks(void) {
 
 static void look_at_slot(int i, size_t length) {
     if ((size_t)slots[i].at % 16) fail("a block is not aligned");
-    for (size_t n = 0; n < length; n++) {
-        if (slots[i].at[n] != slots[i].byte) fail("the bytes of a block changed");
-    }
+    /* (all are as the first where each is as the next) */
+    unsigned char *at = slots[i].at;
+    if (length && (at[0] != slots[i].byte || memcmp(at, at + 1, length - 1))) fail("the bytes of a block changed");
 }
 
 static void fill(int i, size_t length) {
