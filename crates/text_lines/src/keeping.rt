@@ -5,7 +5,7 @@ ghost use Rattle.text_lines.specs.Text.{IsSpelling};
 ghost use Rattle.text_lines.specs.Answer.{Refused};
 
 use crate::{Alone, FaultKind, LineReader, Refusal, TextFault, finish_text, next_line, take_lines};
-use std::alloc::Global;
+use std::alloc::{AllocError, Global};
 
 /// At most this many first bytes of a refused line are kept. No line of a valid text is longer.
 const MOST_KEPT: usize = 8_448;
@@ -26,12 +26,10 @@ fn line_behind(bytes: &[u8], lines: u32) -> &[u8] {
 }
 
 /// Replaces what was kept with the first bytes of this line. Keeps nothing if memory runs out.
-fn keep_line(kept: &mut Vec<u8>, line: &[u8]) {
+fn keep_line(kept: &mut Vec<u8>, line: &[u8]) -> Result<(), AllocError> {
     kept.truncate(0);
     let (first, _) = line.split_at(line.len().min(MOST_KEPT));
-    if kept.extend_from_slice(first).is_err() {
-        kept.truncate(0);
-    }
+    kept.extend_from_slice(first)
 }
 
 /// Keeps the first bytes of the line after the first `lines` lines. What is kept already is the first of these lines,
@@ -40,17 +38,17 @@ pub(crate) fn keep_behind(kept: &mut Vec<u8>, lines: u32, after: &[u8]) {
     if lines == 0 {
         kept.truncate(MOST_KEPT);
     } else {
-        keep_line(kept, line_behind(after, lines - 1));
+        let _ = keep_line(kept, line_behind(after, lines - 1));
     }
 }
 
-/// Returns the first bytes of the line of a fault. There are none if memory runs out, or ran out.
-fn kept_line(alloc: Global, bytes: &[u8], fault: TextFault) -> Vec<u8> {
+/// Returns the first bytes of the line of a fault. There are none if memory ran out.
+fn kept_line(alloc: Global, bytes: &[u8], fault: TextFault) -> Result<Vec<u8>, AllocError> {
     let mut kept = Vec::new(alloc);
     if fault.kind != FaultKind::Memory {
-        keep_line(&mut kept, line_behind(bytes, fault.line.saturating_sub(1)));
+        keep_line(&mut kept, line_behind(bytes, fault.line.saturating_sub(1)))?;
     }
-    kept
+    Ok(kept)
 }
 
 /// Returns the first bytes of what was kept.
@@ -60,7 +58,8 @@ pub(crate) fn first_kept(kept: Vec<u8>) -> Vec<u8> {
     first
 }
 
-/// Returns the value that the bytes spell, or why they are refused. Allocates memory only for the refused line.
+/// Returns the value that the bytes spell, or why they are refused. Allocates memory only for the refused line. If there is
+/// none for it, that is the fault: without its line, a fault would be that of an empty one.
 pub fn read_or_why<R: LineReader>(
     reader: R,
     alloc: Global,
@@ -70,24 +69,30 @@ pub fn read_or_why<R: LineReader>(
     ensures { MatchResult result (λ v. IsSpelling R.spells v bytes.now) (λ why. Refused R.spells bytes.now why.fault.line why.fault.kind) }
 {
     let mut reader = reader;
-    let (unended, number) = match take_lines(&Alone, &mut reader, 1, bytes) {
-        Ok(taken) => taken,
-        Err(fault) => {
-            return Err(Refusal {
-                fault,
-                line: kept_line(alloc, bytes, fault),
-                is_last: false,
-                wanted: reader.wanted(),
-            });
+    let (fault, is_last, wanted) = match take_lines(&Alone, &mut reader, 1, bytes) {
+        Ok((unended, number)) => {
+            let wanted = reader.wanted();
+            match finish_text(reader, number, unended) {
+                Ok(value) => return Ok(value),
+                Err(fault) => (fault, true, wanted),
+            }
         }
+        Err(fault) => (fault, false, reader.wanted()),
     };
-    let wanted = reader.wanted();
-    match finish_text(reader, number, unended) {
-        Ok(value) => Ok(value),
-        Err(fault) => Err(Refusal {
+    match kept_line(alloc, bytes, fault) {
+        Ok(line) => Err(Refusal {
             fault,
-            line: kept_line(alloc, bytes, fault),
-            is_last: true,
+            line,
+            is_last,
+            wanted,
+        }),
+        Err(_) => Err(Refusal {
+            fault: TextFault {
+                line: 0,
+                kind: FaultKind::Memory,
+            },
+            line: Vec::new(alloc),
+            is_last,
             wanted,
         }),
     }
