@@ -56,12 +56,12 @@ async function reportOf(files, title) {
 // What a page says first of a file: of a session its verdict, where it is judged, and else what it is.
 const saidOf = (it) => (isSession(it) ? it.says : it.kind);
 
-// What a report says first of each of its files. It is opened, and its own worker judges.
-async function saidIn(report) {
+// What a report says first of each of its files of which this page said something. It is opened, and its own worker judges.
+async function saidIn(report, here) {
   const page = new DOMParser().parseFromString(report, "text/html"), { ask, end } = asker(page);
   try {
     const found = await opened(await keptIn(page));
-    for (const it of found.filter((it) => isSession(it) && !it.left)) {
+    for (const it of found.filter((it, place) => here[place] !== undefined && isSession(it) && !it.left)) {
       const { failure, says } = await judgement(ask, it.file);
       if (failure) throw new Error(`${it.name} cannot be judged in it: ${failure.words}`);
       it.says = says;
@@ -77,7 +77,7 @@ async function saveReport() {
   const files = handed, here = files.map(saidOf);
   at("of-report").textContent = "The report is made and judged ..";
   try {
-    const report = await reportOf(files, document.title), there = await saidIn(report);
+    const report = await reportOf(files, document.title), there = await saidIn(report, here);
     const other = here.findIndex((said, place) => said !== undefined && said !== there[place]);
     if (other >= 0) throw new Error(`it would say ${there[other]} of ${files[other].name}, and here that is ${here[other]}. Open the files anew`);
     const place = URL.createObjectURL(new File([report], "report.html", { type: "text/html" }));
