@@ -219,7 +219,45 @@ class Faults:
                 self.tests.same(what, "taken", "refused")
             except error:
                 self.tests.same(what, "refused", "refused")
-        self.tests.same("the names in C", subprocess.run([self.program, "named", self.folder()], stdout=subprocess.PIPE).stdout, b"")
+        ran = subprocess.run([self.program, "named", self.folder()], stdout=subprocess.PIPE, timeout=120)
+        self.tests.same("the names in C", (ran.returncode, ran.stdout), (0, b""))
+        for length in (63, 64, 65):
+            folder, name, found = self.folder(), "n" * length, None
+            with contextlib.suppress(ValueError):
+                join(folder, name)
+                with Log(folder, "guest") as log:
+                    found = log.recording
+            self.tests.same(f"a name of {length} letters", found, name if length < 65 else None)
+        self.of_planted_names()
+
+    def of_planted_names(self):
+        """What somebody has put in the place of a recording's name: a pipe that nobody writes, a folder, a link, to nothing or to another name; and
+        a file with no name, or with one that is too long."""
+        script = """if True:
+            import errno, os, sys
+            from postcopy.recorder import Log, join
+            os.makedirs(sys.argv[1])
+            os.chdir(sys.argv[1])
+            with open("stranger", "w") as file:
+                file.write("secret\\n")
+            def put(text):
+                with open("recording-name", "w") as file:
+                    file.write(text)
+            name = "recording-name"
+            for plant in (lambda: os.mkfifo(name), lambda: os.mkdir(name), lambda: os.symlink("none", name), lambda: os.symlink("stranger", name),
+                          lambda: put("no name\\n"), lambda: put("n" * 65 + "\\n")):
+                plant()
+                for call in (lambda: Log(".", "guest").recording, lambda: join(".", "another")):
+                    try:
+                        print(call())
+                    except OSError as error:
+                        print(errno.errorcode[error.errno], end=" ")
+                os.rmdir(name) if os.path.isdir(name) else os.remove(name)
+        """
+        ran = subprocess.run([sys.executable, "-B", "-c", script, self.folder()], env={**os.environ, "PYTHONPATH": f"{TOP}/bindings/python"},
+                             capture_output=True, encoding="ascii", timeout=120)
+        wanted = [*["EBADMSG"] * 4, *["ELOOP"] * 4, *["EBADMSG"] * 4]
+        self.tests.same("what is no name, in Python", (ran.stdout.split(), ran.stderr), (wanted, ""))
 
     def of_words(self):
         """Lines that are none: which file, which line, what stands there, and what it should be."""

@@ -41,6 +41,7 @@
 #define CELLS_MAX 512
 #define PATH_ROOM (PATH_MAX + 256) /* for a path of a folder, and what comes behind it */
 #define WORDS_MAX 160 /* a head, or a line but for its contents, is so much shorter that a last line has room behind it */
+#define AS_IT_IS (O_NOFOLLOW | O_NONBLOCK | O_CLOEXEC) /* how to open what somebody may have put there: a link, or a pipe that nobody writes */
 
 /* Whether a forked child has made a call, which it cannot record, and whether the log was closed. */
 enum { STRAYED = 1, CLOSED = 2 };
@@ -139,12 +140,14 @@ static int make_name(char name[POSTCOPY_NAME_SIZE])
 
 static int read_name(const char *path, char name[POSTCOPY_NAME_SIZE])
 {
-    int file = open(path, O_RDONLY | O_CLOEXEC);
+    int file = open(path, O_RDONLY | AS_IT_IS);
     if (file < 0)
         return -1;
+    struct stat found;
     char text[POSTCOPY_NAME_SIZE + 1] = {0}, *end;
-    ssize_t length = read(file, text, POSTCOPY_NAME_SIZE);
-    int error = length < 0 ? errno : EBADMSG;
+    int is_file = fstat(file, &found) == 0 && S_ISREG(found.st_mode), error = EBADMSG;
+    if (is_file && read(file, text, POSTCOPY_NAME_SIZE) < 0)
+        error = errno;
     close(file);
     if ((end = strchr(text, '\n')))
         *end = 0;
@@ -397,7 +400,7 @@ static void amend(const postcopy_log *log, int file)
     char path[PATH_ROOM];
     if (!amend_file(file, log->head)) {
         sprintf(path, "%s.%u", log->stem, log->opening);
-        if ((file = open(path, O_RDWR | O_CLOEXEC)) >= 0) {
+        if ((file = open(path, O_RDWR | AS_IT_IS)) >= 0) {
             amend_file(file, log->head);
             close(file);
         }

@@ -39,7 +39,7 @@ typedef struct postcopy_log postcopy_log;
    files are made in the folder, which is made if it does not exist. `first` is the number of the first record: 0, or if another
    process handed the log over (the guest's, after the halt) what postcopy_log_hand_over returned there. Returns NULL, with errno,
    if it fails: EINVAL if there is no such party, or `first` is POSTCOPY_LOST; EBADMSG if the folder's file recording-name does not
-   contain a name. */
+   contain a name, or is no file; ELOOP if it is a link. */
 postcopy_log *postcopy_log_open(const char *folder, const char *party, uint32_t first);
 
 /* Returns why a record of the log was not written: an errno, or 0 if all were. */

@@ -26,6 +26,7 @@
 #include <stdlib.h>
 #include <string.h>
 #include <sys/mman.h>
+#include <sys/stat.h>
 #include <sys/syscall.h>
 #include <sys/wait.h>
 #include <time.h>
@@ -419,7 +420,17 @@ static void leave(char *folder)
 
 static void name(const char *folder)
 {
-    char other[4096];
+    char other[4096], behind[4096], longest[POSTCOPY_NAME_SIZE + 1];
+    for (int length = POSTCOPY_NAME_SIZE - 2; length <= POSTCOPY_NAME_SIZE; length++) {
+        int is_name = length < POSTCOPY_NAME_SIZE;
+        snprintf(other, sizeof other, "%s-%d", folder, length);
+        snprintf(longest, sizeof longest, "%0*d", length, 0);
+        want(is_name ? postcopy_recording_join(other, longest) == 0 : postcopy_recording_join(other, longest) == -1 && errno == EINVAL, longest);
+        want(!is_name || (postcopy_recording_join(other, longest) == 0 && postcopy_recording_join(other, "0") == -1 && errno == EEXIST), "a long name's folder");
+        postcopy_log *log = postcopy_log_open(other, "guest", 0);
+        want(log && (strcmp(postcopy_log_recording(log), longest) == 0) == is_name, "a log of a long name");
+        postcopy_log_close(log);
+    }
     snprintf(other, sizeof other, "%s-other", folder);
     errno = 0;
     want(postcopy_recording_join(folder, "a b") == -1 && errno == EINVAL, "what is no name");
@@ -439,6 +450,19 @@ static void name(const char *folder)
     snprintf(other, sizeof other, "%s/recording-name", folder);
     want(truncate(other, 5) == 0, other);
     want(!postcopy_log_open(folder, "guest", 0) && errno == EBADMSG, "a name that was cut");
+    want(unlink(other) == 0 && mkfifo(other, 0666) == 0, other);
+    want(!postcopy_log_open(folder, "guest", 0) && errno == EBADMSG, "a pipe that nobody writes");
+    want(postcopy_recording_join(folder, "another") == -1 && errno == EBADMSG, "a pipe has no name");
+    want(unlink(other) == 0 && mkdir(other, 0777) == 0, other);
+    want(!postcopy_log_open(folder, "guest", 0) && errno == EBADMSG, "a folder has no name");
+    want(rmdir(other) == 0, other);
+    for (int is_there = 0; is_there < 2; is_there++) {
+        snprintf(behind, sizeof behind, is_there ? "%s-other/recording-name" : "%s-none", folder);
+        want(symlink(behind, other) == 0, other);
+        want(!postcopy_log_open(folder, "guest", 0) && errno == ELOOP, "a link");
+        want(postcopy_recording_join(folder, "another") == -1 && errno == ELOOP, "a link has no name");
+        want(unlink(other) == 0, other);
+    }
 }
 
 static void move(const char *folder, uint32_t pages)

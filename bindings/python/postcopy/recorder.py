@@ -30,6 +30,7 @@ import operator
 import os
 import re
 import secrets
+import stat
 import threading
 import warnings
 from typing import Any, Iterable, Optional, Union
@@ -41,6 +42,9 @@ __all__ = ["LOST", "Log", "join", "page_hash"]
 Folder = Union[str, "os.PathLike[str]"]
 
 _NAME = re.compile("[A-Za-z0-9_.-]{1,64}", re.ASCII)
+
+#: How to open what somebody may have put there: a link, or a pipe that nobody writes.
+_AS_IT_IS = os.O_NOFOLLOW | os.O_NONBLOCK | os.O_CLOEXEC
 
 
 def join(folder: Folder, recording: str) -> None:
@@ -57,18 +61,27 @@ def _name_recording(folder: Folder, given: Optional[str] = None) -> str:
     """Returns the name of a folder's recording: the one that it has, or else the given one, or else a new one."""
     os.makedirs(folder, exist_ok=True)
     path = os.path.join(folder, "recording-name")
-    if not os.path.exists(path):
-        own = f"{path}.{secrets.token_hex(16)}"
-        try:
-            with open(own, "x", encoding="ascii") as file:
-                file.write(f"{given or secrets.token_hex(16)}\n")
-            with contextlib.suppress(FileExistsError):
-                os.link(own, path)
-        finally:
-            with contextlib.suppress(OSError):
-                os.remove(own)
-    with open(path, encoding="ascii", errors="replace") as file:
-        name, end, _ = file.read(66).partition("\n")
+    with contextlib.suppress(FileNotFoundError):
+        return _read_name(path)
+    own = f"{path}.{secrets.token_hex(16)}"
+    try:
+        with open(own, "x", encoding="ascii") as file:
+            file.write(f"{given or secrets.token_hex(16)}\n")
+        with contextlib.suppress(FileExistsError):
+            os.link(own, path)
+    finally:
+        with contextlib.suppress(OSError):
+            os.remove(own)
+    return _read_name(path)
+
+
+def _read_name(path: str) -> str:
+    file = os.open(path, os.O_RDONLY | _AS_IT_IS)
+    try:
+        text = os.read(file, 65) if stat.S_ISREG(os.fstat(file).st_mode) else b""
+    finally:
+        os.close(file)
+    name, end, _ = text.decode("ascii", "replace").partition("\n")
     if not end or not _NAME.fullmatch(name):
         raise OSError(errno.EBADMSG, "what it holds is no name of a recording", path)
     return name
@@ -206,7 +219,7 @@ class Log:
         # (a child may have the file open, and no right to open it. Another may have its number or its name by now)
         if not _amend(self._file, self._head, why):
             with contextlib.suppress(OSError):
-                file = os.open(self._path, os.O_RDWR | os.O_CLOEXEC)
+                file = os.open(self._path, os.O_RDWR | _AS_IT_IS)
                 _amend(file, self._head, why)
                 os.close(file)
 
