@@ -101,6 +101,7 @@ class Faults:
         self.of_machines()
         self.of_lanes()
         self.of_children()
+        self.of_closed_files()
         self.of_python()
         self.of_dropped()
         self.of_output()
@@ -476,6 +477,42 @@ class Faults:
             self.tests.same(f"what its file tells of a child {how}", self.ends_of(log), ["halt", "next" if how == "that does not call" else "lost"])
             os.close(told)
             os.close(tell)
+
+    def of_closed_files(self):
+        """A program that closes what it did not open, and opens its own file, which gets the numbers: not a byte of it changes, and it stays open.
+        The log is lost, which is told, with few records and with more than a mapping holds."""
+        place = self.folder()
+        os.makedirs(place)
+        text = bytes(range(256)) * 4000
+        for first, count in ((3, 0), (3, 30000), (4, 1)):  # (of all its files, or of a thread's alone)
+            folder, own = self.recording(guest=None), f"{place}/own"
+            self.put(f"{folder}/recording-name", "made\n")
+            with open(own, "wb") as file:
+                file.write(text)
+            ran = subprocess.run([self.program, "closed", folder, own, str(first), str(count)], stdout=subprocess.PIPE)
+            with open(own, "rb") as file:
+                self.tests.same("a program's own file, in C", (ran.returncode, ran.stdout, file.read() == text), (0, b"", True))
+            ran = self.session(folder)
+            self.tests.same("what is said then", (ran.returncode, ran.stdout, "Bad file descriptor" in ran.stderr or ENDLESS in ran.stderr), (1, "", True))
+        script = """if True:
+            import os, sys
+            from postcopy.recorder import LOST, Log
+            log, dropped = Log(sys.argv[1], "guest"), Log(sys.argv[1], "pager")
+            log.halt()
+            os.closerange(3, 64)
+            files = [os.open(sys.argv[2], os.O_RDWR) for _ in range(16)]
+            print({log.halt() for _ in range(int(sys.argv[3]))} <= {LOST}, log.hand_over() == LOST, log.error.errno)
+            del log, dropped
+            print(len({(it.st_dev, it.st_ino) for it in map(os.fstat, files)}))
+        """
+        for count in (0, 100):
+            with open(own, "wb") as file:
+                file.write(text)
+            words = [sys.executable, "-B", "-c", script, self.folder(), own, str(count)]
+            ran = subprocess.run(words, capture_output=True, encoding="ascii", env={**os.environ, "PYTHONPATH": f"{TOP}/bindings/python"})
+            with open(own, "rb") as file:
+                found = ran.stdout.split(), ran.stderr, file.read() == text
+            self.tests.same("a program's own file, in Python", found, (["True", "True", str(errno.EBADF), "1"], "", True))
 
     @staticmethod
     def ends_of(log):

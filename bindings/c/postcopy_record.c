@@ -49,6 +49,9 @@ enum { STRAYED = 1, CLOSED = 2 };
 enum party { MACHINE, GUEST, SOURCE, LINK, LANE, PAGER, PARTIES };
 static const char *const names[PARTIES] = {"machine", "guest", "source", "link", "lane", "pager"};
 
+/* A descriptor that is closed, and one that was not its file's any more. */
+enum { ENDED = -1, ASTRAY = -2 };
+
 /* The file of one thread. `at` is where its next line goes; the mapping is of `start` on. It belongs to the thread and to the
    log, and goes with the last of them. (A thread that lives on behind the end of the log is not told of its own end any more, as
    the key is gone: these few bytes stay, and neither file nor mapping.) */
@@ -58,6 +61,8 @@ struct part {
     unsigned owner; /* as the log's */
     int is_first;   /* whether it is the log's first, which is open as long as the log is */
     atomic_int file;
+    dev_t device; /* of the file, as it was made */
+    ino_t inode;
     off_t start;
     char *base, *at;
 };
@@ -211,16 +216,31 @@ static off_t used(const struct part *part)
     return part->start + (part->at - part->base);
 }
 
+/* Whether a descriptor is still one of the part's file; if not, errno tells so. A program may close what it did not open, as by closefrom(3), and
+   open a file of its own that gets the number: nothing may be done to that one. (While a file is mapped, no other gets its inode.) */
+static int is_its_file(const struct part *part, int file)
+{
+    struct stat found;
+    if (fstat(file, &found) == 0 && found.st_dev == part->device && found.st_ino == part->inode)
+        return 1;
+    errno = EBADF;
+    return 0;
+}
+
 /* Ends a part: its file has its lines and no more. (A thread may end while its log is closed; one of them does it.) */
 static void end_part(struct part *part)
 {
-    int file = atomic_exchange(&part->file, -1);
+    int file = atomic_exchange(&part->file, ENDED);
     if (file < 0)
         return;
-    (void)!ftruncate(file, used(part)); /* where it fails the bytes 0 stay, and are no line */
+    if (is_its_file(part, file))
+        (void)!ftruncate(file, used(part)); /* where it fails the bytes 0 stay, and are no line */
+    if (is_its_file(part, file))
+        close(file);
+    else
+        atomic_store(&part->file, ASTRAY);
     if (part->base)
         munmap(part->base, CHUNK);
-    close(file);
 }
 
 static void disown_part(struct part *part)
@@ -248,13 +268,18 @@ static int has_room(struct part *part, size_t length)
     off_t end = part->base ? used(part) : 0, start = end - end % sysconf(_SC_PAGESIZE);
     if (!is_allowed(start + CHUNK))
         return 0;
-    while ((errno = posix_fallocate(part->file, start, CHUNK)) == EINTR) {
-    }
+    do
+        errno = is_its_file(part, part->file) ? posix_fallocate(part->file, start, CHUNK) : EBADF;
+    while (errno == EINTR);
     if (errno)
         return 0;
     char *base = mmap(NULL, CHUNK, PROT_READ | PROT_WRITE, MAP_SHARED, part->file, start);
     if (base == MAP_FAILED)
         return 0;
+    if (!is_its_file(part, part->file)) { /* (asked behind the call, it is known of what was mapped) */
+        munmap(base, CHUNK);
+        return 0;
+    }
     if (part->base)
         munmap(part->base, CHUNK);
     part->start = start;
@@ -278,6 +303,17 @@ static int open_new(const char *path)
     return above;
 }
 
+/* Begins a part's file, which is open: it has room for a head. If that fails, errno tells why. */
+static int begin_file(struct part *part)
+{
+    struct stat found;
+    if (fstat(part->file, &found))
+        return 0;
+    part->device = found.st_dev;
+    part->inode = found.st_ino;
+    return has_room(part, WORDS_MAX);
+}
+
 /* Begins a part of the calling thread: NULL, with errno, where that cannot be done. */
 static struct part *begin_part(postcopy_log *log)
 {
@@ -294,7 +330,7 @@ static struct part *begin_part(postcopy_log *log)
         sprintf(path, "%s.%u", log->stem, number);
         part->file = open_new(path);
     } while (part->file < 0 && errno == EEXIST);
-    if (part->file < 0 || !has_room(part, WORDS_MAX) || (errno = pthread_setspecific(log->mine, part))) {
+    if (part->file < 0 || !begin_file(part) || (errno = pthread_setspecific(log->mine, part))) {
         int error = errno;
         if (part->file >= 0)
             unlink(path);
@@ -494,10 +530,26 @@ const char *postcopy_log_recording(const postcopy_log *log)
     return log ? log->name : "";
 }
 
+/* Whether all descriptors of a log are still those of its files, or were. (A thread may end meanwhile, and give its own back.) */
+static int has_files(const postcopy_log *log)
+{
+    int error = errno, is_so = 1;
+    for (const struct part *part = atomic_load(&log->parts); part && is_so; part = part->next) {
+        int file = atomic_load(&part->file);
+        is_so = file == ENDED || (file >= 0 && (is_its_file(part, file) || atomic_load(&part->file) == ENDED));
+    }
+    errno = error;
+    return is_so;
+}
+
 int postcopy_log_error(const postcopy_log *log)
 {
     int error = log ? atomic_load(&log->error) : 0;
-    return !error && log && atomic_load(log->stray) & STRAYED ? EPERM : error;
+    if (error || !log)
+        return error;
+    if (log->owner == atomic_load(process) && !has_files(log))
+        return EBADF;
+    return atomic_load(log->stray) & STRAYED ? EPERM : 0;
 }
 
 /* Closes a log. Answers the number behind its last record, or POSTCOPY_LOST where one was lost, or where it is the parent's. (A child's call
@@ -507,6 +559,8 @@ static uint32_t close_log(postcopy_log *log, const char *word)
     if (!log)
         return POSTCOPY_LOST;
     int is_own = log->owner == atomic_load(process), error = postcopy_log_error(log);
+    if (error == EBADF)
+        lose(log, error);
     uint32_t count = is_own && !atomic_load(&log->error) ? atomic_load(&log->next) : POSTCOPY_LOST;
     struct part *mine = pthread_getspecific(log->mine);
     pthread_key_delete(log->mine);

@@ -13,7 +13,8 @@
    The recorder never ends a process. If a record cannot be written, the call returns POSTCOPY_LOST, the log ends there for all
    threads, and postcopy_log_error says why. EFBIG means that the process has reached its limit on files; it raises no SIGXFSZ.
    (Others can end a process: if somebody truncates a file, or a disk does not keep space that it gave, the next write there
-   raises SIGBUS.) A log that is NULL records nothing, and all its calls return POSTCOPY_LOST. So do calls on a log in a forked
+   raises SIGBUS.) EBADF means that the program has closed a descriptor of the log, as closefrom(3) does. Whatever has its number then
+   is left alone. A log that is NULL records nothing, and all its calls return POSTCOPY_LOST. So do calls on a log in a forked
    child: a child opens its own logs. The log's last line then tells that a record was not written (EPERM), also if the parent has
    closed it, so that the recording counts as one that is not whole. A signal handler may not call where it may interrupt another
    call of its thread on the log.
@@ -42,7 +43,7 @@ typedef struct postcopy_log postcopy_log;
    contain a name, or is no file; ELOOP if it is a link. */
 postcopy_log *postcopy_log_open(const char *folder, const char *party, uint32_t first);
 
-/* Returns why a record of the log was not written: an errno, or 0 if all were. */
+/* Returns why a record of the log was not written, or can be no more (EBADF): an errno, or 0 if all were. */
 int postcopy_log_error(const postcopy_log *log);
 
 /* Closes the log. Nobody may use it meanwhile or later. Its files then say how many records it has. Without this no record is

@@ -5,6 +5,7 @@
        recording locked FOLDER THREADS RECORDS    appends under a lock, each record with the place that it has to have
        recording endless FOLDER THREADS           appends until it is killed; ANSWERED in the folder has what was answered
        recording full FOLDER                      appends until a record is lost, and tells how many were not, and why
+       recording closed FOLDER FILE FROM RECORDS  closes all descriptors from a number on, opens the file as often, and appends
        recording refused FOLDER                   calls that record nothing
        recording forked FOLDER                    records on, where forked children end in each way that they have
        recording stray FOLDER                     has a forked child call on its parent's log
@@ -361,6 +362,42 @@ static void late(const char *folder)
     }
 }
 
+/* A program that closes what it did not open, and then opens its own file, which gets the numbers: nothing is done to that. Of the log, a file
+   is closed that this thread writes, or one of a thread that ends then. */
+
+static void *append_and_wait(void *log)
+{
+    want(postcopy_record_halt(log) == 0, "a record of a thread");
+    pthread_barrier_wait(&begun);
+    pthread_barrier_wait(&begun);
+    return NULL;
+}
+
+static void close_all(const char *folder, const char *name, int from, long count)
+{
+    int files[16];
+    pthread_t thread;
+    struct stat found, own;
+    postcopy_log *log = postcopy_log_open(folder, "guest", 0);
+    pthread_barrier_init(&begun, NULL, 2);
+    want(log && pthread_create(&thread, NULL, append_and_wait, log) == 0, "a log and a thread");
+    pthread_barrier_wait(&begun);
+    want(postcopy_record_halt(log) == 1 && postcopy_log_error(log) == 0, "a record, and no error");
+    for (int file = from; file < 64; file++)
+        close(file);
+    for (int n = 0; n < 16; n++)
+        want((files[n] = open(name, O_RDWR)) >= from, name);
+    pthread_barrier_wait(&begun);
+    pthread_join(thread, NULL);
+    for (long n = 0; n < count; n++)
+        postcopy_record_halt(log);
+    want(postcopy_log_error(log) == EBADF, "the log is lost");
+    want(postcopy_log_hand_over(log) == POSTCOPY_LOST, "nobody goes on with it");
+    want(stat(name, &own) == 0, name);
+    for (int n = 0; n < 16; n++)
+        want(fstat(files[n], &found) == 0 && found.st_ino == own.st_ino, "a file of its own is open");
+}
+
 /* A process that changes its working folder, and a thread that appends for the first time then. */
 
 static void *append_one(void *log)
@@ -531,6 +568,8 @@ int main(int count, char **words)
         stray(folder);
     else if (!strcmp(what, "late"))
         late(folder);
+    else if (!strcmp(what, "closed") && count > 5)
+        close_all(folder, words[3], atoi(words[4]), atol(words[5]));
     else if (!strcmp(what, "elsewhere"))
         elsewhere(folder);
     else if (!strcmp(what, "leaving"))

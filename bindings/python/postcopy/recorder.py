@@ -18,6 +18,7 @@ whether this module or the C recorder wrote them, and says what is missing. So c
 If a record cannot be written, the call returns LOST, the log ends there, and `error` says why. Calls on a log that was closed, and in a
 forked child on the logs that its parent opened, also return LOST, and so does that of a signal handler that interrupts a call of its
 thread on the log. The log's last line then tells that a record was not written, so that the recording counts as one that is not whole.
+If the program closes a log's file itself, as by os.closerange, the log is lost (EBADF), and whatever has its descriptor then is left alone.
 Nothing here needs the library.
 """
 from __future__ import annotations
@@ -87,6 +88,15 @@ def _read_name(path: str) -> str:
     return name
 
 
+def _is_of(file: int, head: bytes, _pread: Any = os.pread) -> bool:
+    """Whether a descriptor is one of the log's file, which begins so. A program may close what it did not open, as by os.closerange, and open a
+    file of its own that gets the number: nothing may be done to that one. (On a network, to ask for the inode may take a write to the server.)"""
+    try:
+        return file >= 0 and _pread(file, len(head), 0) == head
+    except OSError:
+        return False
+
+
 class Log:
     """The log of a party: "guest", "source", "link", "lane" or "pager", or "machine" for the first three calls.
 
@@ -111,7 +121,7 @@ class Log:
         self.recording: Optional[str] = None
         self._party, self._next, self._lock = party, first, threading.RLock()
         self._process, self._file = os.getpid(), -1
-        self._path, self._head = "", b""  # of the file, and how it begins
+        self._path, self._head = "", b""  # of the file, and how it begins, as far as that is written
         self._stray: Optional[mmap.mmap] = None  # whether a forked child has made a call, and whether the log was closed: both share this
         self._is_late = False  # whether a call on the log that was closed was told
         self._is_writing, self._is_ending = False, False  # whether the thread with the lock is in a call, which a signal handler may interrupt
@@ -143,15 +153,19 @@ class Log:
         data, written = text.encode("ascii"), 0
         try:
             while written < len(data):
+                if not _is_of(self._file, self._head):
+                    raise _closed_by_others()
                 written += os.write(self._file, data[written:])
         except OSError:
-            os.ftruncate(self._file, os.fstat(self._file).st_size - written)
+            if written and _is_of(self._file, self._head):
+                os.ftruncate(self._file, os.fstat(self._file).st_size - written)
             raise
 
-    def _give_back(self, _close: Any = os.close) -> None:
+    def _give_back(self, _close: Any = os.close, _is_of: Any = _is_of) -> None:
         """Closes the file, once: another may have its number from then on."""
         file, self._file = self._file, -1
-        _close(file)
+        if _is_of(file, self._head):
+            _close(file)
 
     def __del__(self, _getpid: Any = os.getpid, _warn: Any = warnings.warn) -> None:
         # (as a process ends, its modules lose their names: what is called here stands in the heads of these two. A child did not open the
@@ -192,6 +206,8 @@ class Log:
                 self._is_ending = False
 
     def _end_open(self, word: Optional[str]) -> int:
+        if self.error is None and not _is_of(self._file, self._head):
+            self.error = _closed_by_others()
         number = self._next if self.error is None else LOST
         if self.error is None and self._stray is not None and self._stray[0]:
             # (it took no number, so that another process can go on)
@@ -377,11 +393,15 @@ class Log:
         return self._append("pager", "all")
 
 
+def _closed_by_others() -> OSError:
+    return OSError(errno.EBADF, "somebody else has closed the log's file")
+
+
 def _amend(file: int, head: bytes, why: int) -> bool:
     """Puts into the file of a log that was closed that a record was not written, in the place of its last line. Returns whether this is the
     file."""
     with contextlib.suppress(OSError):
-        if file >= 0 and os.pread(file, len(head), 0) == head:
+        if _is_of(file, head):
             length = os.fstat(file).st_size
             text = os.pread(file, 160, max(0, length - 160))
             start = text.rfind(b"\n", 0, -1) + 1
