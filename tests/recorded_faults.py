@@ -48,6 +48,7 @@ class Faults:
 
     def __init__(self, tests, room, command=None, program=None):
         self.tests, self.room, self.command, self.program, self.made = tests, room, command, program, 0
+        self.written = {**os.environ, "WRITTEN": "1"}  # (where the program maps no file of a log)
 
     def folder(self):
         self.made += 1
@@ -93,7 +94,7 @@ class Faults:
 
     def run(self):
         self.of_whole_ones()
-        self.of_full_disks()
+        self.of_limits()
         self.of_lost_files()
         self.of_slips()
         self.of_two_recordings()
@@ -117,8 +118,8 @@ class Faults:
             lines += "lost 28\n"
             self.wants(f"a record of the {log} is lost", self.recording(**{log: lines}), 1, f"{log}: FOLDER/{log}.1.0:{len(MOVED[log]) + 4}: a record was not written: No space left on device")
 
-    def of_full_disks(self):
-        """A recording that does not fit: a file that may not grow, and a small disk. With room it is one of a fault."""
+    def of_limits(self):
+        """A recording that does not fit, as a file may not grow. With room it is one of a fault."""
         folder = self.folder()
         self.tests.same("with room", subprocess.run([self.program, "moved", folder, str(PAGES)]).returncode, 0)
         ran = self.session(folder)
@@ -127,18 +128,9 @@ class Faults:
         ran = subprocess.run([self.program, "moved", folder, str(PAGES)], preexec_fn=limited(300000))
         self.tests.same("a file that may not grow ends no process", ran.returncode, 0)
         self.wants("a file that may not grow", folder, 1, f"machine: FOLDER/{self.only(folder, 'machine')}:36: a record was not written: File too large")
-        folder = self.folder()
-        os.makedirs(folder)
-        script = 'mount -t tmpfs -o size=1100k none "$1" && mkdir "$1/log" && "$2" moved "$1/log" "$3" && cp -r "$1/log" "$1.kept"'
-        unshare = ["unshare", "--mount", *([] if os.getuid() == 0 else ["--map-root-user"]), "sh", "-c", script, "", folder, self.program, str(PAGES)]
-        with contextlib.suppress(FileNotFoundError):
-            subprocess.run(unshare, stderr=subprocess.DEVNULL)
-        if os.path.isdir(f"{folder}.kept"):
-            folder = f"{folder}.kept"
-            self.wants("a full disk", folder, 1, f"machine: FOLDER/{self.only(folder, 'machine')}:36: a record was not written: No space left on device")
-        else:
-            self.tests.left_out("a recording on a full disk, since no small one can be mounted here")
-        self.tests.same("a limit of no bytes ends no process", subprocess.run([self.program, "full", self.folder()], preexec_fn=limited(0), stdout=subprocess.PIPE).returncode, 1)
+        for env in (os.environ, self.written):
+            ran = subprocess.run([self.program, "full", self.folder()], preexec_fn=limited(0), stdout=subprocess.PIPE, env=env)
+            self.tests.same("a limit of no bytes ends no process", ran.returncode, 1)
 
     def only(self, folder, log):
         """The name of a log's only file."""
@@ -336,9 +328,9 @@ class Faults:
 
     def of_children(self):
         """Forked children: none hangs, none records, and none does anything to its parent's files."""
-        for mode in ("forked", "leaving"):
+        for mode, env in (("forked", os.environ), ("leaving", os.environ), ("forked", self.written), ("leaving", self.written)):
             folder = self.folder()
-            ran = subprocess.run([self.program, mode, folder], stdout=subprocess.PIPE, timeout=120)
+            ran = subprocess.run([self.program, mode, folder], stdout=subprocess.PIPE, timeout=120, env=env)
             self.tests.same(f"bindings/c/tests/recording.c {mode}", (ran.returncode, ran.stdout), (0, b""))
             ends = sum("\nnext " in self.has(f"{folder}/{name}") for name in os.listdir(folder))
             self.tests.same(f"the ends of {mode} logs", ends, {"forked": 1, "leaving": 200}[mode])
@@ -374,10 +366,11 @@ class Faults:
     def of_strays(self):
         """Calls that cannot be recorded: on a log by a child of its process, and on a closed one, as by a thread that ends late. What was recorded
         stays, and the log says that a record was not written."""
-        folder = self.folder()
-        ran = subprocess.run([self.program, "stray", folder], stdout=subprocess.PIPE, timeout=120)
-        self.tests.same("bindings/c/tests/recording.c stray", (ran.returncode, ran.stdout), (0, b""))
-        self.tests.same("a child's call in C", self.has(f"{folder}/{self.only(folder, 'guest')}").split("\n", 3)[3], f"0 halt\n1 resume 1\nlost {errno.EPERM}\n")
+        for env in (os.environ, self.written):
+            folder = self.folder()
+            ran = subprocess.run([self.program, "stray", folder], stdout=subprocess.PIPE, timeout=120, env=env)
+            self.tests.same("bindings/c/tests/recording.c stray", (ran.returncode, ran.stdout), (0, b""))
+            self.tests.same("a child's call in C", self.has(f"{folder}/{self.only(folder, 'guest')}").split("\n", 3)[3], f"0 halt\n1 resume 1\nlost {errno.EPERM}\n")
         log = Log(self.folder(), "guest")
         log.halt()
         child = os.fork()
@@ -449,15 +442,16 @@ class Faults:
 
     def of_late_children(self):
         """A child that was forked off in front of the close, and calls behind it: the log says that a record was not written."""
-        folder = self.folder()
-        ran = subprocess.run([self.program, "late", folder], stdout=subprocess.PIPE, timeout=120)
-        self.tests.same("bindings/c/tests/recording.c late", (ran.returncode, ran.stdout), (0, b""))
-        ends = {}
-        for name in os.listdir(folder):
-            if name.startswith("guest."):
-                first, *_, last = self.has(f"{folder}/{name}").split("\n", 2)[2].splitlines()
-                ends[first.split()[2]] = last
-        self.tests.same("the last lines in C", ends, {**dict.fromkeys("024", f"lost {errno.EPERM}"), "6": "end 8"})
+        for env in (os.environ, self.written):
+            folder = self.folder()
+            ran = subprocess.run([self.program, "late", folder], stdout=subprocess.PIPE, timeout=120, env=env)
+            self.tests.same("bindings/c/tests/recording.c late", (ran.returncode, ran.stdout), (0, b""))
+            ends = {}
+            for name in os.listdir(folder):
+                if name.startswith("guest."):
+                    first, *_, last = self.has(f"{folder}/{name}").split("\n", 2)[2].splitlines()
+                    ends[first.split()[2]] = last
+            self.tests.same("the last lines in C", ends, {**dict.fromkeys("024", f"lost {errno.EPERM}"), "6": "end 8"})
         for how in ("that may open nothing", "that has nothing open", "that does not call"):
             log, (told, tell) = Log(self.folder(), "guest"), os.pipe()
             log.halt()
@@ -484,16 +478,17 @@ class Faults:
         place = self.folder()
         os.makedirs(place)
         text = bytes(range(256)) * 4000
-        for first, count in ((3, 0), (3, 30000), (4, 1)):  # (of all its files, or of a thread's alone)
-            folder, own = self.recording(guest=None), f"{place}/own"
-            self.put(f"{folder}/recording-name", "made\n")
-            with open(own, "wb") as file:
-                file.write(text)
-            ran = subprocess.run([self.program, "closed", folder, own, str(first), str(count)], stdout=subprocess.PIPE)
-            with open(own, "rb") as file:
-                self.tests.same("a program's own file, in C", (ran.returncode, ran.stdout, file.read() == text), (0, b"", True))
-            ran = self.session(folder)
-            self.tests.same("what is said then", (ran.returncode, ran.stdout, "Bad file descriptor" in ran.stderr or ENDLESS in ran.stderr), (1, "", True))
+        for env in (os.environ, self.written):
+            for first, count in ((3, 0), (3, 30000), (4, 1)):  # (of all its files, or of a thread's alone)
+                folder, own = self.recording(guest=None), f"{place}/own"
+                self.put(f"{folder}/recording-name", "made\n")
+                with open(own, "wb") as file:
+                    file.write(text)
+                ran = subprocess.run([self.program, "closed", folder, own, str(first), str(count)], stdout=subprocess.PIPE, env=env)
+                with open(own, "rb") as file:
+                    self.tests.same("a program's own file, in C", (ran.returncode, ran.stdout, file.read() == text), (0, b"", True))
+                ran = self.session(folder)
+                self.tests.same("what is said then", (ran.returncode, ran.stdout, "Bad file descriptor" in ran.stderr or ENDLESS in ran.stderr), (1, "", True))
         script = """if True:
             import os, sys
             from postcopy.recorder import LOST, Log

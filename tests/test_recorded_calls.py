@@ -1,8 +1,9 @@
 """Records with the C recorder and with Python's, makes sessions of the files, and has them judged.
 
-Numbers under threads and under a lock, processes that are killed while they record, a disk that is full; every call of both
-recorders; sessions of files beside known ones (made_sessions.py); and a real migration by userfaultfd, with no mistake
-and with each of its three, and with one of its processes or both killed. What is wanted comes of what the mistake is.
+Numbers under threads and under a lock, processes that are killed while they record, full disks of five file systems; every call
+of both recorders, and of C's where it maps no file; sessions of files beside known ones (made_sessions.py); and a real migration by
+userfaultfd, with no mistake and with each of its three, and with one of its processes or both killed. What is wanted comes of what
+the mistake is.
 """
 import contextlib
 import errno
@@ -35,6 +36,30 @@ KILLS = 12  # of each recorder, and of the migration
 # Each mistake of the example, the reason that it has to be found for, and the record: one of page 5. Before it is placed the
 # guest may use the page in either way; the old page is sent, and the second placement is one.
 MISTAKES = (("--wake-first", "early", "[rw] [01] 5 "), ("--old-page", "stale", "send 5 "), ("--place-twice", "twice", "place 5 "))
+
+# The environment in which the C program maps no file, but writes each line.
+WRITTEN = {**os.environ, "WRITTEN": "1"}
+
+# File systems on small disks: what mounts one on the folder `disk`. The C recorder maps files on the first two.
+DISKS = {
+    "tmpfs": "mount -t tmpfs -o size=1m none disk",
+    "ext4": "truncate -s 8M image && mkfs.ext4 -q image && mount -o loop image disk",
+    "xfs": "truncate -s 300M image && mkfs.xfs -q image && mount -o loop image disk",
+    "btrfs": "truncate -s 120M image && mkfs.btrfs -q image && mount -o loop image disk",
+    "overlay": "mount -t tmpfs -o size=1m none upper && mkdir upper/new upper/work && mount -t overlay -o lowerdir=lower,upperdir=upper/new,workdir=upper/work none disk",
+}
+
+# Fills the disk while a log is open on it, whose first records are written: where they are in a snapshot too, they are copied when more is
+# written behind them.
+FILL = """exec 2> /dev/null
+sync -f disk
+! findmnt -t btrfs disk > /dev/null || btrfs -q subvolume snapshot disk disk/snapshot
+for size in 67108864 4194304 262144 4096; do
+    while fallocate -l $size disk/fill.$size.$n; do n=$((n + 1)); done
+done
+cat /dev/zero > disk/rest
+sync -f disk
+"""
 
 # Records until it is killed, and keeps what was answered last as the C program does.
 ENDLESS = """
@@ -113,7 +138,8 @@ class Recorders:
     def __init__(self, tests, room):
         self.tests, self.room = tests, room
         self.program = f"{room}/recording"
-        subprocess.run(["cc", *STRICT, "-o", self.program, f"{TOP}/bindings/c/tests/recording.c", f"{TOP}/bindings/c/postcopy_record.c"], check=True)
+        sources = [f"{TOP}/bindings/c/tests/recording.c", f"{TOP}/bindings/c/postcopy_record.c"]
+        subprocess.run(["cc", *STRICT, "-Wl,--wrap=fstatfs", "-o", self.program, *sources], check=True)
         self.made = 0
 
     def folder(self):
@@ -129,6 +155,7 @@ class Recorders:
         self.of_calls(known)
         self.of_threads()
         self.of_kills()
+        self.of_limits()
         self.of_full_disks()
         self.of_refused_calls()
         self.of_hashes()
@@ -142,10 +169,12 @@ class Recorders:
             for party, _, _ in calls:
                 numbers.append(counts.get(party, 0))
                 counts[party] = numbers[-1] + 1
-            by_c, by_python = self.folder(), self.folder()
+            by_c, by_python, written = self.folder(), self.folder(), self.folder()
             given = "".join(" ".join([party, call, *map(self.of_c, fields)]) + "\n" for party, call, fields in calls)
-            answered = self.run_c("calls", by_c, given=given.encode()).split()
-            self.tests.same("the numbers that C answers", answered, [b"%d" % number for number in numbers])
+            for folder, env in ((by_c, None), (written, WRITTEN)):
+                answered = self.run_c("calls", folder, given=given.encode(), env=env).split()
+                self.tests.same("the numbers that C answers", answered, [b"%d" % number for number in numbers])
+            self.tests.same("files that are not mapped", *(sorted(text.partition(b"\nlog ")[2] for text in lines_of(it).values()) for it in (written, by_c)))
             logs = {party: Log(by_python, party) for party in counts}
             answered = [getattr(logs[party], call)(*map(self.of_python, fields)) for party, call, fields in calls]
             self.tests.same("the numbers that Python answers", answered, numbers)
@@ -167,8 +196,12 @@ class Recorders:
         return [int(field[at : at + 16], 16) for at in range(0, len(field), 16)] if len(field) % 16 == 0 else int(field)
 
     def of_threads(self):
+        for env in (None, WRITTEN):
+            self.of_threads_in(env)
+
+    def of_threads_in(self, env):
         folder = self.folder()
-        self.run_c("threads", folder, "4", "60000")
+        self.run_c("threads", folder, "4", "60000", env=env)
         records = sorted((int(number), vcpu, int(last)) for text in lines_of(folder).values() for number, _, vcpu, _, _, last in (line.split() for line in records_of(text)))
         self.tests.same("numbers of threads", [number for number, _, _ in records], list(range(240000)))
         newest, is_chain = {}, True
@@ -184,11 +217,11 @@ class Recorders:
     def of_kills(self):
         chance, halves = random.Random(2), 0
         python = [sys.executable, "-B", "-c", ENDLESS]
-        for name, start in (("C", [self.program, "endless"]), ("Python", python)):
+        for name, start, env in (("C", [self.program, "endless"], os.environ), ("C, written", [self.program, "endless"], WRITTEN), ("Python", python, os.environ)):
             for _ in range(KILLS):
                 folder = self.folder()
                 os.makedirs(folder)
-                ran = subprocess.Popen([*start, folder, "3"], env={**os.environ, "PYTHONPATH": f"{TOP}/bindings/python"})
+                ran = subprocess.Popen([*start, folder, "3"], env={**env, "PYTHONPATH": f"{TOP}/bindings/python"})
                 while not any(text.count(b"\n") > 10 for text in lines_of(folder).values()):
                     time.sleep(0.01)
                 time.sleep(chance.random() * 0.05)
@@ -219,29 +252,14 @@ class Recorders:
         self.tests.same(f"{name}: records that were answered for and are not there", lost, [])
         return halves
 
-    def of_full_disks(self):
-        """A file that may not grow, and a disk of 1 MiB: the log ends there, and what was recorded before is a log."""
-        folder = self.folder()
+    def of_limits(self):
+        """A file that may not grow: the log ends there, and what was recorded before is a log."""
         limit = lambda: resource.setrlimit(resource.RLIMIT_FSIZE, (600000, 600000))
-        said = self.run_c("full", folder, preexec_fn=limit).split()
-        self.tests.same("why a file did not grow", said[1], b"EFBIG")
-        self.of_full(folder, int(said[0]))
-        folder = self.folder()
-        os.makedirs(folder)
-        script = 'mount -t tmpfs -o size=1m none "$1" && "$2" full "$1/log" > "$1.said" && cp "$1/log/"* "$1.kept"'
-        os.makedirs(f"{folder}.kept")
-        unshare = ["unshare", "--mount", *([] if os.getuid() == 0 else ["--map-root-user"]), "sh", "-c", script, "", folder, self.program]
-        try:
-            ran = subprocess.run(unshare, stderr=subprocess.PIPE, encoding="ascii").returncode
-        except FileNotFoundError:
-            ran = 1
-        if ran != 0 and not os.path.exists(f"{folder}.said"):
-            self.tests.left_out("a full disk, since no small one can be mounted here")
-        else:
-            with open(f"{folder}.said", encoding="ascii") as file:
-                kept, error = file.read().split()
-            self.tests.same("a full disk", (ran, error), (0, "ENOSPC"))
-            self.of_full(f"{folder}.kept", int(kept))
+        for env in (None, WRITTEN):
+            folder = self.folder()
+            said = self.run_c("full", folder, preexec_fn=limit, env=env).split()
+            self.tests.same("why a file did not grow", said[1], b"EFBIG")
+            self.of_full(folder, int(said[0]), "File too large")
         folder = self.folder()
         words = ("import sys; from postcopy.recorder import LOST, Log; log, kept = Log(sys.argv[1], 'guest'), 0\n"
                  "while log.write(0, 0, 0, kept) == kept: kept += 1\n"
@@ -249,14 +267,35 @@ class Recorders:
         ran = subprocess.run([sys.executable, "-B", "-c", words, folder], stdout=subprocess.PIPE, preexec_fn=limit, env={**os.environ, "PYTHONPATH": f"{TOP}/bindings/python"})
         kept, *said = ran.stdout.split()
         self.tests.same("a file that does not grow, in Python", said, [b"True", b"True"])
-        self.of_full(folder, int(kept))
+        self.of_full(folder, int(kept), "has no end")
 
-    def of_full(self, folder, kept):
+    def of_full_disks(self):
+        """A full disk of each file system: the process goes on, and the log ends there and says so."""
+        script = 'PATH="$PATH:/usr/sbin:/sbin"; { %s; } > /dev/null 2>&1 || exit 77; "$1" full disk/log "$2" > said; echo $? >> said; cp -r disk/log log'
+        unshare = ["unshare", "--mount", *([] if os.getuid() == 0 else ["--map-root-user"]), "sh", "-c"]
+        for kind, mounting in DISKS.items():
+            folder = self.folder()
+            for name in ("disk", "lower", "upper"):
+                os.makedirs(f"{folder}/{name}")
+            with contextlib.suppress(FileNotFoundError):
+                subprocess.run([*unshare, script % mounting, "", self.program, FILL], cwd=folder, stdin=subprocess.DEVNULL, stderr=subprocess.DEVNULL)
+            if not os.path.exists(f"{folder}/said"):
+                self.tests.left_out(f"a full disk of {kind}, since no small one can be mounted here")
+                continue
+            with open(f"{folder}/said", encoding="ascii") as file:
+                kept, *said = file.read().split()
+            self.tests.same(f"a full disk of {kind}", said, ["ENOSPC", "0"])
+            self.of_full(f"{folder}/log", int(kept), "No space left on device", "has no end")
+
+    def of_full(self, folder, kept, *why):
         with Log(folder, "machine") as machine:
             machine.machine(1, 1)
         session, _ = session_of([folder])
         self.tests.same("a log that ended on a full disk", session.logs["guest"], [("w", 0, 0, 0, n) for n in range(kept)])
-        self.tests.same("is not empty", kept > 1000, True)
+        self.tests.same("is not empty", kept >= 1000, True)
+        ran = subprocess.run([self.tests.program, "session", folder], capture_output=True, encoding="ascii")
+        told = [it for it in why if it in ran.stderr]
+        self.tests.same("what the program says of it", (ran.returncode, ran.stdout, bool(told) or ran.stderr), (1, "", True))
 
     def of_refused_calls(self):
         folder = self.folder()
@@ -429,14 +468,14 @@ def test_made_sessions(program, room):
 
 
 @pytest.mark.slow
-@pytest.mark.cases(412)
+@pytest.mark.cases(700)
 def test_recorders(program, room, cc):
     tests = Tests(program)
     Recorders(tests, room).run(MadeSessions(tests, room).known)
 
 
 @pytest.mark.slow
-@pytest.mark.cases(333)
+@pytest.mark.cases(356)
 def test_faults(program, room, cc):
     tests = Tests(program)
     Faults(tests, room, program, Recorders(tests, room).program).run()

@@ -12,7 +12,8 @@
    where the log was handed over, and `lost ERRNO` where a record was not written. The folder's file recording-name has NAME.
 
    A file grows by chunks, which are taken from the disk before they are mapped. Behind the last line there are bytes 0, until
-   the thread or the log ends. The end of a line is written last, so one that a process did not live to finish has none. */
+   the thread or the log ends. On a file system that may not keep what was taken, a file is not mapped: each line is written to it.
+   The end of a line is written last, so one that a process did not live to finish has none. */
 #ifdef __cplusplus
 #error "this file is C, also for a program in C++: compile it by a compiler for C, cc -c postcopy_record.c, and link its object"
 #else
@@ -35,6 +36,7 @@
 #include <sys/random.h>
 #include <sys/resource.h>
 #include <sys/stat.h>
+#include <sys/vfs.h>
 #include <unistd.h>
 
 #define CHUNK ((off_t)1 << 18)
@@ -52,17 +54,24 @@ static const char *const names[PARTIES] = {"machine", "guest", "source", "link",
 /* A descriptor that is closed, and one that was not its file's any more. */
 enum { ENDED = -1, ASTRAY = -2 };
 
-/* The file of one thread. `at` is where its next line goes; the mapping is of `start` on. It belongs to the thread and to the
-   log, and goes with the last of them. (A thread that lives on behind the end of the log is not told of its own end any more, as
-   the key is gone: these few bytes stay, and neither file nor mapping.) */
+/* Which file a descriptor is of, and how long it is. */
+struct identity {
+    uint64_t device, inode;
+    off_t length;
+};
+enum { ANY = -1 }; /* a length that is not compared */
+
+/* The file of one thread. `at` is where its next line goes. If the file is mapped, `base` is its contents from `start` on, and otherwise
+   memory for one line, which goes to `start`. A part belongs to the thread and to the log, and goes with the last of them. (A thread that lives
+   on behind the end of the log is not told of its own end any more, as the key is gone: these few bytes stay, and neither file nor mapping.) */
 struct part {
     struct part *next;
     atomic_int owners;
     unsigned owner; /* as the log's */
     int is_first;   /* whether it is the log's first, which is open as long as the log is */
     atomic_int file;
-    dev_t device; /* of the file, as it was made */
-    ino_t inode;
+    struct identity made; /* the file, as it was made */
+    int is_mapped;
     off_t start;
     char *base, *at;
 };
@@ -216,12 +225,30 @@ static off_t used(const struct part *part)
     return part->start + (part->at - part->base);
 }
 
-/* Whether a descriptor is still one of the part's file; if not, errno tells so. A program may close what it did not open, as by closefrom(3), and
-   open a file of its own that gets the number: nothing may be done to that one. (While a file is mapped, no other gets its inode.) */
-static int is_its_file(const struct part *part, int file)
+/* Finds out what a descriptor is of, if it is open. (For `fstat`, a network's file system may send its server first all that was written.) */
+static int identify(int file, struct identity *found)
 {
-    struct stat found;
-    if (fstat(file, &found) == 0 && found.st_dev == part->device && found.st_ino == part->inode)
+#ifdef STATX_INO
+    struct statx told;
+    if (statx(file, "", AT_EMPTY_PATH | AT_STATX_DONT_SYNC, STATX_INO | STATX_SIZE, &told))
+        return 0;
+    *found = (struct identity){(uint64_t)told.stx_dev_major << 32 | told.stx_dev_minor, told.stx_ino, told.stx_size};
+#else
+    struct stat told;
+    if (fstat(file, &told))
+        return 0;
+    *found = (struct identity){told.st_dev, told.st_ino, told.st_size};
+#endif
+    return 1;
+}
+
+/* Whether a descriptor is still one of the part's file; if not, errno tells so. A program may close what it did not open, as by closefrom(3), and
+   open a file of its own that gets the number: nothing may be done to that one. (While a file is mapped, no other gets its inode. If it is not,
+   another may, once it is removed: so that one would need its length, too.) */
+static int is_its_file(const struct part *part, int file, off_t length)
+{
+    struct identity found;
+    if (identify(file, &found) && found.device == part->made.device && found.inode == part->made.inode && (length == ANY || length == found.length))
         return 1;
     errno = EBADF;
     return 0;
@@ -231,11 +258,12 @@ static int is_its_file(const struct part *part, int file)
 static void end_part(struct part *part)
 {
     int file = atomic_exchange(&part->file, ENDED);
+    off_t length = part->is_mapped ? ANY : part->start;
     if (file < 0)
         return;
-    if (is_its_file(part, file))
+    if (part->is_mapped && is_its_file(part, file, length))
         (void)!ftruncate(file, used(part)); /* where it fails the bytes 0 stay, and are no line */
-    if (is_its_file(part, file))
+    if (is_its_file(part, file, length))
         close(file);
     else
         atomic_store(&part->file, ASTRAY);
@@ -260,23 +288,21 @@ static void leave_part(void *what)
     disown_part(part);
 }
 
-/* Whether so many bytes can be written from `at` on; if not, errno tells why. */
-static int has_room(struct part *part, size_t length)
+/* Maps a chunk of the file, which it gets first, from the page on where its next line goes. If that fails, errno tells why. */
+static int map_chunk(struct part *part)
 {
-    if (part->base && length <= (size_t)(part->base + CHUNK - part->at))
-        return 1;
     off_t end = part->base ? used(part) : 0, start = end - end % sysconf(_SC_PAGESIZE);
     if (!is_allowed(start + CHUNK))
         return 0;
     do
-        errno = is_its_file(part, part->file) ? posix_fallocate(part->file, start, CHUNK) : EBADF;
+        errno = is_its_file(part, part->file, ANY) ? posix_fallocate(part->file, start, CHUNK) : EBADF;
     while (errno == EINTR);
     if (errno)
         return 0;
     char *base = mmap(NULL, CHUNK, PROT_READ | PROT_WRITE, MAP_SHARED, part->file, start);
     if (base == MAP_FAILED)
         return 0;
-    if (!is_its_file(part, part->file)) { /* (asked behind the call, it is known of what was mapped) */
+    if (!is_its_file(part, part->file, ANY)) { /* (asked behind the call, it is known of what was mapped) */
         munmap(base, CHUNK);
         return 0;
     }
@@ -286,6 +312,12 @@ static int has_room(struct part *part, size_t length)
     part->base = base;
     part->at = base + (end - start);
     return 1;
+}
+
+/* Whether so many bytes can be put at `at`; if not, errno tells why. */
+static inline int has_room(struct part *part, size_t length)
+{
+    return length <= (size_t)(part->base + CHUNK - part->at) || map_chunk(part);
 }
 
 /* Makes a file and opens it, or gives -1, with errno. It gets no number of a standard file that is closed: what the process prints would
@@ -303,15 +335,53 @@ static int open_new(const char *path)
     return above;
 }
 
-/* Begins a part's file, which is open: it has room for a head. If that fails, errno tells why. */
+/* Whether a file system keeps for a file what it gave to it, so that no store into the mapped file fails: of ext2 to ext4 and of tmpfs it is known.
+   One that copies a block that is written again, as btrfs and zfs do, and xfs if somebody has cloned the file, may have no room for the copy then,
+   and the process ends by SIGBUS. */
+static int keeps_room(const struct statfs *system)
+{
+    return system->f_type == 0xef53 || system->f_type == 0x01021994;
+}
+
+/* Writes what stands in front of `at` to a file that is not mapped, if so many bytes may follow it: all of it, or nothing, and errno tells why. */
+static int write_out(struct part *part, size_t behind)
+{
+    size_t length = part->at - part->base, done = 0;
+    part->at = part->base;
+    if (!is_allowed(part->start + length + behind))
+        return 0;
+    while (done < length && is_its_file(part, part->file, part->start + done)) {
+        errno = ENOSPC;
+        ssize_t count = pwrite(part->file, part->base + done, length - done, part->start + done);
+        if (count <= 0 && errno != EINTR)
+            break;
+        done += count > 0 ? count : 0;
+    }
+    if (done == length) {
+        part->start += length;
+        return 1;
+    }
+    int error = errno;
+    if (done && is_its_file(part, part->file, part->start + done))
+        (void)!ftruncate(part->file, part->start); /* where it fails, half a line stays, which is none */
+    errno = error;
+    return 0;
+}
+
+/* Begins a part's file, which is open: it has room for a head, or memory for a line. If that fails, errno tells why. */
 static int begin_file(struct part *part)
 {
-    struct stat found;
-    if (fstat(part->file, &found))
+    struct statfs system;
+    if (!identify(part->file, &part->made) || fstatfs(part->file, &system))
         return 0;
-    part->device = found.st_dev;
-    part->inode = found.st_ino;
-    return has_room(part, WORDS_MAX);
+    part->is_mapped = keeps_room(&system);
+    if (part->is_mapped)
+        return map_chunk(part);
+    char *base = mmap(NULL, CHUNK, PROT_READ | PROT_WRITE, MAP_PRIVATE | MAP_ANONYMOUS, -1, 0);
+    if (base == MAP_FAILED)
+        return 0;
+    part->base = part->at = base;
+    return 1;
 }
 
 /* Begins a part of the calling thread: NULL, with errno, where that cannot be done. */
@@ -330,7 +400,14 @@ static struct part *begin_part(postcopy_log *log)
         sprintf(path, "%s.%u", log->stem, number);
         part->file = open_new(path);
     } while (part->file < 0 && errno == EEXIST);
-    if (part->file < 0 || !begin_file(part) || (errno = pthread_setspecific(log->mine, part))) {
+    if (part->is_first) {
+        log->opening = number;
+        sprintf(log->head, "postcopy-records 1\nrecording %s\nlog %s %" PRIu64 " %u\n", log->name, names[log->party], log->next, number);
+    }
+    int is_begun = part->file >= 0 && begin_file(part);
+    if (is_begun)
+        part->at = stpcpy(part->at, log->head);
+    if (!is_begun || !(part->is_mapped || write_out(part, WORDS_MAX)) || (errno = pthread_setspecific(log->mine, part))) {
         int error = errno;
         if (part->file >= 0)
             unlink(path);
@@ -339,11 +416,6 @@ static struct part *begin_part(postcopy_log *log)
         errno = error;
         return NULL;
     }
-    if (part->is_first) {
-        log->opening = number;
-        sprintf(log->head, "postcopy-records 1\nrecording %s\nlog %s %" PRIu64 " %u\n", log->name, names[log->party], log->next, number);
-    }
-    part->at = stpcpy(part->at, log->head);
     part->next = atomic_load(&log->parts);
     while (!atomic_compare_exchange_weak(&log->parts, &part->next, part)) {
     }
@@ -407,6 +479,8 @@ static void put_last(struct part *part, const char *word, uint64_t number)
     at = put_number(at, number);
     __atomic_store_n(at, '\n', __ATOMIC_RELEASE);
     part->at = at + 1;
+    if (!part->is_mapped)
+        write_out(part, 0); /* where it fails the log has no end */
 }
 
 /* Puts into the file of a log that was closed that a record was not written, in the place of its last line. Answers whether this is the
@@ -455,6 +529,23 @@ static uint32_t lose(postcopy_log *log, int error)
     return POSTCOPY_LOST;
 }
 
+/* Puts a record into the calling thread's file. Returns POSTCOPY_LOST, and errno tells why, where that cannot be done. */
+static uint32_t put_record(postcopy_log *log, const struct record *record)
+{
+    struct part *part = pthread_getspecific(log->mine);
+    if (!part && !(part = begin_part(log)))
+        return POSTCOPY_LOST;
+    if (!has_room(part, WORDS_MAX + 16 * record->cells))
+        return POSTCOPY_LOST;
+    uint64_t number = atomic_fetch_add(&log->next, 1);
+    if (number >= POSTCOPY_LOST - 1) { /* the number behind the last record is one too */
+        errno = EOVERFLOW;
+        return POSTCOPY_LOST;
+    }
+    put_line(part, number, record);
+    return part->is_mapped || write_out(part, WORDS_MAX) ? number : POSTCOPY_LOST;
+}
+
 static uint32_t append(postcopy_log *log, unsigned parties, struct record record)
 {
     if (!log || atomic_load(&log->error))
@@ -467,17 +558,10 @@ static uint32_t append(postcopy_log *log, unsigned parties, struct record record
     if (!(parties >> log->party & 1) || (record.is_of_page && !(record.contents && record.cells && record.cells <= CELLS_MAX)))
         return lose(log, EINVAL);
     int error = errno;
-    struct part *part = pthread_getspecific(log->mine);
-    if (!part)
-        part = begin_part(log);
-    int why = part && has_room(part, WORDS_MAX + 16 * record.cells) ? 0 : errno;
+    uint32_t number = put_record(log, &record);
+    if (number == POSTCOPY_LOST)
+        lose(log, errno);
     errno = error;
-    if (why)
-        return lose(log, why);
-    uint64_t number = atomic_fetch_add(&log->next, 1);
-    if (number >= POSTCOPY_LOST - 1) /* the number behind the last record is one too */
-        return lose(log, EOVERFLOW);
-    put_line(part, number, &record);
     return number;
 }
 
@@ -536,7 +620,7 @@ static int has_files(const postcopy_log *log)
     int error = errno, is_so = 1;
     for (const struct part *part = atomic_load(&log->parts); part && is_so; part = part->next) {
         int file = atomic_load(&part->file);
-        is_so = file == ENDED || (file >= 0 && (is_its_file(part, file) || atomic_load(&part->file) == ENDED));
+        is_so = file == ENDED || (file >= 0 && (is_its_file(part, file, ANY) || atomic_load(&part->file) == ENDED));
     }
     errno = error;
     return is_so;

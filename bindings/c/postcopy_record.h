@@ -4,17 +4,19 @@
    Each party has a log, which is open in the process that acts for the party. A call appends one record and returns its
    number. Send the number with the message; the receiver names it in a record of its own. The order of a log is the order of
    its calls, so make the call in the critical section of the act that it records. Calls on one log need no lock of their own:
-   its numbers come from an atomic counter, and each thread writes to its own file, which is mapped. So a record is in the
-   file when its call returns, and stays there however the process ends. (It can be lost if the machine fails.)
+   its numbers come from an atomic counter, and each thread writes to its own file. So a record is in the file when its call
+   returns, and stays there however the process ends. (It can be lost if the machine fails.)
 
    A folder holds one recording: give each run a folder of its own. `postcopy-session FOLDER..` makes the session from the
    files, and says what is missing. So close each log when its party has finished, or hand it over.
 
    The recorder never ends a process. If a record cannot be written, the call returns POSTCOPY_LOST, the log ends there for all
    threads, and postcopy_log_error says why. EFBIG means that the process has reached its limit on files; it raises no SIGXFSZ.
-   (Others can end a process: if somebody truncates a file, or a disk does not keep space that it gave, the next write there
-   raises SIGBUS.) EBADF means that the program has closed a descriptor of the log, as closefrom(3) does. Whatever has its number then
-   is left alone. A log that is NULL records nothing, and all its calls return POSTCOPY_LOST. So do calls on a log in a forked
+   A full disk raises no SIGBUS: a file is mapped if its file system is known to keep the space that it gave (ext2 to ext4, tmpfs),
+   and otherwise each record is written by a system call. (If somebody else truncates a mapped file, the next record does.)
+   EBADF means that the program has closed a descriptor of the log, as closefrom(3) does. Whatever has its number then is left alone.
+
+   A log that is NULL records nothing, and all its calls return POSTCOPY_LOST. So do calls on a log in a forked
    child: a child opens its own logs. The log's last line then tells that a record was not written (EPERM), also if the parent has
    closed it, so that the recording counts as one that is not whole. A signal handler may not call where it may interrupt another
    call of its thread on the log.

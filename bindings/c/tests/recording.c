@@ -4,7 +4,8 @@
        recording threads FOLDER THREADS RECORDS   appends from threads, each record with the number of the thread's one before
        recording locked FOLDER THREADS RECORDS    appends under a lock, each record with the place that it has to have
        recording endless FOLDER THREADS           appends until it is killed; ANSWERED in the folder has what was answered
-       recording full FOLDER                      appends until a record is lost, and tells how many were not, and why
+       recording full FOLDER [COMMAND]            appends until a record is lost, and tells how many were not, and why; it runs the command
+                                                  behind the first thousand
        recording closed FOLDER FILE FROM RECORDS  closes all descriptors from a number on, opens the file as often, and appends
        recording refused FOLDER                   calls that record nothing
        recording forked FOLDER                    records on, where forked children end in each way that they have
@@ -15,7 +16,9 @@
        recording named FOLDER                     names of recordings
        recording moved FOLDER PAGES               a migration of so many pages; the last comes as zeros, and is read so
        recording hash                             the hash of each page of standard input
-       recording speed FOLDER RECORDS             how much processor a record takes */
+       recording speed FOLDER RECORDS             how much processor a record takes
+
+   With WRITTEN in its environment, no file of a log is mapped: any file system is taken for one that is not known to keep what it gave. */
 #define _GNU_SOURCE
 #include <errno.h>
 #include <fcntl.h>
@@ -29,6 +32,7 @@
 #include <sys/mman.h>
 #include <sys/stat.h>
 #include <sys/syscall.h>
+#include <sys/vfs.h>
 #include <sys/wait.h>
 #include <time.h>
 #include <unistd.h>
@@ -43,6 +47,18 @@ static void want(int is_so, const char *what)
         printf("failed: %s\n", what);
         exit(1);
     }
+}
+
+/* What the recorder calls for fstatfs. */
+int __real_fstatfs(int file, struct statfs *told);
+int __wrap_fstatfs(int file, struct statfs *told);
+
+int __wrap_fstatfs(int file, struct statfs *told)
+{
+    int answer = __real_fstatfs(file, told);
+    if (getenv("WRITTEN"))
+        told->f_type = 0;
+    return answer;
 }
 
 /* The calls by their names, with so many numbers and perhaps contents. */
@@ -201,14 +217,18 @@ static void map_answers(const char *folder)
 
 /* Calls that record nothing. */
 
-static void fill(const char *folder)
+static void fill(const char *folder, const char *command)
 {
     postcopy_log *log = postcopy_log_open(folder, "guest", 0);
     want(log != NULL, "a log");
     uint32_t kept = 0;
     errno = 4321;
-    for (uint32_t number; (number = postcopy_record_write(log, 0, 0, 0, kept)) != POSTCOPY_LOST; kept++)
-        want(number == kept, "a number");
+    for (uint32_t number; (number = postcopy_record_write(log, 0, 0, 0, kept)) != POSTCOPY_LOST; kept++) {
+        want(number == kept && errno == 4321, "a number; errno stays");
+        if (command && kept == 999)
+            want(system(command) != -1, command);
+        errno = 4321;
+    }
     want(errno == 4321, "errno stays");
     int error = postcopy_log_error(log);
     for (int n = 0; n < 3; n++)
@@ -559,7 +579,7 @@ int main(int count, char **words)
         map_answers(folder);
         run_threads(folder, "source", number, append_endlessly);
     } else if (!strcmp(what, "full"))
-        fill(folder);
+        fill(folder, count > 3 ? words[3] : NULL);
     else if (!strcmp(what, "refused"))
         refuse(folder);
     else if (!strcmp(what, "forked"))
