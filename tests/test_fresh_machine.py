@@ -27,14 +27,21 @@ NOT_RUN = {"tests/run": "it is the gate", "tests/quick": "it stands behind the o
 pytestmark = [pytest.mark.slow, pytest.mark.xdist_group("fresh machine")]
 
 
+def words(tree, source, user, *commands):
+    """The words of a command that runs these on a fresh machine."""
+    return [sys.executable, "-B", fresh_machine.__file__, tree, source, str(user), *commands]
+
+
 @pytest.fixture(scope="module")
-def root(pytestconfig):
-    """The root of a fresh machine, which is made where it can be."""
+def root(pytestconfig, tmp_path_factory):
+    """The root of a fresh machine, which is made where it can be, and entered once."""
     try:
         can_have("debootstrap:debootstrap,debian-archive-keyring")
         make(ROOT)
-        subprocess.run(["unshare", "-mn", "true"], check=True, capture_output=True)
-    except (Missing, OSError, subprocess.CalledProcessError) as why:
+        entered = subprocess.run(words(path(ROOT), tmp_path_factory.mktemp("nothing"), 0, "true"), capture_output=True, text=True)
+        if entered.stdout != "\0" "0\0":
+            raise Missing(entered.stderr.strip().rpartition("\n")[2])
+    except (Missing, OSError) as why:
         (pytest.fail if pytestconfig.getoption("--all") else pytest.skip)(f"there is no fresh machine: {why}")
     return path(ROOT)
 
@@ -52,10 +59,10 @@ def sources(root, tmp_path_factory):
 
 def without_modules(machine):
     """The quick tests without xdist, and without pytest besides: they run one by one, or nothing is tested, and it is told what to install."""
-    xdist = "mv /usr/lib/python3/dist-packages/*xdist* /tmp && tests/quick -k test_gate"
-    pytest_too = "mv /usr/lib/python3/dist-packages/pytest /tmp && tests/quick"
+    no_xdist = "mv /usr/lib/python3/dist-packages/*xdist* /tmp && tests/quick -k test_gate"
+    no_pytest = "mv /usr/lib/python3/dist-packages/pytest /tmp && tests/quick"
     install = "tools/need: nothing was installed; to install what is missing: apt-get install --no-install-recommends"
-    alone, nothing = machine(xdist, pytest_too)
+    alone, nothing = machine(no_xdist, no_pytest)
     same("what is told without xdist", alone[0].splitlines()[:2], [f"{install} python3-pytest-xdist", "tests/pytest: there is no xdist, so the tests run one by one"])
     same("the tests without xdist", (alone[1], " 0 failed" in alone[0]), ("0", True))
     same("what is told without pytest", nothing, (f"{install} python3-pytest python3-pytest-xdist\ntests/pytest: there is no pytest, so nothing is tested; "
@@ -72,8 +79,7 @@ def test_fresh_machine(root, sources, source, user, pytestconfig):
 
     def machine(*commands):
         """What the commands write on a machine of their own, each with its status."""
-        words = [sys.executable, "-B", fresh_machine.__file__, root, sources[source], str(user), *commands]
-        ran = subprocess.run(words, stdin=subprocess.DEVNULL, capture_output=True, text=True, env={**os.environ, "PYTEST_XDIST_AUTO_NUM_WORKERS": workers})
+        ran = subprocess.run(words(root, sources[source], user, *commands), stdin=subprocess.DEVNULL, capture_output=True, text=True, env={**os.environ, "PYTEST_XDIST_AUTO_NUM_WORKERS": workers})
         *told, rest = ran.stdout.split("\0")
         same("what the machine tells", (rest + ran.stderr, ran.returncode, len(told)), ("", 0, 2 * len(commands)))
         return list(zip(told[::2], told[1::2]))
