@@ -475,7 +475,8 @@ def copy_of_tree(place):
     who = {f"GIT_{it}_{what}": value for it in ("AUTHOR", "COMMITTER")
            for what, value in (("NAME", "Tests"), ("EMAIL", "tests@tests.example.org"), ("DATE", "2026-01-02T03:04:05Z"))}
     for words in (("init", "-q"), ("add", "-A"), ("commit", "-qm", "a release")):
-        run("git", "-C", place, *words, env={**os.environ, **who})
+        # (no gc behind the commit, which would move files while they are copied)
+        run("git", "-C", place, "-c", "gc.auto=0", *words, env={**os.environ, **who})
     return place
 
 
