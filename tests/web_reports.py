@@ -99,7 +99,7 @@ def tests_of_refusals(room):
         ("no session", ["-o", "out.html"], 2, "required"),
         ("no report", [session], 2, "required"),
         ("a size that is none", ["--most", "0", session, "-o", "out.html"], 2, "1 or more"),
-        ("a file that is not there", [session, "no\nthing", "-o", "out.html"], 3, '"no\\nthing": No such file'),
+        ("a file that is not there", [session, "no\nthing", "-o", "out.html"], 3, '"no\\u000athing": No such file'),
         ("a folder", [room, "-o", "out.html"], 3, "Is a directory: 'postcopy session' makes"),
         ("a report in place of a folder", [session, "-o", room], 3, "Is a directory"),
         ("a page that is none", ["--page", session, session, "-o", "out.html"], 3, "is not a page of postcopy for a report"),
