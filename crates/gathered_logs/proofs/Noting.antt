@@ -1,5 +1,5 @@
 -- A gathered log, as its records are taken.
-use Rattle.std.proofs.Common.{◌≡◌, ℕ, Result, Ok, Err, OnOk, List, [], ◌∷◌, ◌++◌, length, Option, Some, None, sym, ap, subst, ◌∙◌}
+use Rattle.std.proofs.Common.{◌≡◌, ℕ, List, [], ◌∷◌, ◌++◌, length, Option, Some, None, sym, ap, subst, ◌∙◌}
 use Rattle.std.specs.Prelude.{◌≢◌, MatchOption, map}
 use Rattle.std.specs.List.{AllByRecursion}
 use Rattle.std.proofs.lemmas.List.{length-map, map-append}
@@ -10,17 +10,12 @@ use Rattle.gathered_logs.specs.declared.taking.LogFault.TheVariants.{Files, Reco
 use Rattle.gathered_logs.specs.declared.taking.TakingFault.{TakingFault}
 use Rattle.gathered_logs.specs.declared.taking.TakingFault.TheVariants.{Log, Unfit}
 use Rattle.gathered_logs.specs.Logs.{Came, Gathering, IsGatherFault, SayLog, text_in}
-use Rattle.gathered_logs.specs.Records.{EndsAt, IsLogFault, IsTakingFault, SayRecords, SayUpTo}
+use Rattle.gathered_logs.specs.Records.{IsTakingFault, SayUpTo}
 use Rattle.gathered_logs.specs.inner.Noting.{Adds, IsTextFault, Notes, TakesText}
 
 pub all_and_one : {X : Type 0} (P : X → Type 0) (xs : List X) (x : X) → AllByRecursion P xs → P x → AllByRecursion P (xs ++ x ∷ [])
 all_and_one P [] x all one = (one, tt)
 all_and_one P (y ∷ xs) x all one = (all.0, all_and_one P xs x all.1 one)
-
--- what follows of an answer
-pub on_ok : {A E P Q : Type 0} (r : Result A E) → OnOk r P → (P → Q) → OnOk r Q
-on_ok (Ok a) p follows = follows p
-on_ok (Err e) p follows = tt
 
 -- no record came yet
 pub notes_none : {X T S : Type 0} (line : X → List ℕ) (IsOf : X → Type 0) (Takes : T → S → T → S → List X → Type 0) (party : Party) (knowns : List (Option (List ℕ))) (g : Gathering) (taker : T) (onto : S) → Came party knowns g [] → Notes line IsOf Takes party knowns g taker onto taker onto
@@ -50,14 +45,6 @@ says_records line IsOf Takes party knowns g now before after onto new found n no
 -- no file has the next record
 pub says_to_hole : {X T S : Type 0} (line : X → List ℕ) (IsOf : X → Type 0) (Takes : T → S → T → S → List X → Type 0) (party : Party) (knowns : List (Option (List ℕ))) (g now : Gathering) (before after : T) (onto new : S) (fault : GatherFault) (least : ℕ) → (n : Notes line IsOf Takes party knowns g before onto after new) → fault ≡ Missing least → IsGatherFault party knowns now (map line n.records) fault → (records : List X) × SayUpTo line IsOf party knowns now (Some least) records × Adds Takes before onto after new records
 says_to_hole line IsOf Takes party knowns g now before after onto new fault least n is missing = (n.records, record { log = subst (IsGatherFault party knowns now (map line n.records)) is missing; each = n.each }, n.took)
-
--- the log has its end there
-pub said_whole : {X : Type 0} (line : X → List ℕ) (IsOf : X → Type 0) (party : Party) (knowns : List (Option (List ℕ))) (g : Gathering) (hole : Option ℕ) (records : List X) → hole ≡ None → SayUpTo line IsOf party knowns g hole records → SayRecords line IsOf party knowns g.files records
-said_whole line IsOf party knowns g hole records none said = record { log = subst (EndsAt party knowns g (map line records)) none said.log; each = said.each }
-
--- it has a hole there
-pub said_to_hole : {X : Type 0} (line : X → List ℕ) (IsOf : X → Type 0) (party : Party) (knowns : List (Option (List ℕ))) (g : Gathering) (hole : Option ℕ) (least : ℕ) (records : List X) → hole ≡ Some least → SayUpTo line IsOf party knowns g hole records → IsLogFault line IsOf party knowns g (Files (Missing least))
-said_to_hole line IsOf party knowns g hole least records some said = (records, said.each, subst (EndsAt party knowns g (map line records)) some said.log)
 
 -- the next record came, and was not taken
 pub is_refused : {X T S : Type 0} (line : X → List ℕ) (IsOf : X → Type 0) (Takes : T → S → T → S → List X → Type 0) (IsUnfit : T → ℕ → X → Type 0) (party : Party) (knowns : List (Option (List ℕ))) (g now : Gathering) (before mid : T) (onto half : S) (text : List ℕ) (number : ℕ) (fault : TakingFault) → (n : Notes line IsOf Takes party knowns g before onto mid half) → number ≡ length (map line n.records) → Came party knowns now (map line n.records ++ text ∷ []) → IsTextFault line IsOf IsUnfit text number mid fault → IsTakingFault line IsOf Takes IsUnfit party knowns now before onto fault

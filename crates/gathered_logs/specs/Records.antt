@@ -3,17 +3,11 @@ use Rattle.std.specs.Prelude.{◌≡◌, ◌<◌, ℕ, List, [], ◌∷◌, ◌+
 use Rattle.std.specs.List.{AllByRecursion}
 use Rattle.recorded_files.specs.declared.lines.Party.{Party}
 use Rattle.recorded_files.specs.declared.gathering.Turn.TheVariants.{Missing as NoneThere}
-use Rattle.recorded_files.specs.Said.{Standing}
 use Rattle.gathered_logs.specs.Logs.{Came, Gathering, IsGatherFault, SayLog, Stops}
 use Rattle.gathered_logs.specs.declared.taking.LogFault.{LogFault}
 use Rattle.gathered_logs.specs.declared.taking.LogFault.TheVariants.{Files, Record, Memory}
 use Rattle.gathered_logs.specs.declared.taking.TakingFault.{TakingFault}
 use Rattle.gathered_logs.specs.declared.taking.TakingFault.TheVariants.{Log, Unfit}
-
--- The files say a log of these records: it is their lines. `IsOf` says which records are the party's.
-pub record SayRecords {X : Type 0} (line : X → List ℕ) (IsOf : X → Type 0) (party : Party) (knowns : List (Option (List ℕ))) (files : List Standing) (records : List X) : Type 0 where
-  pub log : SayLog party knowns files (map line records)
-  pub each : AllByRecursion IsOf records
 
 -- What keeps the files from saying a log of records, behind those that came of them: what keeps the files from being those of a
 -- log, or the number of a record whose text is the line of none.
@@ -29,7 +23,7 @@ abbrev pub EndsAt : Party → List (Option (List ℕ)) → Gathering → List (L
 EndsAt party knowns g log None = SayLog party knowns g.files log
 EndsAt party knowns g log (Some n) = (length log < n) × Stops party knowns g log (NoneThere n)
 
--- the files say a log of these records, up to there
+-- The files say a log of these records up to there: it is their lines. `IsOf` says which records are the party's.
 pub record SayUpTo {X : Type 0} (line : X → List ℕ) (IsOf : X → Type 0) (party : Party) (knowns : List (Option (List ℕ))) (g : Gathering) (hole : Option ℕ) (records : List X) : Type 0 where
   pub log : EndsAt party knowns g (map line records) hole
   pub each : AllByRecursion IsOf records

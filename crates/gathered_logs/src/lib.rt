@@ -12,4 +12,4 @@ pub use gatherers::{GatherFault, Gatherer};
 pub use laws::files_tell_one_log;
 pub use records::LogRecord;
 pub use taking::{LogFault, RecordTaker, TakeRefusal, TakingFault, take_records};
-pub use telling::{Noter, gather_pager, gather_source};
+pub use telling::Noter;

@@ -1,5 +1,5 @@
 -- Fronts of logs: the first records of each log, none of which names a record outside them.
-use Rattle.std.specs.Prelude.{◌≡◌, ℕ, ◌<◌, ◌≤◌, List, Some, Option, take}
+use Rattle.std.specs.Prelude.{◌≡◌, ◌<◌, ◌≤◌, Some, take}
 use Rattle.std.specs.List.{AllByRecursion}
 use Rattle.std.specs.Option.{IfSome}
 use Rattle.migration_types.specs.declared.records.LogName.{LogName}
@@ -9,8 +9,6 @@ use Rattle.migration_types.specs.Receipts.{Name}
 use Rattle.migration_types.specs.Rows.{Consists, field_name, row_of}
 use Rattle.migration_types.specs.Sessions.{Recorded, log_length}
 use Rattle.audit_model.specs.Mergings.{Cursors}
-use Rattle.text_lines.specs.Text.{IsSpelling}
-use Rattle.recordings.specs.Recordings.{SpellsRecording}
 use Rattle.recorded_files.specs.declared.fronts.Front.{Front}
 
 -- how many records each log has in the front
@@ -62,11 +60,3 @@ IsWhole s = IsFront s (log_length s)
 pub record HasGreatestFront (s : Recorded) : Type 0 where
   pub cursors : Cursors
   pub greatest : IsGreatestFront s cursors
-
--- the text is that of a recording, and it is the known one, if that is known; this is the greatest front of its logs
-pub record HasFront (known : Option (List ℕ)) (front : Front) : Type 0 where
-  pub text : List ℕ
-  pub is_known : IfSome known (λ xs. text ≡ xs)
-  pub s : Recorded
-  pub spelled : IsSpelling SpellsRecording s text
-  pub greatest : IsGreatestFront s (cursors_of front)

@@ -2,7 +2,6 @@
 #![tactic(auto)]
 
 mod files;
-mod finding;
 mod fronts;
 mod gathering;
 mod heads;
@@ -18,7 +17,6 @@ mod steps;
 mod visiting;
 
 pub use files::{FileFault, FileReader};
-pub use finding::greatest_front;
 pub use fronts::Front;
 pub use gathering::{Turn, next_turn, turns_gather};
 pub use heads::read_name;

@@ -1,11 +1,9 @@
 //! How far the logs of recordings go, beside a search of all fronts of small ones made at random.
 
 use crate::numbers::Numbers;
-use recorded_files::{Front, Naming, greatest_front};
-use recordings::{RecordingFault, walk};
+use recorded_files::{Front, Naming};
+use recordings::walk;
 use std::alloc::{AllocError, Global};
-use std::io;
-use std::io::{ErrorKind, Read};
 use text_lines::{push_keyed, push_line, push_number};
 
 /// A kind of record: what it has in front of the number of another record, the log of that record, by its place among the logs,
@@ -156,6 +154,13 @@ fn told(front: Front) -> [usize; 5] {
     ]
 }
 
+/// The greatest front of a recording, or none if its text is refused.
+fn greatest_front(alloc: Global, text: &[u8]) -> Option<Front> {
+    let mut naming = Naming::new(alloc);
+    walk(alloc, &mut &*text, &mut naming).ok()?;
+    Some(naming.greatest_front())
+}
+
 /// The first round in which another front is found than the greatest, and in how many rounds something was left out.
 fn disagreement(alloc: Global, rounds: usize) -> Result<(Option<usize>, usize), AllocError> {
     let mut numbers = Numbers::new(20_261_127);
@@ -163,8 +168,8 @@ fn disagreement(alloc: Global, rounds: usize) -> Result<(Option<usize>, usize), 
     for round in 0..rounds {
         let (text, logs) = recording(alloc, &mut numbers)?;
         let most = most_of_fronts(&logs);
-        match greatest_front(alloc, &mut text.as_slice()) {
-            Ok(front) if told(front) == most => {}
+        match greatest_front(alloc, text.as_slice()) {
+            Some(front) if told(front) == most => {}
             _ => return Ok((Some(round), cut)),
         }
         if most != logs.counts {
@@ -192,10 +197,10 @@ static LACKING: &[u8] =
 
 #[test]
 fn cuts_only_what_names_a_record_that_is_not_there(rt: HostRuntime) {
-    let whole = greatest_front(rt.alloc(), &mut &*WHOLE);
+    let whole = greatest_front(rt.alloc(), WHOLE);
     assert!(rt;
         whole
-            == Ok(Front {
+            == Some(Front {
                 guest: 1,
                 source: 2,
                 link: 1,
@@ -203,10 +208,10 @@ fn cuts_only_what_names_a_record_that_is_not_there(rt: HostRuntime) {
                 pager: 2
             })
     );
-    let lacking = greatest_front(rt.alloc(), &mut &*LACKING);
+    let lacking = greatest_front(rt.alloc(), LACKING);
     assert!(rt;
         lacking
-            == Ok(Front {
+            == Some(Front {
                 guest: 1,
                 source: 2,
                 link: 0,
@@ -233,29 +238,11 @@ fn front_expecting(alloc: Global, text: &[u8], count: u64) -> Option<Front> {
 #[test]
 fn finds_the_front_whatever_is_expected(rt: HostRuntime) {
     for text in [WHOLE, LACKING] {
-        let wanted = greatest_front(rt.alloc(), &mut &*text).ok();
+        let wanted = greatest_front(rt.alloc(), text);
         assert!(rt; wanted.is_some());
         assert!(rt; front_expecting(rt.alloc(), text, 0) == wanted);
         assert!(rt; front_expecting(rt.alloc(), text, 1) == wanted);
         assert!(rt; front_expecting(rt.alloc(), text, 1_000) == wanted);
         assert!(rt; front_expecting(rt.alloc(), text, u64::MAX) == wanted);
     }
-}
-
-/// A reader that fails.
-#[derive(Drop)]
-struct Broken;
-
-impl Read for Broken {
-    fn read(&mut self, _buf: &mut [u8]) -> io::Result<usize> {
-        Err(io::Error::from(ErrorKind::PermissionDenied))
-    }
-}
-
-#[test]
-fn tells_why_there_is_no_recording(rt: HostRuntime) {
-    let cut_off = greatest_front(rt.alloc(), &mut &WHOLE[..30]);
-    assert!(rt; cut_off == Err(RecordingFault::Line(3)));
-    let broken = greatest_front(rt.alloc(), &mut Broken);
-    assert!(rt; broken == Err(RecordingFault::File));
 }

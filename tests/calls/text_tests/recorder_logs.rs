@@ -2,9 +2,9 @@
 
 use crate::recorder_files::{Slow, opened};
 use deliveries::Message;
-use gathered_logs::{GatherFault, Gatherer, LogFault, gather_pager, gather_source};
+use gathered_logs::{GatherFault, Gatherer, LogFault, Noter, TakingFault, take_records};
 use migration_types::{LogName, Size, Version};
-use recorded_files::{FileFault, Last, Party, Told};
+use recorded_files::{FileFault, Last, Party, RawPager, RawSource, Told};
 use recordings::WideMachine;
 use std::alloc::Global;
 
@@ -190,22 +190,27 @@ log pager 0 0
 4 all
 ";
 
-/// What a walk over a party's files ends with.
+/// What the noting of the messages in a party's files ends with.
 fn told_of(
     alloc: Global,
     party: Party,
     files: &[&'static [u8]],
     told: &mut Told,
-) -> Result<(), LogFault> {
+) -> Result<Option<u64>, TakingFault> {
+    let mut noter = Noter;
     match gathered(alloc, party, files, 40) {
         Ok(mut log) => {
             if party == PAGER {
-                gather_pager(alloc, &MACHINE, &mut log, told)
+                take_records::<RawPager, Told, Noter, Slow>(
+                    alloc, &MACHINE, &mut log, &mut noter, told,
+                )
             } else {
-                gather_source(alloc, &MACHINE, &mut log, told)
+                take_records::<RawSource, Told, Noter, Slow>(
+                    alloc, &MACHINE, &mut log, &mut noter, told,
+                )
             }
         }
-        Err(fault) => Err(LogFault::Files(fault)),
+        Err(fault) => Err(TakingFault::Log(LogFault::Files(fault))),
     }
 }
 
@@ -213,8 +218,8 @@ fn told_of(
 fn notes_the_messages_of_gathered_logs(rt: HostRuntime) {
     let alloc = rt.alloc();
     let mut told = Told::new(alloc);
-    assert!(rt; told_of(alloc, SOURCE, &[THIRD, FIRST, SECOND], &mut told) == Ok(()));
-    assert!(rt; told_of(alloc, PAGER, &[PAGERS_SECOND, PAGERS_FIRST], &mut told) == Ok(()));
+    assert!(rt; told_of(alloc, SOURCE, &[THIRD, FIRST, SECOND], &mut told) == Ok(None));
+    assert!(rt; told_of(alloc, PAGER, &[PAGERS_SECOND, PAGERS_FIRST], &mut told) == Ok(None));
     let delivered = told.deliver(alloc).expect(&rt, "memory");
     let link = [
         Message::Down { sent: 1, taken: 0 },
@@ -231,19 +236,21 @@ fn tells_which_record_is_none_of_the_partys(rt: HostRuntime) {
     let mut told = Told::new(alloc);
     let wrong: &'static [u8] = b"postcopy-records 1\nrecording a\nlog pager 0 0\n2 state\n4 all\n";
     assert!(rt;
-        told_of(alloc, PAGER, &[wrong, PAGERS_FIRST], &mut told) == Err(LogFault::Record(2))
+        told_of(alloc, PAGER, &[wrong, PAGERS_FIRST], &mut told)
+            == Err(TakingFault::Log(LogFault::Record(2)))
     );
     let wrong: &'static [u8] = b"postcopy-records 1\nrecording a\nlog source 0 0\n0 got-sent 1\n";
     assert!(rt;
-        told_of(alloc, SOURCE, &[wrong], &mut Told::new(alloc)) == Err(LogFault::Record(0))
+        told_of(alloc, SOURCE, &[wrong], &mut Told::new(alloc))
+            == Err(TakingFault::Log(LogFault::Record(0)))
     );
 }
 
 #[test]
-fn notes_no_log_of_files_that_are_none(rt: HostRuntime) {
+fn notes_up_to_the_first_record_that_no_file_has(rt: HostRuntime) {
     let alloc = rt.alloc();
-    let missing = Err(LogFault::Files(GatherFault::Missing(3)));
+    let missing = Ok(Some(3));
     assert!(rt; told_of(alloc, SOURCE, &[FIRST, THIRD], &mut Told::new(alloc)) == missing);
-    let missing = Err(LogFault::Files(GatherFault::Missing(2)));
+    let missing = Ok(Some(2));
     assert!(rt; told_of(alloc, PAGER, &[PAGERS_SECOND], &mut Told::new(alloc)) == missing);
 }
