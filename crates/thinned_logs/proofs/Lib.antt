@@ -13,6 +13,3 @@ pub mod Fits
 pub mod Safe
 pub mod Repeats
 pub mod Again
-pub mod Walking
-pub mod Numbers
-pub mod Parts

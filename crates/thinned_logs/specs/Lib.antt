@@ -1,4 +1,3 @@
 pub mod Thinned
 pub mod ThinLaws
 pub mod Repeats
-pub mod inner

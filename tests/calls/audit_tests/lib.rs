@@ -33,7 +33,6 @@ mod stories;
 #[cfg(test)]
 mod texts;
 #[cfg(test)]
-mod thinned;
 #[cfg(test)]
 mod threads;
 #[cfg(test)]

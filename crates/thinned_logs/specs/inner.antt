@@ -1,3 +1,0 @@
--- Definitions that only proofs use.
-pub mod Walks
-pub mod Numbers
