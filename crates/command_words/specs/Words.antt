@@ -484,10 +484,6 @@ lines_file asked = option_and_then lines_file_of asked
 abbrev pub targets_in : Option (Text × List Row) → Option Text × Option Text
 targets_in given = (lines_file (option_and_then asked_in given), output_in given)
 
--- the files that the words name
-abbrev pub targets_named : List Text → Option Text × Option Text
-targets_named words = targets_in (subcommand_of postcopy_words words)
-
 -- the names of these files
 abbrev pub target_names : Targets → Option Text × Option Text
 target_names targets = (option_map (λ name. name.now) targets.lines, option_map (λ name. name.now) targets.output)

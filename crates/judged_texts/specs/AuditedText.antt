@@ -28,8 +28,3 @@ wanted_text wanted.FirstLine r = ended (first_line r ∷ [])
 abbrev pub audited_text : AuditPart → TextAudit → List ℕ
 audited_text wanted (Refused line) = refusal_text line
 audited_text wanted (Reported r) = wanted_text wanted r
-
--- the first line for an audit: the line that says where the text is refused, or the first line of the report
-abbrev pub summary_text : TextAudit → List ℕ
-summary_text (Refused line) = refusal_text line
-summary_text (Reported r) = ended (first_line r ∷ [])
