@@ -1,7 +1,6 @@
 -- Each page's first fault in logs that are cut to a front.
-use Rattle.std.proofs.Common.{◌≡◌, ◌≢◌, ◌↔◌, ℕ, ◌<◌, ◌≤◌, inl, inr, Bool, true, false, List, length, take, Option, Some, None, refl, sym, ap, ◌∙◌, subst, arith}
+use Rattle.std.proofs.Common.{◌≡◌, ◌≢◌, ℕ, ◌<◌, ◌≤◌, inl, inr, List, length, take, Option, Some, None, refl, sym, ap, ◌∙◌, subst, arith}
 use Rattle.std.specs.Prelude.{slice_get}
-use Rattle.std.specs.Bool.{Decides}
 use Rattle.std.proofs.lemmas.Option.{slice_get_within}
 use Rattle.migration_types.specs.declared.records.LogName.{LogName}
 use Rattle.migration_types.specs.declared.records.LogName.TheVariants.{Guest, Source, Link, Lane, Pager}
@@ -13,70 +12,14 @@ use Rattle.audit_model.specs.declared.reasons.PageReason.TheVariants.{Read as Wr
 use Rattle.audit_model.specs.Names.{if_there}
 use Rattle.audit_model.specs.Faults.{IsPageFault}
 use Rattle.audit_model.specs.Mergings.{Cursors}
-use Rattle.audit_model.specs.inner.PageFaultTests.{fault_test}
+use Rattle.audit_model.specs.Reasons.{page_rank}
 use Rattle.audit_model.proofs.Cuts.{log_there}
-use Rattle.audit_model.proofs.PageFaultTests.{fault_Decides}
-use Rattle.page_facts.specs.inner.FirstOfLog.{or_else, least_reason, reason_at}
-use Rattle.page_facts.specs.PageFaults.{page_at, Precedes, IsClean}
-use Rattle.page_facts.proofs.FirstOfAll.{none_at}
-use Rattle.page_facts.proofs.LeastReason.{least_rank, least_is}
+use Rattle.page_facts.specs.PageFaults.{page_at, Precedes, IsFaultless, IsLeastReason, IsClean}
+use Rattle.page_facts.proofs.LeastReason.{most_rank}
 use Rattle.cut_logs.specs.FrontLaws.{IsInFront, HasHalt, HasTouch, KeepsFirstFaults, FirstFaultsWere}
 use Rattle.recorded_files.specs.Fronts.{IsFront, cut_to}
 use Rattle.cut_logs.proofs.Taken.{taken_at, taken_is}
 use Rattle.cut_logs.proofs.Faults.{keeps_at, faults_were}
-
--- ---- the least of a record's reasons
-
--- a record with a fault has a reason
-pub has_reason : {A : Type 0} (s : Recorded) (name : Name) (r : PageReason) → reason_at s name ≡ None → IsPageFault s r name → A
-has_reason s name r e f =
-    let t : fault_test s r name ≡ true = (fault_Decides s r name).1 f in
-    let n : fault_test s r name ≡ false = (least_is (λ reason. fault_test s reason name)).none e r (least_rank r) in
-    absurd (cc)
-
-pub is_reason_of : (s : Recorded) (name : Name) (r : PageReason) → reason_at s name ≡ Some r → IsPageFault s r name
-is_reason_of s name r e = (fault_Decides s r name).0 ((least_is (λ reason. fault_test s reason name)).holds r e)
-
--- a reason that stays the least where tests fail that held
-less : (t : PageReason) (a b : Bool) (u : PageReason) (x y : Option PageReason) → (b ≡ true → a ≡ true) → (u ≡ t → b ≡ true) → (x ≡ Some t → y ≡ Some t) → or_else a u x ≡ Some t → or_else b u y ≡ Some t
-less t true true u x y up at rest e = e
-less t true false u x y up at rest e = let same : u ≡ t = cc in let b = at same in absurd (cc)
-less t false true u x y up at rest e = let a = up refl in absurd (cc)
-less t false false u x y up at rest e = rest e
-
-fewer_least : (a b : PageReason → Bool) (t : PageReason) → ((r : PageReason) → b r ≡ true → a r ≡ true) → b t ≡ true → least_reason a ≡ Some t → least_reason b ≡ Some t
-fewer_least a b t up at =
-    one WrongRead _ _ (one Early _ _ (one Given _ _ (one Stale _ _ (one Twice _ _ (one Altered _ _ (one Unfit _ _ (one Over _ _ (λ e. e))))))))
-  where
-    one : (u : PageReason) (x y : Option PageReason) → (x ≡ Some t → y ≡ Some t) → or_else (a u) u x ≡ Some t → or_else (b u) u y ≡ Some t
-    one u x y = less t (a u) (b u) u x y (up u) (λ e. subst (λ r. b r ≡ true) (sym e) at)
-
--- and where the last test holds that failed
-same : (t : PageReason) (a b : Bool) (u : PageReason) (x y : Option PageReason) → a ≡ b → (y ≡ Some t → x ≡ Some t) → or_else b u y ≡ Some t → or_else a u x ≡ Some t
-same t true true u x y is rest e = e
-same t true false u x y is rest e = absurd (cc)
-same t false true u x y is rest e = absurd (cc)
-same t false false u x y is rest e = rest e
-
-more_least : (a b : PageReason → Bool) (t : PageReason) → ((r : PageReason) → r ≢ Over → a r ≡ b r) → (b Over ≡ true → a Over ≡ true) → least_reason b ≡ Some t → least_reason a ≡ Some t
-more_least a b t is up =
-    one WrongRead (λ e. absurd (cc)) _ _ (one Early (λ e. absurd (cc)) _ _ (one Given (λ e. absurd (cc)) _ _ (one Stale (λ e. absurd (cc)) _ _
-    (one Twice (λ e. absurd (cc)) _ _ (one Altered (λ e. absurd (cc)) _ _ (one Unfit (λ e. absurd (cc)) _ _ (last (a Over) (b Over) up)))))))
-  where
-    one : (u : PageReason) → u ≢ Over → (x y : Option PageReason) → (y ≡ Some t → x ≡ Some t) → or_else (b u) u y ≡ Some t → or_else (a u) u x ≡ Some t
-    one u not_over x y = same t (a u) (b u) u x y (is u not_over)
-
-    last : (p q : Bool) → (q ≡ true → p ≡ true) → or_else q Over None ≡ Some t → or_else p Over None ≡ Some t
-    last true true f e = e
-    last false true f e = let g = f refl in absurd (cc)
-    last true false f e = absurd (cc)
-    last false false f e = absurd (cc)
-
-same_test : {P Q : Type 0} (a b : Bool) → Decides a P → Decides b Q → P ↔ Q → a ≡ b
-same_test true true f g h = refl
-same_test false false f g h = refl
-same_test true false f g h = let e = g.1 (h.0 (f.0 refl)) in absurd (cc)
-same_test false true f g h = let e = f.1 (h.1 (g.0 refl)) in absurd (cc)
 
 -- ---- names
 
@@ -123,15 +66,11 @@ module _ (s : Recorded) (c : Cursors) where
 
 module _ (s : Recorded) (c : Cursors) (front : IsFront s c) (halt : HasHalt s c) where
   -- a record without a fault has none in the front
-  still_none : (name : Name) → reason_at s name ≡ None → reason_at (cut_to c s) name ≡ None
-  still_none name none = none_at (cut_to c s) name (λ r f. has_reason s name r none (faults_were s c front halt r name f).1)
+  still_none : (name : Name) → IsFaultless s name → IsFaultless (cut_to c s) name
+  still_none name none r f = none r (faults_were s c front halt r name f).1
 
   pub still_clean_page : (page : ℕ) → IsClean s page → IsClean (cut_to c s) page
   still_clean_page page clean = record { each = λ other name among mine. still_none name (clean.each other name among (page_was s c name other mine).1) }
-
-  -- a test that holds in the front held
-  test_was : (name : Name) (r : PageReason) → fault_test (cut_to c s) r name ≡ true → fault_test s r name ≡ true
-  test_was name r e = (fault_Decides s r name).1 (faults_were s c front halt r name ((fault_Decides (cut_to c s) r name).0 e)).1
 
   pub keeps_first_faults : KeepsFirstFaults s c
   keeps_first_faults page f first still =
@@ -140,24 +79,33 @@ module _ (s : Recorded) (c : Cursors) (front : IsFront s c) (halt : HasHalt s c)
       record {
         is_among = first.is_among;
         is_of = same_page s c name inside ∙ first.is_of;
-        is_reason = fewer_least (λ r. fault_test s r name) (λ r. fault_test (cut_to c s) r name) f.reason (test_was name) ((fault_Decides (cut_to c s) f.reason name).1 still) first.is_reason;
+        is_reason = record { is_fault = still; is_least = λ r f. first.is_reason.is_least r (faults_were s c front halt r name f).1 };
         is_first = λ other third among mine before. still_none third (first.is_first other third among (page_was s c third other mine).1 before);
       }
 
   -- the least reason in the front was the least
-  pub reason_was : (name : Name) (r : PageReason) → IsInFront c name → reason_at (cut_to c s) name ≡ Some r → reason_at s name ≡ Some r
-  reason_was name r inside e =
-      more_least (λ t. fault_test s t name) (λ t. fault_test (cut_to c s) t name) r
-      (λ t not_over. same_test (fault_test s t name) (fault_test (cut_to c s) t name) (fault_Decides s t name) (fault_Decides (cut_to c s) t name) (keeps_at s c front halt t name inside (λ over is. absurd (not_over over))))
-      (test_was name Over)
-      e
+  pub reason_was : (name : Name) (r : PageReason) → IsInFront c name → IsLeastReason (cut_to c s) name r → IsLeastReason s name r
+  reason_was name r inside is = record { is_fault = (faults_were s c front halt r name is.is_fault).1; is_least = least }
+    where
+      kept : (t : PageReason) → t ≢ Over → IsPageFault s t name → page_rank r ≤ page_rank t
+      kept t not_over f = is.is_least t ((keeps_at s c front halt t name inside (λ over is. absurd (not_over over))).0 f)
+
+      least : (t : PageReason) → IsPageFault s t name → page_rank r ≤ page_rank t
+      least WrongRead f = kept WrongRead (λ e. absurd (cc)) f
+      least Early f = kept Early (λ e. absurd (cc)) f
+      least Given f = kept Given (λ e. absurd (cc)) f
+      least Stale f = kept Stale (λ e. absurd (cc)) f
+      least Twice f = kept Twice (λ e. absurd (cc)) f
+      least Altered f = kept Altered (λ e. absurd (cc)) f
+      least Unfit f = kept Unfit (λ e. absurd (cc)) f
+      least Over f = most_rank r
 
   all_touches : length s.guest ≤ c Guest → (page : ℕ) → HasTouch s c page
   all_touches all page n late = let within = slice_get_within s.guest n late.by late.stands in (n, late, omega (arith, within, all))
 
   -- with the whole of the guest's log above the pager's, a record of the front has no other faults
-  was_none : (name : Name) → IsInFront c name → (name.0 ≡ Pager → length s.guest ≤ c Guest) → reason_at (cut_to c s) name ≡ None → reason_at s name ≡ None
-  was_none name inside all none = none_at s name (λ r f. has_reason (cut_to c s) name r none ((keeps_at s c front halt r name inside (λ over is page of. all_touches (all is) page)).0 f))
+  was_none : (name : Name) → IsInFront c name → (name.0 ≡ Pager → length s.guest ≤ c Guest) → IsFaultless (cut_to c s) name → IsFaultless s name
+  was_none name inside all none r f = none r ((keeps_at s c front halt r name inside (λ over is page of. all_touches (all is) page)).0 f)
 
   pub first_faults_were : FirstFaultsWere s c
   first_faults_were page f first above =

@@ -6,9 +6,10 @@ use Rattle.migration_types.specs.declared.records.LogName.TheVariants.{Guest, So
 use Rattle.migration_types.specs.Receipts.{Name, log_index}
 use Rattle.migration_types.specs.Sessions.{Recorded, log_length}
 use Rattle.audit_model.specs.declared.reasons.PageReason.{PageReason}
+use Rattle.audit_model.specs.Faults.{IsPageFault}
 use Rattle.page_facts.specs.declared.page_fault.PageFault.{PageFault}
-use Rattle.page_facts.specs.inner.FirstOfLog.{reason_at}
-use Rattle.page_facts.specs.PageFaults.{page_at, Precedes, IsFirstFault}
+use Rattle.page_facts.specs.PageFaults.{page_at, Precedes, IsFaultless, IsLeastReason, IsFirstFault}
+use Rattle.page_facts.proofs.FirstOfAll.{reasons_at}
 use Rattle.cut_logs.proofs.First.{same_log_by, page_within}
 
 -- the logs by their places
@@ -37,25 +38,25 @@ few_logs Pager = omega arith
 module _ (s : Recorded) (page : ℕ) where
   -- the record has no fault of this page
   abbrev IsNone : Name → Type 0
-  IsNone name = page_at s name ≡ Some page → reason_at s name ≡ None
+  IsNone name = page_at s name ≡ Some page → IsFaultless s name
 
   record IsFault (name : Name) : Type 0 where
     pub reason : PageReason
     pub is_of : page_at s name ≡ Some page
-    pub is_reason : reason_at s name ≡ Some reason
+    pub is_reason : IsLeastReason s name reason
 
   at : (name : Name) → IsFault name ⊎ IsNone name
-  at name = go (page_at s name) refl (reason_at s name) refl
+  at name = go (page_at s name) refl (reasons_at s name)
     where
-      by : (p : ℕ) → page_at s name ≡ Some p → (r : PageReason) → reason_at s name ≡ Some r → (p ≡ page) ⊎ ((p < page) ⊎ (page < p)) → IsFault name ⊎ IsNone name
+      by : (p : ℕ) → page_at s name ≡ Some p → (r : PageReason) → IsLeastReason s name r → (p ≡ page) ⊎ ((p < page) ⊎ (page < p)) → IsFault name ⊎ IsNone name
       by p of r is (inl same) = inl (record { reason = r; is_of = of ∙ ap (λ (q : ℕ). Some q) same; is_reason = is })
       by p of r is (inr (inl less)) = inr (λ mine. let e : Some p ≡ Some page = sym of ∙ mine in let f : p ≡ page = cc in absurd (omega (arith, less, f)))
       by p of r is (inr (inr more)) = inr (λ mine. let e : Some p ≡ Some page = sym of ∙ mine in let f : p ≡ page = cc in absurd (omega (arith, more, f)))
 
-      go : (o : Option ℕ) → page_at s name ≡ o → (q : Option PageReason) → reason_at s name ≡ q → IsFault name ⊎ IsNone name
-      go None of q is = inr (λ mine. let e : None ≡ Some page = sym of ∙ mine in absurd (cc))
-      go (Some p) of None is = inr (λ mine. is)
-      go (Some p) of (Some r) is = by p of r is (cases_order p page)
+      go : (o : Option ℕ) → page_at s name ≡ o → IsFaultless s name ⊎ ((r : PageReason) × IsLeastReason s name r) → IsFault name ⊎ IsNone name
+      go None of is = inr (λ mine. let e : None ≡ Some page = sym of ∙ mine in absurd (cc))
+      go (Some p) of (inl is) = inr (λ mine. is)
+      go (Some p) of (inr is) = by p of is.0 is.1 (cases_order p page)
 
   -- the first of a log's faults below a place, or none
   record IsFirstIn (log : LogName) (k : ℕ) : Type 0 where
@@ -88,12 +89,12 @@ module _ (s : Recorded) (page : ℕ) where
     is_first = λ other name among mine before. earlier name (mine ∙ ap (λ (q : ℕ). Some q) among) before;
   }
     where
-      earlier : (name : Name) → page_at s name ≡ Some page → Precedes name (log_of i, f.place) → reason_at s name ≡ None
+      earlier : (name : Name) → page_at s name ≡ Some page → Precedes name (log_of i, f.place) → IsFaultless s name
       earlier name mine (inl lt) = let e = index_of i few in none name (omega (arith, lt, e)) mine
       earlier name mine (inr both) =
           let same = same_log_by name.0 (log_of i) both.0 in
           let at_it : Path Name name (log_of i, name.1) = λ j. (same j, name.1) in
-          ap (reason_at s) at_it ∙ f.is_first name.1 both.1 (sym (ap (page_at s) at_it) ∙ mine)
+          subst (IsFaultless s) (sym at_it) (f.is_first name.1 both.1 (sym (ap (page_at s) at_it) ∙ mine))
 
   none_more : (i : ℕ) → i < 5 → AreNone i → ((n : ℕ) → n < log_length s (log_of i) → IsNone (log_of i, n)) → AreNone (suc i)
   none_more i few none here name lt = go (cases_lt (log_index name.0) i)
@@ -105,7 +106,7 @@ module _ (s : Recorded) (page : ℕ) where
           let same = same_log_by name.0 (log_of i) (omega (arith, lt, more, e)) in
           let at_it : Path Name name (log_of i, name.1) = λ j. (same j, name.1) in
           let within : name.1 < log_length s (log_of i) = subst (λ l. name.1 < log_length s l) same (page_within s name page mine) in
-          ap (reason_at s) at_it ∙ here name.1 within (sym (ap (page_at s) at_it) ∙ mine)
+          subst (IsFaultless s) (sym at_it) (here name.1 within (sym (ap (page_at s) at_it) ∙ mine))
 
   abbrev HasFirst : Type 0
   HasFirst = (f : PageFault) × IsFirstFault s page f
@@ -120,9 +121,9 @@ module _ (s : Recorded) (page : ℕ) where
       go (inr none) (inr here) = inr (none_more i (omega (arith, few)) none here)
 
   -- where a record has a fault of the page, the page has a first fault
-  pub has_first : (name : Name) (r : PageReason) → page_at s name ≡ Some page → reason_at s name ≡ Some r → HasFirst
-  has_first name r mine is = go (in_logs 5 (omega arith))
+  pub has_first : (name : Name) (r : PageReason) → page_at s name ≡ Some page → IsPageFault s r name → HasFirst
+  has_first name r mine fault = go (in_logs 5 (omega arith))
     where
       go : HasFirst ⊎ AreNone 5 → HasFirst
       go (inl first) = first
-      go (inr none) = let e = none name (few_logs name.0) mine in absurd (cc)
+      go (inr none) = absurd (none name (few_logs name.0) mine r fault)

@@ -1,23 +1,19 @@
 -- A page's first fault stands no later than its first fault in logs that are cut to a front.
-use Rattle.std.proofs.Common.{◌≡◌, ℕ, ◌<◌, ◌⊎◌, inl, inr, Some, sym, ap, ◌∙◌}
+use Rattle.std.proofs.Common.{◌≡◌, ℕ, ◌<◌, ◌⊎◌, inl, inr, Some, sym, ap, ◌∙◌, subst}
 use Rattle.std.proofs.lemmas.Bool.{cases_order}
 use Rattle.migration_types.specs.Receipts.{Name, log_index}
 use Rattle.migration_types.specs.Sessions.{Recorded}
-use Rattle.audit_model.specs.declared.reasons.PageReason.{PageReason}
 use Rattle.audit_model.specs.Mergings.{Cursors}
 use Rattle.page_facts.specs.declared.page_fault.PageFault.{PageFault}
-use Rattle.page_facts.specs.inner.FirstOfLog.{reason_at}
-use Rattle.page_facts.specs.PageFaults.{page_at, Precedes, IsFirstFault}
+use Rattle.page_facts.specs.PageFaults.{page_at, Precedes, IsLeastReason, IsFirstFault}
+use Rattle.page_facts.proofs.FirstOfAll.{one_least}
 use Rattle.cut_logs.specs.FrontLaws.{IsInFront, HasHalt, HasStill, IsNoLater, FirstFaultsAreLater}
 use Rattle.recorded_files.specs.Fronts.{IsFront, cut_to}
 use Rattle.cut_logs.proofs.Faults.{faults_were}
-use Rattle.cut_logs.proofs.First.{has_reason, is_reason_of, same_log_by, same_page, page_was, reason_was}
+use Rattle.cut_logs.proofs.First.{same_log_by, same_page, page_was, reason_was}
 use Rattle.cut_logs.proofs.Found.{has_first}
 
 module _ (s : Recorded) (c : Cursors) (front : IsFront s c) (halt : HasHalt s c) where
-  same_reason : {a b : PageReason} → Some a ≡ Some b → a ≡ b
-  same_reason e = cc
-
   is_no_later : (page : ℕ) (f first : PageFault) → IsFirstFault (cut_to c s) page f → IsFirstFault s page first → IsNoLater s c f first
   is_no_later page f first cut_first whole_first =
       by (cases_order (log_index first.log) (log_index f.log)) (cases_order first.place f.place)
@@ -25,16 +21,16 @@ module _ (s : Recorded) (c : Cursors) (front : IsFront s c) (halt : HasHalt s c)
       was : IsInFront c (f.log, f.place) × (page_at s (f.log, f.place) ≡ Some f.page)
       was = page_was s c (f.log, f.place) f.page cut_first.is_of
 
-      reason : reason_at s (f.log, f.place) ≡ Some f.reason
+      reason : IsLeastReason s (f.log, f.place) f.reason
       reason = reason_was s c front halt (f.log, f.place) f.reason was.0 cut_first.is_reason
 
       not_after : {A : Type 0} → Precedes (f.log, f.place) (first.log, first.place) → A
-      not_after before = has_reason s (f.log, f.place) f.reason (whole_first.is_first f.page (f.log, f.place) cut_first.is_among was.1 before) (is_reason_of s (f.log, f.place) f.reason reason)
+      not_after before = absurd (whole_first.is_first f.page (f.log, f.place) cut_first.is_among was.1 before f.reason reason.is_fault)
 
       lacks : Precedes (first.log, first.place) (f.log, f.place) → HasStill s c first → ⊥
       lacks before still =
           let inside = (faults_were s c front halt first.reason (first.log, first.place) still).0 in
-          has_reason (cut_to c s) (first.log, first.place) first.reason (cut_first.is_first first.page (first.log, first.place) whole_first.is_among (same_page s c (first.log, first.place) inside ∙ whole_first.is_of) before) still
+          cut_first.is_first first.page (first.log, first.place) whole_first.is_among (same_page s c (first.log, first.place) inside ∙ whole_first.is_of) before first.reason still
 
       before_it : Precedes (first.log, first.place) (f.log, f.place) → IsNoLater s c f first
       before_it before = inr (before, lacks before)
@@ -50,13 +46,12 @@ module _ (s : Recorded) (c : Cursors) (front : IsFront s c) (halt : HasHalt s c)
           let l : f.log ≡ first.log = same_log_by f.log first.log (sym e) in
           let n : f.place ≡ first.place = sym g in
           let at : Path Name (f.log, f.place) (first.log, first.place) = λ j. (l j, n j) in
-          let two : Some f.reason ≡ Some first.reason = sym reason ∙ ap (reason_at s) at ∙ whole_first.is_reason in
-          let r = same_reason two in
+          let r = one_least s (first.log, first.place) f.reason first.reason (subst (λ (name : Name). IsLeastReason s name f.reason) at reason) whole_first.is_reason in
           let p : f.page ≡ first.page = cut_first.is_among ∙ sym whole_first.is_among in
           inl (λ j. record { page = p j; log = l j; place = n j; reason = r j })
 
   pub first_faults_are_later : FirstFaultsAreLater s c
   first_faults_are_later page f first =
       let was = page_was s c (f.log, f.place) f.page first.is_of in
-      let found = has_first s page (f.log, f.place) f.reason (was.1 ∙ ap (λ (q : ℕ). Some q) first.is_among) (reason_was s c front halt (f.log, f.place) f.reason was.0 first.is_reason) in
+      let found = has_first s page (f.log, f.place) f.reason (was.1 ∙ ap (λ (q : ℕ). Some q) first.is_among) (reason_was s c front halt (f.log, f.place) f.reason was.0 first.is_reason).is_fault in
       record { first = found.0; is_first = found.1; is_no_later = is_no_later page f found.0 first found.1 }

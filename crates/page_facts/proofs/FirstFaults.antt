@@ -10,7 +10,7 @@ use Rattle.audit_model.specs.declared.reasons.PageReason.{PageReason}
 use Rattle.page_facts.specs.Tables.{first_before}
 use Rattle.page_facts.specs.declared.page_fault.PageFault.{PageFault}
 use Rattle.page_facts.specs.inner.FirstOfLog.{or_else}
-use Rattle.page_facts.specs.PageFaults.{fault, told, precedes, least}
+use Rattle.page_facts.specs.inner.OfFindings.{fault, told, precedes, least}
 use Rattle.page_facts.proofs.Before.{first_none, first_some}
 use Rattle.page_facts.proofs.Lines.{precedes_is, is_precedes}
 

@@ -27,7 +27,7 @@ rank_back Altered = refl
 rank_back Unfit = refl
 rank_back Over = refl
 
-same_rank : (a b : PageReason) → page_rank a ≡ page_rank b → a ≡ b
+pub same_rank : (a b : PageReason) → page_rank a ≡ page_rank b → a ≡ b
 same_rank a b e = sym (rank_back a) ∙ ap of_rank e ∙ rank_back b
 
 split_rank : (u r : PageReason) → page_rank u ≤ page_rank r → (r ≡ u) ⊎ (suc (page_rank u) ≤ page_rank r)
@@ -37,7 +37,7 @@ split_rank u r le = go (cases_lt (page_rank u) (page_rank r))
     go (inl lt) = inr (omega arith)
     go (inr ge) = inl (same_rank r u (omega arith))
 
-most_rank : (r : PageReason) → page_rank r ≤ 7
+pub most_rank : (r : PageReason) → page_rank r ≤ 7
 most_rank Read = omega arith
 most_rank Early = omega arith
 most_rank Given = omega arith

@@ -4,7 +4,8 @@ use Rattle.std.specs.Prelude.{nat_lt, ◌==◌}
 use Rattle.std.proofs.lemmas.Bool.{cases_order, eqb-true, ltb-true, lt-ltb, or_cases, and_parts, and_from, or_left, or_right}
 use Rattle.migration_types.specs.Receipts.{Name, log_index}
 use Rattle.page_facts.specs.declared.page_fault.PageFault.{PageFault}
-use Rattle.page_facts.specs.PageFaults.{Precedes, precedes}
+use Rattle.page_facts.specs.PageFaults.{Precedes}
+use Rattle.page_facts.specs.inner.OfFindings.{precedes}
 
 -- a fault's line is less, or it is not
 pub precedes_is : (a b : PageFault) → precedes a b ≡ true → Precedes (a.log, a.place) (b.log, b.place)

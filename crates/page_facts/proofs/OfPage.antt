@@ -32,26 +32,28 @@ use Rattle.page_facts.specs.Moved.{is_again}
 use Rattle.page_facts.specs.Findings.{IsFindings}
 use Rattle.page_facts.specs.declared.findings.Findings.{Findings}
 use Rattle.page_facts.specs.declared.page_fault.PageFault.{PageFault}
+use Rattle.page_facts.specs.PageFaults.{page_at, Precedes, IsFaultless, IsLeastReason, IsClean, IsFirstFault}
 use Rattle.page_facts.specs.inner.FirstOfLog.{or_else, reason_at}
-use Rattle.page_facts.specs.PageFaults.{page_at, Precedes, IsClean, IsFirstFault, early_of, over_of, told, least, placed_reason, reason_of, altered_reason, sent_reason, or_next, guest_fault, source_fault, pager_fault, page_fault}
+use Rattle.page_facts.specs.inner.OfFindings.{early_of, over_of, told, least, placed_reason, reason_of, altered_reason, sent_reason, or_next, guest_fault, source_fault, pager_fault, page_fault}
 use Rattle.page_facts.proofs.Before.{first_none, first_some}
 use Rattle.page_facts.proofs.Listing.{first_is, none_is_first, some_is_first, send_only, altered_only, placed_is}
 use Rattle.page_facts.proofs.Looking.{earlier_some}
 use Rattle.page_facts.proofs.RightEntry.{target_is}
+use Rattle.page_facts.proofs.FirstOfAll.{faultless_at, least_reason_at}
 use Rattle.page_facts.proofs.FirstFaults.{FirstBy, or_also, no_reason, one_more, one_alone}
 use Rattle.page_facts.proofs.Touching.{comes_early, early_parts, early_from, early_is, over, over_is, is_over, over_from}
 
 -- ---- a page's records of one log
 
 abbrev IsCleanIn : Recorded → ℕ → LogName → Type 0
-IsCleanIn s page log = (n : ℕ) → page_at s (log, n) ≡ Some page → reason_at s (log, n) ≡ None
+IsCleanIn s page log = (n : ℕ) → page_at s (log, n) ≡ Some page → IsFaultless s (log, n)
 
 record IsFirstIn (s : Recorded) (page : ℕ) (log : LogName) (f : PageFault) : Type 0 where
   is_page : f.page ≡ page
   is_log : f.log ≡ log
   is_of : page_at s (log, f.place) ≡ Some page
-  is_reason : reason_at s (log, f.place) ≡ Some f.reason
-  below : (n : ℕ) → n < f.place → page_at s (log, n) ≡ Some page → reason_at s (log, n) ≡ None
+  is_reason : IsLeastReason s (log, f.place) f.reason
+  below : (n : ℕ) → n < f.place → page_at s (log, n) ≡ Some page → IsFaultless s (log, n)
 
 there_is : {A : Type 0} (page_of : A → Option ℕ) (o : Option A) (page : ℕ) → if_there page_of o ≡ Some page → (r : A) × (o ≡ Some r) × (of_page page_of page r ≡ true)
 there_is page_of None page e = absurd (cc)
@@ -70,8 +72,8 @@ is_there page_of o page r is own = ap (λ o. if_there page_of o) is ∙ go (page
 
 -- the first by the reasons of a page's records is the first of the log
 module _ {A : Type 0} (s : Recorded) (page : ℕ) (name : LogName) (log : List A) (page_of : A → Option ℕ) (is_at : (n : ℕ) → page_at s (name, n) ≡ if_there page_of (slice_get log n)) (why : ℕ → A → Option PageReason) (least_is : (n : ℕ) (r : A) → slice_get log n ≡ Some r → of_page page_of page r ≡ true → reason_at s (name, n) ≡ why n r) where
-  clear_at : (n : ℕ) → ((r : A) → slice_get log n ≡ Some r → of_page page_of page r ≡ true → why n r ≡ None) → page_at s (name, n) ≡ Some page → reason_at s (name, n) ≡ None
-  clear_at n none at = let h = there_is page_of (slice_get log n) page (sym (is_at n) ∙ at) in least_is n h.0 h.1 h.2 ∙ none h.0 h.1 h.2
+  clear_at : (n : ℕ) → ((r : A) → slice_get log n ≡ Some r → of_page page_of page r ≡ true → why n r ≡ None) → page_at s (name, n) ≡ Some page → IsFaultless s (name, n)
+  clear_at n none at = let h = there_is page_of (slice_get log n) page (sym (is_at n) ∙ at) in faultless_at s (name, n) (least_is n h.0 h.1 h.2 ∙ none h.0 h.1 h.2)
 
   first_in : (o : Option PageFault) → FirstBy page name log (of_page page_of page) why o → MatchOption o (IsCleanIn s page name) (IsFirstIn s page name)
   first_in None clear = λ n at. clear_at n (λ r is own. clear.each n r is own) at
@@ -79,7 +81,7 @@ module _ {A : Type 0} (s : Recorded) (page : ℕ) (name : LogName) (log : List A
     is_page = first.is_page;
     is_log = first.is_log;
     is_of = is_at f.place ∙ is_there page_of (slice_get log f.place) page first.by first.stands first.is_own;
-    is_reason = least_is f.place first.by first.stands first.is_own ∙ first.is_why;
+    is_reason = least_reason_at s (name, f.place) f.reason (least_is f.place first.by first.stands first.is_own ∙ first.is_why);
     below = λ n lt at. clear_at n (λ r is own. first.below n r lt is own) at;
   }
 
@@ -336,33 +338,33 @@ module _ (s : Recorded) (page : ℕ) where
     clean_in : IsCleanIn s page Guest → IsCleanIn s page Source → IsCleanIn s page Pager → IsClean s page
     clean_in g o p = record { each = λ q name same at. go name (at ∙ ap (λ k. Some k) same) }
       where
-        go : (name : Name) → page_at s name ≡ Some page → reason_at s name ≡ None
+        go : (name : Name) → page_at s name ≡ Some page → IsFaultless s name
         go (Guest, n) at = g n at
         go (Source, n) at = o n at
-        go (Link, n) at = refl
-        go (Lane, n) at = refl
+        go (Link, n) at = λ r f. f
+        go (Lane, n) at = λ r f. f
         go (Pager, n) at = p n at
 
     -- the logs before this one have no fault of the page
     abbrev CleanBefore : LogName → Type 0
-    CleanBefore log = (name : Name) → page_at s name ≡ Some page → log_index name.0 < log_index log → reason_at s name ≡ None
+    CleanBefore log = (name : Name) → page_at s name ≡ Some page → log_index name.0 < log_index log → IsFaultless s name
 
     found_in : (log : LogName) (x : PageFault) → CleanBefore log → IsFirstIn s page log x → IsFirstFault s page x
     found_in log x before first = record {
       is_among = first.is_page;
       is_of = ap (λ (l : LogName). page_at s (l, x.place)) first.is_log ∙ first.is_of ∙ ap (λ (p : ℕ). Some p) (sym first.is_page);
-      is_reason = ap (λ (l : LogName). reason_at s (l, x.place)) first.is_log ∙ first.is_reason;
+      is_reason = subst (λ (l : LogName). IsLeastReason s (l, x.place) x.reason) (sym first.is_log) first.is_reason;
       is_first = λ q name same at precedes. go name (at ∙ ap (λ k. Some k) same) precedes;
     }
       where
         same_log : (a b : LogName) → log_index a ≡ log_index b → a ≡ b
         same_log a b e = same_from_test a b (eq-eqb (log_index a) (log_index b) e)
 
-        go : (name : Name) → page_at s name ≡ Some page → Precedes name (x.log, x.place) → reason_at s name ≡ None
+        go : (name : Name) → page_at s name ≡ Some page → Precedes name (x.log, x.place) → IsFaultless s name
         go name at (inl lt) = before name at (subst (λ (l : LogName). log_index name.0 < log_index l) first.is_log lt)
         go name at (inr same) =
             let one : name.0 ≡ log = same_log name.0 x.log same.0 ∙ first.is_log in
-            ap (λ (l : LogName). reason_at s (l, name.1)) one ∙ first.below name.1 same.1 (ap (λ (l : LogName). page_at s (l, name.1)) (sym one) ∙ at)
+            subst (λ (l : LogName). IsFaultless s (l, name.1)) (sym one) (first.below name.1 same.1 (ap (λ (l : LogName). page_at s (l, name.1)) (sym one) ∙ at))
 
     pub page_fault_is : MatchOption (page_fault s page f) (IsClean s page) (IsFirstFault s page)
     page_fault_is = go (guest_fault page f) guest_in
@@ -370,15 +372,15 @@ module _ (s : Recorded) (page : ℕ) where
         before_source : IsCleanIn s page Guest → CleanBefore Source
         before_source g (Guest, n) at lt = g n at
         before_source g (Source, n) at lt = absurd (omega (arith, lt))
-        before_source g (Link, n) at lt = refl
-        before_source g (Lane, n) at lt = refl
+        before_source g (Link, n) at lt = λ r f. f
+        before_source g (Lane, n) at lt = λ r f. f
         before_source g (Pager, n) at lt = absurd (omega (arith, lt))
 
         before_pager : IsCleanIn s page Guest → IsCleanIn s page Source → CleanBefore Pager
         before_pager g o (Guest, n) at lt = g n at
         before_pager g o (Source, n) at lt = o n at
-        before_pager g o (Link, n) at lt = refl
-        before_pager g o (Lane, n) at lt = refl
+        before_pager g o (Link, n) at lt = λ r f. f
+        before_pager g o (Lane, n) at lt = λ r f. f
         before_pager g o (Pager, n) at lt = absurd (omega (arith, lt))
 
         before_guest : CleanBefore Guest

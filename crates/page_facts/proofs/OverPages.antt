@@ -1,5 +1,5 @@
 -- The first fault of one page more, and of all pages.
-use Rattle.std.proofs.Common.{◌≡◌, ℕ, ◌+◌, ◌<◌, ◌≤◌, ◌⊎◌, inl, inr, Bool, true, false, cond, Option, Some, None, refl, sym, ap, ◌∙◌, subst, arith, List}
+use Rattle.std.proofs.Common.{◌≡◌, ℕ, ◌+◌, ◌<◌, ◌≤◌, ◌⊎◌, inl, inr, Bool, true, false, cond, Option, Some, None, refl, sym, ap, subst, arith, List}
 use Rattle.std.specs.Prelude.{slice_get, IfSome}
 use Rattle.std.specs.Option.{MatchOption}
 use Rattle.std.proofs.lemmas.Bool.{cases_lt}
@@ -16,26 +16,27 @@ use Rattle.migration_types.specs.Sessions.{Recorded, IsSession}
 use Rattle.audit_model.specs.declared.reasons.PageReason.{PageReason}
 use Rattle.audit_model.specs.declared.reasons.PageReason.TheVariants.{Read as WrongRead, Early, Given, Stale, Twice, Altered, Unfit, Over}
 use Rattle.audit_model.specs.Names.{if_there}
-use Rattle.audit_model.specs.Faults.{GuestFault, SourceFault, PagerFault, if_fault, HasNoPageFault}
+use Rattle.audit_model.specs.Faults.{GuestFault, SourceFault, PagerFault, if_fault, IsPageFault, HasNoPageFault}
 use Rattle.audit_model.specs.FirstFault.{IsFirstPageFault}
 use Rattle.migration_types.specs.Paged.{AreWithin}
 use Rattle.migration_types.specs.Paged.{guest_page, source_page, pager_page}
 use Rattle.page_facts.specs.declared.page_fault.PageFault.{PageFault}
-use Rattle.page_facts.specs.inner.FirstOfLog.{reason_at, IsCleanLog, IsFirstOfLog}
-use Rattle.page_facts.specs.PageFaults.{page_at, Precedes, AreClean, HasItsPage, IsFirstFaultOf, IsClean, IsFirstFault, IsPageOf, IsFirstFaultFrom, precedes, least}
-use Rattle.page_facts.proofs.FirstOfAll.{none_at, guest_first, moved_of_all}
+use Rattle.page_facts.specs.inner.FirstOfLog.{IsCleanLog, IsFirstOfLog}
+use Rattle.page_facts.specs.inner.OfFindings.{precedes, least}
+use Rattle.page_facts.specs.PageFaults.{page_at, Precedes, IsFaultless, IsLeastReason, AreClean, HasItsPage, IsFirstFaultOf, IsClean, IsFirstFault, IsPageOf, IsFirstFaultFrom}
+use Rattle.page_facts.proofs.FirstOfAll.{guest_first, moved_of_all}
 use Rattle.page_facts.proofs.Lines.{precedes_is, is_precedes, passes_on, before_both}
 use Rattle.page_facts.proofs.Within.{guest_within, source_within, pager_within}
 
 -- the first fault of pages of two kinds, from those of each
 module _ (s : Recorded) (Low High All : ℕ → Type 0) (low : (p : ℕ) → Low p → All p) (high : (p : ℕ) → High p → All p) (each : (p : ℕ) → All p → (Low p) ⊎ (High p)) where
   abbrev AreCleanIf : (ℕ → Type 0) → (Name → Type 0) → Type 0
-  AreCleanIf Among C = (p : ℕ) (name : Name) → Among p → page_at s name ≡ Some p → C name → reason_at s name ≡ None
+  AreCleanIf Among C = (p : ℕ) (name : Name) → Among p → page_at s name ≡ Some p → C name → IsFaultless s name
 
   both : (C : Name → Type 0) → AreCleanIf Low C → AreCleanIf High C → AreCleanIf All C
   both C below above p name among at c = go (each p among)
     where
-      go : (Low p) ⊎ (High p) → reason_at s name ≡ None
+      go : (Low p) ⊎ (High p) → IsFaultless s name
       go (inl is) = below p name is at c
       go (inr is) = above p name is at c
 
@@ -134,12 +135,12 @@ module _ (s : Recorded) where
   if_none page_of fault none None e f = f
   if_none page_of fault none (Some x) e f = none x e f
 
-  no_page : (name : Name) → page_at s name ≡ None → reason_at s name ≡ None
-  no_page (Guest, n) e = none_at s (Guest, n) (λ r f. if_none guest_page (GuestFault s r n) (guest_none n r) (slice_get s.guest n) e f)
-  no_page (Source, n) e = none_at s (Source, n) (λ r f. if_none source_page (SourceFault s r) (source_none r) (slice_get s.source n) e f)
-  no_page (Link, n) e = none_at s (Link, n) (λ r f. f)
-  no_page (Lane, n) e = none_at s (Lane, n) (λ r f. f)
-  no_page (Pager, n) e = none_at s (Pager, n) (λ r f. if_none pager_page (PagerFault s r n) (pager_none n r) (slice_get s.pager n) e f)
+  no_page : (name : Name) → page_at s name ≡ None → IsFaultless s name
+  no_page (Guest, n) e r f = if_none guest_page (GuestFault s r n) (guest_none n r) (slice_get s.guest n) e f
+  no_page (Source, n) e r f = if_none source_page (SourceFault s r) (source_none r) (slice_get s.source n) e f
+  no_page (Link, n) e r f = f
+  no_page (Lane, n) e r f = f
+  no_page (Pager, n) e r f = if_none pager_page (PagerFault s r n) (pager_none n r) (slice_get s.pager n) e f
 
   below_in : {A : Type 0} (page_of : A → Option ℕ) (log : List A) (n p : ℕ) → AreWithin page_of s.geometry.pages log → if_there page_of (slice_get log n) ≡ Some p → p < s.geometry.pages
   below_in {A} page_of log n p are e = go (slice_get log n) refl e
@@ -162,25 +163,25 @@ module _ (s : Recorded) where
     among : (name : Name) (p : ℕ) → page_at s name ≡ Some p → Pages p
     among name p e = (omega arith, omega (arith, page_below name p e))
 
-    all_clean : AreClean s Pages → (name : Name) → reason_at s name ≡ None
+    all_clean : AreClean s Pages → (name : Name) → IsFaultless s name
     all_clean clean name = go (page_at s name) refl
       where
-        go : (o : Option ℕ) → page_at s name ≡ o → reason_at s name ≡ None
+        go : (o : Option ℕ) → page_at s name ≡ o → IsFaultless s name
         go None e = no_page name e
         go (Some p) e = clean.each p name (among name p e) e
 
     module _ (f : PageFault) (first : IsFirstFaultOf s Pages f) where
-      clean_before : (name : Name) → Precedes name (f.log, f.place) → reason_at s name ≡ None
+      clean_before : (name : Name) → Precedes name (f.log, f.place) → IsFaultless s name
       clean_before name less = go (page_at s name) refl
         where
-          go : (o : Option ℕ) → page_at s name ≡ o → reason_at s name ≡ None
+          go : (o : Option ℕ) → page_at s name ≡ o → IsFaultless s name
           go None e = no_page name e
           go (Some p) e = first.is_first p name (among name p e) e less
 
       in_log : (log : LogName) → f.log ≡ log → IsFirstOfLog s log f
       in_log log e = record {
         is_log = e;
-        is_reason = ap (λ (l : LogName). reason_at s (l, f.place)) (sym e) ∙ first.is_reason;
+        is_reason = subst (λ (l : LogName). IsLeastReason s (l, f.place) f.reason) e first.is_reason;
         is_clean_below = λ n lt. clean_before (log, n) (inr (ap (λ (l : LogName). log_index l) (sym e), lt));
       }
 
@@ -193,8 +194,8 @@ module _ (s : Recorded) where
           go : (log : LogName) → f.log ≡ log → IsFirstPageFault s f.reason (f.log, f.place)
           go Guest e = guest_first s f (in_log Guest e)
           go Source e = moved_of_all s (Some f) (clean_log Source Guest e (omega arith)) (inl (in_log Source e))
-          go Link e = let r = first.is_reason in let none : reason_at s (f.log, f.place) ≡ None = ap (λ (l : LogName). reason_at s (l, f.place)) e in absurd (cc)
-          go Lane e = let r = first.is_reason in let none : reason_at s (f.log, f.place) ≡ None = ap (λ (l : LogName). reason_at s (l, f.place)) e in absurd (cc)
+          go Link e = absurd (subst (λ (l : LogName). IsPageFault s f.reason (l, f.place)) e first.is_reason.is_fault)
+          go Lane e = absurd (subst (λ (l : LogName). IsPageFault s f.reason (l, f.place)) e first.is_reason.is_fault)
           go Pager e = moved_of_all s (Some f) (clean_log Pager Guest e (omega arith)) (inr (clean_log Pager Source e (omega arith), in_log Pager e))
 
     pub all_is : (o : Option PageFault) → IsFirstFaultFrom s 0 s.geometry.pages o → MatchOption o (HasNoPageFault s) (λ f. IsFirstPageFault s f.reason (f.log, f.place))

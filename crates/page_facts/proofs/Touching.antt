@@ -18,7 +18,7 @@ use Rattle.page_facts.specs.Looks.{first_look}
 use Rattle.page_facts.specs.Findings.{IsFindings}
 use Rattle.page_facts.specs.declared.findings.Findings.{Findings}
 use Rattle.page_facts.specs.inner.Frontier.{is_before}
-use Rattle.page_facts.specs.PageFaults.{uncovered_of, early_of, over_at, over_of}
+use Rattle.page_facts.specs.inner.OfFindings.{uncovered_of, early_of, over_at, over_of}
 use Rattle.page_facts.proofs.Before.{some_true, some_false, first_none, first_some, IsFirstAt}
 use Rattle.page_facts.proofs.Listing.{first_is, none_is_first, some_is_first}
 use Rattle.page_facts.proofs.Looking.{earlier_some}

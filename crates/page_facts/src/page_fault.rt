@@ -5,7 +5,8 @@ ghost use Rattle.migration_types.specs.Sessions.{IsSession, Recorded};
 ghost use Rattle.audit_model.specs.Faults.{HasNoPageFault};
 ghost use Rattle.audit_model.specs.FirstFault.{IsFirstPageFault};
 ghost use Rattle.page_facts.specs.Findings.{IsFindings};
-ghost use Rattle.page_facts.specs.PageFaults.{told, precedes, least, or_next, page_fault, HasItsPage, IsClean, IsFirstFault, IsFirstFaultFrom};
+ghost use Rattle.page_facts.specs.PageFaults.{HasItsPage, IsClean, IsFirstFault, IsFirstFaultFrom};
+ghost use Rattle.page_facts.specs.inner.OfFindings.{told, precedes, least, or_next, page_fault};
 
 use crate::findings::{Findings, guest_fault, pager_fault, source_fault};
 use crate::question::{Question, answer_alone};

@@ -1,16 +1,12 @@
 -- The first fault of a page, and the pages that have one.
-use Rattle.std.proofs.Common.{◌≡◌, ◌≢◌, ℕ, ◌<◌, true, false, List, [], ◌∷◌, length, Option, Some, None, refl, sym, ap, ◌∙◌, subst, arith}
+use Rattle.std.proofs.Common.{◌≡◌, ◌≢◌, ℕ, ◌<◌, List, [], ◌∷◌, length, Option, Some, None, refl, sym, ap, ◌∙◌, subst, arith}
 use Rattle.std.proofs.lemmas.List.Elements.{All-nil}
 use Rattle.migration_types.specs.Receipts.{Name}
 use Rattle.migration_types.specs.Sessions.{Recorded, IsSession}
 use Rattle.audit_model.specs.declared.reasons.PageReason.{PageReason}
 use Rattle.audit_model.specs.Faults.{IsPageFault}
-use Rattle.audit_model.specs.inner.PageFaultTests.{fault_test}
-use Rattle.audit_model.proofs.PageFaultTests.{fault_Decides}
 use Rattle.page_facts.specs.declared.page_fault.PageFault.{PageFault}
-use Rattle.page_facts.specs.inner.FirstOfLog.{reason_at}
 use Rattle.page_facts.specs.PageFaults.{page_at, IsFirstFault}
-use Rattle.page_facts.proofs.LeastReason.{least_is, least_rank}
 use Rattle.faulty_pages.specs.declared.FaultyPage.{FaultyPage}
 use Rattle.faulty_pages.specs.FaultyPages.{AreFaultyPages}
 use Rattle.story_types.specs.declared.faults.FaultStory.{FaultStory}
@@ -20,12 +16,8 @@ use Rattle.session_story.proofs.Paged.{fault_paged, page_below}
 use Rattle.story_types.specs.Topics.{IsFirstFaultStory, IsPageTold, IsToldOfItsPage}
 
 module _ (s : Recorded) where
-  -- a record with a reason is a fault
-  reasoned : (name : Name) (r : PageReason) → reason_at s name ≡ Some r → IsPageFault s r name
-  reasoned name r e = (fault_Decides s r name).0 ((least_is (λ reason. fault_test s reason name)).holds r e)
-
   pub is_fault : (page : ℕ) (f : PageFault) → IsFirstFault s page f → IsPageFault s f.reason (f.log, f.place)
-  is_fault page f first = reasoned (f.log, f.place) f.reason first.is_reason
+  is_fault page f first = first.is_reason.is_fault
 
   pub is_of_page : (page : ℕ) (f : PageFault) → IsFirstFault s page f → page_at s (f.log, f.place) ≡ Some page
   is_of_page page f first = first.is_of ∙ ap (λ (p : ℕ). Some p) first.is_among
@@ -45,7 +37,5 @@ some_faulty s fits reason name [] fault are = go (page_at s name) refl
     go : (o : Option ℕ) → page_at s name ≡ o → 0 < 0
     go None at = absurd (fault_paged s reason name fault at)
     go (Some page) at =
-        let clean : reason_at s name ≡ None = (are.others page (page_below s fits name page at) (All-nil (λ (f : FaultyPage). f.fault.page ≢ page))).each page name refl at in
-        let test : fault_test s reason name ≡ true = (fault_Decides s reason name).1 fault in
-        let none : fault_test s reason name ≡ false = (least_is (λ r. fault_test s r name)).none clean reason (least_rank reason) in
-        absurd (cc)
+        let clean = are.others page (page_below s fits name page at) (All-nil (λ (f : FaultyPage). f.fault.page ≢ page)) in
+        absurd (clean.each page name refl at reason fault)

@@ -1,7 +1,6 @@
 -- Each page's first fault with thinned logs.
-use Rattle.std.proofs.Common.{◌≡◌, ◌↔◌, ℕ, ◌<◌, ◌⊎◌, inl, inr, Bool, true, false, List, Option, Some, None, refl, sym, ap, ◌∙◌, subst}
+use Rattle.std.proofs.Common.{◌≡◌, ◌↔◌, ℕ, ◌<◌, ◌⊎◌, inl, inr, Bool, true, false, List, Some, refl, sym, ap, ◌∙◌, subst}
 use Rattle.std.specs.Prelude.{slice_get}
-use Rattle.std.specs.Bool.{Decides}
 use Rattle.migration_types.specs.declared.records.LogName.TheVariants.{Guest}
 use Rattle.migration_types.specs.Receipts.{Name}
 use Rattle.migration_types.specs.Sessions.{Recorded}
@@ -9,12 +8,8 @@ use Rattle.audit_model.specs.declared.reasons.PageReason.{PageReason}
 use Rattle.audit_model.specs.declared.reasons.PageReason.TheVariants.{Read as WrongRead}
 use Rattle.audit_model.specs.Faults.{IsPageFault}
 use Rattle.audit_model.specs.Windows.{rank}
-use Rattle.audit_model.specs.inner.PageFaultTests.{fault_test}
-use Rattle.audit_model.proofs.PageFaultTests.{fault_Decides}
 use Rattle.page_facts.specs.declared.page_fault.PageFault.{PageFault}
-use Rattle.page_facts.specs.inner.FirstOfLog.{least_reason, reason_at}
-use Rattle.page_facts.specs.PageFaults.{page_at, Precedes, IsClean, IsFirstFault}
-use Rattle.page_facts.proofs.LeastReason.{least_rank, least_is}
+use Rattle.page_facts.specs.PageFaults.{page_at, Precedes, IsFaultless, IsLeastReason, IsClean, IsFirstFault}
 use Rattle.page_facts.proofs.Lines.{passes_on}
 use Rattle.thinned_logs.specs.Thinned.{thinned, thin_name, IsKept, IsThinning}
 use Rattle.thinned_logs.specs.ThinLaws.{WasMisread, thin_fault, KeepsFirstFaults, FirstFaultsWere}
@@ -23,57 +18,54 @@ use Rattle.thinned_logs.proofs.Later.{faults_are_later}
 use Rattle.thinned_logs.proofs.Misread.{misread_shows}
 use Rattle.thinned_logs.proofs.Names.{same_log, renamed, Goes, precedes_to, precedes_from, same_page, stays_or_goes, was_kept}
 
-same_test : {P Q : Type 0} (a b : Bool) → Decides a P → Decides b Q → P ↔ Q → a ≡ b
-same_test true true f g h = refl
-same_test false false f g h = refl
-same_test true false f g h = let e = g.1 (h.0 (f.0 refl)) in absurd (cc)
-same_test false true f g h = let e = f.1 (h.1 (g.0 refl)) in absurd (cc)
+-- where two records have the same faults, what is so of one's is so of the other's
+module _ (s t : Recorded) (one other : Name) (same : (r : PageReason) → IsPageFault s r one ↔ IsPageFault t r other) where
+  none_too : IsFaultless s one → IsFaultless t other
+  none_too none r f = none r ((same r).1 f)
 
--- a record with a fault has a reason
-has_reason : {A : Type 0} (s : Recorded) (name : Name) (r : PageReason) → reason_at s name ≡ None → IsPageFault s r name → A
-has_reason s name r e f =
-    let t : fault_test s r name ≡ true = (fault_Decides s r name).1 f in
-    let n : fault_test s r name ≡ false = (least_is (λ reason. fault_test s reason name)).none e r (least_rank r) in
-    absurd (cc)
-
-is_reason_of : (s : Recorded) (name : Name) (r : PageReason) → reason_at s name ≡ Some r → IsPageFault s r name
-is_reason_of s name r e = (fault_Decides s r name).0 ((least_is (λ reason. fault_test s reason name)).holds r e)
+  least_too : (r : PageReason) → IsLeastReason s one r → IsLeastReason t other r
+  least_too r is = record { is_fault = (same r).0 is.is_fault; is_least = λ u f. is.is_least u ((same u).1 f) }
 
 module _ (marks : List Bool) (s : Recorded) (thin : IsThinning marks s) where
-  -- a kept record has its reason
-  same_reason : (name : Name) → IsKept marks name → (WasMisread s name → ⊥) → reason_at (thinned marks s) (thin_name marks name) ≡ reason_at s name
-  same_reason name kept free =
-      let each : (r : PageReason) → fault_test (thinned marks s) r (thin_name marks name) ≡ fault_test s r name =
-      λ r. sym (same_test (fault_test s r name) (fault_test (thinned marks s) r (thin_name marks name)) (fault_Decides s r name) (fault_Decides (thinned marks s) r (thin_name marks name)) (keeps_faults marks s thin r name kept free)) in
-      let same : (λ r. fault_test (thinned marks s) r (thin_name marks name)) ≡ (λ r. fault_test s r name) = λ j r. each r j in
-      ap least_reason same
+  -- a kept record has its faults
+  module _ (name : Name) (kept : IsKept marks name) (free : WasMisread s name → ⊥) where
+    same : (r : PageReason) → IsPageFault s r name ↔ IsPageFault (thinned marks s) r (thin_name marks name)
+    same r = keeps_faults marks s thin r name kept free
+
+    none_to : IsFaultless s name → IsFaultless (thinned marks s) (thin_name marks name)
+    none_to = none_too s (thinned marks s) name (thin_name marks name) same
+
+    none_from : IsFaultless (thinned marks s) (thin_name marks name) → IsFaultless s name
+    none_from = none_too (thinned marks s) s (thin_name marks name) name (λ r. ((same r).1, (same r).0))
+
+    least_to : (r : PageReason) → IsLeastReason s name r → IsLeastReason (thinned marks s) (thin_name marks name) r
+    least_to = least_too s (thinned marks s) name (thin_name marks name) same
+
+    least_from : (r : PageReason) → IsLeastReason (thinned marks s) (thin_name marks name) r → IsLeastReason s name r
+    least_from = least_too (thinned marks s) s (thin_name marks name) name (λ r. ((same r).1, (same r).0))
 
   -- where the kept records of a page before a place are clean, so is one that goes there
   clean_gone : (n page : ℕ) → slice_get marks n ≡ Some false → page_at s (Guest, n) ≡ Some page →
-      ((k : ℕ) → k < n → slice_get marks k ≡ Some true → page_at s (Guest, k) ≡ Some page → reason_at s (Guest, k) ≡ None) → reason_at s (Guest, n) ≡ None
-  clean_gone n page gone mine clean = go (reason_at s (Guest, n)) refl
-    where
-      go : (o : Option PageReason) → reason_at s (Guest, n) ≡ o → o ≡ None
-      go None e = refl
-      go (Some r) e =
-          let f = faults_are_later marks s thin r n page gone mine (is_reason_of s (Guest, n) r e) in
-          has_reason s (Guest, f.place) f.reason (clean f.place f.is_earlier f.is_kept f.is_of) f.is_fault
+      ((k : ℕ) → k < n → slice_get marks k ≡ Some true → page_at s (Guest, k) ≡ Some page → IsFaultless s (Guest, k)) → IsFaultless s (Guest, n)
+  clean_gone n page gone mine clean r fault =
+      let f = faults_are_later marks s thin r n page gone mine fault in
+      clean f.place f.is_earlier f.is_kept f.is_of f.reason f.is_fault
 
-  -- where no record of a page before a place has a reason, the page was not misread before it
-  free_by : (name : Name) (page : ℕ) → page_at s name ≡ Some page → ((other : Name) → page_at s other ≡ Some page → Precedes other name → reason_at s other ≡ None) → WasMisread s name → ⊥
+  -- where no record of a page before a place has a fault, the page was not misread before it
+  free_by : (name : Name) (page : ℕ) → page_at s name ≡ Some page → ((other : Name) → page_at s other ≡ Some page → Precedes other name → IsFaultless s other) → WasMisread s name → ⊥
   free_by name page mine clean was =
       let e : Some was.page ≡ Some page = sym was.is_of ∙ mine in
       let same : was.page ≡ page = cc in
       let f = misread_shows marks s thin name was.page was.is_misread in
-      has_reason s (Guest, f.place) WrongRead (clean (Guest, f.place) (f.is_of ∙ ap (λ (q : ℕ). Some q) same) f.is_before) f.is_fault
+      clean (Guest, f.place) (f.is_of ∙ ap (λ (q : ℕ). Some q) same) f.is_before WrongRead f.is_fault
 
   -- and where none has one with thinned logs
-  free_by_thin : (name : Name) (page : ℕ) → page_at s name ≡ Some page → ((other : Name) → IsKept marks other → page_at s other ≡ Some page → Precedes other name → reason_at (thinned marks s) (thin_name marks other) ≡ None) → WasMisread s name → ⊥
+  free_by_thin : (name : Name) (page : ℕ) → page_at s name ≡ Some page → ((other : Name) → IsKept marks other → page_at s other ≡ Some page → Precedes other name → IsFaultless (thinned marks s) (thin_name marks other)) → WasMisread s name → ⊥
   free_by_thin name page mine clean was =
       let e : Some was.page ≡ Some page = sym was.is_of ∙ mine in
       let same : was.page ≡ page = cc in
       let f = misread_shows marks s thin name was.page was.is_misread in
-      has_reason (thinned marks s) (Guest, rank marks f.place) WrongRead (clean (Guest, f.place) f.is_kept (f.is_of ∙ ap (λ (q : ℕ). Some q) same) f.is_before) f.is_thin_fault
+      clean (Guest, f.place) f.is_kept (f.is_of ∙ ap (λ (q : ℕ). Some q) same) f.is_before WrongRead f.is_thin_fault
 
   pub keeps_first_faults : KeepsFirstFaults marks s
   keeps_first_faults page f first = (
@@ -81,15 +73,14 @@ module _ (marks : List Bool) (s : Recorded) (thin : IsThinning marks s) where
     record {
       is_among = first.is_among;
       is_of = ap (page_at (thinned marks s)) at ∙ same_page marks s thin (f.log, f.place) kept ∙ first.is_of;
-      is_reason = ap (reason_at (thinned marks s)) at ∙ same_reason (f.log, f.place) kept (free_by (f.log, f.place) f.page first.is_of (λ name. first.is_first f.page name first.is_among)) ∙ first.is_reason;
+      is_reason = subst (λ (name : Name). IsLeastReason (thinned marks s) name f.reason) (sym at) (least_to (f.log, f.place) kept (free_by (f.log, f.place) f.page first.is_of (λ name. first.is_first f.page name first.is_among)) f.reason first.is_reason);
       is_first = λ other name among mine before.
           let old = was_kept marks s thin name other mine in
           let was : page_at s old.0 ≡ Some other = sym (same_page marks s thin old.0 old.1) ∙ ap (page_at (thinned marks s)) old.2 ∙ mine in
           let less : Precedes (thin_name marks old.0) (thin_name marks (f.log, f.place)) = subst (λ a. Precedes a (thin_name marks (f.log, f.place))) (sym old.2) (subst (λ b. Precedes name b) at before) in
           let earlier = precedes_from marks old.0 (f.log, f.place) less in
-          sym (ap (reason_at (thinned marks s)) old.2)
-          ∙ same_reason old.0 old.1 (free_by old.0 other was (λ third own lt. first.is_first other third among own (passes_on third old.0 (f.log, f.place) lt earlier)))
-          ∙ first.is_first other old.0 among was earlier;
+          let free = free_by old.0 other was (λ third own lt. first.is_first other third among own (passes_on third old.0 (f.log, f.place) lt earlier)) in
+          subst (IsFaultless (thinned marks s)) old.2 (none_to old.0 old.1 free (first.is_first other old.0 among was earlier));
     },
   )
     where
@@ -104,24 +95,22 @@ module _ (marks : List Bool) (s : Recorded) (thin : IsThinning marks s) where
           go (inr gone) =
               let mine : page_at s (Guest, gone.place) ≡ Some f.page = sym (ap (page_at s) gone.is) ∙ first.is_of in
               let none = clean_gone gone.place f.page gone.is_gone mine (λ k lt mark own. first.is_first f.page (Guest, k) first.is_among own (subst (λ b. Precedes (Guest, k) b) (sym gone.is) (inr (refl, lt)))) in
-              let some : reason_at s (Guest, gone.place) ≡ Some f.reason = sym (ap (reason_at s) gone.is) ∙ first.is_reason in
-              absurd (cc)
+              absurd (none f.reason (subst (λ (name : Name). IsPageFault s f.reason name) gone.is first.is_reason.is_fault))
 
-  -- Where kept records of a page before a place have no reason with thinned logs, no record of it before the place has one.
-  module _ (page : ℕ) (past : Name → Type 0) (before : (a b : Name) → Precedes a b → past b → past a) (clean : (name : Name) → IsKept marks name → page_at s name ≡ Some page → past name → reason_at (thinned marks s) (thin_name marks name) ≡ None) where
-    kept_clean : (name : Name) → page_at s name ≡ Some page → past name → IsKept marks name → reason_at s name ≡ None
+  -- Where kept records of a page before a place have no fault with thinned logs, no record of it before the place has one.
+  module _ (page : ℕ) (past : Name → Type 0) (before : (a b : Name) → Precedes a b → past b → past a) (clean : (name : Name) → IsKept marks name → page_at s name ≡ Some page → past name → IsFaultless (thinned marks s) (thin_name marks name)) where
+    kept_clean : (name : Name) → page_at s name ≡ Some page → past name → IsKept marks name → IsFaultless s name
     kept_clean name mine here mark =
-        sym (same_reason name mark (free_by_thin name page mine (λ other kept own lt. clean other kept own (before other name lt here))))
-        ∙ clean name mark mine here
+        none_from name mark (free_by_thin name page mine (λ other kept own lt. clean other kept own (before other name lt here))) (clean name mark mine here)
 
-    each_clean : (name : Name) → page_at s name ≡ Some page → past name → reason_at s name ≡ None
+    each_clean : (name : Name) → page_at s name ≡ Some page → past name → IsFaultless s name
     each_clean name mine here = go (stays_or_goes marks s thin name page mine)
       where
-        go : IsKept marks name ⊎ Goes marks name → reason_at s name ≡ None
+        go : IsKept marks name ⊎ Goes marks name → IsFaultless s name
         go (inl mark) = kept_clean name mine here mark
         go (inr gone) =
-            ap (reason_at s) gone.is
-            ∙ clean_gone gone.place page gone.is_gone (sym (ap (page_at s) gone.is) ∙ mine) (λ k lt mark own. kept_clean (Guest, k) own (before (Guest, k) name (subst (λ b. Precedes (Guest, k) b) (sym gone.is) (inr (refl, lt))) here) mark)
+            subst (IsFaultless s) (sym gone.is)
+            (clean_gone gone.place page gone.is_gone (sym (ap (page_at s) gone.is) ∙ mine) (λ k lt mark own. kept_clean (Guest, k) own (before (Guest, k) name (subst (λ b. Precedes (Guest, k) b) (sym gone.is) (inr (refl, lt))) here) mark))
 
   pub first_faults_were : FirstFaultsWere marks s
   first_faults_were page f first =
@@ -134,7 +123,7 @@ module _ (marks : List Bool) (s : Recorded) (thin : IsThinning marks s) where
         record {
           is_among = first.is_among;
           is_of = mine;
-          is_reason = sym (same_reason old kept (free_by_thin old f.page mine (λ name mark own lt. clean f.page first.is_among name mark own lt))) ∙ ap (reason_at (thinned marks s)) same ∙ first.is_reason;
+          is_reason = least_from old kept (free_by_thin old f.page mine (λ name mark own lt. clean f.page first.is_among name mark own lt)) f.reason (subst (λ (name : Name). IsLeastReason (thinned marks s) name f.reason) (sym same) first.is_reason);
           is_first = λ other name among own lt. each_clean other (λ a. Precedes a old) (λ a b less here. passes_on a b old less here) (clean other among) name own lt;
         },
         (let e : f.log ≡ old.0 = sym (ap (λ (n : Name). n.0) same) ∙ same_log marks old in
@@ -145,7 +134,7 @@ module _ (marks : List Bool) (s : Recorded) (thin : IsThinning marks s) where
           mine : page_at s old ≡ Some f.page
           mine = sym (same_page marks s thin old kept) ∙ ap (page_at (thinned marks s)) same ∙ first.is_of
 
-          clean : (other : ℕ) → other ≡ page → (name : Name) → IsKept marks name → page_at s name ≡ Some other → Precedes name old → reason_at (thinned marks s) (thin_name marks name) ≡ None
+          clean : (other : ℕ) → other ≡ page → (name : Name) → IsKept marks name → page_at s name ≡ Some other → Precedes name old → IsFaultless (thinned marks s) (thin_name marks name)
           clean other among name mark own lt = first.is_first other (thin_name marks name) among (same_page marks s thin name mark ∙ own) (subst (λ b. Precedes (thin_name marks name) b) same (precedes_to marks name old mark lt))
 
   clean_to : (page : ℕ) → IsClean s page → IsClean (thinned marks s) page
@@ -153,7 +142,7 @@ module _ (marks : List Bool) (s : Recorded) (thin : IsThinning marks s) where
     each = λ other name among mine.
         let old = was_kept marks s thin name other mine in
         let was : page_at s old.0 ≡ Some other = sym (same_page marks s thin old.0 old.1) ∙ ap (page_at (thinned marks s)) old.2 ∙ mine in
-        sym (ap (reason_at (thinned marks s)) old.2) ∙ same_reason old.0 old.1 (free_by old.0 other was (λ third own lt. clean.each other third among own)) ∙ clean.each other old.0 among was;
+        subst (IsFaultless (thinned marks s)) old.2 (none_to old.0 old.1 (free_by old.0 other was (λ third own lt. clean.each other third among own)) (clean.each other old.0 among was));
   }
 
   clean_from : (page : ℕ) → IsClean (thinned marks s) page → IsClean s page

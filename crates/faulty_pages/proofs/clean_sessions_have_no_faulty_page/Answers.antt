@@ -1,6 +1,5 @@
 use Rattle.std.proofs.Common.{◌<◌, arith}
 use Rattle.std.proofs.lemmas.List.Elements.{All-nil}
-use Rattle.page_facts.proofs.FirstOfAll.{none_at}
 use Rattle.faulty_pages.specs.declared.FaultyPage.{FaultyPage}
 use Rattle.faulty_pages.specs.FaultyPages.{IsFaultyPage}
 use Rattle.faulty_pages.proofs.clean_sessions_have_no_faulty_page.Goals as goal
@@ -10,5 +9,5 @@ returns c = λ s clean. record {
   ascending = λ i j d lt within. absurd (omega arith);
   within = All-nil (λ (f : FaultyPage). f.fault.page < s.geometry.pages);
   faulty = All-nil (IsFaultyPage s);
-  others = λ page lt none. record { each = λ other name among at. none_at s name (λ r f. clean r name f) };
+  others = λ page lt none. record { each = λ other name among at. λ r f. clean r name f };
 }

@@ -8,6 +8,7 @@ use Rattle.audit_model.specs.declared.reasons.PageReason.{PageReason}
 use Rattle.audit_model.specs.declared.reasons.PageReason.TheVariants.{Read as WrongRead, Early, Given, Stale, Twice, Altered, Unfit, Over}
 use Rattle.audit_model.specs.inner.PageFaultTests.{fault_test}
 use Rattle.page_facts.specs.declared.page_fault.PageFault.{PageFault}
+use Rattle.page_facts.specs.PageFaults.{IsFaultless, IsLeastReason}
 
 -- this reason if its test holds, and otherwise the rest
 abbrev pub or_else : Bool → PageReason → Option PageReason → Option PageReason
@@ -25,16 +26,16 @@ reason_at s name = least_reason (λ reason. fault_test s reason name)
 
 -- no record of the log before this place has a fault
 abbrev pub IsCleanBelow : Recorded → LogName → ℕ → Type 0
-IsCleanBelow s log place = (n : ℕ) → n < place → reason_at s (log, n) ≡ None
+IsCleanBelow s log place = (n : ℕ) → n < place → IsFaultless s (log, n)
 
 -- no record of the log has a fault
 abbrev pub IsCleanLog : Recorded → LogName → Type 0
-IsCleanLog s log = (n : ℕ) → reason_at s (log, n) ≡ None
+IsCleanLog s log = (n : ℕ) → IsFaultless s (log, n)
 
 -- the first fault of a log
 pub record IsFirstOfLog (s : Recorded) (log : LogName) (f : PageFault) : Type 0 where
   pub is_log : f.log ≡ log
-  pub is_reason : reason_at s (log, f.place) ≡ Some f.reason
+  pub is_reason : IsLeastReason s (log, f.place) f.reason
   pub is_clean_below : IsCleanBelow s log f.place
 
 -- the first fault of the source's and the pager's logs, or none
