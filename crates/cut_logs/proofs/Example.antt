@@ -21,7 +21,8 @@ use Rattle.audit_model.proofs.Headline.{certified_safe}
 use Rattle.audit_model.proofs.ExampleD.{certified_d}
 use Rattle.audit_model.proofs.Walked.{walk_merges}
 use Rattle.audit_model.proofs.WrittenOut.{each_few, shape_by_tests, walks_by_test}
-use Rattle.recorded_files.specs.inner.Reaches.{names_in, reach}
+use Rattle.recorded_files.specs.Reaches.{names_in}
+use Rattle.recorded_files.specs.inner.Reaches.{reach}
 use Rattle.recorded_files.proofs.Cuts.{is_front}
 use Rattle.cut_logs.specs.Left.{HasSafeFront}
 use Rattle.recorded_files.specs.Fronts.{IsFront, cut_to}

@@ -15,7 +15,8 @@ use Rattle.audit_model.specs.Faults.{IsOver}
 use Rattle.audit_model.specs.Mergings.{Cursors}
 use Rattle.audit_model.proofs.WrittenOut.{shape_by_tests, first_by_test}
 use Rattle.recorded_files.specs.Fronts.{IsFront, cut_to}
-use Rattle.recorded_files.specs.inner.Reaches.{names_in, reach}
+use Rattle.recorded_files.specs.Reaches.{names_in}
+use Rattle.recorded_files.specs.inner.Reaches.{reach}
 use Rattle.recorded_files.proofs.Cuts.{is_front}
 use Rattle.cut_logs.specs.FrontLaws.{LacksFault}
 

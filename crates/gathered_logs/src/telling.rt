@@ -3,7 +3,7 @@
 ghost use Rattle.std.specs.Prelude.{[], List};
 ghost use Rattle.recorded_files.specs.declared.raw.RawSource.{RawSource as Taken};
 ghost use Rattle.recorded_files.specs.declared.raw.RawPager.{RawPager as Received};
-ghost use Rattle.recorded_files.specs.inner.Noted.{Tells};
+ghost use Rattle.recorded_files.specs.Told.{Tells};
 
 use crate::taking::{RecordTaker, TakeRefusal};
 use recorded_files::{RawPager, RawSource, Told};

@@ -6,7 +6,7 @@ use Rattle.migration_types.specs.declared.size.Size.{Size}
 use Rattle.migration_types.specs.declared.version.Version.{Version}
 use Rattle.held_sessions.specs.Made.{sized}
 use Rattle.held_sessions.specs.declared.needs.Needs.{Needs}
-use Rattle.held_sessions.specs.inner.Needs.{AreNeeds}
+use Rattle.held_sessions.specs.Needs.{AreNeeds}
 
 -- this record is the one that it stands for, and needs this
 abbrev pub IsFound : {W R : Type 0} → (W → R) → (Version → Extent → R → Type 0) → Extent → W → R → Needs → Type 0

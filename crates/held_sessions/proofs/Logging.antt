@@ -8,9 +8,11 @@ use Rattle.migration_types.specs.declared.version.Version.{Version}
 use Rattle.held_sessions.specs.Made.{sized}
 use Rattle.held_sessions.specs.declared.logs.HeldLog.{HeldLog}
 use Rattle.held_sessions.specs.declared.needs.Needs.{Needs}
-use Rattle.held_sessions.specs.inner.Fitting.{LogFits}
-use Rattle.held_sessions.specs.inner.Kept.{IsLog, IsNoLog}
-use Rattle.held_sessions.specs.inner.Needs.{Allows, AreBoth, AreNeeds}
+use Rattle.held_sessions.specs.Fitting.{LogFits}
+use Rattle.held_sessions.specs.Kept.{IsLog}
+use Rattle.held_sessions.specs.inner.Kept.{IsNoLog}
+use Rattle.held_sessions.specs.Needs.{Allows, AreNeeds}
+use Rattle.held_sessions.specs.inner.Needs.{AreBoth}
 use Rattle.held_sessions.proofs.Pushed.{all_front, all_last, all_push, length_push}
 
 -- one more record is held

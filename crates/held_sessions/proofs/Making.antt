@@ -15,8 +15,10 @@ use Rattle.migration_types.specs.declared.size.Size.{Size}
 use Rattle.migration_types.specs.declared.version.Version.{Version}
 use Rattle.held_sessions.specs.Made.{sized}
 use Rattle.held_sessions.specs.declared.kept.Kept.{Kept}
-use Rattle.held_sessions.specs.inner.Fitting.{Fits, in_form, GuestFits, LinkFits, SourceFits}
-use Rattle.held_sessions.specs.inner.Kept.{IsKept, IsWithin}
+use Rattle.held_sessions.specs.Fitting.{Fits, GuestFits, LinkFits, SourceFits}
+use Rattle.held_sessions.specs.inner.Fitting.{in_form}
+use Rattle.held_sessions.specs.Kept.{IsKept}
+use Rattle.held_sessions.specs.inner.Kept.{IsWithin}
 use Rattle.held_sessions.proofs.Logging.{fits_log, log_fits}
 use Rattle.held_sessions.proofs.Pages.{init_fits}
 

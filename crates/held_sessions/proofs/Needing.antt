@@ -2,7 +2,7 @@
 use Rattle.std.proofs.Common.{◌≡◌, ◌+◌, ◌<◌, ℕ, true, false, arith, refl}
 use Rattle.migration_types.specs.Limits.{limits}
 use Rattle.migration_types.specs.Sessions.{HasBack, HasLane}
-use Rattle.held_sessions.specs.inner.Needs.{AreNeeds}
+use Rattle.held_sessions.specs.Needs.{AreNeeds}
 
 -- false is not true
 pub not_true : {A : Type 0} → false ≡ true → A

@@ -10,7 +10,8 @@ use Rattle.migration_types.specs.declared.size.Size.TheVariants.{Large}
 use Rattle.migration_types.specs.inner.InitPages.{Rise, rise_increases, rise_of}
 use Rattle.held_sessions.specs.Made.{sized}
 use Rattle.held_sessions.specs.declared.init.HeldInit.{HeldInit}
-use Rattle.held_sessions.specs.inner.Kept.{IsInit, IsNoInit}
+use Rattle.held_sessions.specs.Kept.{IsInit, next_after}
+use Rattle.held_sessions.specs.inner.Kept.{IsNoInit}
 use Rattle.held_sessions.proofs.Pushed.{all_front, all_last, all_push}
 
 rise_push : (a low : ℕ) (ps : List InitPage) (p : InitPage) → Rise a ps low → low ≤ p.page → Rise a (ps ++ p ∷ []) (p.page + 1)
@@ -27,16 +28,27 @@ rise_front a high (q ∷ ps) p longer =
     let rest = rise_front (q.page + 1) high ps p longer.1 in
     (rest.0, (longer.0, rest.1))
 
+-- the numbers rise to the next one
+rise_to : (a high : ℕ) (ps : List InitPage) → Rise a ps high → high ≡ next_after a ps
+rise_to a high [] rise = sym rise
+rise_to a high (q ∷ ps) rise = rise_to (q.page + 1) high ps rise.1
+
+init_rise : (machine : Extent) (init : HeldInit) (pages : List InitPage) → IsInit machine init pages → Rise 0 pages init.low
+init_rise machine init pages h =
+    let rise = rise_of (sized Large machine) pages (record { each = h.each Large; rising = h.rising }) in
+    subst (λ (n : ℕ). Rise 0 pages n) (rise_to 0 rise.0 pages rise.2 ∙ sym h.low) rise.2
+
 -- a machine may have it behind the pages below a number
 abbrev pub MayHave : Extent → ℕ → InitPage → Type 0
 MayHave machine low p = (low ≤ p.page) × (p.page < machine.pages) × IsContent machine.cells p.cells × (AreZeros p.cells → ⊥)
 
 -- one more page is held
 pub init_push : (machine : Extent) (init new : HeldInit) (pages : List InitPage) (page p : InitPage) → IsInit machine init pages → MayHave machine init.low p → page ≡ p → new.pages.items ≡ init.pages.items ++ page ∷ [] → new.low ≡ p.page + 1 → IsInit machine new (pages ++ p ∷ [])
-init_push machine init new pages page p h may same items low = record {
+init_push machine init new pages page p h may same items low = let rise = rise_push 0 init.low pages p (init_rise machine init pages h) may.0 in record {
   items = items ∙ ap (λ (xs : List InitPage). xs ++ page ∷ []) h.items ∙ ap (λ (q : InitPage). pages ++ q ∷ []) same;
   each = λ size. all_push (InitPageFits (sized size machine)) pages p (h.each size) (record { page = may.1; content = may.2; not_zeros = may.3 });
-  rising = subst (λ (n : ℕ). Rise 0 (pages ++ p ∷ []) n) (sym low) (rise_push 0 init.low pages p h.rising may.0);
+  rising = rise_increases 0 (p.page + 1) (pages ++ p ∷ []) rise;
+  low = low ∙ rise_to 0 (p.page + 1) (pages ++ p ∷ []) rise;
 }
 
 -- memory for more pages changes none of them
@@ -44,7 +56,8 @@ pub init_roomy : (machine : Extent) (old new : HeldInit) (pages : List InitPage)
 init_roomy machine old new pages h items low = record {
   items = items ∙ h.items;
   each = h.each;
-  rising = subst (λ (n : ℕ). Rise 0 pages n) (sym low) h.rising;
+  rising = h.rising;
+  low = low ∙ h.low;
 }
 
 -- a page that the machine may not have makes them the initial pages of none
@@ -52,13 +65,13 @@ pub init_never : (machine : Extent) (init : HeldInit) (pages : List InitPage) (p
 init_never machine init pages p h not size fits =
     let last = all_last (InitPageFits (sized size machine)) pages p fits.each in
     let rise = rise_of (sized size machine) (pages ++ p ∷ []) fits in
-    not (rise_last 0 init.low rise.0 pages p h.rising rise.2, last.page, last.content, last.not_zeros)
+    not (rise_last 0 init.low rise.0 pages p (init_rise machine init pages h) rise.2, last.page, last.content, last.not_zeros)
 
 -- those that are held are the initial pages of a machine with as many pages and cells
 pub init_fits : (machine e : Extent) (init : HeldInit) (pages : List InitPage) (size : Size) → machine ≡ sized Large e → IsInit machine init pages → AreInitPages (sized size e) pages
 init_fits machine e init pages size at h = record {
   each = subst (λ (m : Extent). AllByRecursion (InitPageFits (sized size m)) pages) at (h.each size);
-  rising = rise_increases 0 init.low pages h.rising;
+  rising = h.rising;
 }
 
 -- initial pages without the last one are initial pages

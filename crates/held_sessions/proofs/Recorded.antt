@@ -11,11 +11,13 @@ use Rattle.recordings.specs.declared.wide.WideInit.{WideInit}
 use Rattle.recordings.specs.Seen.{with_init}
 use Rattle.recordings.specs.Wide.{init_of}
 use Rattle.held_sessions.specs.Made.{sized}
-use Rattle.held_sessions.specs.inner.Fitting.{Fits, with_pages}
+use Rattle.held_sessions.specs.Fitting.{Fits}
+use Rattle.held_sessions.specs.inner.Fitting.{with_pages}
 use Rattle.held_sessions.specs.declared.init.HeldInit.{HeldInit}
 use Rattle.held_sessions.specs.declared.kept.Kept.{Kept}
-use Rattle.held_sessions.specs.inner.Kept.{IsInit, IsKept, IsNoInit}
-use Rattle.held_sessions.specs.inner.Needs.{IsNever}
+use Rattle.held_sessions.specs.Kept.{IsInit, IsKept}
+use Rattle.held_sessions.specs.inner.Kept.{IsNoInit}
+use Rattle.held_sessions.specs.Needs.{IsNever}
 use Rattle.held_sessions.proofs.Pages.{init_front}
 
 -- what is a session in no version and of no size is none with one more initial page

@@ -3,9 +3,9 @@ use Rattle.std.specs.Prelude.{◌≡◌, Option, Some, None}
 use Rattle.migration_types.specs.Sessions.{Recorded}
 use Rattle.held_sessions.specs.declared.held.HeldRecording.{HeldRecording}
 use Rattle.held_sessions.specs.declared.kept.Kept.{Kept}
-use Rattle.held_sessions.specs.inner.Fitting.{Fits}
-use Rattle.held_sessions.specs.inner.Kept.{IsKept}
-use Rattle.held_sessions.specs.inner.Needs.{IsNever}
+use Rattle.held_sessions.specs.Fitting.{Fits}
+use Rattle.held_sessions.specs.Kept.{IsKept}
+use Rattle.held_sessions.specs.Needs.{IsNever}
 
 -- all of it is kept; or nothing is, and it is a session in no version and of no size
 abbrev pub IsKeptIn : Option Kept → Recorded → Type 0

@@ -1,3 +1,6 @@
-pub mod Held
 pub mod Made
+pub mod Needs
+pub mod Fitting
+pub mod Kept
+pub mod Held
 pub mod inner

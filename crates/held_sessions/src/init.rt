@@ -6,7 +6,8 @@ ghost use Rattle.migration_types.specs.Extents.{Extent};
 ghost use Rattle.migration_types.specs.Pages.{AreZeros};
 ghost use Rattle.migration_types.specs.declared.pages.InitPage.{InitPage as Page};
 ghost use Rattle.recordings.specs.Wide.{init_of};
-ghost use Rattle.held_sessions.specs.inner.Kept.{IsInit, IsNoInit};
+ghost use Rattle.held_sessions.specs.Kept.{IsInit};
+ghost use Rattle.held_sessions.specs.inner.Kept.{IsNoInit};
 
 use crate::records::is_content;
 use migration_types::{Geometry, InitPage, PageNo, Seq};

@@ -7,8 +7,10 @@ ghost use Rattle.migration_types.specs.declared.size.Size.TheVariants.{Large};
 ghost use Rattle.migration_types.specs.declared.version.Version.{Version as Of};
 ghost use Rattle.recordings.specs.Seen.{nothing_of};
 ghost use Rattle.held_sessions.specs.Made.{sized};
-ghost use Rattle.held_sessions.specs.inner.Fitting.{Fits, in_form};
-ghost use Rattle.held_sessions.specs.inner.Kept.{IsKept, IsWithin};
+ghost use Rattle.held_sessions.specs.Fitting.{Fits};
+ghost use Rattle.held_sessions.specs.inner.Fitting.{in_form};
+ghost use Rattle.held_sessions.specs.Kept.{IsKept};
+ghost use Rattle.held_sessions.specs.inner.Kept.{IsWithin};
 
 use crate::init::HeldInit;
 use crate::logs::HeldLog;

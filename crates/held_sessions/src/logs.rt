@@ -1,7 +1,8 @@
 //! A log that is held, record by record.
 
 ghost use Rattle.std.specs.Prelude.{◌≡◌, ◌++◌, ◌∷◌, [], ◌↔◌, IsTrue, IfOk, List, MatchBool};
-ghost use Rattle.held_sessions.specs.inner.Kept.{IsLog, IsNoLog, IsNoneYet, IsWithin};
+ghost use Rattle.held_sessions.specs.Kept.{IsLog};
+ghost use Rattle.held_sessions.specs.inner.Kept.{IsNoLog, IsNoneYet, IsWithin};
 
 use crate::needs::Needs;
 use crate::records::WideRecord;

@@ -3,7 +3,8 @@
 ghost use Rattle.std.specs.Prelude.{◌<◌, ◌↔◌, IsTrue};
 ghost use Rattle.migration_types.specs.Limits.{limits, longest_log};
 ghost use Rattle.migration_types.specs.Sessions.{HasBack, HasLane};
-ghost use Rattle.held_sessions.specs.inner.Needs.{Allows, AreBoth, AreNeeds};
+ghost use Rattle.held_sessions.specs.Needs.{Allows, AreNeeds};
+ghost use Rattle.held_sessions.specs.inner.Needs.{AreBoth};
 
 use migration_types::{LogName, Size, Version};
 

@@ -4,7 +4,7 @@ ghost use Rattle.std.specs.Prelude.{◌≡◌, ◌<◌, ◌↔◌, IsTrue, Match
 ghost use Rattle.migration_types.specs.Contents.{IsContent};
 ghost use Rattle.migration_types.specs.Limits.{longest_log, vcpus};
 ghost use Rattle.held_sessions.specs.Made.{sized};
-ghost use Rattle.held_sessions.specs.inner.Needs.{AreNeeds, IsNever};
+ghost use Rattle.held_sessions.specs.Needs.{AreNeeds, IsNever};
 
 use crate::needs::Needs;
 use migration_types::{
@@ -102,7 +102,7 @@ fn page_having(machine: Geometry, page: u64, contents: &Contents) -> Option<Page
 
 impl WideRecord for WideGuest {
     ghost use Rattle.recordings.specs.Wide.{guest_of};
-    ghost use Rattle.held_sessions.specs.inner.Fitting.{GuestFits};
+    ghost use Rattle.held_sessions.specs.Fitting.{GuestFits};
 
     type Record = GuestRec;
 
@@ -166,7 +166,7 @@ impl WideRecord for WideGuest {
 
 impl WideRecord for WideSource {
     ghost use Rattle.recordings.specs.Wide.{source_of};
-    ghost use Rattle.held_sessions.specs.inner.Fitting.{SourceFits};
+    ghost use Rattle.held_sessions.specs.Fitting.{SourceFits};
 
     type Record = SourceRec;
 
@@ -201,7 +201,7 @@ impl WideRecord for WideSource {
 
 impl WideRecord for WideLink {
     ghost use Rattle.recordings.specs.Wide.{link_of};
-    ghost use Rattle.held_sessions.specs.inner.Fitting.{LinkFits};
+    ghost use Rattle.held_sessions.specs.Fitting.{LinkFits};
 
     type Record = LinkRec;
 

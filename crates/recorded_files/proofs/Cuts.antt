@@ -24,7 +24,8 @@ use Rattle.migration_types.specs.Sessions.{Recorded, log_length}
 use Rattle.audit_model.specs.FoundOrder.{is_received}
 use Rattle.audit_model.specs.Mergings.{Cursors}
 use Rattle.recorded_files.specs.Fronts.{NamesThere, IsFront, IsGreatestFront, HasGreatestFront, IsWhole, cut_to}
-use Rattle.recorded_files.specs.inner.Reaches.{named_first, or_next, names_in, reach, need, before_need}
+use Rattle.recorded_files.specs.Reaches.{named_first, or_next, names_in, need}
+use Rattle.recorded_files.specs.inner.Reaches.{reach, before_need}
 
 -- ---- a log's reach, by what is needed of each log
 

@@ -10,7 +10,8 @@ use Rattle.recorded_files.specs.declared.fronts.Front.{Front}
 use Rattle.recorded_files.specs.declared.naming.Naming.{Naming}
 use Rattle.recorded_files.specs.Fronts.{cursors_of, IsFront, IsGreatestFront, IsGreatestFrontWithin}
 use Rattle.recorded_files.specs.Named.{IsNaming}
-use Rattle.recorded_files.specs.inner.Reaches.{names_in, reach}
+use Rattle.recorded_files.specs.Reaches.{names_in}
+use Rattle.recorded_files.specs.inner.Reaches.{reach}
 use Rattle.audit_model.specs.Mergings.{Cursors}
 use Rattle.recorded_files.proofs.Cuts.{is_front, still_below}
 

@@ -9,7 +9,8 @@ use Rattle.migration_types.specs.Receipts.{Name}
 use Rattle.std.specs.Global.{Vec}
 use Rattle.recorded_files.specs.declared.steps.Step.{Step}
 use Rattle.recorded_files.specs.declared.steps.Steps.{Steps}
-use Rattle.recorded_files.specs.inner.Reaches.{need, before_need, needed_on, steps_on, AreSteps}
+use Rattle.recorded_files.specs.Reaches.{need, needed_on, steps_on, AreSteps}
+use Rattle.recorded_files.specs.inner.Reaches.{before_need}
 
 pub needed_end : (other : LogName) (low : ℕ) (names : List (Option Name)) (named : Option Name) → needed_on other low (names ++ named ∷ []) ≡ needed_on other (needed_on other low names) (named ∷ [])
 needed_end other low [] named = refl

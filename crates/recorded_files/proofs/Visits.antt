@@ -16,7 +16,7 @@ use Rattle.recordings.specs.Seen.{nothing_of, with_init, with_guest, with_source
 use Rattle.recorded_files.specs.declared.naming.Naming.{Naming}
 use Rattle.recorded_files.specs.declared.reach.Reach.{Reach}
 use Rattle.recorded_files.specs.Named.{IsBlank, IsNaming}
-use Rattle.recorded_files.specs.inner.Reaches.{named_first, names_in, IsReach}
+use Rattle.recorded_files.specs.Reaches.{named_first, names_in, IsReach}
 
 map_end : {X : Type 0} (f : X → Option Name) (xs : List X) (x : X) → map f (xs ++ x ∷ []) ≡ map f xs ++ f x ∷ []
 map_end f [] x = refl

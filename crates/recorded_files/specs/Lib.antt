@@ -1,6 +1,7 @@
 pub mod Files
 pub mod Fronts
 pub mod Gathered
+pub mod Reaches
 pub mod Named
 pub mod Raw
 pub mod Said

@@ -3,7 +3,7 @@ use Rattle.std.specs.Prelude.{[]}
 use Rattle.migration_types.specs.declared.records.LogName.TheVariants.{Guest, Source, Link, Lane, Pager}
 use Rattle.migration_types.specs.Sessions.{Recorded}
 use Rattle.recorded_files.specs.declared.naming.Naming.{Naming}
-use Rattle.recorded_files.specs.inner.Reaches.{names_in, IsReach}
+use Rattle.recorded_files.specs.Reaches.{names_in, IsReach}
 
 -- what the records of all logs name
 pub record IsNaming (naming : Naming) (s : Recorded) : Type 0 where

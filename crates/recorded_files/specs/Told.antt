@@ -12,6 +12,7 @@ use Rattle.deliveries.specs.declared.messages.Message.TheVariants.{Down, Up}
 use Rattle.deliveries.specs.declared.delivering.Deliveries.{Deliveries}
 use Rattle.deliveries.specs.Deliveries.{delivered, AreNumbers}
 use Rattle.recorded_files.specs.declared.messages.Delivered.{Delivered}
+use Rattle.recorded_files.specs.declared.messages.Told.{Told}
 use Rattle.recorded_files.specs.declared.raw.RawSource.{RawSource}
 use Rattle.recorded_files.specs.declared.raw.RawSource.TheVariants.{Own as OwnSource, AskSent}
 use Rattle.recorded_files.specs.declared.raw.RawPager.{RawPager}
@@ -72,3 +73,11 @@ numbered_pager number (PullSent sending) = Pull number
 abbrev pub numbered_source : ℕ → RawSource → SourceRec
 numbered_source number (OwnSource rec) = source_of rec
 numbered_source number (AskSent asking) = Ask number
+
+-- the messages in the records of the pager and of the source that were taken
+pub record Tells (told : Told) (pager : List RawPager) (source : List RawSource) : Type 0 where
+  pub packets : told.packets.items ≡ told_from link_packet 0 pager
+  pub pulls : told.pulls.items ≡ told_from lane_packet 0 pager
+  pub requests : told.requests.items ≡ told_from request 0 source
+  pub pager_count : told.pager ≡ length pager
+  pub source_count : told.source ≡ length source

@@ -2,4 +2,3 @@
 pub mod Finding
 pub mod Heads
 pub mod Reaches
-pub mod Noted

@@ -5,8 +5,7 @@ ghost use Rattle.std.specs.Option.{option_to_list};
 ghost use Rattle.recordings.specs.Wide.{source_of, pager_of};
 ghost use Rattle.recorded_files.specs.declared.raw.RawSource.{RawSource as Taken};
 ghost use Rattle.recorded_files.specs.declared.raw.RawPager.{RawPager as Received};
-ghost use Rattle.recorded_files.specs.Told.{AreDelivered, Follow, HasMessages, lane_messages, lane_packet, link_messages, link_packet, numbered_pager, numbered_source, request};
-ghost use Rattle.recorded_files.specs.inner.Noted.{Tells};
+ghost use Rattle.recorded_files.specs.Told.{AreDelivered, Follow, HasMessages, Tells, lane_messages, lane_packet, link_messages, link_packet, numbered_pager, numbered_source, request};
 
 use crate::raw::{RawPager, RawSource};
 use deliveries::{Deliveries, Message, deliver};

@@ -3,7 +3,7 @@
 ghost use Rattle.std.specs.Prelude.{◌≡◌};
 ghost use Rattle.migration_types.specs.Rows.{guest_row, source_row, link_row, lane_row, pager_row};
 ghost use Rattle.recordings.specs.Wide.{guest_of, source_of, link_of, lane_of, pager_of};
-ghost use Rattle.recorded_files.specs.inner.Reaches.{named_first};
+ghost use Rattle.recorded_files.specs.Reaches.{named_first};
 
 use migration_types::LogName;
 use recordings::{WideGuest, WideLane, WideLink, WidePager, WideSource};

@@ -6,7 +6,8 @@ ghost use Rattle.migration_types.specs.Receipts.{Name};
 ghost use Rattle.migration_types.specs.Sessions.{Recorded, log_length};
 ghost use Rattle.recorded_files.specs.Fronts.{cursors_of, IsGreatestFront, IsGreatestFrontWithin};
 ghost use Rattle.recorded_files.specs.Named.{IsBlank, IsNaming};
-ghost use Rattle.recorded_files.specs.inner.Reaches.{names_in, reach};
+ghost use Rattle.recorded_files.specs.Reaches.{names_in};
+ghost use Rattle.recorded_files.specs.inner.Reaches.{reach};
 
 use crate::fronts::Front;
 use crate::reach::Reach;

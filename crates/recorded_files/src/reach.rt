@@ -3,7 +3,8 @@
 ghost use Rattle.std.specs.Prelude.{◌≡◌, ℕ, ◌<◌, ◌^◌, [], ◌∷◌, ◌++◌, List, length, Option, OnOk, IfOk};
 ghost use Rattle.migration_types.specs.Receipts.{Name};
 ghost use Rattle.recorded_files.specs.Fronts.{cursors_of};
-ghost use Rattle.recorded_files.specs.inner.Reaches.{need, reach, IsReach};
+ghost use Rattle.recorded_files.specs.Reaches.{need, IsReach};
+ghost use Rattle.recorded_files.specs.inner.Reaches.{reach};
 
 use crate::fronts::Front;
 use crate::steps::Steps;

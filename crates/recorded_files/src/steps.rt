@@ -3,7 +3,8 @@
 ghost use Rattle.std.specs.Prelude.{◌≡◌, ℕ, ◌<◌, ◌^◌, [], ◌∷◌, ◌++◌, List, length, Option, OnOk};
 ghost use Rattle.migration_types.specs.declared.records.LogName.{LogName};
 ghost use Rattle.migration_types.specs.Receipts.{Name};
-ghost use Rattle.recorded_files.specs.inner.Reaches.{need, before_need, AreSteps};
+ghost use Rattle.recorded_files.specs.Reaches.{need, AreSteps};
+ghost use Rattle.recorded_files.specs.inner.Reaches.{before_need};
 
 use std::alloc::{AllocError, Global};
 

@@ -12,7 +12,7 @@ ghost use Rattle.recordings.specs.Recordings.{IsMachine};
 ghost use Rattle.recordings.specs.Seen.{nothing_of, with_guest, with_source, with_link, with_lane, with_pager, BeforeSource, BeforeLink, BeforeLane, BeforePager};
 ghost use Rattle.recordings.specs.Wide.{extent_of, guest_of, lane_of, link_of, pager_of, source_of};
 ghost use Rattle.migration_types.specs.Rows.{pager_row, source_row};
-ghost use Rattle.recorded_files.specs.inner.Reaches.{named_first};
+ghost use Rattle.recorded_files.specs.Reaches.{named_first};
 ghost use Rattle.session_facts.specs.Written.{begins_halted, has_lone_halted, is_back, is_halted, is_pull, IsLateRelease, IsSmall, IsWrittenFront, NeedsLarge};
 ghost use Rattle.audit_model.specs.Shape.{is_release, is_resume};
 ghost use Rattle.session_facts.specs.Unresumed.{ends_halted, GoesUnresumed, IsHaltOf};

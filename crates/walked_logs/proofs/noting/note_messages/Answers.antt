@@ -6,7 +6,7 @@ use Rattle.recorded_files.specs.declared.raw.RawSource.{RawSource}
 use Rattle.gathered_logs.specs.declared.telling.Noter.{Noter}
 use Rattle.walked_logs.specs.declared.files.WalkFault.TheVariants.{Changed}
 use Rattle.walked_logs.proofs.Refusing.{note_pager_fault, note_source_fault}
-use Rattle.recorded_files.specs.inner.Noted.{Tells}
+use Rattle.recorded_files.specs.Told.{Tells}
 use Rattle.walked_logs.proofs.noting.note_messages.Goals as goal
 
 pub returns-in-Ok-clause-noted : goal.returns-in-Ok-clause-noted

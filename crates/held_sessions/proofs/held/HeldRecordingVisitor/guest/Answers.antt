@@ -2,7 +2,7 @@ use Rattle.std.proofs.Common.{[], ◌∷◌, ◌++◌, Option, subst}
 use Rattle.recordings.specs.Wide.{guest_of}
 use Rattle.held_sessions.specs.Held.{IsKeptIn}
 use Rattle.held_sessions.specs.declared.kept.Kept.{Kept}
-use Rattle.held_sessions.specs.inner.Fitting.{GuestFits}
+use Rattle.held_sessions.specs.Fitting.{GuestFits}
 use Rattle.held_sessions.proofs.Logging.{no_log}
 use Rattle.held_sessions.proofs.Recorded.{refused}
 use Rattle.held_sessions.proofs.held.HeldRecordingVisitor.guest.Goals as goal

@@ -2,7 +2,7 @@ use Rattle.std.proofs.Common.{◌<◌, ℕ, ap, refl, ◌^◌, rules}
 use Rattle.migration_types.specs.declared.records.GuestRec.TheVariants as guest
 use Rattle.recordings.specs.declared.wide.WideGuest.TheVariants as wide
 use Rattle.recordings.specs.Wide.{guest_of}
-use Rattle.held_sessions.specs.inner.Fitting.{GuestFits}
+use Rattle.held_sessions.specs.Fitting.{GuestFits}
 use Rattle.held_sessions.proofs.Found.{plain, named, IsBelow}
 use Rattle.held_sessions.proofs.records.WideGuestWideRecord.into_record.Goals as goal
 

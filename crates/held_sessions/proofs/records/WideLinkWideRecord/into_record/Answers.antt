@@ -2,7 +2,7 @@ use Rattle.std.proofs.Common.{ap}
 use Rattle.migration_types.specs.declared.records.LinkRec.TheVariants as link
 use Rattle.recordings.specs.declared.wide.WideLink.TheVariants as wide
 use Rattle.recordings.specs.Wide.{link_of}
-use Rattle.held_sessions.specs.inner.Fitting.{LinkFits}
+use Rattle.held_sessions.specs.Fitting.{LinkFits}
 use Rattle.held_sessions.proofs.Found.{named, IsBelow}
 use Rattle.held_sessions.proofs.records.WideLinkWideRecord.into_record.Goals as goal
 

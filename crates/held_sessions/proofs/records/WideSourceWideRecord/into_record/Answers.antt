@@ -2,7 +2,7 @@ use Rattle.std.proofs.Common.{ℕ, ap, refl}
 use Rattle.migration_types.specs.declared.records.SourceRec.TheVariants as source
 use Rattle.recordings.specs.declared.wide.WideSource.TheVariants as wide
 use Rattle.recordings.specs.Wide.{source_of}
-use Rattle.held_sessions.specs.inner.Fitting.{SourceFits}
+use Rattle.held_sessions.specs.Fitting.{SourceFits}
 use Rattle.held_sessions.proofs.Found.{plain, named, IsBelow}
 use Rattle.held_sessions.proofs.records.WideSourceWideRecord.into_record.Goals as goal
 use Rattle.migration_types.specs.Sessions.{HasBack}

@@ -5,7 +5,8 @@ use Rattle.migration_types.specs.declared.records.LogName.TheVariants.{Guest, So
 use Rattle.migration_types.specs.Sessions.{Recorded}
 use Rattle.recorded_files.specs.Fronts.{cursors_of}
 use Rattle.recorded_files.specs.Named.{IsNaming}
-use Rattle.recorded_files.specs.inner.Reaches.{names_in, reach}
+use Rattle.recorded_files.specs.Reaches.{names_in}
+use Rattle.recorded_files.specs.inner.Reaches.{reach}
 use Rattle.recorded_files.proofs.naming.Naming.narrow.Goals as goal
 
 pub returns : goal.returns

@@ -1,6 +1,6 @@
 use Rattle.migration_types.specs.declared.records.LogName.TheVariants.{Guest}
 use Rattle.recordings.specs.Wide.{guest_of}
-use Rattle.recorded_files.specs.inner.Reaches.{names_in}
+use Rattle.recorded_files.specs.Reaches.{names_in}
 use Rattle.recorded_files.proofs.Visits.{met_guest}
 use Rattle.recorded_files.proofs.visiting.NamingVisitor.guest.Goals as goal
 

@@ -1,6 +1,6 @@
 use Rattle.migration_types.specs.declared.records.LogName.TheVariants.{Lane}
 use Rattle.recordings.specs.Wide.{lane_of}
-use Rattle.recorded_files.specs.inner.Reaches.{names_in}
+use Rattle.recorded_files.specs.Reaches.{names_in}
 use Rattle.recorded_files.proofs.Visits.{met_lane}
 use Rattle.recorded_files.proofs.visiting.NamingVisitor.lane.Goals as goal
 

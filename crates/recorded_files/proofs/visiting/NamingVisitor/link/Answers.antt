@@ -1,6 +1,6 @@
 use Rattle.migration_types.specs.declared.records.LogName.TheVariants.{Link}
 use Rattle.recordings.specs.Wide.{link_of}
-use Rattle.recorded_files.specs.inner.Reaches.{names_in}
+use Rattle.recorded_files.specs.Reaches.{names_in}
 use Rattle.recorded_files.proofs.Visits.{met_link}
 use Rattle.recorded_files.proofs.visiting.NamingVisitor.link.Goals as goal
 

@@ -1,6 +1,6 @@
 use Rattle.migration_types.specs.declared.records.LogName.TheVariants.{Pager}
 use Rattle.recordings.specs.Wide.{pager_of}
-use Rattle.recorded_files.specs.inner.Reaches.{names_in}
+use Rattle.recorded_files.specs.Reaches.{names_in}
 use Rattle.recorded_files.proofs.Visits.{met_pager}
 use Rattle.recorded_files.proofs.visiting.NamingVisitor.pager.Goals as goal
 

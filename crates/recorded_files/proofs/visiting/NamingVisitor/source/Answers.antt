@@ -1,6 +1,6 @@
 use Rattle.migration_types.specs.declared.records.LogName.TheVariants.{Source}
 use Rattle.recordings.specs.Wide.{source_of}
-use Rattle.recorded_files.specs.inner.Reaches.{names_in}
+use Rattle.recorded_files.specs.Reaches.{names_in}
 use Rattle.recorded_files.proofs.Visits.{met_source}
 use Rattle.recorded_files.proofs.visiting.NamingVisitor.source.Goals as goal
 
