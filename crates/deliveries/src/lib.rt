@@ -6,5 +6,5 @@ mod laws;
 mod messages;
 
 pub use delivering::{Deliveries, deliver};
-pub use laws::messages_are_delivered_once_in_time;
+pub use laws::{deliveries_cost_no_order, messages_are_delivered_once_in_time};
 pub use messages::Message;
