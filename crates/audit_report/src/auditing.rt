@@ -11,7 +11,7 @@ ghost use Rattle.audit_model.specs.FirstFault.{IsFirstPageFault};
 ghost use Rattle.page_facts.specs.PageFaults.{HasItsPage, IsFirstFault, IsFirstFaultFrom, IsClean as IsCleanPage};
 ghost use Rattle.faulty_pages.specs.FaultyPages.{AreFaultyPages, AreManyFaulty, AreManyFrom};
 ghost use Rattle.cert_maker.specs.Orders.{AreFoundRuns};
-ghost use Rattle.cert_maker.specs.inner.Entries.{AreMadeFrom, HasBarePage};
+ghost use Rattle.cert_maker.specs.Made.{AreMadeFrom, HasBarePage};
 ghost use Rattle.audit_report.specs.Reports.{IsReport, IsClean, JudgesPages, ReportFits};
 ghost use Rattle.audit_report.specs.inner.Full.{IsFullAudit, IsOrderOrReport};
 

@@ -21,8 +21,8 @@ use Rattle.audit_model.specs.Shape.{IsRightShape}
 use Rattle.audit_model.specs.Laws.{FirstVersionIsPlain}
 use Rattle.audit_model.specs.Certificates.{is_fresh, IsCovered, IsRightEntry, IsRightCertificate}
 use Rattle.audit_model.proofs.Walked.{merging_is_walk}
-use Rattle.cert_maker.specs.Made.{IsMade}
-use Rattle.cert_maker.specs.inner.Entries.{HasBarePage, AreMade, version_for}
+use Rattle.cert_maker.specs.Made.{IsMade, HasBarePage}
+use Rattle.cert_maker.specs.inner.Entries.{AreMade, version_for}
 use Rattle.cert_maker.proofs.Fitting.{fitting_runs, take_records}
 
 -- ---- limits

@@ -1,5 +1,5 @@
 -- The made entry is right where any entry is.
-use Rattle.std.proofs.Common.{◌≡◌, ℕ, ◌<◌, ◌≤◌, ◌⊎◌, inl, inr, Bool, true, false, not, ◌&&◌, List, length, Option, Some, None, refl, sym, ap, ◌∙◌, subst, arith, eq-eqb}
+use Rattle.std.proofs.Common.{◌≡◌, ℕ, ◌<◌, ◌≤◌, ◌⊎◌, inl, inr, Bool, true, false, not, ◌&&◌, length, Option, Some, None, refl, sym, ap, ◌∙◌, subst, arith, eq-eqb}
 use Rattle.std.specs.Prelude.{slice_get, ◌==◌, nat_lt}
 use Rattle.std.proofs.lemmas.Bool.{cases_lt, and_parts, and_from, or_left, ltb-true, lt-ltb}
 use Rattle.std.proofs.lemmas.Option.{slice_get_within}

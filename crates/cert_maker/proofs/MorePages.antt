@@ -4,8 +4,8 @@ use Rattle.std.proofs.lemmas.List.{length-append}
 use Rattle.migration_types.specs.declared.cert.Entry.{Entry}
 use Rattle.migration_types.specs.Sessions.{Recorded}
 use Rattle.page_facts.proofs.Growing.{each_more, each_joined, pushed_length}
-use Rattle.cert_maker.specs.Made.{IsMadeEntry}
-use Rattle.cert_maker.specs.inner.Entries.{AreMade, AreMadeFrom}
+use Rattle.cert_maker.specs.Made.{IsMadeEntry, AreMadeFrom}
+use Rattle.cert_maker.specs.inner.Entries.{AreMade}
 
 module _ (s : Recorded) where
   pub made_none : (first : ℕ) → AreMadeFrom s first 0 []

@@ -1,5 +1,5 @@
 -- The results of the maker.
-use Rattle.std.specs.Prelude.{◌≡◌, ℕ, ◌≤◌, List, Option, Some, None, slice_get}
+use Rattle.std.specs.Prelude.{◌≡◌, ℕ, ◌+◌, ◌<◌, ◌≤◌, List, length, Option, Some, None, slice_get}
 use Rattle.migration_types.specs.declared.records.GuestRec.TheVariants.{See}
 use Rattle.migration_types.specs.declared.cert.Run.{Run}
 use Rattle.migration_types.specs.declared.cert.First.{First}
@@ -34,6 +34,17 @@ pub record IsMadeEntry (s : Recorded) (page : ℕ) (entry : Entry) : Type 0 wher
 -- no entry of a page is right
 abbrev pub HasNoEntry : Recorded → ℕ → Type 0
 HasNoEntry s page = (entry : Entry) → IsRightEntry s page entry → ⊥
+
+-- a page of the machine has no right entry
+pub record HasBarePage (s : Recorded) : Type 0 where
+  pub page : ℕ
+  pub within : page < s.geometry.pages
+  pub is_bare : HasNoEntry s page
+
+-- an entry for each of this many pages from the first on
+pub record AreMadeFrom (s : Recorded) (first count : ℕ) (entries : List Entry) : Type 0 where
+  pub pages : length entries ≡ count
+  pub each : (k : ℕ) (entry : Entry) → slice_get entries k ≡ Some entry → IsMadeEntry s (first + k) entry
 
 -- a right certificate with these runs and with the earliest looks, of the session's size, and for a session of the
 -- right shape in its version

@@ -5,8 +5,8 @@ ghost use Rattle.std.specs.List.{list_any};
 ghost use Rattle.audit_model.specs.Certificates.{is_fresh};
 ghost use Rattle.page_facts.specs.Facts.{IsFacts};
 ghost use Rattle.page_facts.specs.Findings.{IsFindings};
-ghost use Rattle.cert_maker.specs.Made.{HasNoEntry, IsMadeEntry};
-ghost use Rattle.cert_maker.specs.inner.Entries.{first_of, entry_at, unplaced_entry, entry_of, AreMadeFrom, HasBarePage, version_for};
+ghost use Rattle.cert_maker.specs.Made.{HasNoEntry, IsMadeEntry, AreMadeFrom, HasBarePage};
+ghost use Rattle.cert_maker.specs.inner.Entries.{first_of, entry_at, unplaced_entry, entry_of, version_for};
 
 use migration_types::{Entry, First, PageNo, PagerRec, Seq, Session, Version};
 use page_facts::{Findings, PageFacts, Question, facts_of, is_right_entry};

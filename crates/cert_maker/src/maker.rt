@@ -4,8 +4,7 @@ ghost use Rattle.std.specs.Prelude.{MatchResult};
 ghost use Rattle.migration_types.specs.declared.version.Version.TheVariants.{Two};
 ghost use Rattle.migration_types.specs.Certs.{AreRuns};
 ghost use Rattle.audit_model.specs.Mergings.{IsMerging, spelled};
-ghost use Rattle.cert_maker.specs.Made.{IsMade, IsRefused};
-ghost use Rattle.cert_maker.specs.inner.Entries.{AreMadeFrom};
+ghost use Rattle.cert_maker.specs.Made.{IsMade, IsRefused, AreMadeFrom};
 
 use crate::made_entries::{MadeEntries, version_for};
 use audit_model::first_version_is_plain;

@@ -1,5 +1,5 @@
 -- The one entry that can be right for a page, given its facts.
-use Rattle.std.specs.Prelude.{◌≡◌, ℕ, ◌+◌, ◌<◌, Bool, true, false, List, length, Option, Some, None, slice_get, if◌then◌else◌}
+use Rattle.std.specs.Prelude.{◌≡◌, ℕ, Bool, true, false, List, length, Option, Some, None, slice_get, if◌then◌else◌}
 use Rattle.std.specs.List.{list_any}
 use Rattle.migration_types.specs.declared.records.PagerRec.{PagerRec}
 use Rattle.migration_types.specs.declared.records.PagerRec.TheVariants.{Zero}
@@ -12,7 +12,7 @@ use Rattle.migration_types.specs.Sessions.{Recorded}
 use Rattle.audit_model.specs.Names.{if_there}
 use Rattle.audit_model.specs.Certificates.{is_fresh}
 use Rattle.page_facts.specs.declared.facts.PageFacts.{PageFacts}
-use Rattle.cert_maker.specs.Made.{HasNoEntry, IsMadeEntry}
+use Rattle.cert_maker.specs.Made.{IsMadeEntry}
 
 abbrev pub touch_and_look : ℕ → ℕ → First
 touch_and_look touch see = record { access = touch; see = see }
@@ -42,17 +42,6 @@ entry_with s f (Some place) = if_there (entry_at s f.sent place) (first_of f.tou
 
 abbrev pub entry_of : Recorded → PageFacts → Option Entry
 entry_of s f = entry_with s f f.placement
-
--- a page of the machine has no right entry
-pub record HasBarePage (s : Recorded) : Type 0 where
-  pub page : ℕ
-  pub within : page < s.geometry.pages
-  pub is_bare : HasNoEntry s page
-
--- an entry for each of this many pages from the first on
-pub record AreMadeFrom (s : Recorded) (first count : ℕ) (entries : List Entry) : Type 0 where
-  pub pages : length entries ≡ count
-  pub each : (k : ℕ) (entry : Entry) → slice_get entries k ≡ Some entry → IsMadeEntry s (first + k) entry
 
 -- an entry for each page
 pub record AreMade (s : Recorded) (entries : List Entry) : Type 0 where

@@ -1,6 +1,6 @@
 use Rattle.std.proofs.lemmas.Option.{MatchOption-at_some, MatchOption-at_none}
 use Rattle.audit_model.specs.Laws.{IsFaultless}
-use Rattle.cert_maker.specs.inner.Entries.{AreMadeFrom, HasBarePage}
+use Rattle.cert_maker.specs.Made.{AreMadeFrom, HasBarePage}
 use Rattle.cert_maker.proofs.Certifying.{bare_refused}
 use Rattle.audit_report.proofs.auditing.clean.Goals as goal
 

@@ -1,5 +1,5 @@
 use Rattle.std.proofs.lemmas.Option.{MatchOption-at_some, MatchOption-at_none}
-use Rattle.cert_maker.specs.inner.Entries.{AreMadeFrom, HasBarePage}
+use Rattle.cert_maker.specs.Made.{AreMadeFrom, HasBarePage}
 use Rattle.cert_maker.proofs.Certifying.{bare_refused}
 use Rattle.cert_maker.proofs.maker.make.Goals as goal
 

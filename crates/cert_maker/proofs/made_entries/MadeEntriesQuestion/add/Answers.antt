@@ -1,6 +1,6 @@
 use Rattle.std.proofs.Common.{◌+◌}
 use Rattle.std.proofs.lemmas.Option.{MatchOption-at_some}
-use Rattle.cert_maker.specs.inner.Entries.{AreMadeFrom, HasBarePage}
+use Rattle.cert_maker.specs.Made.{AreMadeFrom, HasBarePage}
 use Rattle.cert_maker.proofs.MorePages.{made_joined}
 use Rattle.cert_maker.proofs.made_entries.MadeEntriesQuestion.add.Goals as goal
 

@@ -1,5 +1,5 @@
 use Rattle.std.proofs.lemmas.Option.{MatchOption-at_some}
-use Rattle.cert_maker.specs.inner.Entries.{AreMadeFrom, HasBarePage}
+use Rattle.cert_maker.specs.Made.{AreMadeFrom, HasBarePage}
 use Rattle.cert_maker.proofs.MorePages.{made_more}
 use Rattle.cert_maker.proofs.made_entries.MadeEntriesQuestion.take.Goals as goal
 
