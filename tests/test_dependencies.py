@@ -4,7 +4,10 @@ Each crate that a line lists has to be named by a source, a definition or a proo
 `impl` that a call of it needs. A line
 stands after those of the crates that it lists, and lists each once, in the order of the alphabet. The same is asked of the lines
 of tests/calls/crates.list, which stand after all of crates.txt. Each line of crates.txt stands under the heading of its floor, the
-lowest above those of the crates that it lists. Needs no prover, and takes a fraction of a second.
+lowest above those of the crates that it lists.
+
+No definition that a reader has to believe is made of one in specs/inner: no file of specs/ outside inner imports from there, and no
+clause of a call that a crate hands out names what its file imports from there. Needs no prover, and takes some two seconds.
 """
 import os
 import re
@@ -17,6 +20,10 @@ LISTS = (("crates.txt", "crates"), ("tests/calls/crates.list", "tests/calls"))
 # A crate, and one that it lists and nothing of it names: a call needs an `impl` of it in scope.
 IN_SCOPE = {("judge_commands", "faulty_pages")}
 COMMENTS = {".rt": r"//.*", ".rs": r"//.*", ".antt": r"--.*"}
+# The calls that a clause of which names an inner definition all the same: next_from, of the least number that a page may have.
+NAMES_INNER = {("session_grammar", "next_page")}
+INNER = re.compile(r"^ *(?:pub )?(?:ghost )?use Rattle\.\w+\.specs\.inner\b(?:\.\w+)*(?:\.\{([^}]*)\}| as (\w+))?", re.M)
+CALL = re.compile(r"^( *)pub (?:unsafe )?(?:extern \"C\" )?fn (\w+)(.*?)(?:\n\1\{|;\n|\n\1 *\}\n)", re.M | re.S)
 
 
 def text_of(folder):
@@ -81,6 +88,63 @@ def wrong_floors(text):
                 yield f"crates.txt: {crate} stands under floor {heading}, and is of floor {floors[crate]}"
 
 
+def read(path):
+    """A source or a definition, with no comments."""
+    with open(path, encoding="utf-8") as file:
+        return re.sub(COMMENTS[os.path.splitext(path)[1]], "", file.read())
+
+
+def files_of(crate, part, ending):
+    for place, _, files in sorted(os.walk(f"{TOP}/crates/{crate}/{part}")):
+        yield from (f"{place}/{it}" for it in sorted(files) if it.endswith(ending))
+
+
+def names_of_inner(text):
+    """What a file calls the definitions that it imports from specs/inner."""
+    words = [word for found in INNER.findall(text) for word in (*found[0].split(","), found[1])]
+    return {word.split(" as ")[-1].strip() for word in words} - {""}
+
+
+def handed_out(crate):
+    """The names of the calls and the types that a crate hands out."""
+    text = read(next(files_of(crate, "src", "lib.rt"), f"{TOP}/crates/{crate}/src/main.rt"))
+    exported = re.findall(r"\w+", " ".join(re.findall(r"^pub use ([^;]*);", text, re.M)))
+    return {*exported, *re.findall(r"^pub (?:extern \"C\" )?(?:fn|struct|enum|trait) (\w+)", text, re.M)}
+
+
+def public_calls(crate, text):
+    """The calls of a file that its crate hands out, each with its arguments and its clauses."""
+    exported, owner = handed_out(crate), ""
+    for part in re.split(r"^(?=impl\b|\}$)", text, flags=re.M):
+        head = re.match(r"impl(?:<[^{]*?>)? (?:[^{]*? for )?(\w+)", part)
+        owner = head[1] if head else "" if part.startswith("}") else owner
+        yield from ((name, rest) for indent, name, rest in CALL.findall(part) if (owner if indent else name) in exported)
+
+
+def inner_in_sight():
+    """Where a definition of specs/inner is imported outside, or a clause of a public call names one; and how many files were read."""
+    wrong, count, seen = [], 0, set()
+    for crate in sorted(os.listdir(f"{TOP}/crates")):
+        for path in files_of(crate, "specs", ".antt"):
+            if "/specs/inner" not in path:
+                count += 1
+                wrong += [f"{os.path.relpath(path, TOP)} imports from inner"] if INNER.search(read(path)) else []
+        for path in files_of(crate, "src", ".rt"):
+            text = read(path)
+            inner = names_of_inner(text)
+            count += 1
+            for name, rest in public_calls(crate, text) if inner else ():
+                clauses = re.search(r"\n *(?:requires|ensures)\b.*", rest, re.S)
+                arguments = set(re.findall(r"(\w+): ", rest[: clauses.start()] if clauses else rest))
+                words = set(re.findall(r"(?<![\w.'-])[\w'-]+", clauses[0] if clauses else ""))
+                named = (inner & words) - arguments
+                if named and (crate, name) not in NAMES_INNER:
+                    wrong.append(f"{crate}: a clause of {name} names {', '.join(sorted(named))}, which stands in inner")
+                seen |= {(crate, name)} if named else set()
+    wrong += [f"{crate}: no clause of {name} names what stands in inner" for crate, name in sorted(NAMES_INNER - seen)]
+    return wrong, count
+
+
 pytestmark = pytest.mark.quick
 
 
@@ -92,4 +156,13 @@ def test_dependencies():
     for wrong in (*wrong_lines(lines), *floors):
         count(False, wrong)
     for _ in range(len(lines) + sum(len(others) for *_, others in lines)):
+        count(True, "")
+
+
+@pytest.mark.cases(600)
+def test_nothing_inner_is_in_sight():
+    wrong, files = inner_in_sight()
+    for it in wrong:
+        count(False, it)
+    for _ in range(files - len(wrong)):
         count(True, "")
