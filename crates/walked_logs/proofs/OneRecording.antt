@@ -21,7 +21,7 @@ use Rattle.migration_types.specs.declared.pages.InitPage.{InitPage}
 use Rattle.migration_types.specs.Sessions.{Recorded}
 use Rattle.session_grammar.specs.Records.{guest_line, lane_line, link_line}
 use Rattle.recordings.specs.Recordings.{IsGuestRecOf, IsLaneRecOf, IsLinkRecOf, IsMachine}
-use Rattle.recordings.specs.Wide.{extent_of, guest_of, init_of, lane_of, link_of}
+use Rattle.recordings.specs.Wide.{extent_of, guest_of, lane_of, link_of}
 use Rattle.recordings.specs.declared.machine.WideMachine.{WideMachine}
 use Rattle.recordings.specs.declared.wide.WideInit.{WideInit}
 use Rattle.recordings.proofs.Tells.{guest_tell, lane_tell, link_tell}
