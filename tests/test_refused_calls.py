@@ -49,10 +49,10 @@ REFUSED = {
     "link_book": "LinkBook::room LinkBook::turn",
     "target_side": "GuestBook::new GuestBook::access GuestBook::halt",
     "target_book": "TargetBook::access",
-    "pager_book": "PagerBook::new PagerBook::pop PagerBook::next_fault PagerBook::deliver PagerBook::tick",
+    "pager_book": "PagerBook::new PagerBook::pop PagerBook::pull PagerBook::next_fault PagerBook::deliver PagerBook::tick",
     "session_core": "Core::start Core::step Core::session run",
     "guest_script": "read_script write_script read_events write_events",
-    "host_threads": "migrate migrate_tcp",
+    "host_threads": "migrate migrate_over migrate_tcp",
 }
 
 # Those that take none.

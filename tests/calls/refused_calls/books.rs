@@ -7,7 +7,7 @@ use balloon_ledger::Ledger;
 use guest_script::Script;
 use link_book::LinkBook;
 use migration_events::{Direction, Event, Fate, Op};
-use migration_types::{Contents, Logs, PageNo, Seq, Session, Version};
+use migration_types::{Contents, Geometry, Logs, PageNo, Seq, Session, Version};
 use page_store::Store;
 use page_stream::Packet;
 use pager_book::PagerBook;
@@ -622,6 +622,27 @@ fn is_state(packet: &Packet, page: PageNo) -> bool {
     }
 }
 
+/// A pager that has the state takes the page that has arrived over the lane.
+fn pulled(refuser: Refuser, link: &LinkBook) -> Option<()> {
+    let alloc = refuser.alloc();
+    let mut pager = PagerBook::new(alloc, Geometry::new(1, 1).ok()?).ok()?;
+    let state = Packet::State {
+        number: 0,
+        released: Seq::from_vec(Vec::new(alloc)),
+    };
+    pager.pop(0, &state).ok()?;
+    let len = pager.pager_log().len();
+    let (number, packet) = link.peek_lane()?;
+    refuser.each_on(
+        "pager_book::PagerBook::pull",
+        &mut pager,
+        |pager: &mut PagerBook| pager.pull(number, packet),
+        |pager: &PagerBook| pager.pager_log().len() == len && pager.next_page().is_none(),
+    )?;
+    refuser.right(pager.pager_log().len() == len + 1 && pager.next_page().is_some());
+    Some(())
+}
+
 /// A packet goes over the lane.
 fn over_the_lane(refuser: Refuser) -> Option<()> {
     let mut link = LinkBook::new(refuser.alloc());
@@ -646,6 +667,7 @@ fn over_the_lane(refuser: Refuser) -> Option<()> {
         link.peek_lane().is_some()
     });
     refuser.right(has_arrived);
+    pulled(refuser, &link)?;
     let is_taken = refuser.none("link_book::LinkBook::pop_lane", || {
         link.pop_lane().is_some()
     });

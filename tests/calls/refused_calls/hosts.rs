@@ -3,7 +3,9 @@
 use crate::examples::Examples;
 use crate::refusing::Refuser;
 use cert_check::{Verdict, check};
-use host_threads::{Migrated, Open, Transcript, migrate, migrate_tcp};
+use host_threads::{
+    Migrated, Open, Relay, RelayFault, Transcript, migrate, migrate_over, migrate_tcp,
+};
 use std::alloc::Global;
 use std::marker::Sync;
 use std::net::{Net, TcpListener, TcpStream};
@@ -27,6 +29,47 @@ fn is_migrated(alloc: Global, migrated: &Migrated) -> bool {
     have_read && check(alloc, &migrated.session, &migrated.cert) == Ok(Verdict::Yes)
 }
 
+/// A relay that gives back what it was given, and takes no memory.
+#[derive(Drop)]
+struct Held {
+    bytes: [u8; 4_096],
+    from: usize,
+    to: usize,
+}
+
+impl Relay for Held {
+    fn write(&mut self, bytes: &[u8]) -> Result<usize, RelayFault> {
+        if self.from == self.to {
+            self.from = 0;
+            self.to = 0;
+        }
+        let count = bytes.len().min(self.bytes.len() - self.to);
+        for k in 0..count {
+            self.bytes[self.to + k] = bytes[k];
+        }
+        self.to += count;
+        Ok(count)
+    }
+
+    fn read(&mut self, into: &mut [u8]) -> Result<usize, RelayFault> {
+        let count = into.len().min(self.to - self.from);
+        for k in 0..count {
+            into[k] = self.bytes[self.from + k];
+        }
+        self.from += count;
+        Ok(count)
+    }
+}
+
+/// A relay that holds nothing yet.
+fn empty_relay() -> Held {
+    Held {
+        bytes: [0; 4_096],
+        from: 0,
+        to: 0,
+    }
+}
+
 /// Makes the calls.
 pub fn make<R: Threads + Wait + Sync + Net<Listener = TcpListener, Stream = TcpStream>>(
     rt: &R,
@@ -38,6 +81,11 @@ pub fn make<R: Threads + Wait + Sync + Net<Listener = TcpListener, Stream = TcpS
     refuser.each(
         "host_threads::migrate",
         || migrate(rt, alloc, &script, &Open),
+        |migrated: &Migrated| is_migrated(alloc, migrated),
+    )?;
+    refuser.each(
+        "host_threads::migrate_over",
+        || migrate_over(rt, alloc, &script, &Open, empty_relay()),
         |migrated: &Migrated| is_migrated(alloc, migrated),
     )?;
     refuser.each(
