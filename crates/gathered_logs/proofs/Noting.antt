@@ -17,10 +17,6 @@ pub all_and_one : {X : Type 0} (P : X → Type 0) (xs : List X) (x : X) → AllB
 all_and_one P [] x all one = (one, tt)
 all_and_one P (y ∷ xs) x all one = (all.0, all_and_one P xs x all.1 one)
 
--- no record came yet
-pub notes_none : {X T S : Type 0} (line : X → List ℕ) (IsOf : X → Type 0) (Takes : T → S → T → S → List X → Type 0) (party : Party) (knowns : List (Option (List ℕ))) (g : Gathering) (taker : T) (onto : S) → Came party knowns g [] → Notes line IsOf Takes party knowns g taker onto taker onto
-notes_none line IsOf Takes party knowns g taker onto came = record { records = []; came = came; each = tt; took = λ first from takes. takes }
-
 -- the next record's number and text
 pub comes_next : (party : Party) (knowns : List (Option (List ℕ))) (now : Gathering) (log : List (List ℕ)) (found : Option ℕ) (number : ℕ) (text : List ℕ) → found ≡ Some number → text ≡ text_in now.files now.given → MatchOption found (SayLog party knowns now.files log) (λ n. (n ≡ length log) × Came party knowns now (log ++ text_in now.files now.given ∷ [])) → (number ≡ length log) × Came party knowns now (log ++ text ∷ [])
 comes_next party knowns now log found number text is same came =

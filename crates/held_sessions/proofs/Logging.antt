@@ -49,9 +49,3 @@ fits_log {X} Fits machine e log records version size at h fits =
 -- no session has such a log of a machine with as many pages and cells
 pub no_log : {X : Type 0} (Fits : Version → Extent → X → Type 0) (machine e : Extent) (records : List X) → machine ≡ sized Large e → IsNoLog Fits machine records → IsNoLog Fits e records
 no_log {X} Fits machine e records at h = subst (λ (m : Extent). IsNoLog Fits m records) at h
-
--- a log without its last record is within the limits that it is within
-pub log_front : {X : Type 0} (Fits : Version → Extent → X → Type 0) (e : Extent) (records : List X) (x : X) (version : Version) (size : Size) → LogFits Fits e (records ++ x ∷ []) version size → LogFits Fits e records version size
-log_front {X} Fits e records x version size fits =
-    let long = length_push records x in
-    (all_front (Fits version (sized size e)) records x fits.0, omega (arith, fits.1, long))

@@ -8,9 +8,6 @@ use Rattle.held_sessions.specs.Needs.{AreNeeds}
 pub not_true : {A : Type 0} → false ≡ true → A
 not_true e = absurd cc
 
-pub needs_nothing : AreNeeds (λ version size. Unit {0}) (record { past = 0; lane = false; back = false })
-needs_nothing version size = (λ h. record { past = omega arith; lane = λ e. not_true e; back = λ e. not_true e }, λ allows. tt)
-
 pub needs_number : (n : ℕ) → AreNeeds (λ version size. n < (limits size).records) (record { past = n + 1; lane = false; back = false })
 needs_number n version size = (
   λ h. record { past = omega (arith, h); lane = λ e. not_true e; back = λ e. not_true e },

@@ -2,38 +2,20 @@
 use Rattle.std.proofs.Common.{◌≡◌, ℕ, zero, suc, ◌+◌, ◌-◌, ◌<◌, ◌≤◌, List, [], ◌∷◌, ◌++◌, length, take, drop, Option, Some, None, refl, sym, ap, subst, ◌∙◌, append_assoc, length-append, length-take-le, length-drop, arith}
 use Rattle.std.specs.Prelude.{slice_range}
 use Rattle.std.specs.Io.KnownBytes.{Consumes}
-use Rattle.std.proofs.KnownBytes.{Consumes-trans}
 use Rattle.std.proofs.Math.Nat.{sub-zero}
 use Rattle.std.proofs.Math.Seq.{take-append_seam}
-use Rattle.std.proofs.lemmas.List.{append-nil, drop-take, drop-drop}
+use Rattle.std.proofs.lemmas.List.{drop-take, drop-drop}
 use Rattle.text_lines.specs.Text.{ended}
 use Rattle.text_lines.proofs.Cut.{ended-push}
 use Rattle.text_lines.proofs.Counting.{all_append}
-use Rattle.recordings.specs.Reading.{ReadsBehind}
-use Rattle.recordings.proofs.Pieces.{read_none}
 use Rattle.recorded_files.specs.Said.{IsWritten, Stops}
-use Rattle.recorded_files.specs.declared.files.FileFault.{FileFault}
-use Rattle.recorded_files.specs.declared.files.FileFault.TheVariants.{Line as FaultLine, Order, File, Memory}
 use Rattle.recorded_files.specs.declared.pieces.NextLine.TheVariants.{Line, End, Long}
-use Rattle.recorded_files.specs.inner.Finding.{AreAll, AreRead, Finds, IsLong, IsLongAt, IsReadFault, SameBytes, StopsAt}
+use Rattle.recorded_files.specs.inner.Finding.{AreAll, AreRead, Finds, IsLong, SameBytes, StopsAt}
 
 -- ---- reading on
 
 pub from_front : (buffer : List ℕ) (n : ℕ) → take n buffer ≡ slice_range buffer 0 n
 from_front buffer n = ap (λ (k : ℕ). take k buffer) (sym (sub-zero n))
-
--- what was in the buffer stands at its front now
-pub moved_same : (old : Option (List ℕ)) (before after : List ℕ) (start end : ℕ) → take (end - start) after ≡ take (end - start) (drop start before) → SameBytes old (slice_range before start end) old (take (end - start) after)
-moved_same old before after start end moved = λ known front c. subst (λ (w : List ℕ). Consumes known old (front ++ w)) (sym moved) c
-
-pub read_same : (old mid rest : Option (List ℕ)) (first before after : List ℕ) (kept filled : ℕ) → SameBytes old first mid (take kept before) → ReadsBehind mid rest before after kept filled → SameBytes old first rest (take filled after)
-read_same old mid rest first before after kept filled same read = λ known front c.
-    subst (Consumes known rest) (append_assoc front (take kept before) read.bytes ∙ ap (λ (w : List ℕ). front ++ w) (sym read.front))
-    (Consumes-trans known mid rest (front ++ take kept before) read.bytes (same known front c) read.consumed)
-
--- nothing more was read
-pub ends_here : (mid rest : Option (List ℕ)) (before after : List ℕ) (kept filled : ℕ) → kept ≤ length before → filled ≡ kept → ReadsBehind mid rest before after kept filled → IsWritten (take kept before) → Finds rest (take filled after) End
-ends_here mid rest before after kept filled within same read written = (take filled after, [], sym (append-nil (take filled after)), subst IsWritten (read_none mid rest before after kept filled within same read) written, read.at_end same)
 
 -- ---- a line that is taken
 
@@ -112,9 +94,3 @@ long_at (Some xs) old None before bytes lines same (line, more, parts, inside, l
 long_at (Some xs) old (Some ys) before bytes lines same (line, more, parts, inside, long) read =
     let all : xs ≡ ended lines ++ (line ++ (more ++ ys)) = same (Some xs) (ended lines) read.consumed ∙ (append_assoc (ended lines) bytes ys ∙ (ap (λ (w : List ℕ). ended lines ++ (w ++ ys)) parts ∙ ap (λ (w : List ℕ). ended lines ++ w) (append_assoc line more ys))) in
     record { line = line; after = more ++ ys; is_known = sym all; written = read.written; inside = inside; long = long }
-
-pub read_fault : (known : Option (List ℕ)) (lines : List (List ℕ)) (number : ℕ) (fault : FileFault) → IsReadFault fault → IsLongAt known lines number fault
-read_fault known lines number (FaultLine at) is = absurd is
-read_fault known lines number (Order at) is = absurd is
-read_fault known lines number File is = tt
-read_fault known lines number Memory is = tt

@@ -218,11 +218,6 @@ long_behind party known s came left fault c is behind long = long_fault party kn
 
 -- ---- the text of a record in the buffer
 
-pub text_within : (buffer line text : List ℕ) (start end n : ℕ) → start ≤ end → end ≤ length buffer → slice_range buffer start end ≡ line → line ≡ record_line n text → length text ≤ end - start
-text_within buffer line text start end n order within is spelled =
-    let room : end - start ≤ length (drop start buffer) = omega (arith, length-drop start buffer) in
-    omega (arith, sym (length-take-le (end - start) (drop start buffer) room), ap length is, ap length spelled, length-append (decimal n) (32 ∷ text))
-
 pub text_is : (buffer line text : List ℕ) (start end n : ℕ) → start ≤ end → end ≤ length buffer → slice_range buffer start end ≡ line → line ≡ record_line n text → slice_range buffer (end - length text) end ≡ text
 text_is buffer line text start end n order within is spelled =
     let xs = drop start buffer in

@@ -92,9 +92,3 @@ there numbers j m has = go (cases_lt j (length numbers))
     go : (j < length numbers) ⊎ (length numbers ≤ j) → j < length numbers
     go (inl lt) = lt
     go (inr le) = let past : slice_get numbers j ≡ None = slice_get_past numbers j le in absurd (cc)
-
-pub none_at_all : (numbers : List (Option ℕ)) → IsLeastOf numbers (length numbers) None → (j m : ℕ) → Has numbers j m → ⊥
-none_at_all numbers h j m has = h j m (there numbers j m has) has
-
-pub least_of_all : (numbers : List (Option ℕ)) (n : ℕ) → IsLeastOf numbers (length numbers) (Some n) → ((i : ℕ) × Has numbers i n) × ((j m : ℕ) → Has numbers j m → n ≤ m)
-least_of_all numbers n h = (h.0, λ j m has. h.1 j m (there numbers j m has) has)

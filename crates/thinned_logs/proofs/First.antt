@@ -7,7 +7,6 @@ use Rattle.migration_types.specs.Sessions.{Recorded}
 use Rattle.audit_model.specs.declared.reasons.PageReason.{PageReason}
 use Rattle.audit_model.specs.declared.reasons.PageReason.TheVariants.{Read as WrongRead}
 use Rattle.audit_model.specs.Faults.{IsPageFault}
-use Rattle.audit_model.specs.Windows.{rank}
 use Rattle.page_facts.specs.declared.page_fault.PageFault.{PageFault}
 use Rattle.page_facts.specs.PageFaults.{page_at, Precedes, IsFaultless, IsLeastReason, IsClean, IsFirstFault}
 use Rattle.page_facts.proofs.Lines.{passes_on}

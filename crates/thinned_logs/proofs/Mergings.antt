@@ -114,22 +114,6 @@ module _ (marks : List Bool) (s : Recorded) (thin : IsThinning marks s) where
   same_length Lane = refl
   same_length Pager = sym (length-map s.pager (thin_pager marks))
 
-  -- a record with a receipt for another is kept
-  with_receipt : (name sent : Name) → receipt s name ≡ Some sent → IsKept marks name
-  with_receipt (Guest, n) sent e = go (slice_get s.guest n) refl
-    where
-      by_mark : (x : GuestRec) → slice_get s.guest n ≡ Some x → (slice_get marks n ≡ Some true) ⊎ (slice_get marks n ≡ Some false) → slice_get marks n ≡ Some true
-      by_mark x is (inl mark) = mark
-      by_mark x is (inr gone) = let none = gone_receipt n x is (thin.may_go n x is gone) in absurd (cc)
-
-      go : (o : Option GuestRec) → slice_get s.guest n ≡ o → slice_get marks n ≡ Some true
-      go None is = let none : receipt s (Guest, n) ≡ None = ap (if_there guest_receipt) is in absurd (cc)
-      go (Some x) is = by_mark x is (kept_or_gone marks s thin n x is)
-  with_receipt (Source, n) sent e = tt
-  with_receipt (Link, n) sent e = tt
-  with_receipt (Lane, n) sent e = tt
-  with_receipt (Pager, n) sent e = tt
-
   -- what a record is a receipt for is kept, if it exists
   sent_kept : (name sent : Name) → receipt s name ≡ Some sent → sent.1 < log_length s sent.0 → IsKept marks sent
   sent_kept name (Guest, n) e lt = let r = there s.guest n (length s.guest) lt (omega arith) in go (kept_or_gone marks s thin n r.0 r.1)
