@@ -7,7 +7,7 @@ use balloon_ledger::Ledger;
 use guest_script::Script;
 use link_book::LinkBook;
 use migration_events::{Direction, Event, Fate, Op};
-use migration_types::{Contents, Geometry, Logs, PageNo, Seq, Session, Version};
+use migration_types::{Contents, Geometry, Logs, PageNo, Seq, Session, Shared, Version};
 use page_store::Store;
 use page_stream::Packet;
 use pager_book::PagerBook;
@@ -628,7 +628,7 @@ fn pulled(refuser: Refuser, link: &LinkBook) -> Option<()> {
     let mut pager = PagerBook::new(alloc, Geometry::new(1, 1).ok()?).ok()?;
     let state = Packet::State {
         number: 0,
-        released: Seq::from_vec(Vec::new(alloc)),
+        released: Shared::from_vec(Vec::new(alloc)).ok()?,
     };
     pager.pop(0, &state).ok()?;
     let len = pager.pager_log().len();

@@ -1,6 +1,6 @@
 use Rattle.std.proofs.Common.{ap, ◌∙◌}
 use Rattle.fault_queue.proofs.Others.{others_wait}
-use Rattle.fault_queue.specs.Waiting.{Waiting, is_waiting, without_all}
+use Rattle.fault_queue.specs.Waiting.{is_waiting, without_all}
 use Rattle.fault_queue.proofs.FaultQueue.waits_beside.Goals as goal
 
 pub returns : goal.returns
