@@ -16,7 +16,7 @@ use thiserror::Error;
 
 /// What a fault changed in the queue.
 #[derive(Clone, Copy, Debug, PartialEq, Eq)]
-pub enum QueueChange {
+pub enum Asked {
     /// Nobody waited for the page, which now has a new entry.
     New,
     /// The page had an entry, which now has one more waiter.
@@ -69,9 +69,9 @@ impl FaultQueue {
     /// Queues a virtual processor that waits for a page: after the page's other waiters, or in a new entry after the
     /// others. One that waits already, for any page, is refused; this is checked before memory is allocated. On an
     /// error, nothing changes.
-    pub fn fault(&mut self, page: PageNo, vcpu: u8) -> Result<QueueChange, QueueFault>
+    pub fn fault(&mut self, page: PageNo, vcpu: u8) -> Result<Asked, QueueFault>
         ensures already { IsErrOf result QueueFault.AlreadyWaiting ↔ IsTrue (is_waiting vcpu self.old) }
-        ensures told { IfOk result (λ told. told ≡ (if is_asked page self.old then QueueChange.Joined else QueueChange.New)) }
+        ensures told { IfOk result (λ told. told ≡ (if is_asked page self.old then Asked.Joined else Asked.New)) }
         ensures entries { OnOk result (self.new ≡ asked page vcpu self.old) }
         ensures nobody_lost { OnOk result ((p : ℕ) → waiting_for p self.new ≡ waiting_for p self.old ++ (if p == page then vcpu ∷ [] else [])) }
         ensures err { OnErr result (self.new ≡ self.old) }
@@ -168,21 +168,17 @@ fn is_among(page: PageNo, pages: &[PageNo]) -> bool
 }
 
 /// Puts a virtual processor after those that wait for a page, or into a new entry.
-fn ask(
-    waiting: &mut IndexMap<PageNo, Vec<u8>>,
-    page: PageNo,
-    vcpu: u8,
-) -> Result<QueueChange, AllocError>
-    ensures told { IfOk result (λ told. told ≡ (if is_asked page (entries_of waiting.old) then QueueChange.Joined else QueueChange.New)) }
+fn ask(waiting: &mut IndexMap<PageNo, Vec<u8>>, page: PageNo, vcpu: u8) -> Result<Asked, AllocError>
+    ensures told { IfOk result (λ told. told ≡ (if is_asked page (entries_of waiting.old) then Asked.Joined else Asked.New)) }
     ensures entries { OnOk result (entries_of waiting.new ≡ asked page vcpu (entries_of waiting.old)) }
     ensures err { OnErr result (entries_of waiting.new ≡ entries_of waiting.old) }
 {
     if let Some(waiters) = waiting.get_mut(&page) {
         waiters.push(vcpu)?;
-        return Ok(QueueChange::Joined);
+        return Ok(Asked::Joined);
     }
     let mut vcpus = Vec::new(*waiting.allocator());
     vcpus.push(vcpu)?;
     waiting.insert(page, vcpus)?;
-    Ok(QueueChange::New)
+    Ok(Asked::New)
 }

@@ -10,8 +10,8 @@ use Rattle.migration_types.specs.Limits.{most_records}
 use Rattle.migration_types.specs.PageSets.{Pages, with_page}
 use Rattle.page_store.specs.Tables.{Values, pages_of, values, with_value}
 use Rattle.fault_queue.specs.Waiting.{Waiting, is_asked, waiting_for, joined, entry, without}
-use Rattle.fault_queue.specs.declared.QueueChange.{QueueChange}
-use Rattle.fault_queue.specs.declared.QueueChange.TheVariants.{New, Joined}
+use Rattle.fault_queue.specs.declared.Asked.{Asked}
+use Rattle.fault_queue.specs.declared.Asked.TheVariants.{New, Joined}
 use Rattle.page_stream.specs.declared.Packet.{Packet}
 use Rattle.page_stream.specs.declared.Packet.TheVariants.{Want as WantPacket}
 use Rattle.target_book.specs.TargetPart.{TargetPart, with_placed, with_zeroed}
@@ -133,11 +133,11 @@ kept_new b miss p v is fits few k =
     own q o wants = ap (λ c. cond c o (wants q)) (eq-eqb q q refl)
 
 -- what the queue told
-pub told_joined : (b : Bool) (x : QueueChange) → x ≡ cond b Joined New → x ≡ Joined → b ≡ true
+pub told_joined : (b : Bool) (x : Asked) → x ≡ cond b Joined New → x ≡ Joined → b ≡ true
 told_joined true x e is = refl
 told_joined false x e is = absurd (cc)
 
-pub told_new : (b : Bool) (x : QueueChange) → x ≡ cond b Joined New → x ≡ New → b ≡ false
+pub told_new : (b : Bool) (x : Asked) → x ≡ cond b Joined New → x ≡ New → b ≡ false
 told_new true x e is = absurd (cc)
 told_new false x e is = refl
 

@@ -1,11 +1,11 @@
 //! Faults of three virtual processors on two pages, taken in and served.
 
-use fault_queue::{FaultQueue, QueueChange, QueueFault};
+use fault_queue::{Asked, FaultQueue, QueueFault};
 use migration_types::PageNo;
 use std::test::Fail;
 
 /// Whether a fault is taken in and answered so.
-fn is_asked(queue: &mut FaultQueue, page: u32, vcpu: u8, wanted: QueueChange) -> bool {
+fn is_asked(queue: &mut FaultQueue, page: u32, vcpu: u8, wanted: Asked) -> bool {
     matches!(queue.fault(PageNo::new(page), vcpu), Ok(asked) if asked == wanted)
 }
 
@@ -28,10 +28,10 @@ fn is_refused(queue: &mut FaultQueue, page: u32, vcpu: u8) -> bool {
 /// Whether faults on page 3 and page 5 are taken in.
 fn takes_in(queue: &mut FaultQueue) -> bool {
     queue.first().is_none()
-        && is_asked(queue, 3, 0, QueueChange::New)
-        && is_asked(queue, 3, 1, QueueChange::Joined)
+        && is_asked(queue, 3, 0, Asked::New)
+        && is_asked(queue, 3, 1, Asked::Joined)
         && is_refused(queue, 5, 1)
-        && is_asked(queue, 5, 2, QueueChange::New)
+        && is_asked(queue, 5, 2, Asked::New)
 }
 
 /// Whether they are served.

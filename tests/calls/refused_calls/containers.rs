@@ -3,7 +3,7 @@
 use crate::refusing::{Refuser, all};
 use balloon_ledger::Ledger;
 use bubbling::Bubbles;
-use fault_queue::{FaultQueue, QueueChange, QueueFault};
+use fault_queue::{Asked, FaultQueue, QueueFault};
 use migration_types::{Contents, Geometry, InitPage, PageNo};
 use page_store::Store;
 use residency::Residency;
@@ -120,10 +120,10 @@ fn pushed(refuser: Refuser) -> Option<()> {
 }
 
 /// Whether a page is asked for once, and joined from then on.
-fn is_asked(asked: QueueChange, vcpu: u8) -> bool {
+fn is_asked(asked: Asked, vcpu: u8) -> bool {
     match asked {
-        QueueChange::New => vcpu < 3,
-        QueueChange::Joined => vcpu >= 3,
+        Asked::New => vcpu < 3,
+        Asked::Joined => vcpu >= 3,
     }
 }
 

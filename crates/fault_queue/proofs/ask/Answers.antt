@@ -6,7 +6,7 @@ use Rattle.indexmap.specs.IndexMap.{insert_entry}
 use Rattle.fault_queue.proofs.Same.{same_pages}
 use Rattle.fault_queue.proofs.Maps.{entries, asked_entries, join_entries, kept_entries, insert_entries}
 use Rattle.fault_queue.specs.Waiting.{joined, entry}
-use Rattle.fault_queue.specs.declared.QueueChange.TheVariants.{New, Joined}
+use Rattle.fault_queue.specs.declared.Asked.TheVariants.{New, Joined}
 use Rattle.fault_queue.proofs.ask.Goals as goal
 
 on_err : {A B : Type 0} (r : Result A B) (P : Type 0) → P → OnErr r P

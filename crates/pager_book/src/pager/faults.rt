@@ -11,7 +11,7 @@ ghost use Rattle.pager_book.specs.inner.Steps.{learned, asks};
 
 use super::{PagerBook, want_page};
 use crate::log::append;
-use fault_queue::QueueChange;
+use fault_queue::Asked;
 use migration_events::{look_for_room, make_room};
 use migration_types::PagerRec;
 use page_stream::Packet;
@@ -191,13 +191,13 @@ impl PagerBook {
             },
         );
         match asked {
-            QueueChange::Joined => {
+            Asked::Joined => {
                 if let Some(want) = self.wants.at(missing.page) {
                     append(&mut self.log, PagerRec::Join { want });
                 }
                 Ok(())
             }
-            QueueChange::New => {
+            Asked::New => {
                 let number = want_page(&mut self.log, &mut self.wants, missing.page);
                 self.outbox.push_back_reserved(Packet::Want {
                     number,
