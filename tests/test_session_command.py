@@ -385,7 +385,7 @@ def test_refused_calls_of_an_audit(program, room, refusing):
     run, folder = Run(program, room, refusing), Beside(room, program).recording()
     words = ("audit", folder)
     plain, (_, reads, *_) = run.counted("-", *words)
-    same("a whole recording", (plain[0], plain[2][:8]), (0, b""))
+    same("a whole recording", (plain[0], plain[2]), (0, b"%s: note: owed pages that never came: 1 (with --complete-pages that is status 1)\n" % folder.encode()))
     count(reads < run.counted("-", "session", folder)[1][1], f"an audit reads {reads} times")
     behind = b"file %s\n%s: its files make no session\n" % (folder.encode(), folder.encode())
     for number in range(1, reads + 1):
