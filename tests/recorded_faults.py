@@ -74,6 +74,7 @@ class Faults:
             if records is not None:
                 is_text = isinstance(records, str)
                 self.put(f"{folder}/{log}.1.0", records if is_text else text_of_file(log, numbered(records), last=f"end {len(records)}"))
+        self.put(f"{folder}/recording-name", "made\n")
         return folder
 
     def told(self, what, ran, status, *lines, folder=""):
@@ -304,7 +305,7 @@ class Faults:
         os.makedirs(folder)
         odd = self.folder() + "\n\x1b[0m\x85"
         os.makedirs(odd)
-        self.told("a folder of an odd name", self.session(odd), 2, odd[:-6] + "\\n\\x1b[0m\\x85: there is no file of a recorder, PARTY.PROCESS.N")
+        self.told("a folder of an odd name", self.session(odd), 2, odd[:-6] + "\\u000a\\u001b[0m\\u0085: there is no file of a recorder, PARTY.PROCESS.N")
         self.told("a folder whose name is no text", self.session(odd + "\udcff"), 2, f'"{odd[:-6]}\\u000a\\u001b[0m\\u0085\\udcff": the name of this folder is not UTF-8')
         self.wants("an empty folder", folder, 2, "FOLDER: there is no file of a recorder, PARTY.PROCESS.N")
 

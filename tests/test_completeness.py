@@ -10,6 +10,9 @@ log. They are the same in each run.
 something: there they have to name the first thing that is missing, with status 1. So have they with `--complete-pages`, which asks
 for the halt, the resume and the pages alone, and with both options as with `--complete`. The model goes by docs/FORMATS.md, and
 looks through whole logs for each page and each record.
+
+On standard error they have to say beside `clean` and `yes` how many owed pages never came, if some did not and the guest was resumed,
+and whether the guest used no page; and beside an answer that something is missing, that nothing in the logs is wrong.
 """
 import glob
 import os
@@ -63,6 +66,24 @@ def missing(session, asked):
         if number > 0 and record[0] in ("got", "pull") and number not in settled:
             return f"incomplete line {session.line('pager', number)}"
     return None
+
+
+NO_USE = "the guest neither reads nor writes a page after a resume, so no use of one was judged"
+LACKS = 'note: nothing in the logs is wrong, but they do not tell of a whole migration: "postcopy explain" with the same option says what is missing'
+
+
+def note(session):
+    """What has to be said beside the answer that all is well, if something has."""
+    guest, pager = ([record.split(" ") for record in session.logs[log]] for log in ("guest", "pager"))
+    kinds = [record[0] for record in guest]
+    if "resume" not in kinds:
+        return f"note: {NO_USE}"
+    halt, resume = kinds.index("halt"), kinds.index("resume")
+    came = {int(record[1]) for record in pager if record[0] in ("place", "zero")} | {int(record[2]) for record in guest[resume:] if record[0] == "z"}
+    left = [page for page in range(int(session.head[1].split(" ")[1])) if was_owed(guest[:halt], page) and page not in came]
+    parts = [f"owed pages that never came: {len(left)} (with --complete-pages that is status 1)"] if left else []
+    parts += [] if "r" in kinds[resume:] or "w" in kinds[resume:] else [NO_USE]
+    return f"note: {'; '.join(parts)}" if parts else None
 
 
 def known():
@@ -136,15 +157,15 @@ def changed(rng, text):
 
 def run(program, *words):
     done = subprocess.run([program, *words], capture_output=True, text=True, timeout=60)
-    return done.returncode, done.stdout
+    return done.returncode, done.stdout, done.stderr
 
 
-def wanted(text, plain, asked):
+def wanted(name, text, plain, asked):
     """What the command has to answer that asks for a complete session by this option, by what it answers without asking."""
     if plain[0] != 0:
         return plain
     line = missing(SessionText(text), asked)
-    return plain if line is None else (1, f"{line}\n")
+    return plain if line is None else (1, f"{line}\n", f"{name}: {LACKS}\n")
 
 
 def compare(program, folder, text, counts, early):
@@ -152,16 +173,20 @@ def compare(program, folder, text, counts, early):
     files = [f"{folder}/session", f"{folder}/certificate"]
     with open(files[0], "w", encoding="ascii", newline="") as file:
         file.write(text)
-    status, certificate = run(program, "certify", files[0])
+    status, certificate, _ = run(program, "certify", files[0])
     with open(files[1], "w", encoding="ascii", newline="") as file:
         file.write(certificate)
     for command, *names in (["audit", files[0]], ["check", *files]):
         plain = run(program, command, *names)
+        if plain[0] == 0:
+            said = note(SessionText(text))
+            count(plain[2] == (f"{files[0]}: {said}\n" if said else ""), f"{command} says {plain[2]!r}, and the model {said!r}:\n{text}")
+            counts[(said or "").partition(":")[2][:11]] = counts.get((said or "").partition(":")[2][:11], 0) + 1
         for asked, words in ((WHOLE, [WHOLE, *names]), (WHOLE, [*names, WHOLE]), (PAGES, [PAGES, *names]), (PAGES, [*names, PAGES]), (WHOLE, [PAGES, *names, WHOLE])):
-            want, got = wanted(text, plain, asked), run(program, command, *words)
-            count(got == want, f"{command} {' '.join(words)} answers {got[0]} {got[1][:40]!r}, and the model {want[0]} {want[1][:40]!r}:\n{text}")
+            want, got = wanted(files[0], text, plain, asked), run(program, command, *words)
+            count(got == want, f"{command} {' '.join(words)} answers {got[0]} {got[1][:40]!r} {got[2]!r}, and the model {want[0]} {want[1][:40]!r} {want[2]!r}:\n{text}")
         if command == "audit":
-            lines = [wanted(text, plain, asked)[1].split("\n")[0] for asked in (WHOLE, PAGES)]
+            lines = [wanted(files[0], text, plain, asked)[1].split("\n")[0] for asked in (WHOLE, PAGES)]
             kind = " ".join(lines[0].split(" ")[:2])
             counts[kind] = counts.get(kind, 0) + 1
             for word in ("all", "done"):
@@ -188,4 +213,6 @@ def test_completeness(program, room):
     for word in ("all", "done"):
         count(word in early, f"no session has this too early: {word}")
     count(counts.get("clean"), "no session is complete")
+    for kind in ("", " owed pages", " the guest "):
+        count(counts.get(kind), f"no clean session has this note: {kind!r}")
     count(counts.get("pages alone"), "no session tells of its pages and not of the whole")

@@ -60,6 +60,33 @@ def test_as_the_text(run, room):
     same("a verdict of each kind", (run("audit", "--quiet", whole).stdout, run("audit", "--quiet", faulty).stdout.split()[0]), ("clean\n", "faulty"))
 
 
+OWED = "note: owed pages that never came: 1 (with --complete-pages that is status 1)"
+NAME_GONE = "note: the file recording-name is gone, which each recorder writes; that the files are of one recording is known by their second lines"
+
+
+@pytest.mark.quick
+@pytest.mark.cases(14)
+def test_name_gone(run, room):
+    """A folder is judged without the file that names its recording too, and then it is told that the file is gone."""
+    whole, faulty, _ = folders_of(room)
+    cert = f"{room}/cert"
+    with open(cert, "w", encoding="ascii") as file:
+        file.write(run("certify", whole).stdout)
+    asked = [(command, *more, "--", folder, *behind) for folder in (whole, faulty) for command, more, behind in
+             (("audit", ("--quiet",), ()), ("explain", (), ()), ("check", (), (cert,)), ("draw", (), ()), ("certify", (), ()))]
+    before = [run(*words) for words in asked]
+    for folder in (whole, faulty):
+        os.remove(f"{folder}/recording-name")
+    for words, there in zip(asked, before):
+        folder, ran = next(it for it in (whole, faulty) if it in words), run(*words)
+        same(f"{words} without the file", (ran.returncode, ran.stdout, ran.stderr), (there.returncode, there.stdout, f"{folder}: {NAME_GONE}\n{there.stderr}"))
+    several = run("audit", whole, faulty)
+    same("two at once", several.stderr, f"{whole}: {NAME_GONE}\n{whole}: {OWED}\n{faulty}: {NAME_GONE}\n")
+    same("no note where the file is there", [it.stderr for it in before if "recording-name" in it.stderr], [])
+    same("the session of one, which no command judges", (run("session", whole).returncode, run("session", whole).stderr), (0, ""))
+    same("a name with a slash behind it", run("audit", "--quiet", f"{whole}/").stderr, f"{whole}/: {NAME_GONE}\n{whole}/: {OWED}\n")
+
+
 @pytest.mark.quick
 @pytest.mark.cases(13)
 def test_no_session(run, room):
@@ -122,7 +149,7 @@ def test_compressed(run, room):
     behind = f"{told_of(folder, 'lane.1.0.gz')}{NOTHING}file {folder}\n{folder}: {UNREAD}\n"
     for command, *more in (("explain",), ("draw",), ("certify",), ("window", "0", "1")):
         answers(f"{command} without lane.1.0.gz", run(command, folder, *more), 3, "", behind)
-    answers("the audit of several", run("audit", folder, whole), 3, f"{whole}: clean\n1 of 2 sessions are clean\n", behind)
+    answers("the audit of several", run("audit", folder, whole), 3, f"{whole}: clean\n1 of 2 sessions are clean\n", f"{behind}{whole}: {OWED}\n")
     for log in logs:
         if log != "lane":
             os.rename(f"{folder}/{log}.1.0", f"{folder}/{log}.1.0.gz")
@@ -152,7 +179,8 @@ class BesideItsText(Beside):
         for command in self.commands:
             told, wanted = (subprocess.run([self.command, *command, it], capture_output=True, encoding="utf-8", timeout=60, check=False)
                             for it in (folder, f"{self.room}/text"))
-            answer = (wanted.returncode, wanted.stdout, wanted.stderr.replace(f"{self.room}/text", folder))
+            gone = "" if os.path.exists(f"{folder}/recording-name") else f"{folder}: {NAME_GONE}\n"
+            answer = (wanted.returncode, wanted.stdout, gone + wanted.stderr.replace(f"{self.room}/text", folder))
             wants = (3, "", unread) if made.returncode else answer
             same(f"{' '.join(command)} {folder}", (told.returncode, told.stdout, told.stderr), wants)
 

@@ -37,6 +37,7 @@ KINDS = {
     "runs": ("a text of runs", "postcopy-runs 1", "replay session -"), "script": ("a script", "postcopy-script 1", "steps - events"),
     "events": ("a list of events", "postcopy-events 1", "steps script -"),
 }
+SWAPPED = ": are the two files swapped?"
 REPORTS = ("clean", "faulty line 9 read", "knot line 9", "shape line 9 named", "session-text line 9", "incomplete halt")
 
 # The kind of the wanted text, the text, the line and the column, and what is told.
@@ -48,7 +49,8 @@ TOLD = [
         (b"\xfe\xff\0p", "this is UTF-16; texts are ASCII, a byte for each character"),
         (b"\xef\xbb\xbf", "found a byte order mark; texts are ASCII and have none"))),
     # (the runs of a certificate are runs too)
-    *((kind, f"{first}\n", "1:1", f"this is {words}; expected {KINDS[kind][0]}: are the two files swapped?")
+    # (a session alone has no other file that it may be swapped with)
+    *((kind, f"{first}\n", "1:1", f"this is {words}; expected {KINDS[kind][0]}" + SWAPPED * (kind != "session"))
       for kind in KINDS for other, (words, first, _) in KINDS.items() if other != kind and (kind, other) != ("runs", "certificate")),
     *((kind, f"{report}\n", "1:1", f"this is a report of audit; expected {KINDS[kind][0]}") for kind in ("session", "script", "events") for report in REPORTS),
     *(("certificate", f"{report}\n", "1:1", "this is a report of audit; expected a certificate" + ", which stands below its first line" * (report == "clean"))
@@ -150,6 +152,33 @@ def test_refusals(program, room):
             found = subprocess.run([program, "audit", "--format", "json", "-"], input=given(text), stdout=subprocess.PIPE, stderr=subprocess.PIPE)
             line = int(place.partition(":")[0])
             count(is_refused(json.loads(found.stdout), "session-text", line, found.stderr), f"the object of {text[:80]!r}: {found.stdout!r}")
+
+
+# Words of a command, with the only file or the two files that it reads, and what is told of the one that is refused.
+OF_ANOTHER_KIND = (
+    ("audit cert", "cert", "a certificate", "a session", False), ("certify script", "script", "a script", "a session", False),
+    ("explain events", "events", "a list of events", "a session", False), ("draw cert", "cert", "a certificate", "a session", False),
+    ("migrate session", "session", "a session", "a script", False), ("migrate events", "events", "a list of events", "a script", False),
+    ("audit --quiet script", "script", "a script", "a session", False), ("audit --format json cert", "cert", "a certificate", "a session", False),
+    ("check cert session", "cert", "a certificate", "a session", True), ("check session session", "session", "a session", "a certificate", True),
+    ("check --format json session script", "script", "a script", "a certificate", True), ("replay session session", "session", "a session", "a text of runs", True),
+    ("steps events script", "events", "a list of events", "a script", True), ("draw session events", "events", "a list of events", "a text of runs", True),
+)
+
+
+@pytest.mark.quick
+@pytest.mark.cases(2 * len(OF_ANOTHER_KIND))
+def test_swapped(program, room):
+    """Whether two files are swapped is asked only where a command reads two: on standard error, and in an object."""
+    for name in ("handover/session", "two-wait-for-a-page/script", "two-wait-for-a-page/events"):
+        os.symlink(f"{TOP}/examples/{name}", f"{room}/{os.path.basename(name)}")
+    with open(f"{room}/cert", "w", encoding="ascii") as file:
+        file.write("postcopy-certificate 1\n")
+    for words, name, found, wanted, two in OF_ANOTHER_KIND:
+        ran = subprocess.run([program, *words.split(" ")], cwd=room, stdin=subprocess.DEVNULL, capture_output=True, text=True)
+        told = f"this is {found}; expected {wanted}" + SWAPPED * two
+        same(f"what is told by {words}", (ran.returncode, ran.stderr.split("\n")[0]), (1, f"{name}:1:1: {told}"))
+        same(f"the reason in the object of {words}", json.loads(ran.stdout)["reason"] if "json" in words else told, told)
 
 
 def marked_at(text, place, below):

@@ -21,6 +21,7 @@ from __future__ import annotations
 
 import os
 import re
+import unicodedata
 from typing import Dict, Iterable, Iterator, List, Optional, Tuple
 
 from postcopy.records import LOGS, LOST, MOST_CELLS, RECORDS, read_record
@@ -372,10 +373,13 @@ def model_of(folders: Iterable[str]) -> Tuple[Optional[str], List[str]]:
 
 
 def told(lines: Iterable[str], is_ascii: bool = False) -> str:
-    """Returns what is told of these lines. Control characters are escaped, or all that are not printable."""
+    """Returns what is told of these lines. Characters that are not shown as they are have the escapes of JSON, or all that are not
+    printable those of Python."""
     def shown(it: str) -> str:
-        is_escaped = not it.isprintable() if is_ascii else it < " " or "\x7f" <= it < "\xa0"
-        return ascii(it)[1:-1] if is_escaped else it
+        if is_ascii:
+            return it if it.isprintable() else ascii(it)[1:-1]
+        is_odd = unicodedata.category(it) in ("Cc", "Cf", "Zl", "Zp", "Cs", "Cn")
+        return re.sub("(....)", r"\\u\1", it.encode("utf-16-be", "surrogatepass").hex()) if is_odd else it
 
     return "".join(f"{PREFIX}{''.join(map(shown, line))}\n" for line in lines)
 

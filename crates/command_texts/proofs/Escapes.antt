@@ -4,13 +4,14 @@ use Rattle.std.proofs.lemmas.List.{at_drop_more}
 use Rattle.std.specs.Io.KnownBytes.{Appends}
 use Rattle.std.proofs.KnownBytes.{Appends-trans}
 use Rattle.std.specs.Str.{chars}
-use Rattle.command_texts.specs.Shown.{are_printed, escaped, escapes, is_control, quoted}
+use Rattle.refusal_words.specs.Hidden.{is_hidden}
+use Rattle.command_texts.specs.Shown.{are_printed, escaped, escapes, quoted}
 use Rattle.text_access.specs.Written.{AppendsFront}
 use Rattle.text_access.proofs.Fronts.{front_before, front_behind}
 
 -- what is left to see of the characters begins with this one
-pub printed_next : (cs : List ℕ) (n c : ℕ) → (n < length cs) × (c ≡ get_or cs n c) → are_printed (drop n cs) ≡ cond (is_control c) false (are_printed (drop (n + 1) cs))
-printed_next cs n c h = at_drop_more are_printed cs n c h.0 ∙ ap (λ x. cond (is_control x) false (are_printed (drop (n + 1) cs))) (sym h.1)
+pub printed_next : (cs : List ℕ) (n c : ℕ) → (n < length cs) × (c ≡ get_or cs n c) → are_printed (drop n cs) ≡ cond (is_hidden c) false (are_printed (drop (n + 1) cs))
+printed_next cs n c h = at_drop_more are_printed cs n c h.0 ∙ ap (λ x. cond (is_hidden x) false (are_printed (drop (n + 1) cs))) (sym h.1)
 
 pub escapes_next : (cs : List ℕ) (n c : ℕ) → (n < length cs) × (c ≡ get_or cs n c) → escapes (drop n cs) ≡ escaped c ++ escapes (drop (n + 1) cs)
 escapes_next cs n c h = at_drop_more escapes cs n c h.0 ∙ ap (λ x. escaped x ++ escapes (drop (n + 1) cs)) (sym h.1)

@@ -74,15 +74,15 @@ why_behind telling None a b c k h = Keeps-trans a b c k h
 why_behind telling (Some p) a b c k (inl h) = inl (Keeps-trans a b c k h)
 why_behind telling (Some p) a b c k (inr h) = inr (h.0, h.1, front_kept a b c h.0 k h.2)
 
-told_behind : (HasNote : List ℕ → Type 0) (name : List ℕ) (said : Option Said) (a b c : Option (List ℕ)) → Keeps a b → TellsEntry HasNote (record { name = name; said = said }) b c → TellsEntry HasNote (record { name = name; said = said }) a c
+told_behind : (HasNote : List ℕ → ℕ → List ℕ → Type 0) (name : List ℕ) (said : Option Said) (a b c : Option (List ℕ)) → Keeps a b → TellsEntry HasNote (record { name = name; said = said }) b c → TellsEntry HasNote (record { name = name; said = said }) a c
 told_behind HasNote name None a b c k h = (h.0, front_kept a b c _ k h.1)
 told_behind HasNote name (Some s) a b c k h = record { between = h.between; why = why_behind Short (place_of name s.line) a b h.between k h.why; noted = h.noted }
 
-told_more : (HasNote : List ℕ → Type 0) (es : List Entry) (e : Entry) (a b c : Option (List ℕ)) → TellsEach HasNote es a b → TellsEntry HasNote e b c → TellsEach HasNote (es ++ e ∷ []) a c
+told_more : (HasNote : List ℕ → ℕ → List ℕ → Type 0) (es : List Entry) (e : Entry) (a b c : Option (List ℕ)) → TellsEach HasNote es a b → TellsEntry HasNote e b c → TellsEach HasNote (es ++ e ∷ []) a c
 told_more HasNote [] e a b c h k = (c, told_behind HasNote e.name e.said a b c h k, Keeps-refl c)
 told_more HasNote (x ∷ es) e a b c h k = (h.0, h.1, told_more HasNote es e h.0 b c h.2 k)
 
-module _ (files : List ℕ → Option (List ℕ)) (HasSession : List ℕ → List ℕ → Type 0) (IsAnswer : List ℕ → List ℕ → ℕ → Type 0) (IsRefused : List ℕ → Option ℕ → Type 0) (HasNote : List ℕ → Type 0) (style : Style) where
+module _ (files : List ℕ → Option (List ℕ)) (HasSession : List ℕ → List ℕ → Type 0) (IsAnswer : List ℕ → List ℕ → ℕ → Type 0) (IsRefused : List ℕ → Option ℕ → Type 0) (HasNote : List ℕ → ℕ → List ℕ → Type 0) (style : Style) where
   -- nothing was listed yet
   pub none_listed : (old : Streams) → AreListed files HasSession IsAnswer IsRefused HasNote style [] old old 0 0
   none_listed old = record { entries = []; are_names = refl; are_right = tt; written = Appends-nil old.0; beside = Keeps-refl old.1; is_count = refl; is_status = refl }

@@ -58,24 +58,23 @@ abbrev pub TellsWhy : Telling → Option Place → Option (List ℕ) → Option 
 TellsWhy telling None old new = Keeps old new
 TellsWhy telling (Some place) old new = MayTell (AreReasons telling place) old new
 
--- a note on a text, which needs that there is one and that the status is 0
-pub record IsNote (Has : Type 0) (name : List ℕ) (status : ℕ) (line : List ℕ) : Type 0 where
-  pub has : Has
-  pub is_well : status ≡ 0
+-- a line with such words about the text under a name
+pub record IsNote (AreWords : List ℕ → Type 0) (name line : List ℕ) : Type 0 where
   pub words : List ℕ
+  pub are_words : AreWords words
   pub is_line : line ≡ line_on name words
 
 -- beside the answer to the text under a name: why the text is refused, then a note
-pub record TellsWhyOf (IsRefused : List ℕ → Option ℕ → Type 0) (HasNote : List ℕ → Type 0) (telling : Telling) (name text : List ℕ) (status : ℕ) (old new : Option (List ℕ)) : Type 0 where
+pub record TellsWhyOf (IsRefused : List ℕ → Option ℕ → Type 0) (HasNote : List ℕ → ℕ → List ℕ → Type 0) (telling : Telling) (name text : List ℕ) (status : ℕ) (old new : Option (List ℕ)) : Type 0 where
   pub line : Option ℕ
   pub is_line : IsRefused text line
   pub between : Option (List ℕ)
   pub told : TellsWhy telling (place_of name line) old between
-  pub noted : MayTell (IsNote (HasNote text) name status) between new
+  pub noted : MayTell (IsNote (HasNote text status) name) between new
 
 -- beside the answer to two texts under their names: why the first is refused, or else the second; then more words on
 -- the answer, which show the second name; and then a note on the first
-pub record TellsBeside (IsFirstRefused IsSecondRefused : List ℕ → Option ℕ → Type 0) (AddsMore : List ℕ × List ℕ → List ℕ → List ℕ → List ℕ → Type 0) (HasNote : List ℕ × List ℕ → Type 0) (first second : List ℕ) (texts : List ℕ × List ℕ) (status : ℕ) (old new : Option (List ℕ)) : Type 0 where
+pub record TellsBeside (IsFirstRefused IsSecondRefused : List ℕ → Option ℕ → Type 0) (AddsMore : List ℕ × List ℕ → List ℕ → List ℕ → List ℕ → Type 0) (HasNote : List ℕ × List ℕ → ℕ → List ℕ → Type 0) (first second : List ℕ) (texts : List ℕ × List ℕ) (status : ℕ) (old new : Option (List ℕ)) : Type 0 where
   pub one : Option ℕ
   pub other : Option ℕ
   pub is_one : IsFirstRefused texts.0 one
@@ -84,4 +83,4 @@ pub record TellsBeside (IsFirstRefused IsSecondRefused : List ℕ → Option ℕ
   pub behind : Option (List ℕ)
   pub why : TellsWhy Short (first_place first second one other) old between
   pub more : MayTell (AddsMore texts (shown second) []) between behind
-  pub noted : MayTell (IsNote (HasNote texts) first status) behind new
+  pub noted : MayTell (IsNote (HasNote texts status) first) behind new

@@ -93,25 +93,25 @@ abbrev pub list_text : Style → List Entry → List ℕ
 list_text style es = concat (map (listed style) es) ++ list_end style (well es) (length es)
 
 -- why the text is refused, if it is, and then a note
-pub record TellsSaid (HasNote : List ℕ → Type 0) (name : List ℕ) (s : Said) (old new : Option (List ℕ)) : Type 0 where
+pub record TellsSaid (HasNote : List ℕ → ℕ → List ℕ → Type 0) (name : List ℕ) (s : Said) (old new : Option (List ℕ)) : Type 0 where
   pub between : Option (List ℕ)
   pub why : TellsWhy Short (place_of name s.line) old between
-  pub noted : MayTell (IsNote (HasNote s.text) name s.status) between new
+  pub noted : MayTell (IsNote (HasNote s.text s.status) name) between new
 
 -- words that say that a text was not read, and why
 abbrev pub TellsUnread : List ℕ → Option (List ℕ) → Option (List ℕ) → Type 0
 TellsUnread name old new = (why : List ℕ) × AppendsFront old new (file_lines name why)
 
-abbrev pub TellsEntry : (List ℕ → Type 0) → Entry → Option (List ℕ) → Option (List ℕ) → Type 0
+abbrev pub TellsEntry : (List ℕ → ℕ → List ℕ → Type 0) → Entry → Option (List ℕ) → Option (List ℕ) → Type 0
 TellsEntry HasNote e old new = MatchOption e.said (TellsUnread e.name old new) (λ s. TellsSaid HasNote e.name s old new)
 
 -- what is told beside the answers to a list, about each entry in order
-abbrev pub TellsEach : (List ℕ → Type 0) → List Entry → Option (List ℕ) → Option (List ℕ) → Type 0
+abbrev pub TellsEach : (List ℕ → ℕ → List ℕ → Type 0) → List Entry → Option (List ℕ) → Option (List ℕ) → Type 0
 TellsEach HasNote [] old new = Keeps old new
 TellsEach HasNote (e ∷ es) old new = (between : Option (List ℕ)) × TellsEntry HasNote e old between × TellsEach HasNote es between new
 
 -- the text under a name is one of a list: its answer was written, with what goes beside it, and this is its status
-pub record IsListed (files : List ℕ → Option (List ℕ)) (HasSession : List ℕ → List ℕ → Type 0) (IsAnswer : List ℕ → List ℕ → ℕ → Type 0) (IsRefused : List ℕ → Option ℕ → Type 0) (HasNote : List ℕ → Type 0) (style : Style) (name : List ℕ) (old new : Streams) (status : ℕ) : Type 0 where
+pub record IsListed (files : List ℕ → Option (List ℕ)) (HasSession : List ℕ → List ℕ → Type 0) (IsAnswer : List ℕ → List ℕ → ℕ → Type 0) (IsRefused : List ℕ → Option ℕ → Type 0) (HasNote : List ℕ → ℕ → List ℕ → Type 0) (style : Style) (name : List ℕ) (old new : Streams) (status : ℕ) : Type 0 where
   pub entry : Entry
   pub is_name : entry.name ≡ name
   pub is_right : IsRight files HasSession IsAnswer IsRefused entry
@@ -121,7 +121,7 @@ pub record IsListed (files : List ℕ → Option (List ℕ)) (HasSession : List 
 
 -- The texts under these names are of a list. For each one, its answer was written, or the errors say that it was not
 -- read. This many answers have status 0, and this is the greatest status.
-pub record AreListed (files : List ℕ → Option (List ℕ)) (HasSession : List ℕ → List ℕ → Type 0) (IsAnswer : List ℕ → List ℕ → ℕ → Type 0) (IsRefused : List ℕ → Option ℕ → Type 0) (HasNote : List ℕ → Type 0) (style : Style) (names : List (List ℕ)) (old new : Streams) (count status : ℕ) : Type 0 where
+pub record AreListed (files : List ℕ → Option (List ℕ)) (HasSession : List ℕ → List ℕ → Type 0) (IsAnswer : List ℕ → List ℕ → ℕ → Type 0) (IsRefused : List ℕ → Option ℕ → Type 0) (HasNote : List ℕ → ℕ → List ℕ → Type 0) (style : Style) (names : List (List ℕ)) (old new : Streams) (count status : ℕ) : Type 0 where
   pub entries : List Entry
   pub are_names : map (λ e. e.name) entries ≡ names
   pub are_right : AllByRecursion (IsRight files HasSession IsAnswer IsRefused) entries
@@ -132,7 +132,7 @@ pub record AreListed (files : List ℕ → Option (List ℕ)) (HasSession : List
 
 -- The answers to the texts under these names were written, with how many have status 0. Beside them, the errors say why
 -- texts are refused, which texts were not read, and the notes. The status is the greatest of all.
-pub record TellsSeveral (files : List ℕ → Option (List ℕ)) (HasSession : List ℕ → List ℕ → Type 0) (IsAnswer : List ℕ → List ℕ → ℕ → Type 0) (IsRefused : List ℕ → Option ℕ → Type 0) (HasNote : List ℕ → Type 0) (style : Style) (names : List (List ℕ)) (old new : Streams) (status : ℕ) : Type 0 where
+pub record TellsSeveral (files : List ℕ → Option (List ℕ)) (HasSession : List ℕ → List ℕ → Type 0) (IsAnswer : List ℕ → List ℕ → ℕ → Type 0) (IsRefused : List ℕ → Option ℕ → Type 0) (HasNote : List ℕ → ℕ → List ℕ → Type 0) (style : Style) (names : List (List ℕ)) (old new : Streams) (status : ℕ) : Type 0 where
   pub entries : List Entry
   pub are_names : map (λ e. e.name) entries ≡ names
   pub are_right : AllByRecursion (IsRight files HasSession IsAnswer IsRefused) entries
@@ -141,7 +141,7 @@ pub record TellsSeveral (files : List ℕ → Option (List ℕ)) (HasSession : L
   pub is_status : status ≡ worst entries
 
 -- the first of the names were handled, and then the output could not be written, or memory ran out
-pub record StopsSeveral (files : List ℕ → Option (List ℕ)) (HasSession : List ℕ → List ℕ → Type 0) (IsAnswer : List ℕ → List ℕ → ℕ → Type 0) (IsRefused : List ℕ → Option ℕ → Type 0) (HasNote : List ℕ → Type 0) (style : Style) (names : List (List ℕ)) (old new : Streams) (fault : Fault) : Type 0 where
+pub record StopsSeveral (files : List ℕ → Option (List ℕ)) (HasSession : List ℕ → List ℕ → Type 0) (IsAnswer : List ℕ → List ℕ → ℕ → Type 0) (IsRefused : List ℕ → Option ℕ → Type 0) (HasNote : List ℕ → ℕ → List ℕ → Type 0) (style : Style) (names : List (List ℕ)) (old new : Streams) (fault : Fault) : Type 0 where
   pub is_stop : IsListStop fault
   pub dealt : ℕ
   pub count : ℕ

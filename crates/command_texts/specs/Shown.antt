@@ -1,20 +1,13 @@
 -- How the name of a text is shown.
-use Rattle.std.specs.Prelude.{ℕ, ◌+◌, ◌/◌, ◌%◌, List, [], ◌∷◌, ◌++◌, Bool, true, false, not, codes, ◌==◌, ◌||◌, ◌&&◌, if◌then◌else◌, nat_lt}
+use Rattle.std.specs.Prelude.{ℕ, List, [], ◌∷◌, ◌++◌, Bool, true, false, not, codes, ◌==◌, ◌||◌, ◌&&◌, if◌then◌else◌}
 use Rattle.std.specs.Char.{encode_utf8}
 use Rattle.std.specs.Str.{chars}
+use Rattle.refusal_words.specs.Hidden.{escape, is_hidden}
 
--- a character that is not printed, and that may change how others are
-abbrev pub is_control : ℕ → Bool
-is_control c = nat_lt c 32 || (nat_lt 126 c && nat_lt c 160)
-
--- the hexadecimal digit for a number below 16
-abbrev pub hex_digit : ℕ → ℕ
-hex_digit n = if nat_lt n 10 then 48 + n else 87 + n
-
--- a character between quotation marks, as JSON has it: a control character as in \u001b
+-- a character between quotation marks, as JSON has it: one that is not shown as it is by its escape
 abbrev pub escaped : ℕ → List ℕ
 escaped c =
-    if is_control c then codes "\\u00" ++ hex_digit (c / 16) ∷ hex_digit (c % 16) ∷ [] else
+    if is_hidden c then escape c else
     if c == 34 || c == 92 then 92 ∷ c ∷ [] else
     encode_utf8 c
 
@@ -26,17 +19,17 @@ escapes (c ∷ cs) = escaped c ++ escapes cs
 abbrev pub quoted : List ℕ → List ℕ
 quoted name = 34 ∷ escapes (chars name) ++ 34 ∷ []
 
--- whether none of these characters is a control character
+-- whether each of these characters is shown as it is
 abbrev pub are_printed : List ℕ → Bool
 are_printed [] = true
-are_printed (c ∷ cs) = if is_control c then false else are_printed cs
+are_printed (c ∷ cs) = if is_hidden c then false else are_printed cs
 
 -- whether a name begins with a quotation mark
 abbrev pub begins_quoted : List ℕ → Bool
 begins_quoted [] = false
 begins_quoted (b ∷ bs) = b == 34
 
--- whether a name has no control character, and does not begin with a quotation mark
+-- whether each character of a name is shown as it is, and the first is no quotation mark
 abbrev pub is_plain : List ℕ → Bool
 is_plain name = are_printed (chars name) && not (begins_quoted name)
 

@@ -167,9 +167,5 @@ pub(crate) fn read_pair<'a, A: Taker, B: Taker, R: Threads + Sync, S: TextSource
     }
     let (found, why) = read_named::<A, R, S, I>(rt, alloc, first, texts, input)?;
     let (other, later) = read_named::<B, R, S, I>(rt, alloc, second, texts, input)?;
-    let refusals = Refusals {
-        first: why,
-        second: later,
-    };
-    Ok(((found, other), refusals))
+    Ok(((found, other), Refusals::new(why, later)))
 }

@@ -2,7 +2,7 @@
 //! command, and the system takes back all its memory at once. So what was found in the texts is forgotten, and not
 //! freed piece by piece.
 
-ghost use Rattle.std.specs.Prelude.{◌≡◌, ⊤, ◌<◌, ◌⊎◌, ℕ, Bool, List, [], IfOk, IfErr, MatchOption, OnOk};
+ghost use Rattle.std.specs.Prelude.{◌≡◌, ⊤, ◌<◌, ◌⊎◌, ℕ, Bool, List, [], None, IfOk, IfErr, IfSome, OnOk};
 ghost use Rattle.command_texts.specs.Answers.{IsListStop, IsTextFault};
 ghost use Rattle.command_texts.specs.Fields.{IsAnswerTold};
 ghost use Rattle.command_texts.specs.Reasons.{IsFirstRefused, IsWhy, TellsBeside, TellsWhyOf};
@@ -11,7 +11,7 @@ ghost use Rattle.command_texts.specs.declared.why.Telling.{Telling as HowMuch};
 ghost use Rattle.command_texts.specs.Told.{AreNamed, Ends, IsNamed};
 ghost use Rattle.text_access.specs.Written.{BothGain, MayTell};
 
-use crate::answer::{Answer, Fault, Given, written};
+use crate::answer::{Answer, Fault, Given, given, written};
 use crate::console::Console;
 use crate::fields::as_told;
 use crate::naming::{read_named, read_pair};
@@ -39,8 +39,8 @@ pub trait OnOne {
     /// How much the command says about a text that is refused.
     ghost how_much: { Self → HowMuch };
 
-    /// There is a note on this text, for an answer that says that all is well.
-    ghost has_note: { Self → List ℕ → Type 0 };
+    /// These are the words of a note on this text, for an answer with this status.
+    ghost has_note: { Self → List ℕ → ℕ → List ℕ → Type 0 };
 
     /// Returns how much the command says about a text that is refused.
     fn telling(&self) -> Telling
@@ -53,9 +53,16 @@ pub trait OnOne {
         ensures told { (text : List ℕ) → Self.Text.is_found text found.now → IfOk result (λ answer. is_answer self.now text answer.text.items answer.status) }
         ensures fault { IfErr result (λ fault. fault ≡ Fault.Memory) };
 
-    /// Returns the note on what was found in a text, if there is one: one line of words for people.
-    fn note(&self, found: &<Self::Text as Taker>::Found) -> Option<&'static str>
-        ensures { (text : List ℕ) → Self.Text.is_found text found.now → MatchOption result (has_note self.now text → ⊥) (λ _. has_note self.now text) };
+    /// Returns the note on what was found in a text, beside this answer to it, if there is one: a line of words for
+    /// people. Fails only if memory runs out.
+    fn note(
+        &self,
+        alloc: Global,
+        found: &<Self::Text as Taker>::Found,
+        answer: &Answer,
+    ) -> Result<Option<Vec<u8>>, AllocError>
+        ensures told { (text : List ℕ) → Self.Text.is_found text found.now → IfOk result (λ note. IfSome note (λ words. has_note self.now text answer.now.status words.items)) }
+        ensures well { (text : List ℕ) → Self.Text.is_found text found.now → answer.now.status ≡ 0 → IfOk result (λ note. note ≡ None → (words : List ℕ) → has_note self.now text 0 words → ⊥) };
 }
 
 /// A command on two texts.
@@ -88,8 +95,8 @@ pub trait OnTwo {
     /// The answer is about the second text if both are refused.
     ghost about_second: { Self → Bool };
 
-    /// There is a note on these texts, for an answer that says that all is well.
-    ghost has_note: { Self → List ℕ × List ℕ → Type 0 };
+    /// These are the words of a note on these texts, for an answer with this status.
+    ghost has_note: { Self → List ℕ × List ℕ → ℕ → List ℕ → Type 0 };
 
     /// Returns how much the answer says about a text that is refused, besides one line.
     fn telling(&self) -> Telling
@@ -125,13 +132,17 @@ pub trait OnTwo {
     ) -> Result<(), AllocError>
         ensures { (texts : List ℕ × List ℕ) → Self.First.is_found texts.0 first.now → Self.Second.is_found texts.1 second.now → is_said self.now texts said → OnOk result (adds_more self.now texts name.now out.old.items out.new.items) };
 
-    /// Returns the note on what was found in two texts, if there is one: one line of words for people.
+    /// Returns the note on what was found in two texts, beside this answer to them, if there is one: a line of words
+    /// for people. Fails only if memory runs out.
     fn note(
         &self,
+        alloc: Global,
         first: &<Self::First as Taker>::Found,
         second: &<Self::Second as Taker>::Found,
-    ) -> Option<&'static str>
-        ensures { (texts : List ℕ × List ℕ) → Self.First.is_found texts.0 first.now → Self.Second.is_found texts.1 second.now → MatchOption result (has_note self.now texts → ⊥) (λ _. has_note self.now texts) };
+        answer: &Answer,
+    ) -> Result<Option<Vec<u8>>, AllocError>
+        ensures told { (texts : List ℕ × List ℕ) → Self.First.is_found texts.0 first.now → Self.Second.is_found texts.1 second.now → IfOk result (λ note. IfSome note (λ words. has_note self.now texts answer.now.status words.items)) }
+        ensures well { (texts : List ℕ × List ℕ) → Self.First.is_found texts.0 first.now → Self.Second.is_found texts.1 second.now → answer.now.status ≡ 0 → IfOk result (λ note. note ≡ None → (words : List ℕ) → has_note self.now texts 0 words → ⊥) };
 }
 
 // Answers what was read under a name, with words beside the answer.
@@ -151,16 +162,15 @@ fn answer_one<C: OnOne, O: Write, E: Write>(
     let found_answer = command.answer(alloc, &read.0)?;
     let telling = command.telling();
     let answer = as_told(alloc, found_answer, telling, &read.1)?;
+    let noted = given(command.note(alloc, &read.0, &answer))?;
     let status = written(&answer, output)?;
     tell_why(alloc, &read.1, telling, errors);
-    let note = command.note(&read.0);
-    tell_note(name, note, status, errors);
+    tell_note(name, &noted, errors);
     mem::forget(answer);
     Ok(status)
 }
 
-/// Runs a command on the text under a name. If the text is refused, the errors say why. If all is well, the errors have
-/// the note on it.
+/// Runs a command on the text under a name. If the text is refused, the errors say why. Then they have the note on it.
 pub fn perform_one<
     'a,
     C: OnOne,
@@ -256,18 +266,18 @@ fn answer_two<C: OnTwo, O: Write, E: Write>(
     let telling = command.telling();
     let about = read.1.told(command.is_about_second());
     let answer = as_told(alloc, found_answer, telling, about)?;
+    let noted = given(command.note(alloc, &read.0.0, &read.0.1, &answer))?;
     let status = written(&answer, output)?;
     tell_why(alloc, read.1.earliest(), Telling::Short, errors);
     tell_more(alloc, command, second, &read.0.0, &read.0.1, said, errors);
-    let note = command.note(&read.0.0, &read.0.1);
-    tell_note(first, note, status, errors);
+    tell_note(first, &noted, errors);
     mem::forget(answer);
     Ok(status)
 }
 
 /// Runs a command on the texts under two names, which are read in this order. If a text is refused, the errors say why.
-/// If both are refused, they say it of the first. Then they have more words about the answer, and the note on the first
-/// text if all is well.
+/// If both are refused, they say it of the first. Then they have more words about the answer, and the note on the
+/// first text.
 pub fn perform_two<
     'a,
     C: OnTwo,

@@ -115,10 +115,10 @@ fn list_found<'a, C: OnOne, R: Threads + Sync, S: TextSource, I: Read + Send, O:
     let found_answer = command.answer(console.alloc, found)?;
     let answer = as_told(console.alloc, found_answer, command.telling(), why)?;
     let entry = given(as_listed(console.alloc, listing, name, &answer))?;
+    let noted = given(command.note(console.alloc, found, &answer))?;
     let status = written(&entry, &mut console.output)?;
     tell_why(console.alloc, why, Telling::Short, &mut console.errors);
-    let note = command.note(found);
-    tell_note(name, note, status, &mut console.errors);
+    tell_note(name, &noted, &mut console.errors);
     Ok(status)
 }
 

@@ -1,32 +1,30 @@
 //! How the names of texts are shown.
 
-ghost use Rattle.std.specs.Prelude.{◌≡◌, ◌<◌, ◌++◌, OnOk, true};
+ghost use Rattle.std.specs.Prelude.{◌≡◌, ◌++◌, OnOk, true};
 ghost use Rattle.std.specs.Io.KnownBytes.{Appends};
 ghost use Rattle.std.specs.Str.{chars};
-ghost use Rattle.command_texts.specs.Shown.{are_printed, begins_quoted, escaped, hex_digit, is_control, is_plain, line_on, quoted, shown};
+ghost use Rattle.command_texts.specs.Shown.{are_printed, begins_quoted, escaped, is_plain, line_on, quoted, shown};
+ghost use Rattle.refusal_words.specs.Hidden.{bytes_of, escape};
 ghost use Rattle.text_access.specs.Written.{AppendsFront};
 
+use refusal_words::{Escape, escape_of, is_hidden};
 use std::alloc::AllocError;
 use std::io::Write;
 use text_access::write_whole;
 
-/// Returns whether a character is not printed, and may change how others are.
-fn is_control(character: char) -> bool
-    ensures { result ≡ is_control character }
+/// Writes an escape.
+fn write_escape<W: Write>(output: &mut W, escape: Escape) -> bool
+    ensures front { AppendsFront (W.contents output.old) (W.contents output.new) (bytes_of escape) }
+    ensures whole { result ≡ true → Appends (W.contents output.old) (W.contents output.new) (bytes_of escape) }
 {
-    let code = u32::from(character);
-    code < 32 || (code > 126 && code < 160)
-}
-
-/// Returns the hexadecimal digit for a number below 16.
-fn hex_digit(number: u8) -> u8
-    requires { number < 16 }
-    ensures { result ≡ hex_digit number }
-{
-    if number < 10 {
-        b'0' + number
-    } else {
-        b'a' - 10 + number
+    match escape {
+        Escape::One(unit) => write_whole(output, &unit),
+        Escape::Two(first, second) => {
+            if !write_whole(output, &first) {
+                return false;
+            }
+            write_whole(output, &second)
+        }
     }
 }
 
@@ -35,17 +33,8 @@ fn write_escaped<W: Write>(output: &mut W, character: char) -> bool
     ensures front { AppendsFront (W.contents output.old) (W.contents output.new) (escaped character) }
     ensures whole { result ≡ true → Appends (W.contents output.old) (W.contents output.new) (escaped character) }
 {
-    if is_control(character) {
-        let code = character as u8;
-        let escape = [
-            b'\\',
-            b'u',
-            b'0',
-            b'0',
-            hex_digit(code / 16),
-            hex_digit(code % 16),
-        ];
-        return write_whole(output, &escape);
+    if is_hidden(character) {
+        return write_escape(output, escape_of(character));
     }
     if character == '"' || character == '\\' {
         return write_whole(output, &[b'\\', character as u8]);
@@ -70,12 +59,12 @@ fn write_quoted<W: Write>(output: &mut W, name: &str) -> bool
     write_whole(output, b"\"")
 }
 
-/// Returns whether a text has no control characters.
+/// Returns whether each character of a text is shown as it is.
 fn are_printed(name: &str) -> bool
     ensures { result ≡ are_printed (chars name.now) }
 {
     for character in name.chars() {
-        if is_control(character) {
+        if is_hidden(character) {
             return false;
         }
     }
@@ -92,7 +81,7 @@ fn begins_quoted(name: &str) -> bool
     }
 }
 
-/// Returns whether a name is shown as it is: it has no control character, and does not begin with a quotation mark.
+/// Returns whether a name is shown as it is: each of its characters is, and the first is no quotation mark.
 pub(crate) fn is_plain(name: &str) -> bool
     ensures { result ≡ is_plain name.now }
 {
@@ -113,7 +102,15 @@ pub fn write_shown<W: Write>(output: &mut W, name: &str) -> bool
 
 /// Writes a line that begins with a name as shown, followed by words about what the name stands for. Returns whether
 /// all of it was written. Allocates no memory.
-pub(crate) fn write_line_on<W: Write>(output: &mut W, name: &str, words: &str) -> bool
+pub fn write_line_on<W: Write>(output: &mut W, name: &str, words: &str) -> bool
+    ensures front { AppendsFront (W.contents output.old) (W.contents output.new) (line_on name.now words.now) }
+    ensures whole { result ≡ true → Appends (W.contents output.old) (W.contents output.new) (line_on name.now words.now) }
+{
+    write_line_of(output, name, words.as_bytes())
+}
+
+/// Writes a line as `write_line_on` does, with the bytes of the words.
+pub(crate) fn write_line_of<W: Write>(output: &mut W, name: &str, words: &[u8]) -> bool
     ensures front { AppendsFront (W.contents output.old) (W.contents output.new) (line_on name.now words.now) }
     ensures whole { result ≡ true → Appends (W.contents output.old) (W.contents output.new) (line_on name.now words.now) }
 {
@@ -123,7 +120,7 @@ pub(crate) fn write_line_on<W: Write>(output: &mut W, name: &str, words: &str) -
     if !write_whole(output, b": ") {
         return false;
     }
-    if !write_whole(output, words.as_bytes()) {
+    if !write_whole(output, words) {
         return false;
     }
     write_whole(output, b"\n")

@@ -31,6 +31,19 @@ pub(crate) fn under<'a>(name: &'a str, refusal: Option<Refusal>) -> Option<Why<'
     }
 }
 
+/// Returns why one of two texts is refused, if it is.
+fn of_two<'a>(why: Option<Why<'a>>) -> Option<Why<'a>>
+    ensures { option_map told_place result ≡ option_map told_place why.entry }
+{
+    match why {
+        Some(Why { name, refused }) => Some(Why {
+            name,
+            refused: refused.of_two(),
+        }),
+        None => None,
+    }
+}
+
 /// Returns why each of two texts under one name is refused, if it is.
 pub(crate) fn both_under<'a>(
     name: &'a str,
@@ -40,10 +53,7 @@ pub(crate) fn both_under<'a>(
     ensures second { option_map told_place result.second ≡ place_of name.entry.now (line_of refusals.1) }
 {
     let (first, second) = refusals;
-    Refusals {
-        first: under(name, first),
-        second: under(name, second),
-    }
+    Refusals::new(under(name, first), under(name, second))
 }
 
 // Returns why one text is refused, or else why another is.
@@ -61,6 +71,17 @@ pub(crate) struct Refusals<'a> {
 }
 
 impl<'a> Refusals<'a> {
+    /// Returns why each of the two texts that a call reads is refused, if it is.
+    pub(crate) fn new(first: Option<Why<'a>>, second: Option<Why<'a>>) -> Self
+        ensures first { option_map told_place result.first ≡ option_map told_place first.entry }
+        ensures second { option_map told_place result.second ≡ option_map told_place second.entry }
+    {
+        Refusals {
+            first: of_two(first),
+            second: of_two(second),
+        }
+    }
+
     /// Returns why the first text is refused, or else why the second is.
     pub(crate) fn earliest(&self) -> &Option<Why<'a>>
         ensures { result.now ≡ option_or self.now.first self.now.second }

@@ -49,8 +49,8 @@ use Rattle.text_access.specs.Written.{AppendsFront, Gains, Streams}
 use Rattle.judge_commands.specs.Answers.{AddsMisfitOf, how_much, story_telling, verdict_telling}
 use Rattle.judge_commands.specs.ByTables.{IsExplainedByTable}
 use Rattle.judge_commands.specs.Completed.{IsAnswered, IsChecked}
-use Rattle.judge_commands.specs.Noted.{TellsNoUse}
-use Rattle.judge_commands.specs.Replayed.{IsReplayAnswer}
+use Rattle.judge_commands.specs.Noted.{IsBeside}
+use Rattle.judge_commands.specs.Replayed.{AddsReasonOf, IsReplayAnswer}
 use Rattle.host_commands.specs.Steps.{IsStepsAnswer}
 use Rattle.host_commands.specs.Migrations.{IsMigrateAnswer}
 use Rattle.commands.specs.Drawings.{IsDrawAnswer, IsDrawAlongAnswer}
@@ -110,28 +110,28 @@ abbrev pub IsPlainCheck : List ℕ × List ℕ → List ℕ → ℕ → Type 0
 IsPlainCheck = IsTwoAnswer (Check plain)
 
 -- there is no note
-abbrev pub NoNote : {T : Type 0} → T → Type 0
-NoNote texts = ⊥
+abbrev pub NoNote : {T : Type 0} → T → ℕ → List ℕ → Type 0
+NoNote texts status words = ⊥
 
--- there is a note on the first of two texts, which is a session
-abbrev pub NotesFirst : List ℕ × List ℕ → Type 0
-NotesFirst texts = TellsNoUse texts.0
+-- the words of the note on the first of two texts, a session that may have to be complete
+abbrev pub NotesFirst : Demand → List ℕ × List ℕ → ℕ → List ℕ → Type 0
+NotesFirst demand texts = IsBeside (extent_of demand) texts.0
 
--- beside the answer of a command on one text: why the text is refused, and the note on a session without a use
+-- beside the answer of a command on one text: why the text is refused, and the note on the session
 abbrev pub IsBesideOne : OneText → List ℕ → List ℕ → ℕ → Option (List ℕ) → Option (List ℕ) → Type 0
-IsBesideOne task name = TellsWhyOf (IsRefusedAt SpellsSession) TellsNoUse (how_much (ask_of task).form) name
+IsBesideOne task name = TellsWhyOf (IsRefusedAt SpellsSession) (IsBeside (ask_of task).complete) (how_much (ask_of task).form) name
 
 -- nothing more is said about two texts
 abbrev pub AddsNothing : List ℕ × List ℕ → List ℕ → List ℕ → List ℕ → Type 0
 AddsNothing texts name before after = after ≡ before
 
 -- beside the answer of a command on two texts: why one is refused; for `check`, the part of the certificate that does
--- not fit the session; and the note on a session without a use, if the command judges it
+-- not fit the session, and for `replay` why the runs are no merging; and the note on the session, if the command judges it
 abbrev pub IsBesideTwo : TwoTexts → List ℕ → List ℕ → List ℕ × List ℕ → ℕ → Option (List ℕ) → Option (List ℕ) → Type 0
-IsBesideTwo (Check checks) = TellsBeside (IsRefusedAt SpellsSession) (IsRefusedAt SpellsCert) AddsMisfitOf NotesFirst
-IsBesideTwo Replay = TellsBeside (IsRefusedAt SpellsSession) (IsRefusedAt SpellsOrder) AddsNothing NoNote
+IsBesideTwo (Check checks) = TellsBeside (IsRefusedAt SpellsSession) (IsRefusedAt SpellsCert) AddsMisfitOf (NotesFirst checks.demand)
+IsBesideTwo Replay = TellsBeside (IsRefusedAt SpellsSession) (IsRefusedAt SpellsOrder) AddsReasonOf NoNote
 IsBesideTwo Steps = TellsBeside (IsRefusedAt SpellsScript) (IsRefusedAt SpellsEvents) AddsNothing NoNote
-IsBesideTwo (two.Explain explains) = TellsBeside (IsRefusedAt SpellsSession) (IsRefusedAt SpellsTable) AddsNothing NotesFirst
+IsBesideTwo (two.Explain explains) = TellsBeside (IsRefusedAt SpellsSession) (IsRefusedAt SpellsTable) AddsNothing (NotesFirst explains.demand)
 
 -- the faults of a command on the text under a name, and on the texts under two names
 abbrev pub IsFaultOf : List ℕ → Fault → Type 0
@@ -217,5 +217,5 @@ IsListAnswer lists = IsAnswerTold (how_much (list_ask lists).form) (IsRefusedAt 
 abbrev pub EndsSeveral : Lists × List (List ℕ) → (List ℕ → Option (List ℕ)) → (List ℕ → List ℕ → Type 0) → Streams → Streams → Result ℕ Fault → Type 0
 EndsSeveral several files HasSession old new done =
     MatchResult done
-    (TellsSeveral files HasSession (IsListAnswer several.0) (IsRefusedAt SpellsSession) TellsNoUse (list_style several.0.form) several.1 old new)
-    (StopsSeveral files HasSession (IsListAnswer several.0) (IsRefusedAt SpellsSession) TellsNoUse (list_style several.0.form) several.1 old new)
+    (TellsSeveral files HasSession (IsListAnswer several.0) (IsRefusedAt SpellsSession) (IsBeside (list_ask several.0).complete) (list_style several.0.form) several.1 old new)
+    (StopsSeveral files HasSession (IsListAnswer several.0) (IsRefusedAt SpellsSession) (IsBeside (list_ask several.0).complete) (list_style several.0.form) several.1 old new)

@@ -124,7 +124,7 @@ impl<R: Threads + Sync> OnOne for DrawCommand<'_, R> {
 
     ghost how_much = { λ _. Short };
 
-    ghost has_note = { λ _ _. ⊥ };
+    ghost has_note = { λ _ _ _ _. ⊥ };
 
     fn telling(&self) -> Telling {
         Telling::Short
@@ -134,8 +134,13 @@ impl<R: Threads + Sync> OnOne for DrawCommand<'_, R> {
         given(draw_read(self.rt, alloc, self.topic, session))
     }
 
-    fn note(&self, _session: &Result<Session, u32>) -> Option<&'static str> {
-        None
+    fn note(
+        &self,
+        _alloc: Global,
+        _session: &Result<Session, u32>,
+        _answer: &Answer,
+    ) -> Result<Option<Vec<u8>>, AllocError> {
+        Ok(None)
     }
 }
 
@@ -166,7 +171,7 @@ impl<R: Threads + Sync> OnTwo for DrawAlongCommand<'_, R> {
 
     ghost about_second = { λ _. false };
 
-    ghost has_note = { λ _ _. ⊥ };
+    ghost has_note = { λ _ _ _ _. ⊥ };
 
     fn telling(&self) -> Telling {
         Telling::Short
@@ -198,9 +203,11 @@ impl<R: Threads + Sync> OnTwo for DrawAlongCommand<'_, R> {
 
     fn note(
         &self,
+        _alloc: Global,
         _first: &Result<Session, u32>,
         _second: &Result<Seq<Run>, u32>,
-    ) -> Option<&'static str> {
-        None
+        _answer: &Answer,
+    ) -> Result<Option<Vec<u8>>, AllocError> {
+        Ok(None)
     }
 }

@@ -1,3 +1,4 @@
 pub mod Complete
+pub mod Left
 pub mod Uses
 pub mod inner

@@ -107,7 +107,7 @@ fn take_placement(placed: &mut Table<bool>, rec: &PagerRec)
 }
 
 /// Returns the pages that the pager placed.
-fn placed_pages(alloc: Global, session: &Session) -> Result<Table<bool>, AllocError>
+pub(crate) fn placed_pages(alloc: Global, session: &Session) -> Result<Table<bool>, AllocError>
     requires { IsSession session.now }
     ensures { IfOk result (λ table. IsTable session.now.geometry.pages table (λ page. list_any (is_placement_of page) session.now.pager)) }
 {
@@ -133,10 +133,27 @@ impl LogFacts {
         requires { IsSession session.now }
         ensures { IfOk result (AreSeen session.now) }
     {
+        let placed = placed_pages(alloc, session)?;
+        LogFacts::with(alloc, session, placed)
+    }
+
+    /// Returns the same, given the pages that the pager placed. Makes two passes over the guest's log. Fails only if memory
+    /// runs out.
+    pub(crate) fn with(
+        alloc: Global,
+        session: &Session,
+        placed: Table<bool>,
+    ) -> Result<LogFacts, AllocError>
+        requires is_session { IsSession session.now }
+        requires placed { IsTable session.now.geometry.pages placed (λ page. list_any (is_placement_of page) session.now.pager) }
+        ensures { IfOk result (AreSeen session.now) }
+    {
+        let ledger = ledger_at_halt(alloc, session)?;
+        let freed = freed_pages(alloc, session)?;
         Ok(LogFacts {
-            ledger: ledger_at_halt(alloc, session)?,
-            placed: placed_pages(alloc, session)?,
-            freed: freed_pages(alloc, session)?,
+            ledger,
+            placed,
+            freed,
         })
     }
 
@@ -150,7 +167,7 @@ impl LogFacts {
     }
 
     /// Returns whether a page was owed, and never placed nor released at the target.
-    fn is_left(&self, _session: &Session, page: PageNo) -> bool
+    pub(crate) fn is_left(&self, _session: &Session, page: PageNo) -> bool
         requires seen { AreSeen _session.now self.now }
         requires page { page < _session.now.geometry.pages }
         ensures { result ≡ is_page_left _session.now page }

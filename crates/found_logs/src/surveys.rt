@@ -15,7 +15,7 @@ use recorded_files::{FileReader, Party};
 use session_words::{Piece, Stop, add, line_of, open_text, sentence};
 use std::alloc::{AllocError, Global};
 use std::io::ErrorKind;
-use surveyed_logs::{Onlooker, Surveyed, survey};
+use surveyed_logs::{NAME_FILE, Onlooker, Surveyed, survey};
 use text_access::TextSource;
 
 /// The name of the recording, and the last file that had it.
@@ -24,9 +24,6 @@ struct Recording {
     name: Vec<u8>,
     path: String,
 }
-
-/// The file of a folder that names its recording.
-const NAME_FILE: &str = "recording-name";
 
 /// Returns the words on a file of another recording.
 fn other_words(

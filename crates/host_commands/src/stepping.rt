@@ -91,7 +91,7 @@ impl OnTwo for StepsCommand {
 
     ghost about_second = { λ _. false };
 
-    ghost has_note = { λ _ _. ⊥ };
+    ghost has_note = { λ _ _ _ _. ⊥ };
 
     fn telling(&self) -> Telling {
         Telling::Short
@@ -123,9 +123,11 @@ impl OnTwo for StepsCommand {
 
     fn note(
         &self,
+        _alloc: Global,
         _first: &Result<Script, u32>,
         _second: &Result<Seq<Event>, u32>,
-    ) -> Option<&'static str> {
-        None
+        _answer: &Answer,
+    ) -> Result<Option<Vec<u8>>, AllocError> {
+        Ok(None)
     }
 }

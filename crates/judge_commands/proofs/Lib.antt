@@ -1,9 +1,10 @@
-pub mod Statuses
 pub mod Closed
 pub mod CutOnce
+pub mod Explained
 pub mod Judged
 pub mod Lacking
-pub mod Explained
-pub mod Reported
-pub mod Told
 pub mod Misfits
+pub mod Noted
+pub mod Reported
+pub mod Statuses
+pub mod Told

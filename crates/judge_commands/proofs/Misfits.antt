@@ -9,6 +9,9 @@ use Rattle.cert_check.specs.declared.verdict.Verdict.TheVariants.{SessionText, C
 use Rattle.judged_texts.specs.Checked.{IsTextVerdict}
 use Rattle.judge_commands.specs.Misfits.{AddsMisfit}
 use Rattle.judge_commands.specs.Answers.{AddsMisfitOf}
+use Rattle.judged_texts.specs.declared.replaying.Outcome.{Outcome}
+use Rattle.judged_texts.specs.Replayed.{IsOutcome}
+use Rattle.judge_commands.specs.Replayed.{AddsReason, AddsReasonOf}
 
 module _ (texts : List ℕ × List ℕ) (name out : List ℕ) (line : ℕ) where
   -- nothing is told of a session that is refused
@@ -35,3 +38,8 @@ module _ (texts : List ℕ × List ℕ) (name out : List ℕ) (line : ℕ) where
 pub misfit_added : {E : Type 0} (texts : List ℕ × List ℕ) (name old new : List ℕ) (verdict : Verdict) (done : Result (Unit {0}) E) → IsTextVerdict texts.0 texts.1 verdict → OnOk done (AddsMisfit name verdict old new) → OnOk done (AddsMisfitOf texts name old new)
 misfit_added texts name old new verdict (Ok v) is h = (verdict, is, h)
 misfit_added texts name old new verdict (Err e) is h = tt
+
+-- why runs are no merging was added by the outcome
+pub reason_added : {E : Type 0} (texts : List ℕ × List ℕ) (name old new : List ℕ) (outcome : Outcome) (done : Result (Unit {0}) E) → IsOutcome texts.0 texts.1 outcome → OnOk done (AddsReason name outcome old new) → OnOk done (AddsReasonOf texts name old new)
+reason_added texts name old new outcome (Ok v) is h = (outcome, is, h)
+reason_added texts name old new outcome (Err e) is h = tt

@@ -1,5 +1,5 @@
 -- The line and the status of the outcome of a replay along runs.
-use Rattle.std.specs.Prelude.{ℕ, List, [], ◌∷◌, codes}
+use Rattle.std.specs.Prelude.{◌≡◌, ℕ, List, [], ◌∷◌, ◌++◌, codes}
 use Rattle.text_lines.specs.Text.{ended}
 use Rattle.audit_report.specs.ReportText.{shape_line}
 use Rattle.judged_texts.specs.declared.replaying.Outcome.{Outcome}
@@ -20,6 +20,15 @@ outcome_line Safe = codes "safe\n"
 abbrev pub outcome_status : Outcome → ℕ
 outcome_status Safe = 0
 outcome_status other = 1
+
+-- beside it, it is told why runs are no merging, after the name of their text
+abbrev pub AddsReason : List ℕ → Outcome → List ℕ → List ℕ → Type 0
+AddsReason name NoMerging before after =
+    after ≡ before ++ (name ++ codes ": these runs do not take each record of the session once, after the record that it names\n")
+AddsReason name other before after = after ≡ before
+
+abbrev pub AddsReasonOf : List ℕ × List ℕ → List ℕ → List ℕ → List ℕ → Type 0
+AddsReasonOf texts name before after = (outcome : Outcome) × IsOutcome texts.0 texts.1 outcome × AddsReason name outcome before after
 
 -- `replay`: the outcome for the session along the runs
 abbrev pub IsReplayAnswer : List ℕ → List ℕ → List ℕ → ℕ → Type 0

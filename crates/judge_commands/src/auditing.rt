@@ -9,7 +9,7 @@ ghost use Rattle.session_answers.specs.Forms.{ArePagesFor, Tells};
 ghost use Rattle.session_answers.specs.Judged.{IsJudgedTold, report_status};
 ghost use Rattle.judge_commands.specs.Answers.{how_much};
 ghost use Rattle.judge_commands.specs.Completed.{IsAnswered};
-ghost use Rattle.judge_commands.specs.Noted.{TellsNoUse};
+ghost use Rattle.judge_commands.specs.Noted.{IsBeside};
 ghost use Rattle.judge_commands.specs.inner.Reported.{SaysRefusal, SaysReport};
 
 use crate::completing::held;
@@ -131,7 +131,7 @@ impl<R: Threads + Sync> OnOne for AuditCommand<'_, R> {
 
     ghost how_much = { λ command. how_much command.ask.form };
 
-    ghost has_note = { λ _. TellsNoUse };
+    ghost has_note = { λ command. IsBeside command.ask.complete };
 
     fn telling(&self) -> Telling {
         telling_by(self.ask.form.of_lack())
@@ -141,7 +141,18 @@ impl<R: Threads + Sync> OnOne for AuditCommand<'_, R> {
         given(answered(self.rt, self.ask, alloc, session))
     }
 
-    fn note(&self, session: &Result<Session, u32>) -> Option<&'static str> {
-        note_on(session)
+    fn note(
+        &self,
+        alloc: Global,
+        session: &Result<Session, u32>,
+        answer: &Answer,
+    ) -> Result<Option<Vec<u8>>, AllocError> {
+        note_on(
+            alloc,
+            session,
+            self.ask.complete,
+            self.ask.form.of_lack(),
+            answer,
+        )
     }
 }

@@ -9,7 +9,7 @@ ghost use Rattle.judged_texts.specs.Checked.{IsTextVerdict};
 ghost use Rattle.command_texts.specs.Answers.{Says};
 ghost use Rattle.judge_commands.specs.Answers.{AddsMisfitOf, verdict_line, verdict_status, verdict_telling, verdict_text};
 ghost use Rattle.judge_commands.specs.Completed.{IsChecked};
-ghost use Rattle.judge_commands.specs.Noted.{TellsNoUse};
+ghost use Rattle.judge_commands.specs.Noted.{IsBeside};
 
 use crate::completing::held;
 use crate::forms::{lack_beside, push_told, telling_by};
@@ -127,7 +127,7 @@ impl<R: Threads + Sync> OnTwo for CheckCommand<'_, R> {
 
     ghost about_second = { λ _. false };
 
-    ghost has_note = { λ _ texts. TellsNoUse texts.0 };
+    ghost has_note = { λ command texts. IsBeside command.complete texts.0 };
 
     fn telling(&self) -> Telling {
         telling_by(lack_beside(self.form))
@@ -165,9 +165,17 @@ impl<R: Threads + Sync> OnTwo for CheckCommand<'_, R> {
 
     fn note(
         &self,
+        alloc: Global,
         session: &Result<Session, u32>,
         _cert: &Result<Cert, u32>,
-    ) -> Option<&'static str> {
-        note_on(session)
+        answer: &Answer,
+    ) -> Result<Option<Vec<u8>>, AllocError> {
+        note_on(
+            alloc,
+            session,
+            self.complete,
+            lack_beside(self.form),
+            answer,
+        )
     }
 }

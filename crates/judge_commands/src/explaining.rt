@@ -11,7 +11,7 @@ ghost use Rattle.command_texts.specs.Answers.{Says};
 ghost use Rattle.judge_commands.specs.Answers.{story_telling};
 ghost use Rattle.judge_commands.specs.ByTables.{IsExplainedByTable, refused_table};
 ghost use Rattle.judge_commands.specs.Completed.{IsExplained};
-ghost use Rattle.judge_commands.specs.Noted.{TellsNoUse};
+ghost use Rattle.judge_commands.specs.Noted.{IsBeside};
 ghost use Rattle.judge_commands.specs.inner.Reported.{SaysRefusal, SaysReport};
 
 use crate::auditing::report_status;
@@ -159,7 +159,7 @@ impl<R: Threads + Sync> OnTwo for ExplainByTable<'_, R> {
 
     ghost about_second = { λ _. true };
 
-    ghost has_note = { λ _ texts. TellsNoUse texts.0 };
+    ghost has_note = { λ command texts. IsBeside command.complete texts.0 };
 
     fn telling(&self) -> Telling {
         telling_by(self.story.of_lack())
@@ -191,9 +191,11 @@ impl<R: Threads + Sync> OnTwo for ExplainByTable<'_, R> {
 
     fn note(
         &self,
+        alloc: Global,
         session: &Result<Session, u32>,
         _table: &Result<Seq<u64>, u32>,
-    ) -> Option<&'static str> {
-        note_on(session)
+        answer: &Answer,
+    ) -> Result<Option<Vec<u8>>, AllocError> {
+        note_on(alloc, session, self.complete, self.story.of_lack(), answer)
     }
 }

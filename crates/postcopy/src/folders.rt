@@ -3,7 +3,7 @@
 use command_texts::{Console, Fault, write_shown};
 use commands::Lacking;
 use migration_types::Session;
-use process_io::Disk;
+use process_io::{Disk, tell_name_gone};
 use session_commands::{gather_session, perform_session};
 use std::alloc::{AllocError, Global};
 use std::fs::File;
@@ -121,7 +121,11 @@ impl TextSource for WithFolders<'_> {
         if !has(self.words, name) {
             return Ok(None);
         }
-        gather_session(alloc, &self.disk, &[name])
+        let session = gather_session(alloc, &self.disk, &[name])?;
+        if session.is_some() {
+            tell_name_gone(&self.disk, alloc, name, &mut self.rt.stderr());
+        }
+        Ok(session)
     }
 
     fn stays(&self, name: &str) -> bool {

@@ -10,10 +10,7 @@ use std::io::{self, ErrorKind, Read, Write};
 use std::os::unix::fs::MetadataExt;
 use std::path::PathBuf;
 use std::rt::Files;
-use surveyed_logs::read_file_name;
-
-/// The name of the file with a recording's name in a recorder's folder.
-const NAME_OF_RECORDING: &str = "recording-name";
+use surveyed_logs::{NAME_FILE, read_file_name};
 
 /// The name of standard input in words.
 const DASH: &str = "-";
@@ -133,7 +130,7 @@ fn text_at<R: Files>(rt: &R, alloc: Global, path: &PathBuf) -> io::Result<Option
     let Some(name) = path.file_name() else {
         return Ok(None);
     };
-    if name == NAME_OF_RECORDING {
+    if name == NAME_FILE {
         return Ok(Some(RECORDERS_FILE));
     }
     let front = front_of(rt, alloc, path)?;

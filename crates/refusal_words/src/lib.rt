@@ -14,6 +14,7 @@ use std::alloc::{AllocError, Global};
 
 mod fields;
 mod fitting;
+mod hiding;
 mod line_fault;
 mod marking;
 mod placing;
@@ -23,6 +24,7 @@ mod slips;
 mod special;
 mod words;
 
+pub use hiding::{Escape, escape_of, is_hidden};
 pub use placing::push_at;
 pub use quoting::push_quote;
 pub use refused::{Misread, Refused, WideWanted};

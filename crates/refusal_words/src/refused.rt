@@ -41,6 +41,8 @@ pub struct Misread {
 pub struct Refused {
     /// The line, counted from 1.
     pub line: u64,
+    /// Whether the text is one of the two that a call reads.
+    pub is_one_of_two: bool,
     pub misread: Misread,
 }
 
@@ -69,12 +71,23 @@ impl Refused {
     {
         Refused {
             line: u64::from(refusal.fault.line),
+            is_one_of_two: false,
             misread: Misread {
                 kind: refusal.fault.kind,
                 text: refusal.line,
                 is_last: refusal.is_last,
                 wanted: WideWanted::from(refusal.wanted),
             },
+        }
+    }
+
+    /// Returns why one of the two texts that a call reads is refused.
+    pub fn of_two(self) -> Self
+        ensures { result.line ≡ self.line }
+    {
+        Refused {
+            is_one_of_two: true,
+            ..self
         }
     }
 }

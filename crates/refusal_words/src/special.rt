@@ -10,12 +10,21 @@ pub(crate) enum Special {
     Utf16,
     /// A compressed file: its kind, with its article.
     Packed(&'static str),
-    /// A text of another kind than the wanted one.
-    Swapped { found: Kind, wanted: Kind },
+    /// A text of another kind than the wanted one, and whether a call reads another text beside it.
+    Another {
+        found: Kind,
+        wanted: Kind,
+        is_one_of_two: bool,
+    },
     /// The output of an audit, and the kind of the text after its first line.
-    Report { behind: Option<Kind>, wanted: Kind },
+    Report {
+        behind: Option<Kind>,
+        wanted: Kind,
+    },
     /// One of the files that recorders leave in a folder.
-    Records { wanted: Kind },
+    Records {
+        wanted: Kind,
+    },
     CarriageReturn,
 }
 
@@ -166,15 +175,20 @@ fn begins_as_wanted(line: &[u8], wanted: &WideWanted) -> bool {
         .any(|form| first_word(form.as_bytes()).0 == word)
 }
 
-/// Returns the text of another kind than every allowed one that begins with this line.
-fn of_another_kind(line: &[u8], wanted: &WideWanted) -> Option<Special> {
-    if begins_as_wanted(line, wanted) {
+/// Returns the text of another kind than every allowed one that begins with the refused line.
+fn of_another_kind(refused: &Refused) -> Option<Special> {
+    let line = refused.misread.text.as_slice();
+    if begins_as_wanted(line, &refused.misread.wanted) {
         return None;
     }
-    let wanted = Kind::wanted(wanted)?;
+    let wanted = Kind::wanted(&refused.misread.wanted)?;
     match Kind::of(line) {
         None => output(line, wanted),
-        Some(found) if found != wanted => Some(Special::Swapped { found, wanted }),
+        Some(found) if found != wanted => Some(Special::Another {
+            found,
+            wanted,
+            is_one_of_two: refused.is_one_of_two,
+        }),
         Some(_) => None,
     }
 }
@@ -193,7 +207,7 @@ pub(crate) fn special_of(refused: &Refused) -> Option<Special> {
         if let Some(special) = encoded(line) {
             return Some(special);
         }
-        if let Some(special) = of_another_kind(line, &refused.misread.wanted) {
+        if let Some(special) = of_another_kind(refused) {
             return Some(special);
         }
     }

@@ -5,14 +5,12 @@ ghost use Rattle.session_words.specs.Telling.{Extends};
 
 use crate::stops::add;
 use recorded_files::Party;
+use refusal_words::{Escape, escape_of, is_hidden};
 use std::alloc::{AllocError, Global};
 use text_lines::push_number;
 
 /// What each line of a message begins with.
 const NAME: &[u8] = b"session: ";
-
-/// The first byte of the control characters from U+0080 on, and of the characters up to U+00BF.
-const CONTROL_LEAD: u8 = 0xc2;
 
 /// How many characters of a text are quoted.
 const QUOTED: usize = 60;
@@ -103,53 +101,56 @@ fn push_printed(out: &mut Vec<u8>, byte: u8) -> Result<(), AllocError>
     }
 }
 
-/// Appends the first byte of a character from U+0080 on, if it is held.
-#[tactic(auto, using(crate::proofs::Extended::ok_extends, crate::proofs::Extended::extends_same))]
-fn push_held(out: &mut Vec<u8>, is_held: bool) -> Result<(), AllocError>
+/// Appends an escape.
+fn push_escape_of(out: &mut Vec<u8>, escape: Escape) -> Result<(), AllocError>
     ensures { OnOk result (Extends out.old.items out.new.items) }
 {
-    if is_held {
-        add(out, CONTROL_LEAD)
-    } else {
-        Ok(())
+    match escape {
+        Escape::One(unit) => extend(out, &unit),
+        Escape::Two(first, second) => {
+            extend(out, &first)?;
+            extend(out, &second)
+        }
     }
 }
 
-/// Appends the next byte of a text, behind the one that is held, if one is. Returns whether this byte is held now.
-fn push_next(out: &mut Vec<u8>, is_held: bool, byte: u8) -> Result<bool, AllocError>
+/// Appends bytes.
+#[tactic(auto, using(crate::proofs::Extended::ok_extends))]
+fn extend(out: &mut Vec<u8>, bytes: &[u8]) -> Result<(), AllocError>
     ensures { OnOk result (Extends out.old.items out.new.items) }
 {
-    if is_held && byte >= 0x80 && byte <= 0x9f {
-        push_escape(out, byte)?;
-        return Ok(false);
-    }
-    push_held(out, is_held)?;
-    if byte == CONTROL_LEAD {
-        return Ok(true);
-    }
-    push_printed(out, byte)?;
-    Ok(false)
+    out.extend_from_slice(bytes)
 }
 
-/// Appends a text of UTF-8. Control characters are escaped: U+0000 to U+001F, and U+007F to U+009F, of which those from
-/// U+0080 on have two bytes.
-fn push_text(out: &mut Vec<u8>, text: &[u8]) -> Result<(), AllocError>
+/// Appends a character, by its escape if it is not shown as it is.
+fn push_character(out: &mut Vec<u8>, character: char) -> Result<(), AllocError>
     ensures { OnOk result (Extends out.old.items out.new.items) }
 {
-    let mut is_held = false;
-    for byte in text {
-        is_held = push_next(out, is_held, *byte)?;
+    if is_hidden(character) {
+        return push_escape_of(out, escape_of(character));
     }
-    push_held(out, is_held)
+    let mut buffer = [0; 4];
+    extend(out, character.encode_utf8(&mut buffer).as_bytes())
 }
 
-/// Appends a line of a message. Control characters, as in a file's name, are escaped.
+/// Appends a text, with the escape of each character that is not shown as it is.
+fn push_text(out: &mut Vec<u8>, text: &str) -> Result<(), AllocError>
+    ensures { OnOk result (Extends out.old.items out.new.items) }
+{
+    for character in text.chars() {
+        push_character(out, character)?;
+    }
+    Ok(())
+}
+
+/// Appends a line of a message. Characters that are not shown as they are, as in a file's name, are escaped.
 pub fn push_message(out: &mut Vec<u8>, line: &[u8]) -> Result<(), AllocError>
     ensures some { OnOk result (out.new.items ≢ []) }
     ensures front { OnOk result (Extends out.old.items out.new.items) }
 {
+    let line = String::from_utf8_lossy(*out.allocator(), line)?;
     out.extend_from_slice(NAME)?;
-    push_text(out, line)?;
+    push_text(out, line.as_str())?;
     add(out, b'\n')?;
     Ok(())
 }

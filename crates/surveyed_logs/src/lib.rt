@@ -7,6 +7,6 @@ mod parts;
 mod surveying;
 
 pub use lacking::{LogLack, count_records, find_lacks};
-pub use names::{read_compressed_name, read_file_name};
+pub use names::{NAME_FILE, read_compressed_name, read_file_name};
 pub use parts::{LogPart, PartEnd, PartFault, find_parts};
 pub use surveying::{NoOnlooker, Onlooker, Surveyed, survey};

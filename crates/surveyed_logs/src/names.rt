@@ -10,6 +10,9 @@ use migration_types::LogName;
 use recorded_files::Party;
 use text_lines::after_key;
 
+/// The name of the file in a recorder's folder that names its recording.
+pub const NAME_FILE: &str = "recording-name";
+
 /// Returns whether a byte is a digit.
 fn is_digit(byte: u8) -> bool
     ensures { result ≡ is_digit byte }

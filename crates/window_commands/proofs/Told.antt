@@ -3,13 +3,12 @@ use Rattle.std.proofs.Common.{◌≡◌, ◌≢◌, ◌∙◌, ℕ, ◌<◌, Boo
 use Rattle.std.specs.Prelude.{IfErr, IfSome, option_map}
 use Rattle.std.specs.Global.{Vec}
 use Rattle.std.specs.Io.KnownBytes.{Appends}
-use Rattle.std.proofs.KnownBytes.{Keeps-refl}
 use Rattle.std.specs.declared.alloc.AllocError.{AllocError}
 use Rattle.command_texts.specs.declared.answer.Answer.{Answer}
 use Rattle.command_texts.specs.declared.answer.Fault.{Fault}
 use Rattle.command_texts.specs.Answers.{IsOutputFault, IsReadFault, IsTextFault, Says}
-use Rattle.command_texts.specs.Reasons.{Place, TellsWhy, place_of, told_place}
-use Rattle.text_access.specs.Written.{AppendsFront}
+use Rattle.command_texts.specs.Reasons.{IsNote, Place, TellsWhy, place_of, told_place}
+use Rattle.text_access.specs.Written.{AppendsFront, MayTell}
 use Rattle.command_texts.specs.declared.why.Telling.TheVariants.{Short}
 use Rattle.command_texts.specs.declared.why.Why.{Why}
 use Rattle.command_texts.proofs.Endings.{not_read, not_written, output_fault, text_fault, written_whole}
@@ -19,7 +18,7 @@ use Rattle.window_cut.specs.declared.pages.Window.{Window}
 use Rattle.window_cut.specs.declared.session.WindowText.{WindowText}
 use Rattle.window_cut.specs.Cuts.{IsCutOf, IsTold, OfRead}
 use Rattle.window_commands.specs.Found.{IsFound}
-use Rattle.window_commands.specs.Windows.{EndsWindow, HasWindowLines, IsReadUnder, IsWindowAnswer, IsWindowed, Seen, TellsRefused, Windowed, windowed_status, windowed_text}
+use Rattle.window_commands.specs.Windows.{EndsWindow, HasWindowLines, IsReadUnder, IsWindowAnswer, IsWindowed, NoSuchPages, Seen, TellsOutside, TellsRefused, Windowed, outside_words, windowed_status, windowed_text}
 use Rattle.window_commands.specs.inner.Answered.{HasTable, IsAnswered, IsAnsweredAt, IsSeen, IsUnseen}
 
 -- what holds of itself holds whatever the answer is
@@ -80,14 +79,25 @@ told_at name None None old new is told = told
 told_at name (Some n) None old new is told = inl told
 told_at name line (Some p) old new is told = subst (λ (q : Option Place). TellsWhy Short q old new) (sym is) told
 
-why_told : (w : Window) (lined : Bool) (name recording : List ℕ) (a : Tabled) (status : ℕ) (old new : Option (List ℕ)) → IsAnsweredAt w lined name recording a.0 a.1 (option_map told_place a.2) → TellsWhy Short (option_map told_place a.2) old new → TellsRefused name recording status old new
-why_told w lined name recording a status old new is told =
-    record { line = is.line; is_line = is.is_line; between = new; told = told_at name is.line (option_map told_place a.2) old new is.is_place told; noted = inl (Keeps-refl new) }
+-- and why there is no window, if the answer says that
+abbrev pub TellsItsReason : List ℕ → Answer → Option (List ℕ) → Option (List ℕ) → Type 0
+TellsItsReason name answer = MayTell (IsNote (λ words. (answer.text.items ≡ windowed_text NoSuchPages) × (words ≡ outside_words)) name)
 
--- the answer was written, and then why the recording is refused, or the output failed
-pub window_written : (w : Window) (lined : Bool) (name : List ℕ) (files : List ℕ → Option (List ℕ)) (a : Tabled) (old new errors told : Option (List ℕ)) (status : ℕ) → TellsOf w lined name (files name) a → status ≡ a.0.status → Appends old new a.0.text.items → TellsWhy Short (option_map told_place a.2) errors told → EndsWindow w name files (old, errors) (new, told) (Ok status)
-window_written w lined name files a old new errors told status is same written why =
-    written_whole (IsReadUnder name files) (IsWindowAnswer w) (TellsRefused name) is.text a.0 status (old, errors) (new, told) same is.is_known (answer_of w lined is.text a.0 a.1 is.holds.answered) written (why_told w lined name is.text a status errors told is.holds why)
+outside_told : (w : Window) (lined : Bool) (name recording : List ℕ) (answer : Answer) (table : Option (Vec ℕ)) (status : ℕ) (old new : Option (List ℕ)) → IsAnswered w lined recording answer table → status ≡ answer.status → TellsItsReason name answer old new → MayTell (IsNote (TellsOutside w recording status) name) old new
+outside_told w lined name recording answer table status old new is same (inl kept) = inl kept
+outside_told w lined name recording answer table status old new is same (inr told) =
+    let words = told.1.are_words in
+    let own = answer_of w lined recording answer table is in
+    inr (told.0, record { words = told.1.words; are_words = (subst (λ (n : ℕ). IsWindowAnswer w recording (windowed_text NoSuchPages) n) (sym same) (subst (λ (text : List ℕ). IsWindowAnswer w recording text answer.status) words.0 own), words.1); is_line = told.1.is_line }, told.2)
+
+why_told : (w : Window) (lined : Bool) (name recording : List ℕ) (a : Tabled) (status : ℕ) (old mid new : Option (List ℕ)) → IsAnsweredAt w lined name recording a.0 a.1 (option_map told_place a.2) → status ≡ a.0.status → TellsWhy Short (option_map told_place a.2) old mid → TellsItsReason name a.0 mid new → TellsRefused w name recording status old new
+why_told w lined name recording a status old mid new is same told noted =
+    record { line = is.line; is_line = is.is_line; between = mid; told = told_at name is.line (option_map told_place a.2) old mid is.is_place told; noted = outside_told w lined name recording a.0 a.1 status mid new is.answered same noted }
+
+-- the answer was written, and then why the recording is refused or there is no window, or the output failed
+pub window_written : (w : Window) (lined : Bool) (name : List ℕ) (files : List ℕ → Option (List ℕ)) (a : Tabled) (old new errors between told : Option (List ℕ)) (status : ℕ) → TellsOf w lined name (files name) a → status ≡ a.0.status → Appends old new a.0.text.items → TellsWhy Short (option_map told_place a.2) errors between → TellsItsReason name a.0 between told → EndsWindow w name files (old, errors) (new, told) (Ok status)
+window_written w lined name files a old new errors between told status is same written why reason =
+    written_whole (IsReadUnder name files) (IsWindowAnswer w) (TellsRefused w name) is.text a.0 status (old, errors) (new, told) same is.is_known (answer_of w lined is.text a.0 a.1 is.holds.answered) written (why_told w lined name is.text a status errors between told is.holds same why reason)
 
 pub window_unwritten : (w : Window) (lined : Bool) (name : List ℕ) (files : List ℕ → Option (List ℕ)) (a : Tabled) (old new errors : Option (List ℕ)) (f : Fault) → TellsOf w lined name (files name) a → IsOutputFault f → AppendsFront old new a.0.text.items → EndsWindow w name files (old, errors) (new, errors) (Err f)
 window_unwritten w lined name files a old new errors f is fault front =

@@ -41,9 +41,17 @@ windowed_status (Seen cut) = 0
 abbrev pub IsWindowAnswer : Window → List ℕ → List ℕ → ℕ → Type 0
 IsWindowAnswer w recording = IsAnswer (IsWindowed w recording) windowed_text windowed_status
 
--- beside it, it is told why the recording under this name is refused, if it is
-abbrev pub TellsRefused : List ℕ → List ℕ → ℕ → Option (List ℕ) → Option (List ℕ) → Type 0
-TellsRefused = TellsWhyOf (IsRefusedAt SpellsRecording) (λ recording. ⊥) Short
+-- why there is no window whose pages the machine does not have
+abbrev pub outside_words : List ℕ
+outside_words = codes "the window has no page, or one that the machine of this recording does not have"
+
+-- these are the words for an answer with this status that says so
+abbrev pub TellsOutside : Window → List ℕ → ℕ → List ℕ → Type 0
+TellsOutside w recording status words = IsWindowAnswer w recording (windowed_text NoSuchPages) status × (words ≡ outside_words)
+
+-- beside it, it is told why the recording under this name is refused, or why there is no window, if that is so
+abbrev pub TellsRefused : Window → List ℕ → List ℕ → ℕ → Option (List ℕ) → Option (List ℕ) → Type 0
+TellsRefused w = TellsWhyOf (IsRefusedAt SpellsRecording) (TellsOutside w) Short
 
 -- a text of any length was read under a name: it is the known one, if that is known
 abbrev pub IsReadUnder : List ℕ → (List ℕ → Option (List ℕ)) → List ℕ → Type 0
@@ -51,7 +59,7 @@ IsReadUnder name files text = IfSome (files name) (λ xs. text ≡ xs)
 
 -- the answer of `window` to the text under a name was written, or it failed with a fault
 abbrev pub EndsWindow : Window → List ℕ → (List ℕ → Option (List ℕ)) → Streams → Streams → Result ℕ Fault → Type 0
-EndsWindow w name files = Ends (IsTextFault (λ n. n ≡ name)) (IsReadUnder name files) (IsWindowAnswer w) (TellsRefused name)
+EndsWindow w name files = Ends (IsTextFault (λ n. n ≡ name)) (IsReadUnder name files) (IsWindowAnswer w) (TellsRefused w name)
 
 -- the session of a window was appended to the output, and each of its lines is the line of the recording that this
 -- table has for it

@@ -2,27 +2,27 @@
 
 ghost use Rattle.std.specs.Prelude.{◌≡◌, ◌≢◌, ◌<◌, ℕ, Bool, List, Ok, Some, None, true, false, IfOk, IfErr, IfSome, MatchOption, codes, option_map};
 ghost use Rattle.command_texts.specs.Answers.{IsReadFault, Says, numbered};
-ghost use Rattle.command_texts.specs.Reasons.{IsRefusedAt, place_of, told_place};
-ghost use Rattle.text_access.specs.Written.{BothGain};
+ghost use Rattle.command_texts.specs.Reasons.{IsNote, IsRefusedAt, place_of, told_place};
+ghost use Rattle.text_access.specs.Written.{BothGain, MayTell};
 ghost use Rattle.recordings.specs.Recordings.{SpellsRecording};
 ghost use Rattle.window_cut.specs.Cuts.{IsTold, OfRead};
 ghost use Rattle.window_cut.specs.declared.pages.Window.{Window as Pages};
 ghost use Rattle.window_commands.specs.Found.{IsFound};
-ghost use Rattle.window_commands.specs.Windows.{EndsWindow, HasWindowLines, IsWindowAnswer};
+ghost use Rattle.window_commands.specs.Windows.{EndsWindow, HasWindowLines, IsWindowAnswer, NoSuchPages, outside_words, windowed_text};
 ghost use Rattle.window_commands.specs.inner.Answered.{HasTable, IsAnswered, IsAnsweredAt, refused_line};
 
 use crate::push_table;
 use crate::wanting::misread_of;
 use command_texts::{
     ACCEPTED, Answer, Console, Fault, REFUSED, Telling, Why, given, opened, remark, tell_why,
-    written,
+    write_line_on, written,
 };
 use recordings::{RecordingFault, RefusedLine};
 use refusal_words::Refused;
 use std::alloc::{AllocError, Global};
 use std::io::Write;
 use text_access::{NOT_THE_SAME, NOT_WHOLE, TextSource};
-use text_lines::push_keyed;
+use text_lines::{is_line, push_keyed};
 use window_cut::{CutFault, Window, WindowText, cut};
 
 /// The answer to a recording, the table of the window's lines, if it is asked for and there is a window, and why the
@@ -94,7 +94,7 @@ fn uncut<'a>(alloc: Global, name: &'a str, fault: CutFault) -> Result<Answer, Fa
 {
     match fault {
         CutFault::Recording(fault) => unread(alloc, name, fault),
-        CutFault::Outside => given(remark(alloc, b"no-such-pages")),
+        CutFault::Outside => given(remark(alloc, NO_SUCH_PAGES)),
         CutFault::Changed => Err(Fault::File(name, NOT_THE_SAME)),
     }
 }
@@ -132,7 +132,11 @@ fn why_at<'a>(name: &'a str, fault: CutFault, found: Option<RefusedLine>) -> Opt
             let misread = misread_of(found);
             Some(Why {
                 name,
-                refused: Refused { line, misread },
+                refused: Refused {
+                    line,
+                    is_one_of_two: false,
+                    misread,
+                },
             })
         }
         None => None,
@@ -176,6 +180,21 @@ fn answer_to<'a, S: TextSource>(
     }
 }
 
+/// Why nothing is cut out, if the machine does not have the pages of the window.
+const OUTSIDE: &str = "the window has no page, or one that the machine of this recording does not have";
+
+/// The answer that says so.
+const NO_SUCH_PAGES: &[u8] = b"no-such-pages";
+
+/// Writes why nothing was cut out, if the answer says that the machine does not have the pages of the window.
+fn tell_outside<E: Write>(name: &str, answer: &Answer, errors: &mut E)
+    ensures { MayTell (IsNote (λ words. (answer.now.text.items ≡ windowed_text NoSuchPages) × (words ≡ outside_words)) name.now) (E.contents errors.old) (E.contents errors.new) }
+{
+    if is_line(answer.text.as_slice(), b"no-such-pages\n") {
+        write_line_on(errors, name, OUTSIDE);
+    }
+}
+
 // Puts a table into its place, if there is one.
 fn put(lines: &mut Option<Vec<u8>>, table: Option<Vec<u8>>)
     ensures { MatchOption table (lines.new ≡ lines.old) (λ text. lines.new ≡ Some text) }
@@ -205,6 +224,7 @@ pub fn perform_window<'a, R, S: TextSource, I, O: Write, E: Write>(
     let (answer, table, why) = answer_to(console.alloc, window, lined, name, console.texts)?;
     let status = written(&answer, &mut console.output)?;
     tell_why(console.alloc, &why, Telling::Short, &mut console.errors);
+    tell_outside(name, &answer, &mut console.errors);
     put(lines, table);
     Ok(status)
 }

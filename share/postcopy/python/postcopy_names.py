@@ -3,13 +3,14 @@ import argparse
 import re
 import unicodedata
 
-# Controls, formats (as a change of direction), ends of lines and of paragraphs, and what was no UTF-8.
-ODD = {"Cc", "Cf", "Zl", "Zp", "Cs"}
+# Controls, formats (as a change of direction), ends of lines and of paragraphs, what was no UTF-8, and what is no character. The program
+# goes by the same categories.
+ODD = {"Cc", "Cf", "Zl", "Zp", "Cs", "Cn"}
 
 
 def is_odd(letter):
-    """Whether a character is not told as it is. (The last two of the first plane are no characters, and XML cannot hold them.)"""
-    return unicodedata.category(letter) in ODD or letter in "\ufffe\uffff"
+    """Whether a character is not told as it is."""
+    return unicodedata.category(letter) in ODD
 
 
 def escaped(text):

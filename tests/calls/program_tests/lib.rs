@@ -208,6 +208,8 @@ const EMPTY_LINE: &[u8] =
 const CERT_FOR_SESSION: &[u8] =
     b"cert:1:1: this is a certificate; expected a session: are the two files swapped?\n";
 
+const CERT_ALONE: &[u8] = b"cert:1:1: this is a certificate; expected a session\n";
+
 // What is told beside a clean session whose guest uses no page at the target, as a file, on the input, of three, behind why a
 // certificate is no session, and before a text that is not there.
 const SESSION_NOTE: &[u8] =
@@ -220,7 +222,7 @@ const THREE_NOTES: &[u8] =
     b"session: note: the guest neither reads nor writes a page after a resume, so no use of one was judged\n-: note: the guest neither reads nor writes a page after a resume, so no use of one was judged\nsession: note: the guest neither reads nor writes a page after a resume, so no use of one was judged\n";
 
 const CERT_FOR_SESSION_AND_NOTE: &[u8] =
-    b"cert:1:1: this is a certificate; expected a session: are the two files swapped?\nsession: note: the guest neither reads nor writes a page after a resume, so no use of one was judged\n";
+    b"cert:1:1: this is a certificate; expected a session\nsession: note: the guest neither reads nor writes a page after a resume, so no use of one was judged\n";
 
 const NOTE_AND_NONE: &[u8] =
     b"session: note: the guest neither reads nor writes a page after a resume, so no use of one was judged\nfile none\nnone: no such file or directory\n";
@@ -626,7 +628,7 @@ static AUDITS: [Case; 5] = [
         b"",
         1,
         EMPTY_SESSION_LINE,
-        CERT_FOR_SESSION,
+        CERT_ALONE,
         None,
     ),
     Case(
@@ -634,7 +636,7 @@ static AUDITS: [Case; 5] = [
         b"",
         1,
         EMPTY_SESSION_LINE,
-        CERT_FOR_SESSION,
+        CERT_ALONE,
         None,
     ),
     Case(

@@ -63,7 +63,7 @@ static REFUSALS: [Case; 3] = [
         b"",
         1,
         b"script-text line 1\n",
-        b"session:1:1: this is a session; expected a script: are the two files swapped?\n",
+        b"session:1:1: this is a session; expected a script\n",
         Some(1),
     ),
     Case(

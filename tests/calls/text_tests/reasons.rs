@@ -205,7 +205,7 @@ fn sentence(alloc: Global, case: &Case) -> Result<String, AllocError> {
 /// What is said of a line.
 fn said(alloc: Global, refusal: Refusal) -> Result<String, AllocError> {
     let mut out = Vec::new(alloc);
-    push_why(&mut out, b"session", &Refused::new(refusal))?;
+    push_why(&mut out, b"session", &Refused::new(refusal).of_two())?;
     String::from_utf8_lossy(alloc, out.as_slice())
 }
 

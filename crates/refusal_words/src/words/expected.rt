@@ -237,7 +237,7 @@ pub(crate) fn expected_forms(
 ) -> Result<Vec<&'static str>, AllocError> {
     match fault {
         LineFault::Stops(fit) => Ok(best_forms(alloc, refused, fit)?.forms),
-        LineFault::Special(Special::Swapped { .. } | Special::Report { .. })
+        LineFault::Special(Special::Another { .. } | Special::Report { .. })
         | LineFault::Ends
         | LineFault::Empty
         | LineFault::Rule

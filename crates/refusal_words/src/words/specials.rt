@@ -21,6 +21,21 @@ fn push_records(out: &mut String, wanted: Kind) -> Result<(), AllocError> {
     write!(out, "expected {kind}")
 }
 
+fn push_another(
+    out: &mut String,
+    found: Kind,
+    wanted: Kind,
+    is_one_of_two: bool,
+) -> Result<(), AllocError> {
+    let found = found.words();
+    let wanted = wanted.words();
+    write!(out, "this is {found}; expected {wanted}")?;
+    if is_one_of_two {
+        out.push_str(": are the two files swapped?")?;
+    }
+    Ok(())
+}
+
 /// Appends what a file is, or how its lines end, and what helps.
 pub(crate) fn push_special(out: &mut String, special: Special) -> Result<(), AllocError> {
     match special {
@@ -31,14 +46,11 @@ pub(crate) fn push_special(out: &mut String, special: Special) -> Result<(), All
             "this is UTF-16; texts are ASCII, a byte for each character",
         ),
         Special::Packed(kind) => write!(out, "this is {kind} file; unpack it first"),
-        Special::Swapped { found, wanted } => {
-            let found = found.words();
-            let wanted = wanted.words();
-            write!(
-                out,
-                "this is {found}; expected {wanted}: are the two files swapped?"
-            )
-        }
+        Special::Another {
+            found,
+            wanted,
+            is_one_of_two,
+        } => push_another(out, found, wanted, is_one_of_two),
         Special::Report { behind, wanted } => push_report(out, behind, wanted),
         Special::Records { wanted } => push_records(out, wanted),
         Special::CarriageReturn => out.push_str(

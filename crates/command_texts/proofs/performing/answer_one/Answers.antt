@@ -24,6 +24,14 @@ returns-in_err-answer-clause-told g c = λ text found why.
 pub returns-in_err-answer-clause-gains : goal.returns-in_err-answer-clause-gains
 returns-in_err-answer-clause-gains g c = (same_gains _, same_gains _)
 
+pub returns-in_err-noted-clause-told : goal.returns-in_err-noted-clause-told
+returns-in_err-noted-clause-told g c = λ text found why.
+    let p = err_from_is_err_and c.from_residual-in_err-noted.result c.from_residual-in_err-noted.ensures.1 in
+    rw (p.1, p.2) (no_memory _ _ _ _ _ c.in_err-noted.ensures.fault tt)
+
+pub returns-in_err-noted-clause-gains : goal.returns-in_err-noted-clause-gains
+returns-in_err-noted-clause-gains g c = (same_gains _, same_gains _)
+
 pub returns-in_err-status-clause-told : goal.returns-in_err-status-clause-told
 returns-in_err-status-clause-told g c = λ text found why.
     let p = err_from_is_err_and c.from_residual-in_err-status.result c.from_residual-in_err-status.ensures.1 in
@@ -46,7 +54,7 @@ returns-clause-told g c = λ text found why.
       is_line = why.1;
       between = new;
       told = subst (λ (t : Telling). TellsWhy t (place_of c.args.name.now why.0) old new) c.telling-telling.ensures (subst (λ (place : Option Place). TellsWhy c.telling-telling.result place old new) why.2 c.tell_why.ensures);
-      noted = note_told (g.C.OnOne.has_note c.args.command.now text) c.note-note.result c.args.name.now c.in_ok-status.status new (g.E.Write.contents c.tell_note.new.errors) (c.note-note.ensures text found) c.tell_note.ensures;
+      noted = note_told (g.C.OnOne.has_note c.args.command.now text) c.note.result c.in_ok-noted.noted c.args.name.now c.in_ok-status.status c.in_ok-answer.answer.status new (g.E.Write.contents c.tell_note.new.errors) c.in_ok-noted.ensures.given c.in_ok-status.ensures.status (c.note.ensures.told text found) c.tell_note.ensures;
     })
 
 pub returns-clause-gains : goal.returns-clause-gains

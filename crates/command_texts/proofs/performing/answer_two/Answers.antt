@@ -26,6 +26,14 @@ returns-in_err-answer-clause-told g c = λ texts found other why later.
 pub returns-in_err-answer-clause-gains : goal.returns-in_err-answer-clause-gains
 returns-in_err-answer-clause-gains g c = λ texts found other. (same_gains _, same_gains _)
 
+pub returns-in_err-noted-clause-told : goal.returns-in_err-noted-clause-told
+returns-in_err-noted-clause-told g c = λ texts found other why later.
+    let p = err_from_is_err_and c.from_residual-in_err-noted.result c.from_residual-in_err-noted.ensures.1 in
+    rw (p.1, p.2) (no_memory _ _ _ _ _ c.in_err-noted.ensures.fault tt)
+
+pub returns-in_err-noted-clause-gains : goal.returns-in_err-noted-clause-gains
+returns-in_err-noted-clause-gains g c = λ texts found other. (same_gains _, same_gains _)
+
 pub returns-in_err-status-clause-told : goal.returns-in_err-status-clause-told
 returns-in_err-status-clause-told g c = λ texts found other why later.
     let p = err_from_is_err_and c.from_residual-in_err-status.result c.from_residual-in_err-status.ensures.1 in
@@ -52,7 +60,7 @@ returns-clause-told g c = λ texts found other why later.
       why = subst (λ (p : Option Place). TellsWhy Short p (g.E.Write.contents c.args.errors.now) (g.E.Write.contents c.tell_why.new.errors)) place c.tell_why.ensures;
       behind = g.E.Write.contents c.tell_more.new.errors;
       more = told;
-      noted = note_told (g.C.OnTwo.has_note c.args.command.now texts) c.note-note.result c.args.first.now c.in_ok-status.status (g.E.Write.contents c.tell_more.new.errors) (g.E.Write.contents c.tell_note.new.errors) (c.note-note.ensures texts found other) c.tell_note.ensures;
+      noted = note_told (g.C.OnTwo.has_note c.args.command.now texts) c.note.result c.in_ok-noted.noted c.args.first.now c.in_ok-status.status c.in_ok-answer.answer.status (g.E.Write.contents c.tell_more.new.errors) (g.E.Write.contents c.tell_note.new.errors) c.in_ok-noted.ensures.given c.in_ok-status.ensures.status (c.note.ensures.told texts found other) c.tell_note.ensures;
     })
 
 pub returns-clause-gains : goal.returns-clause-gains

@@ -4,9 +4,8 @@ use Rattle.std.specs.declared.alloc.AllocError.{AllocError}
 use Rattle.command_texts.specs.declared.answer.Answer.{Answer}
 use Rattle.command_texts.specs.declared.why.Telling.TheVariants.{Short}
 use Rattle.command_texts.specs.Answers.{Says}
-use Rattle.command_texts.specs.Reasons.{IsNote, Place, TellsWhy}
+use Rattle.command_texts.specs.Reasons.{Place, TellsWhy}
 use Rattle.command_texts.specs.Several.{listed_as, style_of}
-use Rattle.text_access.specs.Written.{MayTell}
 use Rattle.command_texts.proofs.Endings.{output_stops}
 use Rattle.command_texts.proofs.Beside.{note_told, why_gains}
 use Rattle.text_access.proofs.Fronts.{both_gain, front_gains, same_gains, told_gains}
@@ -30,6 +29,12 @@ returns-in_err-entry-clause-stop g c = let p = err_from_is_err_and c.from_residu
 
 pub returns-in_err-entry-clause-gains : goal.returns-in_err-entry-clause-gains
 returns-in_err-entry-clause-gains g c = (same_gains _, same_gains _)
+
+pub returns-in_err-noted-clause-stop : goal.returns-in_err-noted-clause-stop
+returns-in_err-noted-clause-stop g c = let p = err_from_is_err_and c.from_residual-in_err-noted.result c.from_residual-in_err-noted.ensures.1 in rw (p.1, p.2, c.in_err-noted.ensures.fault) tt
+
+pub returns-in_err-noted-clause-gains : goal.returns-in_err-noted-clause-gains
+returns-in_err-noted-clause-gains g c = (same_gains _, same_gains _)
 
 pub returns-in_err-status-clause-stop : goal.returns-in_err-status-clause-stop
 returns-in_err-status-clause-stop g c = let p = err_from_is_err_and c.from_residual-in_err-status.result c.from_residual-in_err-status.ensures.1 in rw (p.1, p.2) (output_stops _ c.in_err-status.ensures.fault)
@@ -59,7 +64,7 @@ returns-clause-listed g c = λ text line named found refused place.
       beside = record {
         between = between;
         why = subst (λ (p : Option Place). TellsWhy Short p before between) place c.tell_why.ensures;
-        noted = subst (λ (s : ℕ). MayTell (IsNote (g.C.OnOne.has_note c.args.command.now text) c.args.name.now s) between after) same (note_told (g.C.OnOne.has_note c.args.command.now text) c.note-note.result c.args.name.now c.in_ok-status.status between after (c.note-note.ensures text found) c.tell_note.ensures);
+        noted = note_told (g.C.OnOne.has_note c.args.command.now text) c.note.result c.in_ok-noted.noted c.args.name.now answer.status answer.status between after c.in_ok-noted.ensures.given refl (c.note.ensures.told text found) c.tell_note.ensures;
       };
       is_status = same;
     }

@@ -2,7 +2,7 @@ use Rattle.std.proofs.Common.{◌≡◌, ◌∙◌, ℕ, Bool, Ok, sym, ap, subs
 use Rattle.std.proofs.lemmas.Result.{err_from_is_err_and}
 use Rattle.command_texts.specs.declared.why.Telling.TheVariants.{Short}
 use Rattle.command_texts.proofs.Beside.{why_gains}
-use Rattle.text_access.proofs.Fronts.{front_gains, same_gains}
+use Rattle.text_access.proofs.Fronts.{both_gain, front_gains, same_gains, told_gains}
 use Rattle.window_commands.proofs.Told.{TellsOf, few_written, lines_kept, lines_told, lines_unasked, window_unread, window_unwritten, window_written}
 use Rattle.window_commands.proofs.windowing.perform_window.Goals as goal
 
@@ -27,10 +27,10 @@ returns-clause-few g c = few_written c.args.window c.args.lined c.args.name.now 
 
 pub returns-clause-told : goal.returns-clause-told
 returns-clause-told g c =
-    window_written c.args.window c.args.lined c.args.name.now (g.S.TextSource.bytes_of c.args.console.now.texts.now) (c.in_ok-answer.answer, c.in_ok-answer.table, c.in_ok-answer.why) _ _ _ _ c.in_ok-status.status c.in_ok-answer.ensures.told c.in_ok-status.ensures.status c.in_ok-status.ensures.text c.tell_why.ensures
+    window_written c.args.window c.args.lined c.args.name.now (g.S.TextSource.bytes_of c.args.console.now.texts.now) (c.in_ok-answer.answer, c.in_ok-answer.table, c.in_ok-answer.why) _ _ _ _ _ c.in_ok-status.status c.in_ok-answer.ensures.told c.in_ok-status.ensures.status c.in_ok-status.ensures.text c.tell_why.ensures c.tell_outside.ensures
 
 pub returns-clause-gains : goal.returns-clause-gains
-returns-clause-gains g c = (front_gains _ _ _ c.in_ok-status.ensures.front, why_gains Short _ _ _ c.tell_why.ensures)
+returns-clause-gains g c = (front_gains _ _ _ c.in_ok-status.ensures.front, both_gain _ _ _ (why_gains Short _ _ _ c.tell_why.ensures) (told_gains _ _ _ c.tell_outside.ensures))
 
 pub returns-clause-lines : goal.returns-clause-lines
 returns-clause-lines g c = λ lined well.
