@@ -33,6 +33,7 @@ from text_judge import refusal_line
 TOP = os.path.dirname(os.path.dirname(os.path.abspath(__file__)))
 TOLD = 99
 MEMORY = b"out of memory\n"
+NO_MERGING = b"-: these runs do not take each record of the session once, after the record that it names\n"
 NOTE = b"note: the guest neither reads nor writes a page after a resume, so no use of one was judged\n"
 NOT_THE_SAME = b": it is read four times and has to be the same each time, as a pipe is not: name a file that stays\n"
 
@@ -297,7 +298,7 @@ def misjudged(case):
         # (of a session that is safe in every merging)
         runs = text.decode().partition("\nruns ")[2].splitlines()[1:-1]
         walked = run_not_walked(Session(others["session"].decode()), [run.split(" ") for run in runs]) is None
-        wrong = found != ((0, b"safe\n", b"") if walked else (1, b"no-merging\n", b"")) and "another replay"
+        wrong = found != ((0, b"safe\n", b"") if walked else (1, b"no-merging\n", NO_MERGING)) and "another replay"
     elif kind == "certificate":
         line = verdict(Session(others["session"].decode()), text)
         wrong = found[:2] != (int(line != "yes"), f"{line}\n".encode()) and line

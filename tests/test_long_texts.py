@@ -54,10 +54,13 @@ WRONG_WRITE = 'found "65536" in "w 3 65536 0 18446744073709551615"; expected P, 
 WRONG_RUN = 'found "0" in "run {log} 0"; expected N, a number from 1 to 134217728, as in "run {log} N"'
 
 
+NO_MERGING = "these runs do not take each record of the session once, after the record that it names"
+
+
 def cases():
-    """What is tried, the two texts, the line that is to be written, and what is to be told of the first text or the second."""
+    """What is tried, the two texts, the line that is to be written, and what is to be told behind the name of the first text or the second."""
     whole, runs = session(), merging()
-    yield "both are whole", whole, runs, b"no-merging\n", None, ""
+    yield "both are whole", whole, runs, b"no-merging\n", 1, f" {NO_MERGING}"
     for at in WRONG_WRITES:
         line = FIRST_WRITE + at
         yield f"write {at} is wrong", session(at), runs, b"session-text line %d\n" % line, 0, f"{line}:5: {WRONG_WRITE}"
@@ -158,8 +161,7 @@ def replayed(program, room, before=None):
         write(room, "runs", second)
         for names, given in ((("session", "runs"), b""), (("-", "runs"), first), (("session", "-"), second)):
             ran = subprocess.run([program, "replay", *names], cwd=room, input=given, capture_output=True, preexec_fn=before)
-            told = b"" if refused is None else f"{names[refused]}:{why}\n".encode()
-            yield f"{what}, replay {' '.join(names)}", (ran.stdout, ran.stderr, ran.returncode), (wanted, told, 1)
+            yield f"{what}, replay {' '.join(names)}", (ran.stdout, ran.stderr, ran.returncode), (wanted, f"{names[refused]}:{why}\n".encode(), 1)
 
 
 def replayed_by_one_thread(program, room):
@@ -182,7 +184,7 @@ def broken(program, room):
         return
     for count in BROKEN:
         found = interrupted([program, "replay", "-", "runs"], room, whole[:count], whole[count:])
-        yield f"an input of which a read is interrupted after {count} bytes", found, (b"no-merging\n", b"", 1)
+        yield f"an input of which a read is interrupted after {count} bytes", found, (b"no-merging\n", f"runs: {NO_MERGING}\n".encode(), 1)
 
 
 def told_by_tables(program, room):

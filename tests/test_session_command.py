@@ -59,7 +59,7 @@ class Beside(Faults):
         text, lines, status = answer_of(made, said, "--cut" in words)
         ran = self.by_command(*words)
         same(f"session {' '.join(words)}", (ran.returncode, ran.stdout, ran.stderr), (status, text, told(lines)))
-        wanted = subprocess.CompletedProcess(words, 2 if made is None and lines[-1] != NOTHING else status, text, told(lines, True))
+        wanted = subprocess.CompletedProcess(words, 2 if made is None and lines[-1] != NOTHING else status, text, told(lines))
         if self.has_script:
             ran = run_script(self.command, *words)
             same(f"recorders/session {' '.join(words)}", (ran.returncode, ran.stdout, ran.stderr), (wanted.returncode, wanted.stdout, wanted.stderr))

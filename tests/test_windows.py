@@ -40,6 +40,7 @@ LINE_FEED = "expected a line feed after "
 CUT = 'cut:4:6: the text ends in the middle of a line, after "init "; expected N, a number from 0 to 4, as in "init N"\n'
 
 # What is told below `file NAME` of a recording that cannot be read four times.
+OUTSIDE = "recording: the window has no page, or one that the machine of this recording does not have\n"
 NOT_THE_SAME = ": it is read four times and has to be the same each time, as a pipe is not: name a file that stays\n"
 
 
@@ -77,9 +78,9 @@ class Tests:
         return (told, lines) if self.is_cut(what, first, count, told, lines) and lines is not None else None
 
     def why(self, what, told, errors):
-        """What is told of a refused recording: its line, and as expected what is not refused there. Nothing is told otherwise."""
+        """What is told of a refused recording: its line, and as expected what is not refused there; and of a window that is none, why."""
         if not told.startswith("recording-text line "):
-            self.same(f"the errors of {what}", errors, "")
+            self.same(f"the errors of {what}", errors, OUTSIDE if told == "no-such-pages\n" else "")
             return
         self.same(f"the words of {what}", REFUSED.fullmatch(errors) is not None, True)
         line = int(told.split(" ")[2])
@@ -249,8 +250,8 @@ def wrong_words(tests):
         (("-", 0, 1), ("", f"file -\n-{NOT_THE_SAME}", 3)),
         (("none", 0, 1), ("", "file none\nnone: no such file or directory\n", 3)),
         (("folder", 0, 1), ("", "session: folder: there is no file of a recorder, PARTY.PROCESS.N\nfile folder\nfolder: its files make no session\n", 3)),
-        (("recording", 4, 1), ("no-such-pages\n", "", 1)),
-        (("recording", 0, 0), ("no-such-pages\n", "", 1)),
+        (("recording", 4, 1), ("no-such-pages\n", OUTSIDE, 1)),
+        (("recording", 0, 0), ("no-such-pages\n", OUTSIDE, 1)),
         (("cut", 0, 1), ("recording-text line 4\n", CUT, 1)),
     ):
         tests.same(f"window {words}", tests.run("window", *words), wanted)

@@ -372,12 +372,9 @@ def model_of(folders: Iterable[str]) -> Tuple[Optional[str], List[str]]:
         return None, [*compressed, str(fault)]
 
 
-def told(lines: Iterable[str], is_ascii: bool = False) -> str:
-    """Returns what is told of these lines. Characters that are not shown as they are have the escapes of JSON, or all that are not
-    printable those of Python."""
+def told(lines: Iterable[str]) -> str:
+    """Returns what is told of these lines. Characters that are not shown as they are have the escapes of JSON."""
     def shown(it: str) -> str:
-        if is_ascii:
-            return it if it.isprintable() else ascii(it)[1:-1]
         is_odd = unicodedata.category(it) in ("Cc", "Cf", "Zl", "Zp", "Cs", "Cn")
         return re.sub("(....)", r"\\u\1", it.encode("utf-16-be", "surrogatepass").hex()) if is_odd else it
 

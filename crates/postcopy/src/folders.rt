@@ -123,7 +123,7 @@ impl TextSource for WithFolders<'_> {
         }
         let session = gather_session(alloc, &self.disk, &[name])?;
         if session.is_some() {
-            tell_name_gone(&self.disk, alloc, name, &mut self.rt.stderr());
+            tell_name_gone(&self.disk, alloc, name, &mut self.rt.stderr())?;
         }
         Ok(session)
     }

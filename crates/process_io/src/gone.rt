@@ -2,7 +2,7 @@
 
 use crate::files::Disk;
 use command_texts::write_line_on;
-use std::alloc::Global;
+use std::alloc::{AllocError, Global};
 use std::fs;
 use std::io::{self, ErrorKind, Write};
 use std::rt::Files;
@@ -19,18 +19,25 @@ fn is_name_gone<R: Files>(disk: &Disk<'_, R>, alloc: Global, folder: &str) -> io
     let name = format!(in alloc; "{folder}{end}{NAME_FILE}")?;
     match fs::metadata(disk.rt, name.as_str()) {
         Ok(_) => Ok(false),
-        Err(error) => Ok(error.kind() == ErrorKind::NotFound),
+        Err(error) if error.kind() == ErrorKind::NotFound => Ok(true),
+        Err(error) => Err(error),
     }
 }
 
 /// Reports that the file with the recording's name is gone from a recorder's folder, if it is, as far as that can be known.
+/// Fails only if memory runs out.
 pub fn tell_name_gone<R: Files, E: Write>(
     disk: &Disk<'_, R>,
     alloc: Global,
     folder: &str,
     errors: &mut E,
-) {
-    if let Ok(true) = is_name_gone(disk, alloc, folder) {
-        write_line_on(errors, folder, GONE);
+) -> Result<(), AllocError> {
+    match is_name_gone(disk, alloc, folder) {
+        Ok(true) => {
+            write_line_on(errors, folder, GONE);
+            Ok(())
+        }
+        Err(error) if error.kind() == ErrorKind::OutOfMemory => Err(AllocError),
+        Ok(false) | Err(_) => Ok(()),
     }
 }

@@ -8,7 +8,7 @@ use crate::stops::{NOT_READ, NOT_THE_SAME, Stop, add, unread};
 use crate::words::{Piece, push_sentence};
 use recorded_files::{FileFault, FileReader, Party};
 use std::alloc::{AllocError, Global};
-use std::io::Read;
+use std::io::{ErrorKind, Read};
 use text_access::TextSource;
 use text_lines::next_line;
 
@@ -251,6 +251,7 @@ fn read_wanted<R: Read>(
         match reader.read(piece.as_mut_slice()) {
             Ok(0) => return Ok(true),
             Ok(count) => wanted.take(&piece[..count])?,
+            Err(error) if error.kind() == ErrorKind::Interrupted => {}
             Err(_) => return Ok(false),
         }
         if wanted.is_found {
