@@ -9,7 +9,10 @@ from cases import same
 from made_sessions import files_of, known_sessions
 from recorded_faults import Faults
 from session_text import SessionText
+from test_saved import Run
 from test_session_command import Beside, Silent
+
+TOP = os.path.dirname(os.path.dirname(os.path.realpath(__file__)))
 
 UNREAD = "its files make no session"
 
@@ -111,6 +114,43 @@ def test_no_session(run, room):
     same("several", (told.returncode, told.stdout.splitlines()[:1], "to read that, name none/session\n" in told.stderr), (3, [f"{whole}: clean"], True))
     shutil.copy(f"{lacking}/guest.1.0", f"{room}/none")
     same("a folder with a session and a file of a recorder", "to read that" in run("audit", "none").stderr, False)
+
+
+@pytest.mark.quick
+@pytest.mark.cases(14)
+def test_other_words(run, room):
+    """A folder in the place of anything but a session is refused as one, whether its files make a session or not."""
+    whole, _, lacking = folders_of(room)
+    run("session", whole, "-o", "text")
+    for folder in (whole, lacking):
+        for words in (("check", "text", folder), ("replay", "text", folder), ("draw", "text", folder), ("explain", "--lines", folder, "text"),
+                      ("steps", folder, "text"), ("steps", f"{TOP}/examples/lost-and-repeated/script", folder), ("migrate", folder)):
+            told = run(*words)
+            same(" ".join(words), (told.returncode, told.stdout, told.stderr), (3, "", f"file {folder}\n{folder}: it is a directory\n"))
+
+
+@pytest.mark.quick
+@pytest.mark.cases(4)
+def test_read_once(program, room, refusing):
+    """What `session` opens once is opened no more often for a judgement, also where no session comes of it."""
+    whole, _, lacking = folders_of(room)
+    ran, opened = Run(program, room, refusing), 3
+    for folder in (whole, lacking):
+        (_, made), (_, audited), (_, told) = (ran.counted("-", command, folder) for command in ("session", "audit", "explain"))
+        same(f"audit of {folder}", audited[opened] <= made[opened], True)
+        same(f"explain of {folder}", told[opened] <= made[opened], True)
+
+
+@pytest.mark.quick
+@pytest.mark.cases(5)
+def test_beyond_limits(run, room):
+    """A folder with a recording that is no session is refused at the line at which its text is."""
+    folder = Faults(Silent(), room).recording(machine=["pages 99999999999 1"])
+    same("a recording", run("session", folder, "-o", "text").returncode, 0)
+    for command in ("audit", "certify", "explain", "draw"):
+        told, wanted = run(command, folder), run(command, "text")
+        found = (told.returncode, told.stdout, told.stderr.replace(folder, "text"))
+        same(f"{command} of it", (found, wanted.returncode), ((wanted.returncode, wanted.stdout, wanted.stderr), 1))
 
 
 NOTHING = "session: nothing was written: repair this, or use session --cut to write what is left\n"

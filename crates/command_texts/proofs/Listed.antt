@@ -14,7 +14,7 @@ use Rattle.command_texts.specs.Answers.{IsListStop, IsReadFault}
 use Rattle.command_texts.specs.Reasons.{Place, TellsWhy, place_of}
 use Rattle.command_texts.specs.Told.{AreRead, IsNamed, is_dash}
 use Rattle.command_texts.specs.Several.{AreListed, Entry, IsListStatus, IsListed, IsRight, Said, StopsSeveral, Style, TellsEach, TellsEntry, TellsOneUnread, TellsSeveral, TellsUnread, entry_status, greater, list_end, listed, well, worst}
-use Rattle.text_access.specs.Names.{names_of}
+use Rattle.text_access.specs.Names.{Files, names_of}
 use Rattle.text_access.specs.Written.{BothGain, Gains, Streams}
 use Rattle.text_access.proofs.Fronts.{both_gain, front_kept, same_gains}
 
@@ -23,8 +23,8 @@ input_unknown : (dash : Bool) (file input : Option (List ℕ)) (text : List ℕ)
 input_unknown true file input text h = record { few = h.few; whole = tt }
 input_unknown false file input text h = h
 
-pub named_anyhow : (name : List ℕ) (files : List ℕ → Option (List ℕ)) (HasSession : List ℕ → List ℕ → Type 0) (input : Option (List ℕ)) (text : List ℕ) → IsNamed name files HasSession input text → IsNamed name files HasSession None text
-named_anyhow name files HasSession input text (inl h) = inl (input_unknown (is_dash name) (files name) input text h)
+pub named_anyhow : (name : List ℕ) (files : Files) (HasSession : List ℕ → List ℕ → Type 0) (input : Option (List ℕ)) (text : List ℕ) → IsNamed name files HasSession input text → IsNamed name files HasSession None text
+named_anyhow name files HasSession input text (inl h) = inl (record { read = input_unknown (is_dash name) (files.bytes_of name) input text h.read; no_folder = h.no_folder })
 named_anyhow name files HasSession input text (inr h) = inr h
 
 -- ---- lists with one more at the end
@@ -82,7 +82,7 @@ told_more : (HasNote : List ℕ → ℕ → List ℕ → Type 0) (es : List Entr
 told_more HasNote [] e a b c h k = (c, told_behind HasNote e.name e.said a b c h k, Keeps-refl c)
 told_more HasNote (x ∷ es) e a b c h k = (h.0, h.1, told_more HasNote es e h.0 b c h.2 k)
 
-module _ (files : List ℕ → Option (List ℕ)) (HasSession : List ℕ → List ℕ → Type 0) (IsAnswer : List ℕ → List ℕ → ℕ → Type 0) (IsRefused : List ℕ → Option ℕ → Type 0) (HasNote : List ℕ → ℕ → List ℕ → Type 0) (style : Style) where
+module _ (files : Files) (HasSession : List ℕ → List ℕ → Type 0) (IsAnswer : List ℕ → List ℕ → ℕ → Type 0) (IsRefused : List ℕ → Option ℕ → Type 0) (HasNote : List ℕ → ℕ → List ℕ → Type 0) (style : Style) where
   -- nothing was listed yet
   pub none_listed : (old : Streams) → AreListed files HasSession IsAnswer IsRefused HasNote style [] old old 0 0
   none_listed old = record { entries = []; are_names = refl; are_right = tt; written = Appends-nil old.0; beside = Keeps-refl old.1; is_count = refl; is_status = refl }

@@ -11,6 +11,7 @@ use Rattle.command_texts.specs.Answers.{IsListStop, file_lines}
 use Rattle.command_texts.specs.Reasons.{IsNote, TellsWhy, place_of}
 use Rattle.command_texts.specs.Shown.{quoted, shown}
 use Rattle.command_texts.specs.Told.{IsNamed}
+use Rattle.text_access.specs.Names.{Files}
 use Rattle.text_access.specs.Written.{AppendsFront, BothGain, Gains, MayTell, Streams}
 
 -- what the command says about a text: the answer with its status, and the line at which the text is refused, if it is
@@ -27,12 +28,12 @@ pub record Entry : Type 0 where
 
 -- The name stands for this text. This is the answer to it, and the line at which it is refused. If the name is that of
 -- the input, nothing is said about the bytes that the input held.
-pub record IsSaid (files : List ℕ → Option (List ℕ)) (HasSession : List ℕ → List ℕ → Type 0) (IsAnswer : List ℕ → List ℕ → ℕ → Type 0) (IsRefused : List ℕ → Option ℕ → Type 0) (name : List ℕ) (s : Said) : Type 0 where
+pub record IsSaid (files : Files) (HasSession : List ℕ → List ℕ → Type 0) (IsAnswer : List ℕ → List ℕ → ℕ → Type 0) (IsRefused : List ℕ → Option ℕ → Type 0) (name : List ℕ) (s : Said) : Type 0 where
   pub is_named : IsNamed name files HasSession None s.text
   pub is_answer : IsAnswer s.text s.answer s.status
   pub is_line : IsRefused s.text s.line
 
-abbrev pub IsRight : (List ℕ → Option (List ℕ)) → (List ℕ → List ℕ → Type 0) → (List ℕ → List ℕ → ℕ → Type 0) → (List ℕ → Option ℕ → Type 0) → Entry → Type 0
+abbrev pub IsRight : Files → (List ℕ → List ℕ → Type 0) → (List ℕ → List ℕ → ℕ → Type 0) → (List ℕ → Option ℕ → Type 0) → Entry → Type 0
 IsRight files HasSession IsAnswer IsRefused e = IfSome e.said (IsSaid files HasSession IsAnswer IsRefused e.name)
 
 -- how answers are listed: after their names, with these words after the counts at the end, or as objects with the names
@@ -111,7 +112,7 @@ TellsEach HasNote [] old new = Keeps old new
 TellsEach HasNote (e ∷ es) old new = (between : Option (List ℕ)) × TellsEntry HasNote e old between × TellsEach HasNote es between new
 
 -- the text under a name is one of a list: its answer was written, with what goes beside it, and this is its status
-pub record IsListed (files : List ℕ → Option (List ℕ)) (HasSession : List ℕ → List ℕ → Type 0) (IsAnswer : List ℕ → List ℕ → ℕ → Type 0) (IsRefused : List ℕ → Option ℕ → Type 0) (HasNote : List ℕ → ℕ → List ℕ → Type 0) (style : Style) (name : List ℕ) (old new : Streams) (status : ℕ) : Type 0 where
+pub record IsListed (files : Files) (HasSession : List ℕ → List ℕ → Type 0) (IsAnswer : List ℕ → List ℕ → ℕ → Type 0) (IsRefused : List ℕ → Option ℕ → Type 0) (HasNote : List ℕ → ℕ → List ℕ → Type 0) (style : Style) (name : List ℕ) (old new : Streams) (status : ℕ) : Type 0 where
   pub entry : Entry
   pub is_name : entry.name ≡ name
   pub is_right : IsRight files HasSession IsAnswer IsRefused entry
@@ -121,7 +122,7 @@ pub record IsListed (files : List ℕ → Option (List ℕ)) (HasSession : List 
 
 -- The texts under these names are of a list. For each one, its answer was written, or the errors say that it was not
 -- read. This many answers have status 0, and this is the greatest status.
-pub record AreListed (files : List ℕ → Option (List ℕ)) (HasSession : List ℕ → List ℕ → Type 0) (IsAnswer : List ℕ → List ℕ → ℕ → Type 0) (IsRefused : List ℕ → Option ℕ → Type 0) (HasNote : List ℕ → ℕ → List ℕ → Type 0) (style : Style) (names : List (List ℕ)) (old new : Streams) (count status : ℕ) : Type 0 where
+pub record AreListed (files : Files) (HasSession : List ℕ → List ℕ → Type 0) (IsAnswer : List ℕ → List ℕ → ℕ → Type 0) (IsRefused : List ℕ → Option ℕ → Type 0) (HasNote : List ℕ → ℕ → List ℕ → Type 0) (style : Style) (names : List (List ℕ)) (old new : Streams) (count status : ℕ) : Type 0 where
   pub entries : List Entry
   pub are_names : map (λ e. e.name) entries ≡ names
   pub are_right : AllByRecursion (IsRight files HasSession IsAnswer IsRefused) entries
@@ -132,7 +133,7 @@ pub record AreListed (files : List ℕ → Option (List ℕ)) (HasSession : List
 
 -- The answers to the texts under these names were written, with how many have status 0. Beside them, the errors say why
 -- texts are refused, which texts were not read, and the notes. The status is the greatest of all.
-pub record TellsSeveral (files : List ℕ → Option (List ℕ)) (HasSession : List ℕ → List ℕ → Type 0) (IsAnswer : List ℕ → List ℕ → ℕ → Type 0) (IsRefused : List ℕ → Option ℕ → Type 0) (HasNote : List ℕ → ℕ → List ℕ → Type 0) (style : Style) (names : List (List ℕ)) (old new : Streams) (status : ℕ) : Type 0 where
+pub record TellsSeveral (files : Files) (HasSession : List ℕ → List ℕ → Type 0) (IsAnswer : List ℕ → List ℕ → ℕ → Type 0) (IsRefused : List ℕ → Option ℕ → Type 0) (HasNote : List ℕ → ℕ → List ℕ → Type 0) (style : Style) (names : List (List ℕ)) (old new : Streams) (status : ℕ) : Type 0 where
   pub entries : List Entry
   pub are_names : map (λ e. e.name) entries ≡ names
   pub are_right : AllByRecursion (IsRight files HasSession IsAnswer IsRefused) entries
@@ -141,7 +142,7 @@ pub record TellsSeveral (files : List ℕ → Option (List ℕ)) (HasSession : L
   pub is_status : status ≡ worst entries
 
 -- the first of the names were handled, and then the output could not be written, or memory ran out
-pub record StopsSeveral (files : List ℕ → Option (List ℕ)) (HasSession : List ℕ → List ℕ → Type 0) (IsAnswer : List ℕ → List ℕ → ℕ → Type 0) (IsRefused : List ℕ → Option ℕ → Type 0) (HasNote : List ℕ → ℕ → List ℕ → Type 0) (style : Style) (names : List (List ℕ)) (old new : Streams) (fault : Fault) : Type 0 where
+pub record StopsSeveral (files : Files) (HasSession : List ℕ → List ℕ → Type 0) (IsAnswer : List ℕ → List ℕ → ℕ → Type 0) (IsRefused : List ℕ → Option ℕ → Type 0) (HasNote : List ℕ → ℕ → List ℕ → Type 0) (style : Style) (names : List (List ℕ)) (old new : Streams) (fault : Fault) : Type 0 where
   pub is_stop : IsListStop fault
   pub dealt : ℕ
   pub count : ℕ

@@ -1,11 +1,12 @@
 -- The answers to the texts under names.
-use Rattle.std.specs.Prelude.{◌≡◌, ◌⊎◌, ℕ, Bool, true, false, List, Option, Result, IfSome, MatchResult, codes, if◌then◌else◌, ◌&&◌}
+use Rattle.std.specs.Prelude.{◌≡◌, ◌⊎◌, ℕ, Bool, true, false, List, Option, Some, None, Result, IfSome, MatchResult, codes, if◌then◌else◌, ◌&&◌}
 use Rattle.std.specs.Str.{bytes_eq}
 use Rattle.std.specs.Io.KnownBytes.{Appends, Keeps}
 use Rattle.command_texts.specs.declared.answer.Fault.{Fault}
 use Rattle.command_texts.specs.declared.answer.Fault.TheVariants.{Output}
 use Rattle.command_texts.specs.Cutting.{IsCutAtEnd}
 use Rattle.command_texts.specs.Limits.{IsWithin}
+use Rattle.text_access.specs.Names.{Files}
 use Rattle.text_access.specs.Written.{AppendsFront, Streams}
 
 -- whether the name is that of the input
@@ -13,21 +14,32 @@ abbrev pub is_dash : List ℕ → Bool
 is_dash name = bytes_eq name (codes "-")
 
 -- the bytes that a name stands for, if they are known
-abbrev pub bytes_under : List ℕ → (List ℕ → Option (List ℕ)) → Option (List ℕ) → Option (List ℕ)
-bytes_under name files input = if is_dash name then input else files name
+abbrev pub bytes_under : List ℕ → Files → Option (List ℕ) → Option (List ℕ)
+bytes_under name files input = if is_dash name then input else files.bytes_of name
 
 -- these bytes were read: they are within the limit, and they are the known ones, if those are known
 pub record AreRead (known : Option (List ℕ)) (bytes : List ℕ) : Type 0 where
   pub few : IsWithin bytes
   pub whole : IfSome known (λ xs. bytes ≡ xs)
 
+-- What was opened under a name: it has the bytes that are known of the name; and the name is no folder's, or it has the
+-- session of this text.
+pub record IsOpened (name : List ℕ) (files : Files) (HasSession : List ℕ → List ℕ → Type 0) (remaining : Option (List ℕ)) : Type 0 where
+  pub bytes : IfSome (files.bytes_of name) (λ xs. remaining ≡ Some xs)
+  pub named : (files.names_in name ≡ None) ⊎ ((text : List ℕ) × HasSession name text × (remaining ≡ Some text))
+
 -- no name has a session
 abbrev pub NoSession : List ℕ → List ℕ → Type 0
 NoSession name text = ⊥
 
+-- this text was read under a name, which is the input's or no folder's
+pub record IsReadAt (name : List ℕ) (files : Files) (input : Option (List ℕ)) (text : List ℕ) : Type 0 where
+  pub read : AreRead (bytes_under name files input) text
+  pub no_folder : is_dash name ≡ false → files.names_in name ≡ None
+
 -- the text that a name stands for: it was read; or the name is not the input's, and it has the session of this text
-abbrev pub IsNamed : List ℕ → (List ℕ → Option (List ℕ)) → (List ℕ → List ℕ → Type 0) → Option (List ℕ) → List ℕ → Type 0
-IsNamed name files HasSession input text = AreRead (bytes_under name files input) text ⊎ ((is_dash name ≡ false) × HasSession name text)
+abbrev pub IsNamed : List ℕ → Files → (List ℕ → List ℕ → Type 0) → Option (List ℕ) → List ℕ → Type 0
+IsNamed name files HasSession input text = IsReadAt name files input text ⊎ ((is_dash name ≡ false) × HasSession name text)
 
 -- the two texts of an input
 pub record AreOfInput (input : Option (List ℕ)) (texts : List ℕ × List ℕ) : Type 0 where
@@ -41,7 +53,7 @@ AreTextsBy false IsFirst IsSecond input texts = IsFirst texts.0 × IsSecond text
 
 -- The two texts that two names stand for. If both names are the input's, the input holds both texts. The first name may
 -- have a session, and the second one too.
-abbrev pub AreNamed : List ℕ → List ℕ → (List ℕ → Option (List ℕ)) → (List ℕ → List ℕ → Type 0) → (List ℕ → List ℕ → Type 0) → Option (List ℕ) → List ℕ × List ℕ → Type 0
+abbrev pub AreNamed : List ℕ → List ℕ → Files → (List ℕ → List ℕ → Type 0) → (List ℕ → List ℕ → Type 0) → Option (List ℕ) → List ℕ × List ℕ → Type 0
 AreNamed first second files HasFirst HasSecond input texts =
     AreTextsBy (is_dash first && is_dash second) (IsNamed first files HasFirst input) (IsNamed second files HasSecond input) input texts
 

@@ -1,9 +1,10 @@
 //! The texts under names.
 
-ghost use Rattle.std.specs.Prelude.{◌≡◌, ◌⊎◌, ◌&&◌, ℕ, List, Some, false, IfOk, IfErr, IfSome};
+ghost use Rattle.std.specs.Prelude.{◌≡◌, ◌⊎◌, ◌&&◌, ℕ, List, Option, Some, false, IfOk, IfErr, IfSome};
 ghost use Rattle.command_texts.specs.Answers.{IsReadFault};
 ghost use Rattle.command_texts.specs.Reasons.{IsWhy, line_of};
 ghost use Rattle.command_texts.specs.Told.{AreNamed, AreOfInput, AreRead, IsNamed, is_dash};
+ghost use Rattle.text_access.specs.Names.{files_of};
 
 use crate::answer::Fault;
 use crate::cutting::Both;
@@ -11,6 +12,7 @@ use crate::reading::{ReadFault, fault_of, read_text, take_text};
 use crate::taking::Taker;
 use crate::why::{Refusals, Why, both_under, under};
 use std::alloc::Global;
+use std::io;
 use std::io::Read;
 use std::thread::Threads;
 use text_access::TextSource;
@@ -42,14 +44,22 @@ fn read_from<'a, T: Taker, R: Threads + Sync, I: Read + Send>(
     }
 }
 
-/// Opens the text under a name. The name must not be that of the input.
+// Returns the fault for an error in opening the text under a name.
+fn unopened<'a>(name: &'a str, error: &io::Error) -> Fault<'a>
+    ensures { IsReadFault (λ n. n ≡ name.entry.now) result }
+{
+    fault_at(name, fault_of(error))
+}
+
+/// Opens the text under a name, or that of the session under a name that has no text of its own. The name must not be
+/// that of the input.
 pub fn opened<'a, S: TextSource>(texts: &S, name: &'a str) -> Result<S::Text, Fault<'a>>
     ensures text { IfOk result (λ t. IfSome (S.bytes_of texts.now name.entry.now) (λ xs. S.Text.remaining t ≡ Some xs)) }
     ensures fault { IfErr result (IsReadFault (λ n. n ≡ name.entry.now)) }
 {
-    match texts.text(name) {
+    match texts.session_text(name) {
         Ok(text) => Ok(text),
-        Err(error) => Err(fault_at(name, fault_of(&error))),
+        Err(error) => Err(unopened(name, &error)),
     }
 }
 
@@ -61,12 +71,14 @@ fn read_opened<'a, T: Taker, R: Threads + Sync, S: TextSource>(
     name: &'a str,
     texts: &S,
 ) -> Result<(T::Found, Option<Refusal>), Fault<'a>>
-    ensures read { IfOk result (λ read. (text : List ℕ) × AreRead (S.bytes_of texts.now name.entry.now) text × T.is_found text read.0 × T.is_refused text (line_of read.1)) }
+where
+    S::Text: Send,
+    ensures named { (input : Option (List ℕ)) → is_dash name.entry.now ≡ false → IfOk result (λ read. (text : List ℕ) × IsNamed name.entry.now (files_of (S.bytes_of texts.now) (S.names_in texts.now)) (T.taken_in (S.text_in texts.now)) input text × T.is_found text read.0 × T.is_refused text (line_of read.1)) }
     ensures fault { IfErr result (IsReadFault (λ n. n ≡ name.entry.now)) }
 {
-    match opened(texts, name) {
+    match T::open(texts, name) {
         Ok(mut text) => read_from::<T, R, S::Text>(rt, alloc, name, &mut text),
-        Err(fault) => Err(fault),
+        Err(error) => Err(unopened(name, &error)),
     }
 }
 
@@ -79,7 +91,9 @@ fn read_under<'a, T: Taker, R: Threads + Sync, S: TextSource, I: Read + Send>(
     texts: &S,
     input: &mut I,
 ) -> Result<(T::Found, Option<Refusal>), Fault<'a>>
-    ensures named { IfOk result (λ read. (text : List ℕ) × IsNamed name.entry.now (S.bytes_of texts.now) (T.taken_in (S.text_in texts.now)) (I.remaining input.old) text × T.is_found text read.0 × T.is_refused text (line_of read.1)) }
+where
+    S::Text: Send,
+    ensures named { IfOk result (λ read. (text : List ℕ) × IsNamed name.entry.now (files_of (S.bytes_of texts.now) (S.names_in texts.now)) (T.taken_in (S.text_in texts.now)) (I.remaining input.old) text × T.is_found text read.0 × T.is_refused text (line_of read.1)) }
     ensures apart { is_dash name.entry.now ≡ false → input.new ≡ input.old }
     ensures fault { IfErr result (IsReadFault (λ n. n ≡ name.entry.now)) }
 {
@@ -89,7 +103,7 @@ fn read_under<'a, T: Taker, R: Threads + Sync, S: TextSource, I: Read + Send>(
     match T::find_session(alloc, texts, name) {
         Ok(Some(found)) => Ok((found, None)),
         Ok(None) => read_opened::<T, R, S>(rt, alloc, name, texts),
-        Err(_) => Err(Fault::Memory),
+        Err(error) => Err(unopened(name, &error)),
     }
 }
 
@@ -102,7 +116,9 @@ pub fn read_named<'a, T: Taker, R: Threads + Sync, S: TextSource, I: Read + Send
     texts: &S,
     input: &mut I,
 ) -> Result<(T::Found, Option<Why<'a>>), Fault<'a>>
-    ensures named { IfOk result (λ read. (text : List ℕ) × IsNamed name.entry.now (S.bytes_of texts.now) (T.taken_in (S.text_in texts.now)) (I.remaining input.old) text × T.is_found text read.0 × IsWhy T.is_refused name.entry.now text read.1) }
+where
+    S::Text: Send,
+    ensures named { IfOk result (λ read. (text : List ℕ) × IsNamed name.entry.now (files_of (S.bytes_of texts.now) (S.names_in texts.now)) (T.taken_in (S.text_in texts.now)) (I.remaining input.old) text × T.is_found text read.0 × IsWhy T.is_refused name.entry.now text read.1) }
     ensures apart { is_dash name.entry.now ≡ false → input.new ≡ input.old }
     ensures fault { IfErr result (IsReadFault (λ n. n ≡ name.entry.now)) }
 {
@@ -159,7 +175,9 @@ pub(crate) fn read_pair<'a, A: Taker, B: Taker, R: Threads + Sync, S: TextSource
     texts: &S,
     input: &mut I,
 ) -> Result<((A::Found, B::Found), Refusals<'a>), Fault<'a>>
-    ensures named { IfOk result (λ read. (pair : List ℕ × List ℕ) × AreNamed first.entry.now second.entry.now (S.bytes_of texts.now) (A.taken_in (S.text_in texts.now)) (B.taken_in (S.text_in texts.now)) (I.remaining input.old) pair × A.is_found pair.0 read.0.0 × B.is_found pair.1 read.0.1 × IsWhy A.is_refused first.entry.now pair.0 read.1.first × IsWhy B.is_refused second.entry.now pair.1 read.1.second) }
+where
+    S::Text: Send,
+    ensures named { IfOk result (λ read. (pair : List ℕ × List ℕ) × AreNamed first.entry.now second.entry.now (files_of (S.bytes_of texts.now) (S.names_in texts.now)) (A.taken_in (S.text_in texts.now)) (B.taken_in (S.text_in texts.now)) (I.remaining input.old) pair × A.is_found pair.0 read.0.0 × B.is_found pair.1 read.0.1 × IsWhy A.is_refused first.entry.now pair.0 read.1.first × IsWhy B.is_refused second.entry.now pair.1 read.1.second) }
     ensures fault { IfErr result (IsReadFault (λ n. (n ≡ first.entry.now) ⊎ (n ≡ second.entry.now))) }
 {
     if are_input(first, second) {

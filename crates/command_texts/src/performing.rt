@@ -9,6 +9,7 @@ ghost use Rattle.command_texts.specs.Reasons.{IsFirstRefused, IsWhy, TellsBeside
 ghost use Rattle.command_texts.specs.Shown.{shown};
 ghost use Rattle.command_texts.specs.declared.why.Telling.{Telling as HowMuch};
 ghost use Rattle.command_texts.specs.Told.{AreNamed, Ends, IsNamed};
+ghost use Rattle.text_access.specs.Names.{files_of};
 ghost use Rattle.text_access.specs.Written.{BothGain, MayTell};
 
 use crate::answer::{Answer, Fault, Given, given, written};
@@ -180,9 +181,11 @@ pub fn perform_one<
     O: Write,
     E: Write,
 >(console: &mut Console<'_, R, S, I, O, E>, command: &C, name: &'a str) -> Result<u8, Fault<'a>>
+where
+    S::Text: Send,
     requires ready { C.ready }
     ensures few { IfOk result (λ status. status < 2) }
-    ensures told { Ends (IsTextFault (λ n. n ≡ name.entry.now)) (IsNamed name.entry.now (S.bytes_of console.old.texts.now) (C.Text.taken_in (S.text_in console.old.texts.now)) (I.remaining console.old.input)) (IsAnswerTold (C.how_much command.now) C.Text.is_refused (C.is_answer command.now)) (TellsWhyOf C.Text.is_refused (C.has_note command.now) (C.how_much command.now) name.entry.now) (O.contents console.old.output, E.contents console.old.errors) (O.contents console.new.output, E.contents console.new.errors) result }
+    ensures told { Ends (IsTextFault (λ n. n ≡ name.entry.now)) (IsNamed name.entry.now (files_of (S.bytes_of console.old.texts.now) (S.names_in console.old.texts.now)) (C.Text.taken_in (S.text_in console.old.texts.now)) (I.remaining console.old.input)) (IsAnswerTold (C.how_much command.now) C.Text.is_refused (C.is_answer command.now)) (TellsWhyOf C.Text.is_refused (C.has_note command.now) (C.how_much command.now) name.entry.now) (O.contents console.old.output, E.contents console.old.errors) (O.contents console.new.output, E.contents console.new.errors) result }
     ensures gains { BothGain (O.contents console.old.output, E.contents console.old.errors) (O.contents console.new.output, E.contents console.new.errors) }
 {
     let read = read_named::<C::Text, R, S, I>(
@@ -292,9 +295,11 @@ pub fn perform_two<
     first: &'a str,
     second: &'a str,
 ) -> Result<u8, Fault<'a>>
+where
+    S::Text: Send,
     requires ready { C.ready }
     ensures few { IfOk result (λ status. status < 2) }
-    ensures told { Ends (IsTextFault (λ n. (n ≡ first.entry.now) ⊎ (n ≡ second.entry.now))) (AreNamed first.entry.now second.entry.now (S.bytes_of console.old.texts.now) (C.First.taken_in (S.text_in console.old.texts.now)) (C.Second.taken_in (S.text_in console.old.texts.now)) (I.remaining console.old.input)) (IsAnswerTold (C.how_much command.now) (IsFirstRefused C.First.is_refused C.Second.is_refused) (C.is_answer command.now)) (TellsBeside C.First.is_refused C.Second.is_refused (C.adds_more command.now) (C.has_note command.now) first.entry.now second.entry.now) (O.contents console.old.output, E.contents console.old.errors) (O.contents console.new.output, E.contents console.new.errors) result }
+    ensures told { Ends (IsTextFault (λ n. (n ≡ first.entry.now) ⊎ (n ≡ second.entry.now))) (AreNamed first.entry.now second.entry.now (files_of (S.bytes_of console.old.texts.now) (S.names_in console.old.texts.now)) (C.First.taken_in (S.text_in console.old.texts.now)) (C.Second.taken_in (S.text_in console.old.texts.now)) (I.remaining console.old.input)) (IsAnswerTold (C.how_much command.now) (IsFirstRefused C.First.is_refused C.Second.is_refused) (C.is_answer command.now)) (TellsBeside C.First.is_refused C.Second.is_refused (C.adds_more command.now) (C.has_note command.now) first.entry.now second.entry.now) (O.contents console.old.output, E.contents console.old.errors) (O.contents console.new.output, E.contents console.new.errors) result }
     ensures gains { BothGain (O.contents console.old.output, E.contents console.old.errors) (O.contents console.new.output, E.contents console.new.errors) }
 {
     let read = read_pair::<C::First, C::Second, R, S, I>(

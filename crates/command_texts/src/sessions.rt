@@ -10,6 +10,7 @@ use crate::taking::Taker;
 use migration_types::Session;
 use session_log::SessionReader;
 use std::alloc::{AllocError, Global};
+use std::io;
 use std::thread::Threads;
 use text_access::TextSource;
 use text_lines::Refusal;
@@ -35,11 +36,15 @@ impl Taker for SessionTaker {
         alloc: Global,
         texts: &S,
         name: &str,
-    ) -> Result<Option<Result<Session, u32>>, AllocError> {
+    ) -> io::Result<Option<Result<Session, u32>>> {
         match texts.session(alloc, name)? {
             Some(session) => Ok(Some(Ok(session))),
             None => Ok(None),
         }
+    }
+
+    fn open<S: TextSource>(texts: &S, name: &str) -> io::Result<S::Text> {
+        texts.session_text(name)
     }
 
     fn new(alloc: Global) -> Self {

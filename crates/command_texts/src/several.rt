@@ -6,7 +6,7 @@ ghost use Rattle.command_texts.specs.Answers.{IsListStop, IsReadFault, Says};
 ghost use Rattle.command_texts.specs.Fields.{IsAnswerTold};
 ghost use Rattle.command_texts.specs.Reasons.{place_of, told_place};
 ghost use Rattle.command_texts.specs.Several.{AreListed, IsListStatus, IsListed, StopsSeveral, TellsOneUnread, TellsSeveral, TellsUnread, greater, in_object, list_end, listed_as, style_of};
-ghost use Rattle.text_access.specs.Names.{names_of};
+ghost use Rattle.text_access.specs.Names.{files_of, names_of};
 ghost use Rattle.command_texts.specs.Told.{IsNamed};
 ghost use Rattle.text_access.specs.Written.{BothGain, Gains};
 
@@ -106,7 +106,7 @@ fn list_found<'a, C: OnOne, R: Threads + Sync, S: TextSource, I: Read + Send, O:
     why: &Option<Why<'a>>,
 ) -> Result<u8, Fault<'a>>
     requires ready { C.ready }
-    ensures listed { (text : List ℕ) (line : Option ℕ) → IsNamed name.entry.now (S.bytes_of console.old.texts.now) (C.Text.taken_in (S.text_in console.old.texts.now)) None text → C.Text.is_found text found.now → C.Text.is_refused text line → option_map told_place why.now ≡ place_of name.entry.now line → IfOk result (IsListed (S.bytes_of console.old.texts.now) (C.Text.taken_in (S.text_in console.old.texts.now)) (IsAnswerTold (C.how_much command.now) C.Text.is_refused (C.is_answer command.now)) C.Text.is_refused (C.has_note command.now) (style_of listing.entry) name.entry.now (O.contents console.old.output, E.contents console.old.errors) (O.contents console.new.output, E.contents console.new.errors)) }
+    ensures listed { (text : List ℕ) (line : Option ℕ) → IsNamed name.entry.now (files_of (S.bytes_of console.old.texts.now) (S.names_in console.old.texts.now)) (C.Text.taken_in (S.text_in console.old.texts.now)) None text → C.Text.is_found text found.now → C.Text.is_refused text line → option_map told_place why.now ≡ place_of name.entry.now line → IfOk result (IsListed (files_of (S.bytes_of console.old.texts.now) (S.names_in console.old.texts.now)) (C.Text.taken_in (S.text_in console.old.texts.now)) (IsAnswerTold (C.how_much command.now) C.Text.is_refused (C.is_answer command.now)) C.Text.is_refused (C.has_note command.now) (style_of listing.entry) name.entry.now (O.contents console.old.output, E.contents console.old.errors) (O.contents console.new.output, E.contents console.new.errors)) }
     ensures few { (text : List ℕ) → C.Text.is_found text found.now → IfOk result (λ status. status < 2) }
     ensures stop { IfErr result IsListStop }
     ensures stays { console.new.texts ≡ console.old.texts }
@@ -147,8 +147,10 @@ fn list_one<'a, C: OnOne, R: Threads + Sync, S: TextSource, I: Read + Send, O: W
     listing: Listing<'_>,
     name: &'a str,
 ) -> Result<u8, Fault<'a>>
+where
+    S::Text: Send,
     requires ready { C.ready }
-    ensures listed { IfOk result (IsListed (S.bytes_of console.old.texts.now) (C.Text.taken_in (S.text_in console.old.texts.now)) (IsAnswerTold (C.how_much command.now) C.Text.is_refused (C.is_answer command.now)) C.Text.is_refused (C.has_note command.now) (style_of listing.entry) name.entry.now (O.contents console.old.output, E.contents console.old.errors) (O.contents console.new.output, E.contents console.new.errors)) }
+    ensures listed { IfOk result (IsListed (files_of (S.bytes_of console.old.texts.now) (S.names_in console.old.texts.now)) (C.Text.taken_in (S.text_in console.old.texts.now)) (IsAnswerTold (C.how_much command.now) C.Text.is_refused (C.is_answer command.now)) C.Text.is_refused (C.has_note command.now) (style_of listing.entry) name.entry.now (O.contents console.old.output, E.contents console.old.errors) (O.contents console.new.output, E.contents console.new.errors)) }
     ensures known { IfOk result IsListStatus }
     ensures unread { IfOk result (λ status. status ≡ 3 → TellsUnread name.entry.now (E.contents console.old.errors) (E.contents console.new.errors)) }
     ensures stop { IfErr result IsListStop }
@@ -189,11 +191,13 @@ fn list_each<'a, C: OnOne, R: Threads + Sync, S: TextSource, I: Read + Send, O: 
     listing: Listing<'_>,
     names: &[&'a str],
 ) -> Result<(usize, u8), Fault<'a>>
+where
+    S::Text: Send,
     requires ready { C.ready }
-    ensures listed { IfOk result (λ tally. AreListed (S.bytes_of console.old.texts.now) (C.Text.taken_in (S.text_in console.old.texts.now)) (IsAnswerTold (C.how_much command.now) C.Text.is_refused (C.is_answer command.now)) C.Text.is_refused (C.has_note command.now) (style_of listing.entry) (names_of names.now) (O.contents console.old.output, E.contents console.old.errors) (O.contents console.new.output, E.contents console.new.errors) tally.0 tally.1) }
+    ensures listed { IfOk result (λ tally. AreListed (files_of (S.bytes_of console.old.texts.now) (S.names_in console.old.texts.now)) (C.Text.taken_in (S.text_in console.old.texts.now)) (IsAnswerTold (C.how_much command.now) C.Text.is_refused (C.is_answer command.now)) C.Text.is_refused (C.has_note command.now) (style_of listing.entry) (names_of names.now) (O.contents console.old.output, E.contents console.old.errors) (O.contents console.new.output, E.contents console.new.errors) tally.0 tally.1) }
     ensures known { IfOk result (λ tally. IsListStatus tally.1) }
     ensures unread { IfOk result (λ tally. tally.1 ≡ 3 → TellsOneUnread (E.contents console.old.errors) (E.contents console.new.errors)) }
-    ensures stops { IfErr result (StopsSeveral (S.bytes_of console.old.texts.now) (C.Text.taken_in (S.text_in console.old.texts.now)) (IsAnswerTold (C.how_much command.now) C.Text.is_refused (C.is_answer command.now)) C.Text.is_refused (C.has_note command.now) (style_of listing.entry) (names_of names.now) (O.contents console.old.output, E.contents console.old.errors) (O.contents console.new.output, E.contents console.new.errors)) }
+    ensures stops { IfErr result (StopsSeveral (files_of (S.bytes_of console.old.texts.now) (S.names_in console.old.texts.now)) (C.Text.taken_in (S.text_in console.old.texts.now)) (IsAnswerTold (C.how_much command.now) C.Text.is_refused (C.is_answer command.now)) C.Text.is_refused (C.has_note command.now) (style_of listing.entry) (names_of names.now) (O.contents console.old.output, E.contents console.old.errors) (O.contents console.new.output, E.contents console.new.errors)) }
     ensures gains { BothGain (O.contents console.old.output, E.contents console.old.errors) (O.contents console.new.output, E.contents console.new.errors) }
 {
     let mut well = 0;
@@ -249,10 +253,12 @@ pub fn perform_several<
     listing: Listing<'_>,
     names: &[&'a str],
 ) -> Result<u8, Fault<'a>>
+where
+    S::Text: Send,
     requires ready { C.ready }
     ensures known { IfOk result IsListStatus }
     ensures unread { IfOk result (λ status. status ≡ 3 → TellsOneUnread (E.contents console.old.errors) (E.contents console.new.errors)) }
-    ensures told { MatchResult result (TellsSeveral (S.bytes_of console.old.texts.now) (C.Text.taken_in (S.text_in console.old.texts.now)) (IsAnswerTold (C.how_much command.now) C.Text.is_refused (C.is_answer command.now)) C.Text.is_refused (C.has_note command.now) (style_of listing.entry) (names_of names.now) (O.contents console.old.output, E.contents console.old.errors) (O.contents console.new.output, E.contents console.new.errors)) (StopsSeveral (S.bytes_of console.old.texts.now) (C.Text.taken_in (S.text_in console.old.texts.now)) (IsAnswerTold (C.how_much command.now) C.Text.is_refused (C.is_answer command.now)) C.Text.is_refused (C.has_note command.now) (style_of listing.entry) (names_of names.now) (O.contents console.old.output, E.contents console.old.errors) (O.contents console.new.output, E.contents console.new.errors)) }
+    ensures told { MatchResult result (TellsSeveral (files_of (S.bytes_of console.old.texts.now) (S.names_in console.old.texts.now)) (C.Text.taken_in (S.text_in console.old.texts.now)) (IsAnswerTold (C.how_much command.now) C.Text.is_refused (C.is_answer command.now)) C.Text.is_refused (C.has_note command.now) (style_of listing.entry) (names_of names.now) (O.contents console.old.output, E.contents console.old.errors) (O.contents console.new.output, E.contents console.new.errors)) (StopsSeveral (files_of (S.bytes_of console.old.texts.now) (S.names_in console.old.texts.now)) (C.Text.taken_in (S.text_in console.old.texts.now)) (IsAnswerTold (C.how_much command.now) C.Text.is_refused (C.is_answer command.now)) C.Text.is_refused (C.has_note command.now) (style_of listing.entry) (names_of names.now) (O.contents console.old.output, E.contents console.old.errors) (O.contents console.new.output, E.contents console.new.errors)) }
     ensures gains { BothGain (O.contents console.old.output, E.contents console.old.errors) (O.contents console.new.output, E.contents console.new.errors) }
 {
     let (well, status) = list_each(console, command, listing, names)?;

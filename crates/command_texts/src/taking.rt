@@ -5,8 +5,11 @@ ghost use Rattle.std.specs.Thread.{IsSync};
 ghost use Rattle.text_lines.specs.Answer.{IsRead};
 ghost use Rattle.text_lines.specs.Progress.{CameSoFar};
 ghost use Rattle.command_texts.specs.Reasons.{IsRefusedAt, line_of};
+ghost use Rattle.command_texts.specs.Told.{IsOpened};
+ghost use Rattle.text_access.specs.Names.{files_of};
 
 use std::alloc::{AllocError, Global};
+use std::io;
 use std::marker::Model;
 use std::thread::Threads;
 use text_access::TextSource;
@@ -30,19 +33,27 @@ pub trait Taker: Drop {
     /// sessions takes any.
     ghost taken_in: { (List ℕ → List ℕ → Type 0) → List ℕ → List ℕ → Type 0 } = { λ _ _ _. ⊥ };
 
-    /// Returns what is found in the text of the session under a name, if there is one that is taken. Fails only if memory
-    /// runs out.
+    /// Returns what is found in the text of the session under a name, if there is one that is taken, and need not be read.
+    /// Fails if what is under the name makes no session, or if memory runs out.
     fn find_session<S: TextSource>(
         alloc: Global,
         texts: &S,
         name: &str,
-    ) -> Result<Option<Self::Found>, AllocError>
+    ) -> io::Result<Option<Self::Found>>
         ensures { IfOk result (λ session. IfSome session (λ found. (text : List ℕ) × taken_in (S.text_in texts.now) name.now text × is_found text found × is_refused text None)) }
     {
         let _ = alloc;
         let _ = texts;
         let _ = name;
         Ok(None)
+    }
+
+    /// Opens the text under a name. A taker of sessions also opens that of the session under a name that has no text of its
+    /// own.
+    fn open<S: TextSource>(texts: &S, name: &str) -> io::Result<S::Text>
+        ensures { IfOk result (λ t. IsOpened name.now (files_of (S.bytes_of texts.now) (S.names_in texts.now)) (taken_in (S.text_in texts.now)) (S.Text.remaining t)) }
+    {
+        texts.text(name)
     }
 
     /// Returns a taker that has taken nothing. Allocates no memory.

@@ -4,4 +4,6 @@ pub mod Recorded
 pub mod Drawn
 pub mod Lined
 pub mod Shown
+pub mod Clean
+pub mod WholeFolders
 pub mod Migrated

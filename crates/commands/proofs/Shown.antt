@@ -44,7 +44,7 @@ yes_told : (words : Verdict → List ℕ) (texts : List ℕ × List ℕ) (text :
 yes_told words texts text h = yes_of texts.0 texts.1 h.value h.is_right h.is_status
 
 -- what is answered with status 0 where more is asked is answered so without asking
-without_asking : (complete : Option Extent) (IsLackTold : Recorded → Lack → List ℕ → Type 0) (IsPlain : List ℕ → ℕ → Type 0) (session text : List ℕ) → IsDemanded complete IsLackTold IsPlain session text 0 → IsPlain text 0
+pub without_asking : (complete : Option Extent) (IsLackTold : Recorded → Lack → List ℕ → Type 0) (IsPlain : List ℕ → ℕ → Type 0) (session text : List ℕ) → IsDemanded complete IsLackTold IsPlain session text 0 → IsPlain text 0
 without_asking None IsLackTold IsPlain session text h = h
 without_asking (Some extent) IsLackTold IsPlain session text (inl h) = h.is_plain
 without_asking (Some extent) IsLackTold IsPlain session text (inr h) = let refused : 0 ≡ 1 = h.refused in absurd cc

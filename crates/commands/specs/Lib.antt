@@ -1,4 +1,5 @@
 pub mod Drawings
+pub mod Folders
 pub mod Told
 pub mod Shown
 pub mod Refused

@@ -45,6 +45,7 @@ use Rattle.command_texts.specs.Fields.{IsAnswerTold}
 use Rattle.command_texts.specs.Reasons.{IsFirstRefused, IsRefusedAt, TellsBeside, TellsWhyOf}
 use Rattle.command_texts.specs.Several.{IsListStatus, StopsSeveral, Style, TellsSeveral}
 use Rattle.command_texts.specs.Told.{AreNamed, AreOfInput, Ends, IsNamed, NoSession}
+use Rattle.text_access.specs.Names.{Files}
 use Rattle.text_access.specs.Written.{AppendsFront, Gains, Streams}
 use Rattle.judge_commands.specs.Answers.{AddsMisfitOf, how_much, story_telling, verdict_telling}
 use Rattle.judge_commands.specs.ByTables.{IsExplainedByTable}
@@ -150,7 +151,7 @@ abbrev pub window_of : Pages → CutWindow
 window_of pages = record { first = pages.first; count = pages.count }
 
 -- the command wrote what is asked for about the texts under its names, or it failed with a fault
-abbrev pub EndsAsked : Request (List ℕ) → (List ℕ → Option (List ℕ)) → (List ℕ → List ℕ → Type 0) → Option (List ℕ) → Streams → Streams → Result ℕ Fault → Type 0
+abbrev pub EndsAsked : Request (List ℕ) → Files → (List ℕ → List ℕ → Type 0) → Option (List ℕ) → Streams → Streams → Result ℕ Fault → Type 0
 EndsAsked (One task name) files HasSession input =
     Ends (IsFaultOf name) (IsNamed name files HasSession input) (IsOneAnswer task) (IsBesideOne task name)
 EndsAsked (Two task first second) files HasSession input =
@@ -161,7 +162,7 @@ EndsAsked (Draw topic name None) files HasSession input =
     Ends (IsFaultOf name) (IsNamed name files HasSession input) (IsDrawAnswer topic) (TellsWhyOf (IsRefusedAt SpellsSession) NoNote Short name)
 EndsAsked (Draw topic first (Some second)) files HasSession input =
     Ends (IsFaultOfTwo first second) (AreNamed first second files HasSession NoSession input) (IsDrawAlongAnswer topic) (TellsBeside (IsRefusedAt SpellsSession) (IsRefusedAt SpellsOrder) AddsNothing NoNote first second)
-EndsAsked (Window pages name lines) files HasSession input = EndsWindow (window_of pages) name files
+EndsAsked (Window pages name lines) files HasSession input = EndsWindow (window_of pages) name files.bytes_of
 
 -- if the lines of a window are asked for, this is their table; otherwise nothing changes
 abbrev pub HasLines : Request (List ℕ) → (List ℕ → Option (List ℕ)) → Option (List ℕ) → Option (List ℕ) → Option (Vec ℕ) → Option (Vec ℕ) → Type 0
@@ -214,7 +215,7 @@ abbrev pub IsListAnswer : Lists → List ℕ → List ℕ → ℕ → Type 0
 IsListAnswer lists = IsAnswerTold (how_much (list_ask lists).form) (IsRefusedAt SpellsSession) (IsAnswered (list_ask lists))
 
 -- the audits of the sessions under these names were written, or the list stopped early
-abbrev pub EndsSeveral : Lists × List (List ℕ) → (List ℕ → Option (List ℕ)) → (List ℕ → List ℕ → Type 0) → Streams → Streams → Result ℕ Fault → Type 0
+abbrev pub EndsSeveral : Lists × List (List ℕ) → Files → (List ℕ → List ℕ → Type 0) → Streams → Streams → Result ℕ Fault → Type 0
 EndsSeveral several files HasSession old new done =
     MatchResult done
     (TellsSeveral files HasSession (IsListAnswer several.0) (IsRefusedAt SpellsSession) (IsBeside (list_ask several.0).complete) (list_style several.0.form) several.1 old new)

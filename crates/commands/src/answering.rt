@@ -8,6 +8,7 @@ ghost use Rattle.command_texts.specs.declared.why.Telling.TheVariants.{Short};
 ghost use Rattle.command_texts.specs.Answers.{IsHostFault, IsTextFault};
 ghost use Rattle.command_texts.specs.Reasons.{IsRefusedAt, TellsWhy, TellsWhyOf, told_place};
 ghost use Rattle.command_texts.specs.Told.{AreNamed, Ends, IsNamed, NoSession};
+ghost use Rattle.text_access.specs.Names.{files_of};
 ghost use Rattle.text_access.specs.Written.{BothGain};
 ghost use Rattle.host_commands.specs.Migrations.{IsMigrateAnswer};
 ghost use Rattle.window_commands.specs.Windows.{EndsWindow, HasWindowLines};
@@ -38,8 +39,10 @@ fn asked_one<'a, R: Threads + Sync, S: TextSource, I: Read + Send, O: Write, E: 
     task: OneText,
     name: &'a str,
 ) -> Result<u8, Fault<'a>>
+where
+    S::Text: Send,
     ensures few { IfOk result (λ status. status < 2) }
-    ensures told { Ends (IsTextFault (λ n. n ≡ name.entry.now)) (IsNamed name.entry.now (S.bytes_of console.old.texts.now) (S.text_in console.old.texts.now) (I.remaining console.old.input)) (IsOneAnswer task) (IsBesideOne task name.entry.now) (O.contents console.old.output, E.contents console.old.errors) (O.contents console.new.output, E.contents console.new.errors) result }
+    ensures told { Ends (IsTextFault (λ n. n ≡ name.entry.now)) (IsNamed name.entry.now (files_of (S.bytes_of console.old.texts.now) (S.names_in console.old.texts.now)) (S.text_in console.old.texts.now) (I.remaining console.old.input)) (IsOneAnswer task) (IsBesideOne task name.entry.now) (O.contents console.old.output, E.contents console.old.errors) (O.contents console.new.output, E.contents console.new.errors) result }
     ensures gains { BothGain (O.contents console.old.output, E.contents console.old.errors) (O.contents console.new.output, E.contents console.new.errors) }
 {
     let command = AuditCommand {
@@ -56,8 +59,10 @@ pub(crate) fn asked_check<'a, R: Threads + Sync, S: TextSource, I: Read + Send, 
     first: &'a str,
     second: &'a str,
 ) -> Result<u8, Fault<'a>>
+where
+    S::Text: Send,
     ensures few { IfOk result (λ status. status < 2) }
-    ensures told { Ends (IsTextFault (λ n. (n ≡ first.entry.now) ⊎ (n ≡ second.entry.now))) (AreNamed first.entry.now second.entry.now (S.bytes_of console.old.texts.now) (S.text_in console.old.texts.now) NoSession (I.remaining console.old.input)) (IsTwoAnswer (TwoTexts.Check checks)) (IsBesideTwo (TwoTexts.Check checks) first.entry.now second.entry.now) (O.contents console.old.output, E.contents console.old.errors) (O.contents console.new.output, E.contents console.new.errors) result }
+    ensures told { Ends (IsTextFault (λ n. (n ≡ first.entry.now) ⊎ (n ≡ second.entry.now))) (AreNamed first.entry.now second.entry.now (files_of (S.bytes_of console.old.texts.now) (S.names_in console.old.texts.now)) (S.text_in console.old.texts.now) NoSession (I.remaining console.old.input)) (IsTwoAnswer (TwoTexts.Check checks)) (IsBesideTwo (TwoTexts.Check checks) first.entry.now second.entry.now) (O.contents console.old.output, E.contents console.old.errors) (O.contents console.new.output, E.contents console.new.errors) result }
     ensures gains { BothGain (O.contents console.old.output, E.contents console.old.errors) (O.contents console.new.output, E.contents console.new.errors) }
 {
     let command = CheckCommand {
@@ -75,8 +80,10 @@ fn asked_explain<'a, R: Threads + Sync, S: TextSource, I: Read + Send, O: Write,
     first: &'a str,
     second: &'a str,
 ) -> Result<u8, Fault<'a>>
+where
+    S::Text: Send,
     ensures few { IfOk result (λ status. status < 2) }
-    ensures told { Ends (IsTextFault (λ n. (n ≡ first.entry.now) ⊎ (n ≡ second.entry.now))) (AreNamed first.entry.now second.entry.now (S.bytes_of console.old.texts.now) (S.text_in console.old.texts.now) NoSession (I.remaining console.old.input)) (IsTwoAnswer (TwoTexts.Explain explains)) (IsBesideTwo (TwoTexts.Explain explains) first.entry.now second.entry.now) (O.contents console.old.output, E.contents console.old.errors) (O.contents console.new.output, E.contents console.new.errors) result }
+    ensures told { Ends (IsTextFault (λ n. (n ≡ first.entry.now) ⊎ (n ≡ second.entry.now))) (AreNamed first.entry.now second.entry.now (files_of (S.bytes_of console.old.texts.now) (S.names_in console.old.texts.now)) (S.text_in console.old.texts.now) NoSession (I.remaining console.old.input)) (IsTwoAnswer (TwoTexts.Explain explains)) (IsBesideTwo (TwoTexts.Explain explains) first.entry.now second.entry.now) (O.contents console.old.output, E.contents console.old.errors) (O.contents console.new.output, E.contents console.new.errors) result }
     ensures gains { BothGain (O.contents console.old.output, E.contents console.old.errors) (O.contents console.new.output, E.contents console.new.errors) }
 {
     let command = ExplainByTable {
@@ -94,8 +101,10 @@ fn asked_two<'a, R: Threads + Sync, S: TextSource, I: Read + Send, O: Write, E: 
     first: &'a str,
     second: &'a str,
 ) -> Result<u8, Fault<'a>>
+where
+    S::Text: Send,
     ensures few { IfOk result (λ status. status < 2) }
-    ensures told { Ends (IsTextFault (λ n. (n ≡ first.entry.now) ⊎ (n ≡ second.entry.now))) (AreNamed first.entry.now second.entry.now (S.bytes_of console.old.texts.now) (FirstHas task (S.text_in console.old.texts.now)) NoSession (I.remaining console.old.input)) (IsTwoAnswer task) (IsBesideTwo task first.entry.now second.entry.now) (O.contents console.old.output, E.contents console.old.errors) (O.contents console.new.output, E.contents console.new.errors) result }
+    ensures told { Ends (IsTextFault (λ n. (n ≡ first.entry.now) ⊎ (n ≡ second.entry.now))) (AreNamed first.entry.now second.entry.now (files_of (S.bytes_of console.old.texts.now) (S.names_in console.old.texts.now)) (FirstHas task (S.text_in console.old.texts.now)) NoSession (I.remaining console.old.input)) (IsTwoAnswer task) (IsBesideTwo task first.entry.now second.entry.now) (O.contents console.old.output, E.contents console.old.errors) (O.contents console.new.output, E.contents console.new.errors) result }
     ensures gains { BothGain (O.contents console.old.output, E.contents console.old.errors) (O.contents console.new.output, E.contents console.new.errors) }
 {
     let rt = console.rt;
@@ -144,8 +153,10 @@ fn asked_migrate<
     carrier: Carrier,
     name: &'a str,
 ) -> Result<u8, Fault<'a>>
+where
+    S::Text: Send,
     ensures few { IfOk result (λ status. status < 2) }
-    ensures told { Ends (IsHostFault (λ n. n ≡ name.entry.now)) (IsNamed name.entry.now (S.bytes_of console.old.texts.now) NoSession (I.remaining console.old.input)) IsMigrateAnswer (TellsWhyOf (IsRefusedAt SpellsScript) NoNote Short name.entry.now) (O.contents console.old.output, E.contents console.old.errors) (O.contents console.new.output, E.contents console.new.errors) result }
+    ensures told { Ends (IsHostFault (λ n. n ≡ name.entry.now)) (IsNamed name.entry.now (files_of (S.bytes_of console.old.texts.now) (S.names_in console.old.texts.now)) NoSession (I.remaining console.old.input)) IsMigrateAnswer (TellsWhyOf (IsRefusedAt SpellsScript) NoNote Short name.entry.now) (O.contents console.old.output, E.contents console.old.errors) (O.contents console.new.output, E.contents console.new.errors) result }
     ensures gains { BothGain (O.contents console.old.output, E.contents console.old.errors) (O.contents console.new.output, E.contents console.new.errors) }
 {
     let (script, why) = read_named::<Gathered<ScriptParts>, R, S, I>(
@@ -173,8 +184,10 @@ fn asked_draw<'a, R: Threads + Sync, S: TextSource, I: Read + Send, O: Write, E:
     name: &'a str,
     further: Option<&'a str>,
 ) -> Result<u8, Fault<'a>>
+where
+    S::Text: Send,
     ensures few { IfOk result (λ status. status < 2) }
-    ensures told { EndsAsked (asked_names (Request.Draw topic name.entry further.entry)) (S.bytes_of console.old.texts.now) (S.text_in console.old.texts.now) (I.remaining console.old.input) (O.contents console.old.output, E.contents console.old.errors) (O.contents console.new.output, E.contents console.new.errors) result }
+    ensures told { EndsAsked (asked_names (Request.Draw topic name.entry further.entry)) (files_of (S.bytes_of console.old.texts.now) (S.names_in console.old.texts.now)) (S.text_in console.old.texts.now) (I.remaining console.old.input) (O.contents console.old.output, E.contents console.old.errors) (O.contents console.new.output, E.contents console.new.errors) result }
     ensures gains { BothGain (O.contents console.old.output, E.contents console.old.errors) (O.contents console.new.output, E.contents console.new.errors) }
 {
     let rt = console.rt;
@@ -220,8 +233,10 @@ pub fn perform<
     job: Job<'a>,
     lines: &mut Option<Vec<u8>>,
 ) -> Result<u8, Fault<'a>>
+where
+    S::Text: Send,
     ensures few { IfOk result (λ status. status < 2) }
-    ensures told { EndsAsked (asked_names job.entry) (S.bytes_of console.old.texts.now) (S.text_in console.old.texts.now) (I.remaining console.old.input) (O.contents console.old.output, E.contents console.old.errors) (O.contents console.new.output, E.contents console.new.errors) result }
+    ensures told { EndsAsked (asked_names job.entry) (files_of (S.bytes_of console.old.texts.now) (S.names_in console.old.texts.now)) (S.text_in console.old.texts.now) (I.remaining console.old.input) (O.contents console.old.output, E.contents console.old.errors) (O.contents console.new.output, E.contents console.new.errors) result }
     ensures lines { result ≡ Ok 0 → HasLines (asked_names job.entry) (S.bytes_of console.old.texts.now) (O.contents console.old.output) (O.contents console.new.output) lines.old lines.new }
     ensures kept { result ≢ Ok 0 → lines.new ≡ lines.old }
     ensures gains { BothGain (O.contents console.old.output, E.contents console.old.errors) (O.contents console.new.output, E.contents console.new.errors) }

@@ -6,14 +6,16 @@ ghost use Rattle.clap.specs.Words.{kind_of};
 ghost use Rattle.command_words.specs.Table.{folders_of, job_of, several_of};
 ghost use Rattle.command_words.specs.Words.{AreAccepted, AreRefused, IsKindFor, IsPlain, asked, asked_by, clashing, error_kinds, folders_asked, several_asked};
 ghost use Rattle.command_texts.specs.Answers.{fault_line, fault_status};
-ghost use Rattle.command_texts.specs.Told.{AreNamed, AreOfInput, NoSession};
+ghost use Rattle.command_texts.specs.Told.{AreNamed, AreOfInput, IsNamed, NoSession};
+ghost use Rattle.text_access.specs.Names.{files_of};
 ghost use Rattle.text_access.specs.Written.{AppendsFront, BothGain, Gains};
 ghost use Rattle.session_commands.specs.Texts.{WritesSession};
 ghost use Rattle.commands.specs.Refused.{IsRefusalOf, IsRefusedBy};
-ghost use Rattle.commands.specs.Shown.{AsksCheck, ShowsHeadline};
+ghost use Rattle.commands.specs.Shown.{AsksAudit, AsksCheck, AsksExplanation, ShowsEachMigrated, ShowsFirstMigrated, ShowsHeadline, ShowsMigrated};
 ghost use Rattle.commands.specs.Told.{EndsAsked, EndsBare, EndsSeveral, HasLines, IsFaultTold, IsSettled, IsSettledList};
 
 use crate::answering::{asked_check, perform};
+use crate::laws::clean_sessions_are_migrated;
 use crate::several::asked_several;
 use command_texts::{ACCEPTED, Console, Fault, STANDARD_OUTPUT, USAGE, tell};
 use command_words::{Checks, Demand, Intent, Reading, VerdictForm};
@@ -30,6 +32,8 @@ use text_access::{TextSource, write_or_why, write_whole};
 fn check_input<R: Threads + Sync, S: TextSource, I: Read + Send, O: Write, E: Write>(
     console: &mut Console<'_, R, S, I, O, E>,
 ) -> Result<u8, Fault<'static>>
+where
+    S::Text: Send,
     ensures few { IfOk result (λ status. status < 2) }
     ensures told { EndsBare (I.remaining console.old.input) (O.contents console.old.output, E.contents console.old.errors) (O.contents console.new.output, E.contents console.new.errors) result }
     ensures gains { BothGain (O.contents console.old.output, E.contents console.old.errors) (O.contents console.new.output, E.contents console.new.errors) }
@@ -107,10 +111,12 @@ fn grant<
     O: Write,
     E: Write,
 >(console: &mut Console<'_, R, S, I, O, E>, intent: Intent<'_>, lines: &mut Option<Vec<u8>>) -> u8
+where
+    S::Text: Send,
     ensures known { (result ≢ 2) × (result ≤ 4) }
     ensures fault { 2 < result → IsFaultTold (E.contents console.old.errors) (E.contents console.new.errors) result }
-    ensures job { IfSome (job_of intent.entry) (λ job. IsSettled (EndsAsked job (S.bytes_of console.old.texts.now) (S.text_in console.old.texts.now) (I.remaining console.old.input) (O.contents console.old.output, E.contents console.old.errors)) (O.contents console.new.output, E.contents console.new.errors) result) }
-    ensures several { IfSome (several_of intent.entry) (λ asked. IsSettledList (EndsSeveral asked (S.bytes_of console.old.texts.now) (S.text_in console.old.texts.now) (O.contents console.old.output, E.contents console.old.errors)) (O.contents console.new.output, E.contents console.new.errors) result) }
+    ensures job { IfSome (job_of intent.entry) (λ job. IsSettled (EndsAsked job (files_of (S.bytes_of console.old.texts.now) (S.names_in console.old.texts.now)) (S.text_in console.old.texts.now) (I.remaining console.old.input) (O.contents console.old.output, E.contents console.old.errors)) (O.contents console.new.output, E.contents console.new.errors) result) }
+    ensures several { IfSome (several_of intent.entry) (λ asked. IsSettledList (EndsSeveral asked (files_of (S.bytes_of console.old.texts.now) (S.names_in console.old.texts.now)) (S.text_in console.old.texts.now) (O.contents console.old.output, E.contents console.old.errors)) (O.contents console.new.output, E.contents console.new.errors) result) }
     ensures folders { IfSome (folders_of intent.entry) (λ asked. result ≡ 0 → WritesSession (S.names_in console.old.texts.now) (S.bytes_of console.old.texts.now) asked.1 asked.0 (O.contents console.old.output) (O.contents console.new.output)) }
     ensures unmade { IfSome (folders_of intent.entry) (λ asked. result ≡ 1 → Keeps (O.contents console.old.output) (O.contents console.new.output)) }
     ensures lines { result ≡ 0 → IfSome (job_of intent.entry) (λ job. HasLines job (S.bytes_of console.old.texts.now) (O.contents console.old.output) (O.contents console.new.output) lines.old lines.new) }
@@ -138,6 +144,8 @@ fn grant<
 fn check_bare<R: Threads + Sync, S: TextSource, I: Read + Send, O: Write, E: Write>(
     console: &mut Console<'_, R, S, I, O, E>,
 ) -> u8
+where
+    S::Text: Send,
     ensures known { (result ≢ 2) × (result ≤ 4) }
     ensures fault { 2 < result → IsFaultTold (E.contents console.old.errors) (E.contents console.new.errors) result }
     ensures told { IsSettled (EndsBare (I.remaining console.old.input) (O.contents console.old.output, E.contents console.old.errors)) (O.contents console.new.output, E.contents console.new.errors) result }
@@ -182,6 +190,9 @@ fn check_bare<R: Threads + Sync, S: TextSource, I: Read + Send, O: Write, E: Wri
 /// over a later read, write or release. A page that is released at the halt is never sent, and whatever is placed for
 /// it is zeros.
 ///
+/// If an `audit`, a `certify` or an `explain` ends with status 0, with any options, the bytes that were read as its
+/// session spell one session, and these claims hold for it. If several are audited, they hold for each.
+///
 /// The handle starts and joins threads, and opens the connection of a migration over TCP. Nothing is promised about
 /// when a migration ends.
 pub fn run<
@@ -191,6 +202,8 @@ pub fn run<
     O: Write,
     E: Write,
 >(console: &mut Console<'_, R, S, I, O, E>, reading: Reading<'_>, lines: &mut Option<Vec<u8>>) -> u8
+where
+    S::Text: Send,
     ensures known { result ≤ 4 }
     ensures gains { BothGain (O.contents console.old.output, E.contents console.old.errors) (O.contents console.new.output, E.contents console.new.errors) }
     ensures fault { 2 < result → IsFaultTold (E.contents console.old.errors) (E.contents console.new.errors) result }
@@ -201,19 +214,23 @@ pub fn run<
     ensures refused { AreRefused reading.entry → IsRefusedBy (IsKindFor reading.entry) (O.contents console.old.output, E.contents console.old.errors) (O.contents console.new.output, E.contents console.new.errors) result }
     ensures untouched { AreRefused reading.entry → (lines.new ≡ lines.old) × (I.remaining console.new.input ≡ I.remaining console.old.input) }
     ensures clash { error_kinds reading.entry ≡ [] → clashing reading.entry ≡ true → (result ≡ 2) ⊎ (result ≡ 4) }
-    ensures told { error_kinds reading.entry ≡ [] → IfSome (asked reading.entry) (λ job. IsSettled (EndsAsked job (S.bytes_of console.old.texts.now) (S.text_in console.old.texts.now) (I.remaining console.old.input) (O.contents console.old.output, E.contents console.old.errors)) (O.contents console.new.output, E.contents console.new.errors) result) }
-    ensures several { error_kinds reading.entry ≡ [] → IfSome (several_asked reading.entry) (λ asked. IsSettledList (EndsSeveral asked (S.bytes_of console.old.texts.now) (S.text_in console.old.texts.now) (O.contents console.old.output, E.contents console.old.errors)) (O.contents console.new.output, E.contents console.new.errors) result) }
+    ensures told { error_kinds reading.entry ≡ [] → IfSome (asked reading.entry) (λ job. IsSettled (EndsAsked job (files_of (S.bytes_of console.old.texts.now) (S.names_in console.old.texts.now)) (S.text_in console.old.texts.now) (I.remaining console.old.input) (O.contents console.old.output, E.contents console.old.errors)) (O.contents console.new.output, E.contents console.new.errors) result) }
+    ensures several { error_kinds reading.entry ≡ [] → IfSome (several_asked reading.entry) (λ asked. IsSettledList (EndsSeveral asked (files_of (S.bytes_of console.old.texts.now) (S.names_in console.old.texts.now)) (S.text_in console.old.texts.now) (O.contents console.old.output, E.contents console.old.errors)) (O.contents console.new.output, E.contents console.new.errors) result) }
     ensures folders { error_kinds reading.entry ≡ [] → IfSome (folders_asked reading.entry) (λ asked. result ≡ 0 → WritesSession (S.names_in console.old.texts.now) (S.bytes_of console.old.texts.now) asked.1 asked.0 (O.contents console.old.output) (O.contents console.new.output)) }
     ensures unmade { error_kinds reading.entry ≡ [] → IfSome (folders_asked reading.entry) (λ asked. result ≡ 1 → Keeps (O.contents console.old.output) (O.contents console.new.output)) }
     ensures lines { error_kinds reading.entry ≡ [] → result ≡ 0 → IfSome (asked reading.entry) (λ job. HasLines job (S.bytes_of console.old.texts.now) (O.contents console.old.output) (O.contents console.new.output) lines.old lines.new) }
     ensures unlined { asked reading.entry ≡ None → lines.new ≡ lines.old }
     ensures kept { result ≢ 0 → lines.new ≡ lines.old }
     ensures unasked { AreAccepted reading.entry → asked reading.entry ≡ None → several_asked reading.entry ≡ None → folders_asked reading.entry ≡ None → IsSettled (EndsBare (I.remaining console.old.input) (O.contents console.old.output, E.contents console.old.errors)) (O.contents console.new.output, E.contents console.new.errors) result }
-    ensures plain { (name : List ℕ) (names : List (List ℕ)) → IsPlain reading.entry name names → IfSome (asked_by name names) (λ job. (result ≢ 2) × IsSettled (EndsAsked job (S.bytes_of console.old.texts.now) (S.text_in console.old.texts.now) (I.remaining console.old.input) (O.contents console.old.output, E.contents console.old.errors)) (O.contents console.new.output, E.contents console.new.errors) result) }
+    ensures plain { (name : List ℕ) (names : List (List ℕ)) → IsPlain reading.entry name names → IfSome (asked_by name names) (λ job. (result ≢ 2) × IsSettled (EndsAsked job (files_of (S.bytes_of console.old.texts.now) (S.names_in console.old.texts.now)) (S.text_in console.old.texts.now) (I.remaining console.old.input) (O.contents console.old.output, E.contents console.old.errors)) (O.contents console.new.output, E.contents console.new.errors) result) }
     ensures bare_headline { length reading.entry ≤ 1 → result ≡ 0 → ShowsHeadline (AreOfInput (I.remaining console.old.input)) }
-    ensures headline { (first second : List ℕ) → AsksCheck reading.entry first second → result ≡ 0 → ShowsHeadline (AreNamed first second (S.bytes_of console.old.texts.now) (S.text_in console.old.texts.now) NoSession (I.remaining console.old.input)) }
+    ensures headline { (first second : List ℕ) → AsksCheck reading.entry first second → result ≡ 0 → ShowsHeadline (AreNamed first second (files_of (S.bytes_of console.old.texts.now) (S.names_in console.old.texts.now)) (S.text_in console.old.texts.now) NoSession (I.remaining console.old.input)) }
+    ensures clean_headline { (name : List ℕ) → AsksAudit reading.entry name → result ≡ 0 → ShowsMigrated (IsNamed name (files_of (S.bytes_of console.old.texts.now) (S.names_in console.old.texts.now)) (S.text_in console.old.texts.now) (I.remaining console.old.input)) }
+    ensures lined_headline { (first second : List ℕ) → AsksExplanation reading.entry first second → result ≡ 0 → ShowsFirstMigrated (AreNamed first second (files_of (S.bytes_of console.old.texts.now) (S.names_in console.old.texts.now)) (S.text_in console.old.texts.now) NoSession (I.remaining console.old.input)) }
+    ensures each_headline { error_kinds reading.entry ≡ [] → IfSome (several_asked reading.entry) (λ asked. result ≡ 0 → ShowsEachMigrated (λ name. IsNamed name (files_of (S.bytes_of console.old.texts.now) (S.names_in console.old.texts.now)) (S.text_in console.old.texts.now) None) asked.1) }
 {
     headline_holds_at_yes();
+    clean_sessions_are_migrated();
     match reading.intent() {
         Ok(Some(intent)) => grant(console, intent, lines),
         Ok(None) => check_bare(console),

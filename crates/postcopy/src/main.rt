@@ -19,24 +19,36 @@
 
 ghost use Rattle.std.specs.Prelude.{◌≡◌};
 
-mod folders;
-
-use crate::folders::WithFolders;
 use command_texts::{Closable, Console, Fault, MEMORY, USAGE, tell};
-use commands::{Reading, Targets, read_words, run};
+use commands::{Reading, Targets, read_words, run_over_folders};
 use process_io::{
     Disk, Saved, has_wrong_word, put, refuse_targets, slices, tell_wrong_word, words,
 };
+use session_commands::{ErrorSink, WithFolders};
 use std::alloc::Global;
 use std::io::{Input, Write};
 use std::net::{Net, TcpListener, TcpStream};
 use std::os::fd::AsFd;
 use std::process::ExitCode;
 use std::random::RandomSource;
-use std::rt::{Env, Files};
+use std::rt::{Env, Files, Stderr};
 use std::sync::Wait;
 use std::thread::Threads;
 use text_access::TextSource;
+
+// The standard error of the process.
+#[derive(Drop)]
+struct StandardError<'a> {
+    rt: &'a HostRuntime,
+}
+
+impl ErrorSink for StandardError<'_> {
+    type Errors = Stderr;
+
+    fn errors(&self) -> Stderr {
+        self.rt.stderr()
+    }
+}
 
 // Reports which word is not UTF-8.
 fn refuse_words<R: Env, E: Write>(rt: &R, alloc: Global, errors: &mut E) -> u8
@@ -47,10 +59,10 @@ fn refuse_words<R: Env, E: Write>(rt: &R, alloc: Global, errors: &mut E) -> u8
 }
 
 // Does what the words ask for, and writes the answer to this output. Puts the table of a window's lines into `lines`.
-fn answer<R, S: TextSource, O: Write, E: Write>(
+fn answer<R, D: TextSource, W: ErrorSink, O: Write, E: Write>(
     rt: &R,
     alloc: Global,
-    texts: &S,
+    texts: &WithFolders<D, W>,
     reading: Reading<'_>,
     output: &mut O,
     errors: &mut E,
@@ -59,6 +71,7 @@ fn answer<R, S: TextSource, O: Write, E: Write>(
 where
     R: Threads + Wait + Sync + Net<Listener = TcpListener, Stream = TcpStream> + Input,
     R::Reader: Send,
+    D::Text: Send,
 {
     let mut console = Console {
         rt,
@@ -68,15 +81,15 @@ where
         output,
         errors,
     };
-    run(&mut console, reading, lines)
+    run_over_folders(&mut console, reading, lines)
 }
 
 // Does what the words ask for. The answer goes to the file that the words name, if an answer with its status goes to a
 // file, and else to the output.
-fn answer_into<R, S: TextSource, O: Write, E: Write>(
+fn answer_into<R, D: TextSource, W: ErrorSink, O: Write, E: Write>(
     rt: &R,
     alloc: Global,
-    texts: &S,
+    texts: &WithFolders<D, W>,
     reading: Reading<'_>,
     targets: Targets<'_>,
     output: &mut O,
@@ -87,6 +100,7 @@ where
     R: RandomSource,
     R::File: AsFd,
     R::Reader: Send,
+    D::Text: Send,
 {
     let mut text = Saved::new(rt, alloc, targets.output);
     let mut table = None;
@@ -100,10 +114,10 @@ where
 }
 
 // Does what a reading of the words asks for, and writes the answer where they say.
-fn answer_to<R, S: TextSource, O: Write, E: Write>(
+fn answer_to<R, D: TextSource, W: ErrorSink, O: Write, E: Write>(
     rt: &R,
     alloc: Global,
-    texts: &S,
+    texts: &WithFolders<D, W>,
     reading: Reading<'_>,
     output: &mut O,
     errors: &mut E,
@@ -113,6 +127,7 @@ where
     R: RandomSource,
     R::File: AsFd,
     R::Reader: Send,
+    D::Text: Send,
 {
     let targets = reading.targets();
     if targets.lines.is_none() && targets.output.is_none() {
@@ -135,9 +150,9 @@ fn main(rt: HostRuntime) -> ExitCode {
     };
     let words = words.as_slice();
     let texts = WithFolders {
-        rt: &rt,
+        alloc,
         disk: Disk { rt: &rt },
-        words,
+        words: StandardError { rt: &rt },
     };
     let mut output = Closable::new(rt.stdout());
     ExitCode::from(match read_words(alloc, words) {

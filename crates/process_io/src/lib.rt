@@ -4,14 +4,12 @@
 
 mod arguments;
 mod files;
-mod gone;
 mod putting;
 mod refusing;
 mod saving;
 
 pub use arguments::{has_wrong_word, slices, tell_wrong_word, words};
 pub use files::Disk;
-pub use gone::tell_name_gone;
 pub use putting::put;
 pub use refusing::refuse_targets;
 pub use saving::Saved;

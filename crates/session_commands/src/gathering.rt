@@ -1,35 +1,59 @@
 //! The session of the files that recorders left in folders, without a text.
 
-ghost use Rattle.std.specs.Prelude.{ℕ, List, Option, IfOk, IfSome};
+ghost use Rattle.std.specs.Prelude.{◌≡◌, ℕ, List, [], ◌∷◌, Option, IfOk, IfSome, map, string_bytes};
 ghost use Rattle.command_words.specs.declared.requests.Lacking.TheVariants.{Refused};
 ghost use Rattle.session_grammar.specs.Grammar.{SpellsSession};
 ghost use Rattle.text_lines.specs.Text.{IsSpelling};
 ghost use Rattle.text_access.specs.Names.{names_of};
+ghost use Rattle.found_logs.specs.Found.{AreCompressed, AreFound};
 ghost use Rattle.found_logs.specs.declared.found.FoundLogs.{FoundLogs as Found};
 ghost use Rattle.held_sessions.specs.Held.{HasMet, IsHeld};
 ghost use Rattle.session_commands.specs.Files.{IsTextOf};
 ghost use Rattle.session_commands.specs.Texts.{IsSessionText};
 ghost use Rattle.session_commands.specs.inner.Seen.{IsKnownAndMet};
 
-use crate::making::{Known, counts_of, know};
-use found_logs::{FoundLogs, find_files, find_logs};
+use crate::making::{Known, counts_of, know, refuse};
+use crate::performing::{leave_out, tell_stop};
+use command_words::Lacking;
+use found_logs::{FoundFiles, FoundLogs, find_files, find_logs};
 use held_sessions::{HeldRecording, Room};
 use migration_types::Session;
 use recorded_files::Front;
 use session_facts::FactFinder;
 use session_words::Stop;
 use std::alloc::{AllocError, Global};
+use std::io;
+use std::io::{ErrorKind, Write};
 use text_access::TextSource;
 use walked_logs::Senders;
 
-/// Returns the session of a recording that is known and was met, if nothing is lacking and it is within the limits of a session.
+/// Why files give no session.
+#[derive(Drop)]
+enum Unmade {
+    /// It was said.
+    Said,
+    /// It is not yet said.
+    Stopped(Stop),
+}
+
+impl From<Stop> for Unmade {
+    fn from(stop: Stop) -> Self {
+        Unmade::Stopped(stop)
+    }
+}
+
+impl From<AllocError> for Unmade {
+    fn from(_error: AllocError) -> Self {
+        Unmade::Stopped(Stop::Memory)
+    }
+}
+
+/// Returns the session of a recording that is known and was met, and lacks nothing, if it is within the limits of a session.
 fn session_of(held: HeldRecording, known: Known) -> Result<Option<Session>, AllocError>
-    requires { HasMet held }
+    requires met { HasMet held }
+    requires whole { known.said.items ≡ [] }
     ensures { (files : List ℕ → Option (List ℕ)) (logs : Found) → IsKnownAndMet (IsHeld held) files logs known → IfOk result (λ found. IfSome found (λ session. (text : List ℕ) × IsTextOf files logs Refused text × IsSpelling SpellsSession session text)) }
 {
-    if !known.said.is_empty() {
-        return Ok(None);
-    }
     let Known {
         machine,
         init,
@@ -46,19 +70,24 @@ fn session_of(held: HeldRecording, known: Known) -> Result<Option<Session>, Allo
     }
 }
 
-/// Returns the session of the files of logs, given the senders that their records name.
-fn gather_files<S: TextSource>(
+/// Returns the session of the files of logs, given the senders that their records name. Says what is lacking.
+fn gather_files<S: TextSource, E: Write>(
     alloc: Global,
     texts: &S,
     logs: &FoundLogs,
     senders: Senders,
-) -> Result<Option<Session>, Stop>
+    errors: &mut E,
+) -> Result<Option<Session>, Unmade>
     ensures { IfOk result (λ found. IfSome found (λ session. (text : List ℕ) × IsTextOf (S.bytes_of texts.now) logs.now Refused text × IsSpelling SpellsSession session text)) }
 {
     let expected = expected_of(logs, &senders)?;
     let held = HeldRecording::new(alloc, room_for(expected));
     let mut finder = FactFinder::new(alloc, held, expected);
     let known = know(&mut finder, alloc, texts, logs, Some(senders))?;
+    if !known.said.is_empty() {
+        refuse(known.said, errors)?;
+        return Err(Unmade::Said);
+    }
     let FactFinder { facts, other } = finder;
     drop(facts);
     Ok(session_of(other, known)?)
@@ -95,37 +124,63 @@ fn keep_memory(alloc: Global) {
     drop(block);
 }
 
-/// Returns the session of the files in folders.
-fn gather<S: TextSource>(
+/// Returns the session of the files that were found in folders. Says what is lacking.
+fn gather<S: TextSource, E: Write>(
     alloc: Global,
     texts: &S,
     folders: &[&str],
-) -> Result<Option<Session>, Stop>
+    found: &FoundFiles,
+    errors: &mut E,
+) -> Result<Option<Session>, Unmade>
+    requires found { AreFound (S.names_in texts.now) (names_of folders.now) found.now.files.items }
+    requires compressed { AreCompressed (S.names_in texts.now) (names_of folders.now) (map string_bytes found.now.compressed.items) }
     ensures { IfOk result (λ found. IfSome found (λ session. (text : List ℕ) × IsSessionText (S.names_in texts.now) (S.bytes_of texts.now) (names_of folders.now) Refused text × IsSpelling SpellsSession session text)) }
 {
-    keep_memory(alloc);
-    let found = find_files(alloc, texts, folders)?;
-    if !found.compressed.is_empty() {
-        return Ok(None);
+    let goes_on = leave_out(alloc, Lacking::Refused, found.compressed.as_slice(), errors)?;
+    if !goes_on {
+        return Err(Unmade::Said);
     }
     let mut senders = Senders::new(alloc);
-    let logs = find_logs(alloc, texts, folders, &found, &mut senders)?;
-    gather_files(alloc, texts, &logs, senders)
+    let logs = find_logs(alloc, texts, folders, found, &mut senders)?;
+    gather_files(alloc, texts, &logs, senders, errors)
 }
 
-/// Returns the session of the files that recorders left in folders, without a text in between. Answers `None` where `session` would
-/// not end with status 0, and where it writes a recording that is beyond the limits of a session: then `session` tells why. Writes
-/// nothing.
-pub fn gather_session<S: TextSource>(
+/// Says why there is no session, unless it was said, and returns the error of that.
+fn say<E: Write>(alloc: Global, why: Unmade, errors: &mut E) -> io::Error {
+    let Unmade::Stopped(stop) = why else {
+        return io::Error::from(ErrorKind::InvalidData);
+    };
+    match tell_stop(alloc, stop, errors) {
+        Ok(_) => io::Error::from(ErrorKind::InvalidData),
+        // The session is held, so there is no output that fails.
+        Err(_) => io::Error::from(ErrorKind::OutOfMemory),
+    }
+}
+
+/// Returns the session of the files that recorders left in a folder, without a text in between. Answers `None` if the folder cannot be
+/// listed, and if its files make a recording that is beyond the limits of a session: its text tells where. The files are read once.
+///
+/// # Errors
+///
+/// If `session` would not end with status 0, the errors say why, as `session` does, and the error is that of data that is not valid. Or
+/// memory runs out.
+pub fn gather_session<S: TextSource, E: Write>(
     alloc: Global,
     texts: &S,
-    folders: &[&str],
-) -> Result<Option<Session>, AllocError>
-    ensures { IfOk result (λ found. IfSome found (λ session. (text : List ℕ) × IsSessionText (S.names_in texts.now) (S.bytes_of texts.now) (names_of folders.now) Refused text × IsSpelling SpellsSession session text)) }
+    folder: &str,
+    errors: &mut E,
+) -> io::Result<Option<Session>>
+    ensures { IfOk result (λ found. IfSome found (λ session. (text : List ℕ) × IsSessionText (S.names_in texts.now) (S.bytes_of texts.now) (folder.now ∷ []) Refused text × IsSpelling SpellsSession session text)) }
 {
-    match gather(alloc, texts, folders) {
-        Ok(found) => Ok(found),
-        Err(Stop::Memory) => Err(AllocError),
-        Err(_) => Ok(None),
+    keep_memory(alloc);
+    let folders = [folder];
+    let found = match find_files(alloc, texts, &folders) {
+        Ok(found) => found,
+        Err(Stop::Memory) => return Err(io::Error::from(ErrorKind::OutOfMemory)),
+        Err(_) => return Ok(None),
+    };
+    match gather(alloc, texts, &folders, &found, errors) {
+        Ok(session) => Ok(session),
+        Err(why) => Err(say(alloc, why, errors)),
     }
 }

@@ -23,7 +23,7 @@ use text_access::{TextSource, write_whole};
 /// Says which recorders' files are only there compressed. They are left out, if that is asked for. Returns whether the others are to be
 /// read.
 #[tactic(auto, using(crate::proofs::Gained::same, crate::proofs::Gained::front, crate::proofs::Gained::both))]
-fn leave_out<E: Write>(
+pub(crate) fn leave_out<E: Write>(
     alloc: Global,
     lacking: Lacking,
     compressed: &[String],
@@ -111,7 +111,11 @@ fn tell_unfit<E: Write>(alloc: Global, words: &[u8], errors: &mut E) -> Result<u
 
 /// Reports why no session was made, and returns the status of that.
 #[tactic(auto, using(crate::proofs::Gained::same, crate::proofs::Gained::front, crate::proofs::Gained::both))]
-fn tell_stop<'a, E: Write>(alloc: Global, stop: Stop, errors: &mut E) -> Result<u8, Fault<'a>>
+pub(crate) fn tell_stop<'a, E: Write>(
+    alloc: Global,
+    stop: Stop,
+    errors: &mut E,
+) -> Result<u8, Fault<'a>>
     ensures known { IfOk result (λ status. (status ≡ 1) ⊎ (status ≡ 3)) }
     ensures unfit { IfOk result (λ status. status ≡ 1 → IsUnfit stop) }
     ensures unread { IfOk result (λ status. status ≡ 3 → TellsOneUnread (E.contents errors.old) (E.contents errors.new)) }

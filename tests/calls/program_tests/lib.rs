@@ -96,7 +96,10 @@ fn ran_on<
     I: Read + Send,
     O: Write,
     E: Write,
->(console: &mut Console<'_, R, S, I, O, E>, words: &[&str]) -> u8 {
+>(console: &mut Console<'_, R, S, I, O, E>, words: &[&str]) -> u8
+where
+    S::Text: Send,
+{
     match read_words(console.alloc, words) {
         Ok(reading) => run(console, reading, &mut None),
         Err(_) => 4,

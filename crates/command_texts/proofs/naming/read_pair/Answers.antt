@@ -2,6 +2,7 @@ use Rattle.std.proofs.Common.{◌≡◌, ◌∙◌, List, ℕ, ap, inl, inr}
 use Rattle.std.proofs.lemmas.Result.{err_from_is_err_and}
 use Rattle.command_texts.proofs.Endings.{read_fault_in, read_faults_in}
 use Rattle.command_texts.proofs.Names.{are_named, dashes}
+use Rattle.text_access.specs.Names.{files_of}
 use Rattle.command_texts.proofs.naming.read_pair.Goals as goal
 
 pub returns-then-are_input-clause-named : goal.returns-then-are_input-clause-named
@@ -29,7 +30,7 @@ returns-clause-named g c =
     let first = n.3 in
     let second = m.3 in (
       (n.0, m.0),
-      are_named c.args.first.now c.args.second.now (g.S.TextSource.bytes_of c.args.texts.now) (g.A.Taker.taken_in (g.S.TextSource.text_in c.args.texts.now)) (g.B.Taker.taken_in (g.S.TextSource.text_in c.args.texts.now)) (g.I.Read.remaining c.args.input.now) _ n.0 m.0 c.if-are_input.ensures (λ e. ap g.I.Read.remaining (c.in_ok-found.ensures.apart e)) n.1 m.1,
+      are_named c.args.first.now c.args.second.now (files_of (g.S.TextSource.bytes_of c.args.texts.now) (g.S.TextSource.names_in c.args.texts.now)) (g.A.Taker.taken_in (g.S.TextSource.text_in c.args.texts.now)) (g.B.Taker.taken_in (g.S.TextSource.text_in c.args.texts.now)) (g.I.Read.remaining c.args.input.now) _ n.0 m.0 c.if-are_input.ensures (λ e. ap g.I.Read.remaining (c.in_ok-found.ensures.apart e)) n.1 m.1,
       n.2,
       m.2,
       (first.0, first.1, c.new.ensures.first ∙ first.2),

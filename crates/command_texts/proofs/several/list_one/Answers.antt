@@ -1,12 +1,13 @@
 use Rattle.command_texts.specs.Several.{style_of}
 use Rattle.text_access.proofs.Fronts.{same_gains}
 use Rattle.command_texts.proofs.Listed.{few_listed, few_read, named_anyhow, unread_known, unread_listed, unread_there}
+use Rattle.text_access.specs.Names.{files_of}
 use Rattle.command_texts.proofs.several.list_one.Goals as goal
 
 pub returns-in-Ok-clause-listed : goal.returns-in-Ok-clause-listed
 returns-in-Ok-clause-listed g c =
     let n = c.in-Ok.ensures.named in
-    c.list_found.ensures.listed n.0 n.3.0 (named_anyhow c.args.name.now (g.S.TextSource.bytes_of c.args.console.now.texts.now) (g.C.Text.Taker.taken_in (g.S.TextSource.text_in c.args.console.now.texts.now)) _ n.0 n.1) n.2 n.3.1 n.3.2
+    c.list_found.ensures.listed n.0 n.3.0 (named_anyhow c.args.name.now (files_of (g.S.TextSource.bytes_of c.args.console.now.texts.now) (g.S.TextSource.names_in c.args.console.now.texts.now)) (g.C.Text.Taker.taken_in (g.S.TextSource.text_in c.args.console.now.texts.now)) _ n.0 n.1) n.2 n.3.1 n.3.2
 
 pub returns-in-Ok-clause-known : goal.returns-in-Ok-clause-known
 returns-in-Ok-clause-known g c = let n = c.in-Ok.ensures.named in few_listed c.list_found.result (c.list_found.ensures.few n.0 n.2)

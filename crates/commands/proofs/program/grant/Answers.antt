@@ -4,7 +4,7 @@ use Rattle.std.specs.Io.KnownBytes.{Keeps}
 use Rattle.clap.specs.Words.{Text}
 use Rattle.command_words.specs.Table.{asked_names, several_names}
 use Rattle.command_texts.specs.Several.{IsListStatus}
-use Rattle.text_access.specs.Names.{names_of}
+use Rattle.text_access.specs.Names.{files_of, names_of}
 use Rattle.text_access.specs.Written.{Streams}
 use Rattle.text_access.proofs.Fronts.{both_gain}
 use Rattle.commands.specs.Told.{EndsAsked, EndsSeveral, HasLines}
@@ -16,7 +16,7 @@ pub returns-in-Job-clause-known : goal.returns-in-Job-clause-known
 returns-in-Job-clause-known g c = known c.perform-done.result c.settle.result _ _ c.perform-done.ensures.few c.settle.ensures.settled
 
 pub returns-in-Job-clause-job : goal.returns-in-Job-clause-job
-returns-in-Job-clause-job g c = rw c.in-Job.is (settled (EndsAsked (asked_names c.in-Job.job) (g.S.TextSource.bytes_of c.args.console.now.texts.now) (g.S.TextSource.text_in c.args.console.now.texts.now) (g.I.Read.remaining c.args.console.now.input) (g.O.Write.contents c.args.console.now.output, g.E.Write.contents c.args.console.now.errors)) c.perform-done.result c.settle.result _ _ _ c.perform-done.ensures.few c.perform-done.ensures.told c.settle.ensures.settled)
+returns-in-Job-clause-job g c = rw c.in-Job.is (settled (EndsAsked (asked_names c.in-Job.job) (files_of (g.S.TextSource.bytes_of c.args.console.now.texts.now) (g.S.TextSource.names_in c.args.console.now.texts.now)) (g.S.TextSource.text_in c.args.console.now.texts.now) (g.I.Read.remaining c.args.console.now.input) (g.O.Write.contents c.args.console.now.output, g.E.Write.contents c.args.console.now.errors)) c.perform-done.result c.settle.result _ _ _ c.perform-done.ensures.few c.perform-done.ensures.told c.settle.ensures.settled)
 
 pub returns-in-Job-clause-lines : goal.returns-in-Job-clause-lines
 returns-in-Job-clause-lines g c = rw c.in-Job.is (well_lines (HasLines (asked_names c.in-Job.job) (g.S.TextSource.bytes_of c.args.console.now.texts.now) (g.O.Write.contents c.args.console.now.output) (g.O.Write.contents c.perform-done.new.console.output) c.args.lines.now c.perform-done.new.lines) c.perform-done.result c.settle.result _ _ c.settle.ensures.settled c.perform-done.ensures.lines)
@@ -39,7 +39,7 @@ returns-in-Several-clause-known g c = known_list c.asked_several-done.result c.s
 pub returns-in-Several-clause-several : goal.returns-in-Several-clause-several
 returns-in-Several-clause-several g c =
     let names = several_names c.in-Several.several in
-    let files = g.S.TextSource.bytes_of c.args.console.now.texts.now in
+    let files = files_of (g.S.TextSource.bytes_of c.args.console.now.texts.now) (g.S.TextSource.names_in c.args.console.now.texts.now) in
     let old : Streams = (g.O.Write.contents c.args.console.now.output, g.E.Write.contents c.args.console.now.errors) in
     let e = c.asked_several-done.ensures in
     rw c.in-Several.is (settled_as IsListStatus (EndsSeveral names files (g.S.TextSource.text_in c.args.console.now.texts.now) old) c.asked_several-done.result c.settle-in-Several.result _ _ _ e.known e.told c.settle-in-Several.ensures.settled)

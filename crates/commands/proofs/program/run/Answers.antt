@@ -2,8 +2,8 @@ use Rattle.std.proofs.Common.{◌≡◌, ◌∙◌, List, Some, None, sym, ap, o
 use Rattle.std.specs.Io.KnownBytes.{Keeps}
 use Rattle.clap.specs.Words.{Text, kind_of}
 use Rattle.command_words.specs.declared.requests.Request.{Request}
-use Rattle.command_words.specs.declared.requests.Request.TheVariants.{Two}
-use Rattle.command_words.specs.declared.requests.TwoTexts.TheVariants.{Check}
+use Rattle.command_words.specs.declared.requests.Request.TheVariants.{One, Two}
+use Rattle.command_words.specs.declared.requests.TwoTexts.TheVariants.{Check, Explain}
 use Rattle.command_words.specs.declared.requests.Lacking.{Lacking}
 use Rattle.command_words.specs.declared.requests.Lists.{Lists}
 use Rattle.session_commands.specs.Texts.{WritesSession}
@@ -12,16 +12,18 @@ use Rattle.command_words.specs.Words.{asked, asked_by, folders_asked, several_as
 use Rattle.command_words.proofs.Clashes.{asked_alike, clash_kind, folders_asked_alike, no_kind, not_refused, several_asked_alike}
 use Rattle.command_words.proofs.Plain.{taken_plain}
 use Rattle.commands.specs.Told.{EndsAsked, EndsSeveral, HasLines, IsSettled, IsSettledList}
+use Rattle.commands.proofs.Clean.{shows_each, shows_first, shows_one, taken_audit}
 use Rattle.commands.proofs.Shown.{shown, taken_check}
 use Rattle.commands.proofs.Settled.{if_some, refusal_fault, refusal_gains, refusal_known, refusal_misuse, refused_clash, some_asked, some_given, some_told}
+use Rattle.text_access.specs.Names.{files_of}
 use Rattle.commands.proofs.program.run.Goals as goal
 
 pub returns-in-Ok-Some-clause-told : goal.returns-in-Ok-Some-clause-told
-returns-in-Ok-Some-clause-told g c = λ accepted. some_told (job_of c.in-Ok-Some.intent) (asked c.args.reading) (λ (job : Request Text). IsSettled (EndsAsked job (g.S.TextSource.bytes_of c.args.console.now.texts.now) (g.S.TextSource.text_in c.args.console.now.texts.now) (g.I.Read.remaining c.args.console.now.input) (g.O.Write.contents c.args.console.now.output, g.E.Write.contents c.args.console.now.errors)) (g.O.Write.contents c.grant.new.console.output, g.E.Write.contents c.grant.new.console.errors) c.grant.result)
+returns-in-Ok-Some-clause-told g c = λ accepted. some_told (job_of c.in-Ok-Some.intent) (asked c.args.reading) (λ (job : Request Text). IsSettled (EndsAsked job (files_of (g.S.TextSource.bytes_of c.args.console.now.texts.now) (g.S.TextSource.names_in c.args.console.now.texts.now)) (g.S.TextSource.text_in c.args.console.now.texts.now) (g.I.Read.remaining c.args.console.now.input) (g.O.Write.contents c.args.console.now.output, g.E.Write.contents c.args.console.now.errors)) (g.O.Write.contents c.grant.new.console.output, g.E.Write.contents c.grant.new.console.errors) c.grant.result)
     (ap (option_and_then job_of) (sym c.in-Ok-Some.field-0-is) ∙ c.in-Ok-Some.ensures.job) c.grant.ensures.job
 
 pub returns-in-Ok-Some-clause-several : goal.returns-in-Ok-Some-clause-several
-returns-in-Ok-Some-clause-several g c = λ accepted. some_told (several_of c.in-Ok-Some.intent) (several_asked c.args.reading) (λ (several : Lists × List Text). IsSettledList (EndsSeveral several (g.S.TextSource.bytes_of c.args.console.now.texts.now) (g.S.TextSource.text_in c.args.console.now.texts.now) (g.O.Write.contents c.args.console.now.output, g.E.Write.contents c.args.console.now.errors)) (g.O.Write.contents c.grant.new.console.output, g.E.Write.contents c.grant.new.console.errors) c.grant.result)
+returns-in-Ok-Some-clause-several g c = λ accepted. some_told (several_of c.in-Ok-Some.intent) (several_asked c.args.reading) (λ (several : Lists × List Text). IsSettledList (EndsSeveral several (files_of (g.S.TextSource.bytes_of c.args.console.now.texts.now) (g.S.TextSource.names_in c.args.console.now.texts.now)) (g.S.TextSource.text_in c.args.console.now.texts.now) (g.O.Write.contents c.args.console.now.output, g.E.Write.contents c.args.console.now.errors)) (g.O.Write.contents c.grant.new.console.output, g.E.Write.contents c.grant.new.console.errors) c.grant.result)
     (ap (option_and_then several_of) (sym c.in-Ok-Some.field-0-is) ∙ c.in-Ok-Some.ensures.several) c.grant.ensures.several
 
 pub returns-in-Ok-Some-clause-folders : goal.returns-in-Ok-Some-clause-folders
@@ -31,14 +33,14 @@ returns-in-Ok-Some-clause-folders g c = λ accepted. some_told (folders_of c.in-
 pub returns-in-Ok-Some-clause-plain : goal.returns-in-Ok-Some-clause-plain
 returns-in-Ok-Some-clause-plain g c = λ name names plain. if_some (asked_by name names) _ (λ job e. (
   c.grant.ensures.known.0,
-  some_given (job_of c.in-Ok-Some.intent) job (λ (job : Request Text). IsSettled (EndsAsked job (g.S.TextSource.bytes_of c.args.console.now.texts.now) (g.S.TextSource.text_in c.args.console.now.texts.now) (g.I.Read.remaining c.args.console.now.input) (g.O.Write.contents c.args.console.now.output, g.E.Write.contents c.args.console.now.errors)) (g.O.Write.contents c.grant.new.console.output, g.E.Write.contents c.grant.new.console.errors) c.grant.result)
+  some_given (job_of c.in-Ok-Some.intent) job (λ (job : Request Text). IsSettled (EndsAsked job (files_of (g.S.TextSource.bytes_of c.args.console.now.texts.now) (g.S.TextSource.names_in c.args.console.now.texts.now)) (g.S.TextSource.text_in c.args.console.now.texts.now) (g.I.Read.remaining c.args.console.now.input) (g.O.Write.contents c.args.console.now.output, g.E.Write.contents c.args.console.now.errors)) (g.O.Write.contents c.grant.new.console.output, g.E.Write.contents c.grant.new.console.errors) c.grant.result)
       (ap (option_and_then job_of) (sym c.in-Ok-Some.field-0-is) ∙ c.in-Ok-Some.ensures.job ∙ (taken_plain c.args.reading name names job plain e).given) c.grant.ensures.job,
 ))
 
 pub returns-in-Ok-Some-clause-headline : goal.returns-in-Ok-Some-clause-headline
 returns-in-Ok-Some-clause-headline g c = λ first second asks zero.
     let is = taken_check c.args.reading first second asks in
-    shown is.checks _ _ _ _ _ c.grant.result c.headline_holds_at_yes.ensures (some_given (job_of c.in-Ok-Some.intent) (Two (Check is.checks) first second) (λ (job : Request Text). IsSettled (EndsAsked job (g.S.TextSource.bytes_of c.args.console.now.texts.now) (g.S.TextSource.text_in c.args.console.now.texts.now) (g.I.Read.remaining c.args.console.now.input) (g.O.Write.contents c.args.console.now.output, g.E.Write.contents c.args.console.now.errors)) (g.O.Write.contents c.grant.new.console.output, g.E.Write.contents c.grant.new.console.errors) c.grant.result)
+    shown is.checks _ _ _ _ _ c.grant.result c.headline_holds_at_yes.ensures (some_given (job_of c.in-Ok-Some.intent) (Two (Check is.checks) first second) (λ (job : Request Text). IsSettled (EndsAsked job (files_of (g.S.TextSource.bytes_of c.args.console.now.texts.now) (g.S.TextSource.names_in c.args.console.now.texts.now)) (g.S.TextSource.text_in c.args.console.now.texts.now) (g.I.Read.remaining c.args.console.now.input) (g.O.Write.contents c.args.console.now.output, g.E.Write.contents c.args.console.now.errors)) (g.O.Write.contents c.grant.new.console.output, g.E.Write.contents c.grant.new.console.errors) c.grant.result)
     (ap (option_and_then job_of) (sym c.in-Ok-Some.field-0-is) ∙ c.in-Ok-Some.ensures.job ∙ is.asks) c.grant.ensures.job) zero
 
 pub returns-in-Ok-None-clause-headline : goal.returns-in-Ok-None-clause-headline
@@ -164,3 +166,52 @@ returns-in-Ok-Some-clause-unasked g c = λ accepted job several folders. some_as
 
 pub returns-in-Err-clause-unasked : goal.returns-in-Err-clause-unasked
 returns-in-Err-clause-unasked g c = λ accepted. absurd (no_kind c.args.reading _ accepted c.in-Err.ensures.kind)
+
+pub returns-in-Ok-Some-clause-clean_headline : goal.returns-in-Ok-Some-clause-clean_headline
+returns-in-Ok-Some-clause-clean_headline g c = λ name asks zero.
+    let is = taken_audit c.args.reading name asks in
+    shows_one c.clean_sessions_are_migrated.ensures _ _ _ c.grant.result is.task _ _ (some_given (job_of c.in-Ok-Some.intent) (One is.task name) (λ (job : Request Text). IsSettled (EndsAsked job (files_of (g.S.TextSource.bytes_of c.args.console.now.texts.now) (g.S.TextSource.names_in c.args.console.now.texts.now)) (g.S.TextSource.text_in c.args.console.now.texts.now) (g.I.Read.remaining c.args.console.now.input) (g.O.Write.contents c.args.console.now.output, g.E.Write.contents c.args.console.now.errors)) (g.O.Write.contents c.grant.new.console.output, g.E.Write.contents c.grant.new.console.errors) c.grant.result)
+    (ap (option_and_then job_of) (sym c.in-Ok-Some.field-0-is) ∙ c.in-Ok-Some.ensures.job ∙ is.asks) c.grant.ensures.job) zero
+
+pub returns-in-Ok-None-clause-clean_headline : goal.returns-in-Ok-None-clause-clean_headline
+returns-in-Ok-None-clause-clean_headline g c = λ name asks zero.
+    let is = taken_audit c.args.reading name asks in
+    let none : None ≡ Some (One is.task name) = ap (option_and_then job_of) (sym c.in-Ok-None.field-0-is) ∙ c.in-Ok-None.ensures.job ∙ is.asks in
+    absurd cc
+
+pub returns-in-Err-clause-clean_headline : goal.returns-in-Err-clause-clean_headline
+returns-in-Err-clause-clean_headline g c = λ name asks zero.
+    let is = taken_audit c.args.reading name asks in
+    let alike = asked_alike c.args.reading (One is.task name) is.asks in
+    absurd (no_kind c.args.reading _ (is.accepted, alike) c.in-Err.ensures.kind)
+
+pub returns-in-Ok-Some-clause-lined_headline : goal.returns-in-Ok-Some-clause-lined_headline
+returns-in-Ok-Some-clause-lined_headline g c = λ first second is zero.
+    shows_first c.clean_sessions_are_migrated.ensures _ _ _ c.grant.result is.explains _ _ (some_given (job_of c.in-Ok-Some.intent) (Two (Explain is.explains) first second) (λ (job : Request Text). IsSettled (EndsAsked job (files_of (g.S.TextSource.bytes_of c.args.console.now.texts.now) (g.S.TextSource.names_in c.args.console.now.texts.now)) (g.S.TextSource.text_in c.args.console.now.texts.now) (g.I.Read.remaining c.args.console.now.input) (g.O.Write.contents c.args.console.now.output, g.E.Write.contents c.args.console.now.errors)) (g.O.Write.contents c.grant.new.console.output, g.E.Write.contents c.grant.new.console.errors) c.grant.result)
+    (ap (option_and_then job_of) (sym c.in-Ok-Some.field-0-is) ∙ c.in-Ok-Some.ensures.job ∙ is.asks) c.grant.ensures.job) zero
+
+pub returns-in-Ok-None-clause-lined_headline : goal.returns-in-Ok-None-clause-lined_headline
+returns-in-Ok-None-clause-lined_headline g c = λ first second is zero.
+    let none : None ≡ Some (Two (Explain is.explains) first second) = ap (option_and_then job_of) (sym c.in-Ok-None.field-0-is) ∙ c.in-Ok-None.ensures.job ∙ is.asks in
+    absurd cc
+
+pub returns-in-Err-clause-lined_headline : goal.returns-in-Err-clause-lined_headline
+returns-in-Err-clause-lined_headline g c = λ first second is zero.
+    let alike = asked_alike c.args.reading (Two (Explain is.explains) first second) is.asks in
+    absurd (no_kind c.args.reading _ (is.accepted, alike) c.in-Err.ensures.kind)
+
+pub returns-in-Ok-Some-clause-each_headline : goal.returns-in-Ok-Some-clause-each_headline
+returns-in-Ok-Some-clause-each_headline g c = λ accepted. if_some (several_asked c.args.reading) _ (λ several e zero.
+    shows_each c.clean_sessions_are_migrated.ensures several (files_of (g.S.TextSource.bytes_of c.args.console.now.texts.now) (g.S.TextSource.names_in c.args.console.now.texts.now)) (g.S.TextSource.text_in c.args.console.now.texts.now) _ _ c.grant.result
+    (some_given (several_of c.in-Ok-Some.intent) several (λ (several : Lists × List Text). IsSettledList (EndsSeveral several (files_of (g.S.TextSource.bytes_of c.args.console.now.texts.now) (g.S.TextSource.names_in c.args.console.now.texts.now)) (g.S.TextSource.text_in c.args.console.now.texts.now) (g.O.Write.contents c.args.console.now.output, g.E.Write.contents c.args.console.now.errors)) (g.O.Write.contents c.grant.new.console.output, g.E.Write.contents c.grant.new.console.errors) c.grant.result)
+    (ap (option_and_then several_of) (sym c.in-Ok-Some.field-0-is) ∙ c.in-Ok-Some.ensures.several ∙ e) c.grant.ensures.several) zero)
+
+pub returns-in-Ok-None-clause-each_headline : goal.returns-in-Ok-None-clause-each_headline
+returns-in-Ok-None-clause-each_headline g c = λ accepted. if_some (several_asked c.args.reading) _ (λ several e zero.
+    let none : None ≡ Some several = ap (option_and_then several_of) (sym c.in-Ok-None.field-0-is) ∙ c.in-Ok-None.ensures.several ∙ e in
+    absurd cc)
+
+pub returns-in-Err-clause-each_headline : goal.returns-in-Err-clause-each_headline
+returns-in-Err-clause-each_headline g c = λ accepted. if_some (several_asked c.args.reading) _ (λ several e zero.
+    let alike = several_asked_alike c.args.reading several e in
+    absurd (no_kind c.args.reading _ (accepted, alike) c.in-Err.ensures.kind))

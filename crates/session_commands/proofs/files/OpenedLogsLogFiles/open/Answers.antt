@@ -18,7 +18,7 @@ loop-place-preserved g c =
     let same : c.as_slice-paths.result.now ≡ items = c.as_slice-paths.ensures.value ∙ ap (λ (log : FoundLog). log.paths.items) c.log.ensures in
     let R = λ (known : Option (List ℕ)) (s : Standing). CameTo (Of c.args.log) known s [] in
     subst (λ (files : List Standing). AreFirst R (bytes_in bytes c.args.self.now.logs.now c.args.log) (c.loop-place.place + 1) files) (sym c.in-Ok-push.ensures.items)
-    (next_first R bytes (λ path. string_bytes path) items c.as_slice-paths.result.now c.loop-place.place c.index-paths-place.result c.as_str.result.now c.loop-place.files.items c.in_ok-file.file same c.loop-place-test.true c.index-paths-place.is c.as_str.ensures.value c.loop-place.invariant (came_known (Of c.args.log) (bytes c.as_str.result.now) _ c.in_ok-file.file c.in-Ok.ensures c.in_ok-file.ensures.opened))
+    (next_first R bytes (λ path. string_bytes path) items c.as_slice-paths.result.now c.loop-place.place c.index-paths-place.result c.as_str.result.now c.loop-place.files.items c.in_ok-file.file same c.loop-place-test.true c.index-paths-place.is c.as_str.ensures.value c.loop-place.invariant (came_known (Of c.args.log) (bytes c.as_str.result.now) _ c.in_ok-file.file c.in-Ok.ensures.bytes c.in_ok-file.ensures.opened))
 
 pub returns-clause-opened : goal.returns-clause-opened
 returns-clause-opened g c =
@@ -39,4 +39,4 @@ returns-in_err-file-clause-refused g c =
     let items = (log_in c.args.self.now.logs.now c.args.log).paths.items in
     let same : c.as_slice-paths.result.now ≡ items = c.as_slice-paths.ensures.value ∙ ap (λ (log : FoundLog). log.paths.items) c.log.ensures in
     let p = err_from_is_err_and c.from_residual.result c.from_residual.ensures.1 in
-    rw (p.1, p.2) (fault_at (Of c.args.log) bytes (λ path. string_bytes path) items c.as_slice-paths.result.now c.loop-place.place c.index-paths-place.result c.as_str.result.now _ _ same c.loop-place-test.true c.index-paths-place.is c.as_str.ensures.value c.in-Ok.ensures c.in_err-file.ensures.refused)
+    rw (p.1, p.2) (fault_at (Of c.args.log) bytes (λ path. string_bytes path) items c.as_slice-paths.result.now c.loop-place.place c.index-paths-place.result c.as_str.result.now _ _ same c.loop-place-test.true c.index-paths-place.is c.as_str.ensures.value c.in-Ok.ensures.bytes c.in_err-file.ensures.refused)

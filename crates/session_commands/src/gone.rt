@@ -1,0 +1,32 @@
+//! Recorders' folders from which the file with the recording's name is gone.
+
+use command_texts::write_line_on;
+use std::alloc::{AllocError, Global};
+use std::io::{ErrorKind, Write};
+use surveyed_logs::NAME_FILE;
+use text_access::TextSource;
+
+/// What is told of such a folder.
+const GONE: &str =
+    "note: the file recording-name is gone, which each recorder writes; that the files are of one recording is \
+    known by their second lines";
+
+/// Reports that the file with the recording's name is gone from a recorder's folder, if it is, as far as that can be known.
+/// Fails only if memory runs out.
+pub(crate) fn tell_name_gone<D: TextSource, E: Write>(
+    disk: &D,
+    alloc: Global,
+    folder: &str,
+    errors: &mut E,
+) -> Result<(), AllocError> {
+    match disk.names(alloc, folder) {
+        Ok(names) => {
+            if !names.iter().any(|name| name.as_str() == NAME_FILE) {
+                write_line_on(errors, folder, GONE);
+            }
+            Ok(())
+        }
+        Err(error) if error.kind() == ErrorKind::OutOfMemory => Err(AllocError),
+        Err(_) => Ok(()),
+    }
+}
