@@ -1,5 +1,5 @@
 -- An `audit`, a `certify` or an `explain` that ends with status 0 shows a migrated session.
-use Rattle.std.proofs.Common.{◌≡◌, ◌∙◌, ℕ, List, [], ◌∷◌, Option, Some, None, Ok, inl, inr, refl, subst, sym, ap, arith}
+use Rattle.std.proofs.Common.{◌≡◌, ◌∙◌, ℕ, List, [], ◌∷◌, Option, Some, None, Ok, inl, inr, refl, subst, sym, ap, arith, cond}
 use Rattle.std.specs.Prelude.{codes, map, Bool, true, false, nat_lt}
 use Rattle.std.specs.List.{AllByRecursion}
 use Rattle.std.proofs.lemmas.Bool.Decides.{nat_tests}
