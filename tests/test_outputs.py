@@ -125,7 +125,12 @@ def wrong_pipeline(program, room, line, status, output):
     words = ["bash", "-o", "pipefail", "-c", line.format(program=f"'{program}'")]
     child = subprocess.run(words, cwd=room, stdin=subprocess.DEVNULL, capture_output=True)
     found = (child.returncode, child.stdout, child.stderr)
-    return None if found == (status, output, b"") else f"{line}: {found}, not {(status, output)}"
+    errors = b"large" + NOTE if "large" in line else b""
+    return None if found == (status, output, errors) else f"{line}: {found}, not {(status, output, errors)}"
+
+
+# What is noted of the large session, by the name that it has, of which one page came.
+NOTE = b": note: owed pages that never came: 65535 (with --complete-pages that is status 1)\n"
 
 
 def wrong_taking(program, room, takes):
@@ -136,7 +141,7 @@ def wrong_taking(program, room, takes):
     child.stdout.close()
     errors = child.stderr.read()
     found = (child.wait(), len(taken), errors)
-    return None if found == (0, takes, b"") else f"a reader that takes {takes} bytes: {found}"
+    return None if found == (0, takes, words[-1].encode() + NOTE) else f"a reader that takes {takes} bytes: {found}"
 
 
 def answers_of_a_pipe(program, room):
@@ -179,7 +184,7 @@ def test_pipelines(program, texts):
 @pytest.mark.cases(1)
 def test_one_by_one(program, texts):
     """Of several sessions each is answered before the next is read, and one that is not there is told and left out."""
-    wanted = (b"early: faulty line 9 early\n", b"pipe: clean\n1 of 3 sessions are clean\n", b"file none\nnone: no such file or directory\n", 3)
+    wanted = (b"early: faulty line 9 early\n", b"pipe: clean\n1 of 3 sessions are clean\n", b"file none\nnone: no such file or directory\npipe" + NOTE, 3)
     same("an audit of a session, no session and a pipe", answers_of_a_pipe(program, texts), wanted)
 
 
