@@ -385,6 +385,7 @@ def recorded(run, folder, pages):
         "pager": ["got-sent 1", "ready", *(record for page in range(pages) for record in (f"got-sent {2 + page}", f"place {page} {2 + 2 * page} {page + 1:016x}"))],
     }
     os.mkdir(f"{run.room}/{folder}")
+    run.put(f"{folder}/recording-name", b"long\n")
     for log, records in logs.items():
         text = "".join(f"{number} {record}\n" for number, record in enumerate(records))
         run.put(f"{folder}/{log}.1.0", f"postcopy-records 1\nrecording long\nlog {log} 0 0\n{text}end {len(records)}\n".encode())
