@@ -25,8 +25,9 @@ import pytest
 from cases import right
 from check_model import Session, run_not_walked, verdict
 from expected_words import place_of, texts_beyond, texts_of
+from note_model import NO_USE, note
 from report_model import first_line
-from session_text import logs_of
+from session_text import SessionText, logs_of
 from steps_model import recorded
 from text_judge import refusal_line
 
@@ -34,7 +35,7 @@ TOP = os.path.dirname(os.path.dirname(os.path.abspath(__file__)))
 TOLD = 99
 MEMORY = b"out of memory\n"
 NO_MERGING = b"-: these runs do not take each record of the session once, after the record that it names\n"
-NOTE = b"note: the guest neither reads nor writes a page after a resume, so no use of one was judged\n"
+NOTE = f"note: {NO_USE}\n".encode()
 NOT_THE_SAME = b": it is read four times and has to be the same each time, as a pipe is not: name a file that stays\n"
 
 # A session with a record of each kind, and scripts with an operation of each, at the limits of their fields.
@@ -226,9 +227,11 @@ def fault_of_report(session, found):
     """What is wrong with the report on a session; of the certificate or the order in it, by what the program says of these."""
     head, _, rest = found.output.partition(b"\n")
     wanted = first_line(session.decode())
-    if head.decode() != wanted or (found.status, found.errors) != (int(head != b"clean"), b""):
+    said = note(SessionText(session.decode())) if wanted == "clean" else None
+    errors = f"-: {said}\n".encode() if said else b""
+    if head.decode() != wanted or (found.status, found.errors) != (int(head != b"clean"), errors):
         return wanted
-    if head == b"clean" and runner.ran("check - -", session + rest) != (0, b"yes\n", b""):
+    if head == b"clean" and runner.ran("check - -", session + rest) != (0, b"yes\n", errors):
         return "has a certificate that is not right"
     if head.startswith(b"faulty") and not runner.ran("replay - -", session + rest).output.startswith(b"broken line "):
         return "has an order in which all goes well"
@@ -578,13 +581,13 @@ UNREAD = (
     ("check session ''", "", NO_FILE),
     ("audit .", ".", NO_SESSION),
     ("check . certificate", ".", NO_SESSION),
-    ("check session .", ".", NO_SESSION),
-    ("replay session .", ".", NO_SESSION),
-    ("steps script .", ".", NO_SESSION),
+    ("check session .", ".", FOLDER),
+    ("replay session .", ".", FOLDER),
+    ("steps script .", ".", FOLDER),
     ("window - 0 1", "-", NOT_THE_SAME.decode().strip().removeprefix(": ")),
     ("window . 0 1", ".", NO_SESSION),
     ("window missing 0 1", "missing", NO_FILE),
-    ("explain --lines . session", ".", NO_SESSION),
+    ("explain --lines . session", ".", FOLDER),
     ("audit session/x", "session/x", "a part of its path is not a directory"),
     (f"audit {'x' * 5000}", "x" * 5000, "its name is too long"),
     ("audit 'a b\nc'", '"a b\\u000ac"', NO_FILE),
@@ -750,14 +753,15 @@ def greatest_sizes(program, version):
     with open(full, "wb") as file:
         file.write(session)
     past = f"-:{count + 5}: the run takes link {FULL}, and the link's log has {FULL} records (0 to {FULL - 1})\n"
-    note = full.encode() + b": " + NOTE
+    # (its one page was owed, and never came)
+    noted = f"{full}: {note(SessionText(session.decode()))}\n".encode()
     left = f"-:{count + 4}: no run takes the session's line {FULL + 5} (guest {FULL - 1})\n"
     tries = (
-        (f"check {full} -", entry + f"runs {count}\n".encode() + runs + b"end\n", (0, b"yes\n", note)),
+        (f"check {full} -", entry + f"runs {count}\n".encode() + runs + b"end\n", (0, b"yes\n", noted)),
         (f"check {full} -", entry + f"runs {count + 1}\n".encode() + runs + b"run link 1\nend\n", (1, f"runs line {count + 5}\n".encode(), past.encode())),
         (f"check {full} -", entry + f"runs {count - 1}\n".encode() + runs[:-len(b"run guest 1\n")] + b"end\n", (1, f"runs line {count + 4}\n".encode(), left.encode())),
         (f"replay {full} -", b"postcopy-runs 1\n" + f"runs {count}\n".encode() + runs + b"end\n", (0, b"safe\n", b"")),
-        (f"certify {full}", b"", (0, entry + "\n".join([f"runs {len(found_runs)}", *found_runs, "end", ""]).encode(), note)),
+        (f"certify {full}", b"", (0, entry + "\n".join([f"runs {len(found_runs)}", *found_runs, "end", ""]).encode(), noted)),
     )
     for words, given, wanted in tries:
         child = subprocess.run([program, *words.split()], input=given, capture_output=True)

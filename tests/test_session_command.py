@@ -380,8 +380,8 @@ def test_refused_calls(program, room, refusing):
 
 @pytest.mark.cases(60)
 def test_refused_calls_of_an_audit(program, room, refusing):
-    """An audit of a folder reads its files less often than `session`, which writes their text. If a read fails, all are read again, as
-    `session` reads them, so that what it tells then is told, and otherwise the answer stays."""
+    """An audit of a folder reads its files less often than `session`, which writes their text. A read that fails is told with the name of
+    its file, and nothing is judged. An interrupted read is made again."""
     run, folder = Run(program, room, refusing), Beside(room, program).recording()
     words = ("audit", folder)
     plain, (_, reads, *_) = run.counted("-", *words)
@@ -389,11 +389,11 @@ def test_refused_calls_of_an_audit(program, room, refusing):
     count(reads < run.counted("-", "session", folder)[1][1], f"an audit reads {reads} times")
     behind = b"file %s\n%s: its files make no session\n" % (folder.encode(), folder.encode())
     for number in range(1, reads + 1):
-        for error in (errno.EIO, errno.EINTR):
-            same(f"read {number} fails with {error}", run.counted(f"read {number} {number} {error}", *words)[0], plain)
-        (status, output, errors), _ = run.counted(f"read {number} 9999999 {errno.EIO}", *words)
-        name = errors.split(b"\n")[0].removeprefix(b"file ")
-        same(f"no read from {number} on", (status, output, errors), (3, b"", b"file %s\n%s: %s\n%s" % (name, name, NOT_READ, behind)))
+        same(f"read {number} is interrupted", run.counted(f"read {number} {number} {errno.EINTR}", *words)[0], plain)
+        for last in (number, 9999999):
+            (status, output, errors), _ = run.counted(f"read {number} {last} {errno.EIO}", *words)
+            name = errors.split(b"\n")[0].removeprefix(b"file ")
+            same(f"reads {number} to {last} fail", (status, output, errors), (3, b"", b"file %s\n%s: %s\n%s" % (name, name, NOT_READ, behind)))
 
 
 @pytest.mark.cases(20)
