@@ -4,6 +4,7 @@ import re
 from page_text import headings, links, number_of, read, rows
 
 GUARANTEES, FORMATS, ANSWERS = "docs/GUARANTEES.md", "docs/FORMATS.md", "docs/ANSWERS.md"
+PERFORMANCE, BENCHES = "docs/PERFORMANCE.md", "bench/results/tables.md"
 MAN1, MAN5 = "share/man/man1/postcopy.1", "share/man/man5/postcopy.5"
 
 # What the glossary has to explain.
@@ -114,9 +115,9 @@ def wrong_sentences(pages):
                 yield f"{name}: where it says '{about}' it has to say '{wanted}': {truth}"
 
 
-def wrong_ratios(pages):
+def wrong_ratios():
     """How a record of a migration compares with one of `steps`, by the table above the sentence."""
-    page = pages["docs/PERFORMANCE.md"]
+    page = read(BENCHES)
     each = {}
     for _, cells, head in rows(page):
         if head[:3] == ["Run", "Records", "Time"]:
@@ -125,29 +126,32 @@ def wrong_ratios(pages):
     runs = ("`migrate`, a good link", "`migrate`, a bad link over TCP")
     said = re.search(r"takes ([\d.]+) times that of `steps` over a good link, and ([\d.]+) times over TCP with a bad one", page)
     if not said or not steps or any(it not in each for it in runs):
-        yield "docs/PERFORMANCE.md: it does not say how a record of a migration compares with one of `steps`"
+        yield f"{BENCHES}: it does not say how a record of a migration compares with one of `steps`"
         return
     for run, number in zip(runs, said.groups()):
         ratio = each[run] / steps
         if abs(ratio - float(number)) > 0.06:
-            yield f"docs/PERFORMANCE.md: {number} times, and the table has {ratio:.1f}"
+            yield f"{BENCHES}: {number} times, and the table has {ratio:.1f}"
 
 
 def wrong_tables(pages):
-    """The page of performance: each table stands between the marks of bench/all, and the day of each is told at the top."""
-    name = "docs/PERFORMANCE.md"
-    blocks = re.findall(r"^<!-- bench: (\w+)(?:, ([\d-]+))? -->\n(.*?)^<!-- end -->$", pages[name], re.M | re.S)
-    measured = next((text for block, _, text in blocks if block == "measured"), "")
-    for block, day, _ in blocks:
-        if block != "measured" and (not day or f"Measured on {day}" not in measured):
-            yield f"{name} does not say at its top when {block} was measured"
-    for number, cells, _ in rows(re.sub(r"^<!-- bench: .*?^<!-- end -->$", lambda it: "\n" * it[0].count("\n"), pages[name], flags=re.M | re.S)):
-        yield f"{name}, line {number}: no bench writes this table: {cells[0]}"
+    """The page of performance, and that of the benches: each table stands between the marks of bench/all, and the day of each is told
+    at the top."""
+    blocks = []
+    for name, page in ((PERFORMANCE, pages[PERFORMANCE]), (BENCHES, read(BENCHES))):
+        found = re.findall(r"^<!-- bench: (\w+)(?:, ([\d-]+))? -->\n(.*?)^<!-- end -->$", page, re.M | re.S)
+        measured = next((text for block, _, text in found if block == "measured"), "")
+        for block, day, _ in found:
+            if block != "measured" and (not day or f"Measured on {day}" not in measured):
+                yield f"{name} does not say at its top when {block} was measured"
+        for number, cells, _ in rows(re.sub(r"^<!-- bench: .*?^<!-- end -->$", lambda it: "\n" * it[0].count("\n"), page, flags=re.M | re.S)):
+            yield f"{name}, line {number}: no bench writes this table: {cells[0]}"
+        blocks += found
     if len(blocks) < 9:
-        yield f"{name} has {len(blocks)} blocks of bench/all"
+        yield f"{PERFORMANCE} and {BENCHES} have {len(blocks)} blocks of bench/all"
     setting = r"glibc\.malloc\.\w+=\d+"
-    if set(re.findall(setting, pages[name])) != set(re.findall(setting, read("postcopy"))):
-        yield f"{name} does not set what the launcher sets"
+    if set(re.findall(setting, pages[PERFORMANCE])) != set(re.findall(setting, read("postcopy"))):
+        yield f"{PERFORMANCE} does not set what the launcher sets"
 
 
 def headline(text):
@@ -243,6 +247,6 @@ def wrong_installed(sources):
 def wrong(pages, sources):
     """All that is wrong with what is claimed."""
     found = [*wrong_counts(pages, sources), *wrong_lists(pages), *wrong_sums(pages), *wrong_gate(pages), *wrong_scripts(pages)]
-    found += [*wrong_sentences(pages), *wrong_ratios(pages)]
+    found += [*wrong_sentences(pages), *wrong_ratios()]
     found += [*wrong_tables(pages), *wrong_readme(pages), *wrong_glossary(pages), *wrong_answers(pages, sources), *wrong_texts(pages)]
     return [*found, *wrong_silences(pages, sources), *wrong_licence(), *wrong_installed(sources)]

@@ -1,4 +1,4 @@
-"""Whether what the pages say is so: README.md, CONTRIBUTING.md, and each page of docs/.
+"""Whether what the pages say is so: README.md, CONTRIBUTING.md, each page of docs/, and those of examples/.
 
 Each command of a `console` block is run, in a folder of its own for each page, and what it writes is compared with what the page
 shows below it, where a line `...` stands for any lines. `python3 NAME.py` runs the last block of Python above it. No variable is
