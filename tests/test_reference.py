@@ -122,15 +122,20 @@ def whole():
 def test_promises(whole):
     """Each contract in GUARANTEES is found, and each definition that a clause of the headline names there is one that it rests on."""
     page = reference.read(reference.GUARANTEES)
-    rows = [it for it in re.findall(r"^\|.*\|$", page.split("## The promises")[1].split("\n\n**Tested")[0], re.M)][2:]
+    rows = re.findall(r"^\| .* \| `\w+::.* \|$", page, re.M)
     assert len(rows) == len([*reference.promises(whole.calls, page)]) >= 20
     named = re.findall(r"^\| .* \| `\w+`: \*(\w+)\* \|$", page, re.M)
     assert len(named) == 9 and set(named) <= {name for _, name in whole.headline().found}
     assert whole.definitions.unknown == set()
 
 
+def reference_file(name):
+    with open(name, encoding="utf-8") as file:
+        return file.read()
+
+
 @pytest.mark.cases(2200)
-def test_reference(whole):
+def test_reference(whole, room):
     """The reference has each public call with its clauses, each wrong body, each script, and each file that a promise rests on."""
     pages = whole.pages()
     for crate in whole.calls.crates:
@@ -145,6 +150,10 @@ def test_reference(whole):
     for file, some in whole.reached().files:
         count(file in pages["promises.md"] and all(it.text in pages["definitions.md"] for it in some), f"a page lacks {file}")
     same("the files", sorted(pages), ["calls.md", "definitions.md", "headline.md", "promises.md", "scripts.md", "wrong-bodies.md"])
+    ran = subprocess.run([f"{TOP}/tools/pages", "--reference", room], stdout=subprocess.PIPE, stderr=subprocess.STDOUT, text=True)
+    same("what is said of them", (ran.returncode, sorted(it.split(":")[0] for it in ran.stdout.splitlines())), (0, [f"{room}/{it}" for it in sorted(pages)]))
+    for name, text in pages.items():
+        same(name, reference_file(f"{room}/{name}"), text)
 
 
 def test_new_citation(tmp_path):
