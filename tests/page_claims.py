@@ -3,7 +3,7 @@ import re
 
 from page_text import headings, links, number_of, read, rows
 
-GUARANTEES, FORMATS, ANSWERS = "docs/GUARANTEES.md", "docs/FORMATS.md", "docs/ANSWERS.md"
+GUARANTEES, FORMATS, ANSWERS, SCRIPTS = "docs/GUARANTEES.md", "docs/FORMATS.md", "docs/ANSWERS.md", "docs/SCRIPTS.md"
 PERFORMANCE, BENCHES = "docs/PERFORMANCE.md", "bench/results/tables.md"
 MAN1, MAN5 = "share/man/man1/postcopy.1", "share/man/man5/postcopy.5"
 
@@ -205,9 +205,9 @@ def wrong_answers(pages, sources):
 
 
 def wrong_texts(pages):
-    """The words of the texts, by FORMATS, in the man page of the texts."""
+    """The words of the texts, by FORMATS and SCRIPTS, in the man page of the texts."""
     text = re.sub(r"\\f[BIR]|\\", "", read(MAN5))
-    for _, cells, head in rows(pages[FORMATS]):
+    for _, cells, head in (*rows(pages[FORMATS]), *rows(pages[SCRIPTS])):
         if head[:2] in (["Log", "Record"], ["Lines", "Rule"], ["Line", "Event"]):
             for span in re.findall(r"`([a-z][\w-]+)", " ".join(cells[:2])):
                 if not re.search(rf"(?<![\w-]){re.escape(span)}(?![\w-])", text):
