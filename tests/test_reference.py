@@ -20,6 +20,7 @@ pytestmark = pytest.mark.quick
 # Two crates. By hand: `safe` rests on IsSafe (2 lines), Demand (4), with_cell (2), Move (3), of which the file of Moves comes first, and
 # not on `start`, which IsSafe binds, nor on `unused`. `told` rests on Told too, with its model.
 TREE = {
+    "crates.txt": "# Two crates\nlow: thiserror\n\nhigh staticlib: low\n",
     "crates/low/specs/Moves.antt": """-- What moves.
 use Rattle.std.specs.Prelude.{ℕ, List}
 
@@ -129,6 +130,16 @@ def test_promises(whole):
     assert whole.definitions.unknown == set()
 
 
+@pytest.mark.cases(170)
+def test_order(whole):
+    """A file stands after those that it rests on."""
+    before = set()
+    for file, some in whole.reached().files:
+        cited = {one.file for it in some for one in whole.definitions.cited(it) if not isinstance(one, str)} - {file}
+        count(cited <= before, f"{file} stands before {', '.join(sorted(cited - before))}")
+        before.add(file)
+
+
 def reference_file(name):
     with open(name, encoding="utf-8") as file:
         return file.read()
@@ -160,6 +171,7 @@ def test_new_citation(tmp_path):
     """Where the headline cites one definition more, the page of guarantees is out of date."""
     for name in ("tools", "docs", "examples", "tests/cases"):
         shutil.copytree(f"{TOP}/{name}", f"{tmp_path}/{name}", symlinks=True)
+    shutil.copy(f"{TOP}/crates.txt", tmp_path)
     for crate in os.listdir(f"{TOP}/crates"):
         for part in ("src", "specs"):
             if os.path.isdir(f"{TOP}/crates/{crate}/{part}"):

@@ -1,7 +1,7 @@
 """The definitions that contracts cite, and what each rests on: the files crates/*/specs/**/*.antt, cut into definitions.
 
 A definition is known by its module and its name. `closure` finds all that some definitions rest on, file by file, in an order in which
-a file stands after those that it rests on. What is of the toolchain's library is left out; types that the code declares are named and not
+a file stands after those that it rests on: crate by crate, as crates.txt has them. What is of the toolchain's library is left out; types that the code declares are named and not
 followed, since their declarations are code.
 """
 import glob
@@ -112,6 +112,7 @@ class Definitions:
         found = sorted(glob.glob(f"{TOP}/crates/*/specs/**/*.antt", recursive=True))
         files = (os.path.relpath(it, TOP) for it in found)
         self.modules = {it.name: it for it in map(Module, files)}
+        self.crates = re.findall(r"^(\w+).*:", read("crates.txt"), re.M)
         self.unknown = set()
 
     def find(self, module, name):
@@ -168,20 +169,22 @@ class Closure:
         by_file = {}
         for one in found.values():
             by_file.setdefault(one.module, []).append(one)
-        self.files, self._seen = [], set()
+        order, seen = [], set()
         for module in sorted(by_file):
-            self._add(definitions, module, by_file)
-        self.files = [(definitions.modules[it].file, sorted(by_file[it], key=lambda one: one.first)) for it in self.files]
+            self._add(definitions, module, by_file, order, seen)
+        order.sort(key=lambda it: definitions.crates.index(it.split(".")[1]))
+        self.files = [(definitions.modules[it].file, sorted(by_file[it], key=lambda one: one.first)) for it in order]
 
-    def _add(self, definitions, module, by_file):
-        if module in self._seen:
+    def _add(self, definitions, module, by_file, order, seen):
+        """Adds a file to the order, after those that it rests on."""
+        if module in seen:
             return
-        self._seen.add(module)
+        seen.add(module)
         for one in by_file[module]:
             for other in definitions.cited(one):
                 if not isinstance(other, str) and other.module != module:
-                    self._add(definitions, other.module, by_file)
-        self.files.append(module)
+                    self._add(definitions, other.module, by_file, order, seen)
+        order.append(module)
 
     def lines(self):
         """How many lines the definitions have, without comments."""

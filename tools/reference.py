@@ -53,10 +53,13 @@ class Reference:
             ("everything that the two promise", self.reached()),
         )
         table = "".join(f"| {what} | {it.sum()} |\n" for what, it in rows)
-        order = ", ".join(f"`{file.removeprefix('crates/')}` {sum(len(it.lines) for it in some)}" for file, some in headline.files)
+        order = {}
+        for file, some in headline.files:
+            order.setdefault(file.split("/")[1], []).append(f"{file.split('/')[-1].removesuffix('.antt')} {sum(len(it.lines) for it in some)}")
         rest = sum(len(it.lines) for it in others)
         return (f"| To believe | Read |\n|---|---|\n{table}\n"
-                f"The headline's files in reading order, with the lines that are meant: {order}.\n\n"
+                "The headline's files, `crates/CRATE/specs/NAME.antt`, in reading order, with the lines that are meant: "
+                f"{'; '.join(f'`{crate}`: ' + ', '.join(some) for crate, some in order.items())}.\n\n"
                 f"Contracts between crates cite {rest:,} further lines of `crates/*/specs`. Nothing that the program or the library promises rests on them.\n")
 
     def headline_page(self):
