@@ -6,7 +6,7 @@ import re
 from definitions import TOKEN, TOP, Imports, bare, read
 
 GHOST_USE = re.compile(r"^ *(pub )?ghost use ([\w.«»]+?)(?:\.\{([^}]*)\}| as (\w+))?;$", re.M)
-FUNCTION = re.compile(r"^( *)(pub )?(?:extern \"C\" )?fn (\w+)")
+FUNCTION = re.compile(r"^ *(pub(?:\(crate\))? )?(?:extern \"C\" )?fn (\w+)")
 CLAUSE = re.compile(r"^ +(requires|ensures) (?:(\w+) )?\{")
 
 # Calls whose type has a fault of memory, and which take none: some hand on what others said, one tells it apart, and the readers of
@@ -27,8 +27,8 @@ class Function:
     """A function of a crate."""
 
     def __init__(self, source, owner, found, first, doc, head, clauses):
-        self.source, self.owner, self.name, self.first = source, owner, found[3], first
-        self.is_public, self.doc, self.head, self.clauses = bool(found[2]), doc, head, clauses
+        self.source, self.owner, self.name, self.first = source, owner, found[2], first
+        self.is_public, self.doc, self.head, self.clauses = found[1] == "pub ", doc, head, clauses
         self.call = f"{owner}::{self.name}" if owner else self.name
 
     def answer(self):
