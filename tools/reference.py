@@ -45,12 +45,12 @@ class Reference:
         """The part of GUARANTEES that says how much must be read, and in which order."""
         headline, others = self.headline(), self.between_crates()
         rows = (
-            ("the headline, as the clauses of `check_texts` say it", headline),
-            ("that status 0 of `check` carries it: `commands::run`, clauses `headline` and `bare_headline`",
+            ("the headline: `check_texts`", headline),
+            ("that status 0 of `check` carries it",
              self.calls.closure([(self.run, self.run.named(("headline", "bare_headline")))])),
-            ("everything that `commands::run` promises", self.calls.closure([(self.run, self.run.clauses)])),
-            ("everything that the library for C promises", self.calls.closure([(it, it.clauses) for it in self.exports])),
-            ("everything that the two promise", self.reached()),
+            ("all that `commands::run` promises", self.calls.closure([(self.run, self.run.clauses)])),
+            ("all that the library for C promises", self.calls.closure([(it, it.clauses) for it in self.exports])),
+            ("all that the two promise", self.reached()),
         )
         table = "".join(f"| {what} | {it.sum()} |\n" for what, it in rows)
         order = {}
