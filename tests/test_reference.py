@@ -18,7 +18,7 @@ import reference  # noqa: E402
 pytestmark = pytest.mark.quick
 
 # Two crates. By hand: `safe` rests on IsSafe (2 lines), Demand (4), with_cell (2), Move (3), of which the file of Moves comes first, and
-# not on `start`, which IsSafe binds, nor on `unused`. `told` rests on Told too, with its model.
+# not on `start`, which IsSafe binds, nor on `unused`. The contract of `answer` rests on Told (3) too, as its argument is of a type that it sees so.
 TREE = {
     "crates.txt": "# Two crates\nlow: thiserror\n\nhigh staticlib: low\n",
     "crates/low/specs/Moves.antt": """-- What moves.
@@ -74,6 +74,15 @@ pub fn answer(held: &Held) -> Result<u8, AllocError>
     ensures plain { 1 ≤ 2 }
 {
     Ok(1)
+}
+""",
+    "crates/low/src/lib.rt": """//! Another type of the same name.
+pub struct Held;
+
+impl Model for Held {
+    ghost use Rattle.low.specs.Moves.{unused};
+
+    ghost Value = { unused };
 }
 """,
     "crates/high/src/held.rt": """//! What is held.

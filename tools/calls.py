@@ -117,13 +117,12 @@ class Calls:
                 yield from self._in(source, source.models[word])
 
     def _with_model(self, source, word):
-        """The file in which a type is declared that a contract sees as a value of a definition."""
+        """The file in which a type is declared that a contract sees as a value of a definition: this one, one of this crate, or one that
+        this one imports from."""
         if word in source.models:
             return [source]
-        found = [it for it in self.sources if word in it.models]
-        own = [it for it in found if it.crate == source.crate]
-        imported = [it for it in found if re.search(rf"^(?:pub )?use {it.crate}::.*\b{word}\b", source.text, re.M)]
-        return own or imported or (found if len(found) == 1 else [])
+        uses = {source.crate, *re.findall(rf"^(?:pub )?use (\w+)::[^;]*\b{word}\b[^;]*;", source.text, re.M)}
+        return [it for it in self.sources if word in it.models and it.crate in uses]
 
     def _in(self, source, text):
         for path in dict.fromkeys(TOKEN.findall(text)):
