@@ -68,7 +68,7 @@ ghost use Rattle.high.specs.Safe.{IsSafe};
 mod held;
 
 /// Returns what is so.
-pub fn answer(held: &Held) -> Result<u8, AllocError>
+pub fn answer(held: &Held, from: Net<Stream = TcpStream>) -> Result<u8, AllocError>
     requires { 1 ≤ 2 }
     ensures safe { IsSafe result }
     ensures plain { 1 ≤ 2 }
@@ -76,10 +76,18 @@ pub fn answer(held: &Held) -> Result<u8, AllocError>
     Ok(1)
 }
 """,
-    "crates/low/src/lib.rt": """//! Another type of the same name.
+    "crates/low/src/lib.rt": """//! Types of the names of others.
 pub struct Held;
 
 impl Model for Held {
+    ghost use Rattle.low.specs.Moves.{unused};
+
+    ghost Value = { unused };
+}
+
+pub struct Stream;
+
+impl Model for Stream {
     ghost use Rattle.low.specs.Moves.{unused};
 
     ghost Value = { unused };
@@ -119,7 +127,7 @@ def test_small_tree(small):
     assert found(safe) == ([(low, ["Move", "with_cell"]), (high, ["Demand", "IsSafe"])], 11)
     answer, = small.named("high::answer")
     assert (answer.head, answer.doc, [it.name for it in answer.clauses]) == (
-        "pub fn answer(held: &Held) -> Result<u8, AllocError>", ["Returns what is so."], [None, "safe", "plain"])
+        "pub fn answer(held: &Held, from: Net<Stream = TcpStream>) -> Result<u8, AllocError>", ["Returns what is so."], [None, "safe", "plain"])
     assert found(small.closure([(answer, answer.named(["safe"]))])) == ([(low, ["Move", "with_cell"]), (high, ["Demand", "IsSafe", "Told"])], 14)
     assert [*calls.calls_on_memory(small)] == [("high", ["answer"])]
 
