@@ -1,13 +1,10 @@
 """Whether what the pages claim is so: counts, sums, sizes, answers, and sentences that were once untrue."""
-import glob
-import os
 import re
 
-from page_text import TOP, headings, links, number_of, read, rows
+from page_text import headings, links, number_of, read, rows
 
-GUARANTEES, REFERENCE, HOSTING, FORMATS, MAP = "docs/GUARANTEES.md", "docs/REFERENCE.md", "docs/HOSTING.md", "docs/FORMATS.md", "docs/MAP.md"
-DEFINITIONS = "docs/DEFINITIONS.md"
-ANSWERS = "docs/ANSWERS.md"
+GUARANTEES, FORMATS, ANSWERS, SCRIPTS = "docs/GUARANTEES.md", "docs/FORMATS.md", "docs/ANSWERS.md", "docs/SCRIPTS.md"
+PERFORMANCE, BENCHES = "docs/PERFORMANCE.md", "bench/results/tables.md"
 MAN1, MAN5 = "share/man/man1/postcopy.1", "share/man/man5/postcopy.5"
 
 # What the glossary has to explain.
@@ -22,24 +19,13 @@ UNTRUE = (
     (None, r"(?:every|each) owed page (?:was|is) placed(?!,? (?:or|and|neither))", "or was released at the target, and settled"),
     (None, r"says that all are placed(?! or)", "or settled"),
     (None, r"three to six times", "the table has other ratios"),
-    (REFERENCE, r"which records are folded.*\| tested", "nothing tests which records are folded"),
-    (REFERENCE, r"agrees with the plan; which records are folded", "nothing tests which records are folded"),
-    (REFERENCE, r"only constructors, `released_list` and `FaultQueue::fault` take", "FaultQueue::left_without takes memory too"),
-    (REFERENCE, r"wait for the threads that they start, and return", "they return once their threads have ended"),
-    (REFERENCE, r"^\| where the status is 0 or 1, the output gained", "only where the command line accepts the words"),
 )
-
-# Definitions of the right shape that no law uses, and that nothing else on the page names.
-UNUSED = ("is_miss", "goes_down", "link_named", "lane_named")
 
 # What a page has to say beside what would be untrue alone: the page, the line it is about, and what that line must have.
 ALSO = (
-    (HOSTING, r"a page is covered if", r"released", "pages that the guest released at the target are covered too"),
-    (REFERENCE, r"a record's receipt is", r"LaneRec::named", "the lane's records have receipts"),
-    (REFERENCE, r"clause `told`: \*EndsAsked\*", r"\*error_kinds\*.*version", "told is asked only where the command line accepts the words"),
-    *((REFERENCE, r"used by none of these laws", rf"\*{it}\*", "this rule is used by no law, too") for it in UNUSED),
-    (GUARANTEES, r"^\| Every function returns", r"once their threads have ended", "those that start threads wait for them"),
-    (GUARANTEES, r"A released page comes back as zeros' stands for", r"not sent", "the headline's last claim has an exact clause"),
+    (GUARANTEES, r"Every function is safe", r"once their threads have ended", "those that start threads wait for them"),
+    (GUARANTEES, r"`released_as_zeros`", r"never sent", "the headline's last claim has an exact clause"),
+    (GUARANTEES, r"^`rt ci`", r"from nothing, or keeps .*checksum", "what passed on the machine before is kept"),
     (ANSWERS, r"^\| 0 \|", r"--help.*--version", "help and version have status 0"),
     (FORMATS, r"^`--help` writes", r"status 0", "help and version have status 0"),
 )
@@ -57,7 +43,6 @@ def wrong_counts(pages, sources):
         "mutants": {tried, others, tried + others},
         "examples": {sources.folders_in("examples")},
         "cases": {sources.folders_in("tests/cases")},
-        "files of definitions": {len(definition_files())},
     }
     pattern = rf"(?<![\d,.])(\d[\d,]*) ({'|'.join(counts)})\b"
     for name, page in pages.items():
@@ -98,22 +83,11 @@ def wrong_sums(pages):
             above.append((number, cells))
 
 
-def wrong_costs(pages, sources):
-    """The page of the gate: each step of it is named, and where a table has what each crate costs, each crate has a row with all
-    its mutants."""
-    name = "docs/GATE.md"
-    table = [(number, cells, head) for number, cells, head in rows(pages[name]) if head[0] == "Crate" and len(head) > 2]
-    named = {cells[0].strip("`") for _, cells, _ in table}
-    for it in sorted(sources.crates - named) if table else ():
-        yield f"{name}: no row has the crate {it}"
+def wrong_gate(pages):
+    """Each part of the gate is named where it is described."""
     for it in re.findall(r"^part (rt ci|(?:tests|tools)/[\w-]+)", read("tests/run"), re.M):
-        if f"`{it}" not in pages[name]:
-            yield f"{name} does not say what the gate does by {it}"
-    for number, cells, head in table:
-        column = next((at for at, it in enumerate(head) if it.startswith(("Mutants", "Edits"))), None)
-        tried = sum(it.startswith(f"crates/{cells[0].strip('`')}/must-fail/") for it in sources.files)
-        if column and tried and f"({tried})" not in cells[column] and f"of {tried})" not in cells[column] and cells[column] != str(tried):
-            yield f"{name}, line {number}: {cells[0]} has {tried} mutants in must-fail/"
+        if f"`{it}" not in pages["CONTRIBUTING.md"]:
+            yield f"CONTRIBUTING.md does not say what the gate does by {it}"
 
 
 def wrong_scripts(pages):
@@ -125,43 +99,6 @@ def wrong_scripts(pages):
     for script, counts in said.items():
         if len(counts) > 1:
             yield f"{script} does " + ", but ".join(f"some {count} in {', '.join(names)}" for count, names in counts.items())
-
-
-def definition_files():
-    names = (os.path.relpath(it, f"{TOP}/crates") for it in glob.glob(f"{TOP}/crates/*/specs/*.antt"))
-    return {it for it in names if os.path.basename(it) not in ("Lib.antt", "inner.antt")}
-
-
-def wrong_definitions(pages):
-    """The list of trusted definitions."""
-    listed = pages[DEFINITIONS]
-    for it in sorted(definition_files()):
-        if f"`{it}`" not in listed:
-            yield f"{DEFINITIONS}: the list of trusted definitions lacks {it}"
-
-
-def dependencies():
-    """What each crate of the repository stands on, of its own crates, by crates.txt."""
-    found = dict(re.findall(r"^(\w+)(?: staticlib)?:(.*)$", read("crates.txt"), re.M))
-    return {crate: {it for it in others.split() if it in found} for crate, others in found.items()}
-
-
-def wrong_house(pages):
-    """The drawing of the crates by floors: each has its place, and stands on those of floors below it alone."""
-    floors = {}
-    for number, cells, head in rows(pages[MAP]):
-        if head[0] == "Floor":
-            for crate in re.findall(r"`(\w+)`", " ".join(cells[1:])):
-                if crate in floors:
-                    yield f"{MAP}, line {number}: {crate} stands on two floors"
-                floors[crate] = int(cells[0])
-    needed = dependencies()
-    for crate in sorted(needed.keys() ^ floors.keys()):
-        yield f"{MAP}: {crate} is {'on no floor' if crate in needed else 'no crate of crates.txt'}"
-    for crate in sorted(needed.keys() & floors.keys()):
-        for other in sorted(needed[crate] & floors.keys()):
-            if floors[other] >= floors[crate]:
-                yield f"{MAP}: {crate} of floor {floors[crate]} stands on {other} of floor {floors[other]}"
 
 
 def wrong_sentences(pages):
@@ -178,9 +115,9 @@ def wrong_sentences(pages):
                 yield f"{name}: where it says '{about}' it has to say '{wanted}': {truth}"
 
 
-def wrong_ratios(pages):
+def wrong_ratios():
     """How a record of a migration compares with one of `steps`, by the table above the sentence."""
-    page = pages["docs/PERFORMANCE.md"]
+    page = read(BENCHES)
     each = {}
     for _, cells, head in rows(page):
         if head[:3] == ["Run", "Records", "Time"]:
@@ -189,29 +126,32 @@ def wrong_ratios(pages):
     runs = ("`migrate`, a good link", "`migrate`, a bad link over TCP")
     said = re.search(r"takes ([\d.]+) times that of `steps` over a good link, and ([\d.]+) times over TCP with a bad one", page)
     if not said or not steps or any(it not in each for it in runs):
-        yield "docs/PERFORMANCE.md: it does not say how a record of a migration compares with one of `steps`"
+        yield f"{BENCHES}: it does not say how a record of a migration compares with one of `steps`"
         return
     for run, number in zip(runs, said.groups()):
         ratio = each[run] / steps
         if abs(ratio - float(number)) > 0.06:
-            yield f"docs/PERFORMANCE.md: {number} times, and the table has {ratio:.1f}"
+            yield f"{BENCHES}: {number} times, and the table has {ratio:.1f}"
 
 
 def wrong_tables(pages):
-    """The page of performance: each table stands between the marks of bench/all, and the day of each is told at the top."""
-    name = "docs/PERFORMANCE.md"
-    blocks = re.findall(r"^<!-- bench: (\w+)(?:, ([\d-]+))? -->\n(.*?)^<!-- end -->$", pages[name], re.M | re.S)
-    measured = next((text for block, _, text in blocks if block == "measured"), "")
-    for block, day, _ in blocks:
-        if block != "measured" and (not day or f"Measured on {day}" not in measured):
-            yield f"{name} does not say at its top when {block} was measured"
-    for number, cells, _ in rows(re.sub(r"^<!-- bench: .*?^<!-- end -->$", lambda it: "\n" * it[0].count("\n"), pages[name], flags=re.M | re.S)):
-        yield f"{name}, line {number}: no bench writes this table: {cells[0]}"
+    """The page of performance, and that of the benches: each table stands between the marks of bench/all, and the day of each is told
+    at the top."""
+    blocks = []
+    for name, page in ((PERFORMANCE, pages[PERFORMANCE]), (BENCHES, read(BENCHES))):
+        found = re.findall(r"^<!-- bench: (\w+)(?:, ([\d-]+))? -->\n(.*?)^<!-- end -->$", page, re.M | re.S)
+        measured = next((text for block, _, text in found if block == "measured"), "")
+        for block, day, _ in found:
+            if block != "measured" and (not day or f"Measured on {day}" not in measured):
+                yield f"{name} does not say at its top when {block} was measured"
+        for number, cells, _ in rows(re.sub(r"^<!-- bench: .*?^<!-- end -->$", lambda it: "\n" * it[0].count("\n"), page, flags=re.M | re.S)):
+            yield f"{name}, line {number}: no bench writes this table: {cells[0]}"
+        blocks += found
     if len(blocks) < 9:
-        yield f"{name} has {len(blocks)} blocks of bench/all"
+        yield f"{PERFORMANCE} and {BENCHES} have {len(blocks)} blocks of bench/all"
     setting = r"glibc\.malloc\.\w+=\d+"
-    if set(re.findall(setting, pages[name])) != set(re.findall(setting, read("postcopy"))):
-        yield f"{name} does not set what the launcher sets"
+    if set(re.findall(setting, pages[PERFORMANCE])) != set(re.findall(setting, read("postcopy"))):
+        yield f"{PERFORMANCE} does not set what the launcher sets"
 
 
 def headline(text):
@@ -265,9 +205,9 @@ def wrong_answers(pages, sources):
 
 
 def wrong_texts(pages):
-    """The words of the texts, by FORMATS, in the man page of the texts."""
+    """The words of the texts, by FORMATS and SCRIPTS, in the man page of the texts."""
     text = re.sub(r"\\f[BIR]|\\", "", read(MAN5))
-    for _, cells, head in rows(pages[FORMATS]):
+    for _, cells, head in (*rows(pages[FORMATS]), *rows(pages[SCRIPTS])):
         if head[:2] in (["Log", "Record"], ["Lines", "Rule"], ["Line", "Event"]):
             for span in re.findall(r"`([a-z][\w-]+)", " ".join(cells[:2])):
                 if not re.search(rf"(?<![\w-]){re.escape(span)}(?![\w-])", text):
@@ -306,7 +246,7 @@ def wrong_installed(sources):
 
 def wrong(pages, sources):
     """All that is wrong with what is claimed."""
-    found = [*wrong_counts(pages, sources), *wrong_lists(pages), *wrong_sums(pages), *wrong_costs(pages, sources), *wrong_scripts(pages)]
-    found += [*wrong_definitions(pages), *wrong_house(pages), *wrong_sentences(pages), *wrong_ratios(pages)]
+    found = [*wrong_counts(pages, sources), *wrong_lists(pages), *wrong_sums(pages), *wrong_gate(pages), *wrong_scripts(pages)]
+    found += [*wrong_sentences(pages), *wrong_ratios()]
     found += [*wrong_tables(pages), *wrong_readme(pages), *wrong_glossary(pages), *wrong_answers(pages, sources), *wrong_texts(pages)]
     return [*found, *wrong_silences(pages, sources), *wrong_licence(), *wrong_installed(sources)]

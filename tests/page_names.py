@@ -5,7 +5,7 @@ import re
 from page_text import TOP, anchor, code_spans, headings, italics, links, read, rows
 
 # Pages about other programs, whose identifiers are not ours; paths are looked up there too.
-OF_OTHERS = ("docs/RECORDING.md", "docs/RECORDS.md", "docs/QEMU.md", "docs/FOUND.md", "docs/CRIU.md", "docs/LINUX.md")
+OF_OTHERS = ("docs/RECORDING.md", "docs/RECORDS.md", "docs/LARGE.md", "docs/SYSTEMS.md", "docs/GUESTS.md", "docs/FOUND.md", "examples/recording/README.md")
 # Files that come of a build or of a command that the page shows, and names of other people's files.
 MADE = re.compile(r"crates/\w+/out\b|.*libpostcopy\.(?:so|a)\b|postcopy\.pc|changed\.svg|(?:stale-page|fault|picture)\.svg|shipped/")
 PLACEHOLDER = re.compile(r"[A-Z]{4,}|[*<>$]|\.\.|^[/~-]|^https?:")
@@ -85,7 +85,7 @@ def wrong_italics(name, page, sources, terms):
         if IDENTIFIER.match(span):
             if span not in sources.definitions | sources.words:
                 yield f"{name}, line {line}: no file of definitions has {span}"
-        elif name in ("docs/GUARANTEES.md", "docs/REFERENCE.md", "docs/HOSTING.md") and span not in sources.definitions and span.lower() not in terms and span != "italics":
+        elif name == "docs/GUARANTEES.md" and span not in sources.definitions and span.lower() not in terms and span != "italics":
             yield f"{name}, line {line}: neither a definition nor a term of the glossary: {span}"
 
 
@@ -139,14 +139,6 @@ def missing_crates(name, page, sources):
             yield f"{name}: no row has the crate {it}"
 
 
-def missing_scripts(pages, sources):
-    """Scripts of the tree that the map lacks, and tests that the page of the gate lacks."""
-    for it in sorted(sources.files):
-        name = "docs/GATE.md" if it.startswith("tests/test_") else "docs/MAP.md"
-        if re.fullmatch(r"(?:tests|tools|bench)/[^/]+", it) and f"`{it}`" not in pages[name]:
-            yield f"{name}: no row has {it}"
-
-
 def wrong_links(name, page, pages):
     for line, target in links(page):
         count()
@@ -170,6 +162,4 @@ def wrong(pages, sources):
         found += wrong_clauses(name, page, sources)
         found += wrong_crates(name, page, sources)
         found += wrong_links(name, page, pages)
-    for name in ("docs/MAP.md", "docs/CALLS.md"):
-        found += missing_crates(name, pages[name], sources)
-    return [*found, *missing_scripts(pages, sources)]
+    return [*found, *missing_crates("docs/ARCHITECTURE.md", pages["docs/ARCHITECTURE.md"], sources)]

@@ -2,13 +2,17 @@
 import glob
 import os
 import re
+import sys
 from fnmatch import fnmatch
 
 from page_text import TOP, read
 
+sys.path.insert(0, f"{TOP}/tools")
+from calls import Calls  # noqa: E402
+from definitions import Definitions  # noqa: E402
+
 ITEM = r"^(?:pub(?:\(crate\))? )?(?:struct|enum|trait|type|const|static|mod) (\w+)"
 MEMBERS = r"^    (?:pub(?:\(crate\))? )?(?:fn|const) (\w+)|^    (\w+)(?:\(.*| \{.*)?,$"
-DEFINITION = r"^(?:abbrev |pub |record |data )+(\w+)"
 OWNER = r"^(?:pub )?(?:impl(?:<[^>]*>)? (?:[^\n]* for )?|trait |enum |struct )(\w+)[^{;]*\{\n(.*?)^\}"
 WORDS_IN = ("*.rt", "*.antt", "*.py", "*.c", "*.h", "*.rs", "*.toml", "*.in", "postcopy") + tuple(
     f"{folder}/*" for folder in ("bench", "recorders", "share", "tests", "tools"))
@@ -35,7 +39,11 @@ class Sources:
         for name in sorted(self.files):
             if name.endswith(".rt"):
                 self.take(name.split("/")[1], read(name))
-        self.definitions = {word for name in self.files if "/specs/" in name for word in re.findall(DEFINITION, read(name), re.M)}
+        definitions = Definitions()
+        for it in Calls(definitions).functions:
+            self.functions.setdefault(it.name, []).append((it.source.crate, {one.name for one in it.clauses if one.name}))
+            self.items[it.source.crate].add(it.name)
+        self.definitions = {name for module in definitions.modules.values() for name in module.definitions}
         self.fields = {word for name in self.files if "/specs/" in name for word in re.findall(r"^  pub (\w+) :", read(name), re.M)}
         self.words = set().union(*(re.findall(r"\w+", read(name)) for name in self.files if is_source(name)))
         self.words |= self.crates | self.test_crates | {os.path.basename(it).partition(".")[0] for it in self.files}
@@ -46,11 +54,6 @@ class Sources:
         items.update(re.findall(ITEM, text, re.M))
         for names in re.findall(r"^pub use [\w:]+::(\{[^}]*\}|\w+);", text, re.M):
             items.update(re.findall(r"\w+", names))
-        for part in re.split(r"\n(?=(?:    )?(?:pub(?:\(crate\))? )?(?:extern \"C\" )?fn \w)", text)[1:]:
-            name = re.match(r".*?fn (\w+)", part)[1]
-            clauses = set(re.findall(r"^ +(?:ensures|requires) (\w+) \{", part, re.M))
-            self.functions.setdefault(name, []).append((crate, clauses))
-            items.add(name)
         for owner, body in re.findall(OWNER, text, re.M | re.S):
             found = {one or other for one, other in re.findall(MEMBERS, body, re.M)}
             self.members.setdefault(owner, set()).update(found)

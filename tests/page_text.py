@@ -13,7 +13,8 @@ def read(name):
 
 def page_names():
     """Each page, by its path from the top."""
-    return ["README.md", "CONTRIBUTING.md", "CHANGELOG.md", "SECURITY.md", *sorted(os.path.relpath(it, TOP) for it in glob.glob(f"{TOP}/docs/*.md"))]
+    written = [os.path.relpath(it, TOP) for kind in ("docs/*.md", "examples/README.md", "examples/recording/README.md") for it in sorted(glob.glob(f"{TOP}/{kind}"))]
+    return ["README.md", "CONTRIBUTING.md", "CHANGELOG.md", "SECURITY.md", *written]
 
 
 def commands_of(page):

@@ -1,4 +1,4 @@
-"""Whether what the pages say is so: README.md, CONTRIBUTING.md, and each page of docs/.
+"""Whether what the pages say is so: README.md, CONTRIBUTING.md, each page of docs/, and those of examples/.
 
 Each command of a `console` block is run, in a folder of its own for each page, and what it writes is compared with what the page
 shows below it, where a line `...` stands for any lines. `python3 NAME.py` runs the last block of Python above it. No variable is
@@ -81,7 +81,7 @@ def test_commands(program):
             right(wrong, name)
 
 
-@pytest.mark.cases(6000)
+@pytest.mark.cases(2500)
 def test_claims():
     pages, sources = {name: read(name) for name in names_of_pages()}, Sources()
     for wrong in (*page_names.wrong(pages, sources), *page_claims.wrong(pages, sources)):
@@ -117,7 +117,7 @@ def test_planted_style(planted, wrong):
     assert found == ([f"{name}, line {line}: {wrong}"] if wrong else [])
 
 
-@pytest.mark.parametrize("name, most", [("README.md", 6144), ("docs/GUARANTEES.md", 25600), ("docs/FORMATS.md", 51200)])
+@pytest.mark.parametrize("name, most", [("README.md", 6144), ("docs/GUARANTEES.md", 13312), ("docs/FORMATS.md", 51200)])
 def test_size(name, most):
     """A page of as many bytes as it may have, and one that has a byte more."""
     right_page = "word\n\n" * (most // 6) + "x" * (most % 6)

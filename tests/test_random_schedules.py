@@ -149,7 +149,7 @@ def folder_fault(program, folder):
 
 def folders():
     """The example folders in which `steps` records a session of the files beside it."""
-    for folder in sorted(glob.glob(f"{TOP}/examples/*") + glob.glob(f"{TOP}/tests/cases/*")):
+    for folder in sorted(glob.glob(f"{TOP}/examples/*/") + glob.glob(f"{TOP}/tests/cases/*/")):
         with open(f"{folder}/args") as args, open(f"{folder}/status") as status:
             if args.read().split() == ["steps", "script", "events"] and status.read() == "0\n":
                 yield folder

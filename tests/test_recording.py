@@ -305,7 +305,7 @@ def test_recording(program, room):
 
 
 def test_skeleton(program, cc, room):
-    """The program in C that docs/RECORDING.md begins with: it compiles without a warning, and what it records is judged as the
+    """The skeleton in C of docs/RECORDING.md: it compiles without a warning, and what it records is judged as the
     page shows; and with the change that the page names, too."""
     page = read("docs/RECORDING.md")
     skeleton = re.search(r"```c\n(/\* smallest\.c: .*?)```", page, re.S)[1]
@@ -337,14 +337,14 @@ def no_folder(room):
 
 
 def test_skeletons_of_other_languages(program, room, cc):
-    """The skeleton is C++ too, and the one in Rust records what is judged as the page shows."""
+    """The skeleton is C++ too, and the one in Rust, bindings/rust/smallest.rs, records what is judged as the page shows."""
     page = read("docs/RECORDING.md")
     for folder in ("bindings", "recorders"):
         os.symlink(f"{TOP}/{folder}", f"{room}/{folder}")
     os.symlink(program, f"{room}/postcopy")
-    for language, name, compiler in (("c", "smallest.cpp", "c++"), ("rust", "smallest.rs", "rustc")):
-        with open(f"{room}/{name}", "w", encoding="ascii") as file:
-            file.write(re.search(rf"```{language}\n(/[/*] smallest\.\w+: .*?)```", page, re.S)[1])
+    with open(f"{room}/smallest.cpp", "w", encoding="ascii") as file:
+        file.write(re.search(r"```c\n(/\* smallest\.c: .*?)```", page, re.S)[1])
+    for compiler in ("c++", "rustc"):
         if not shutil.which(compiler):
             leave_out(f"the skeleton by {compiler}, which is not there")
             continue
@@ -352,7 +352,7 @@ def test_skeletons_of_other_languages(program, room, cc):
         at = next(at for at, (command, _, _) in enumerate(commands) if command.startswith("rustc "))
         (object_file, _, _), (linking, _, _), (judging, shown, _) = commands[at - 1:at + 2]
         assert (object_file.startswith(f"{cc} -O2 -pthread "), shown) == (True, ["clean"])
-        if language == "c":
+        if compiler == "c++":
             linking = "c++ -std=c++17 -Wall -Wextra -Werror -pthread -Ibindings/c -o smallest smallest.cpp postcopy_record.o"
         shutil.rmtree(f"{room}/rust-recording", ignore_errors=True)
         ran = subprocess.run(["bash", "-c", f"{object_file} && {linking} && {judging}"], cwd=room, stdout=subprocess.PIPE, stderr=subprocess.STDOUT, encoding="utf-8")
@@ -368,9 +368,8 @@ def test_lines_in_their_order(program, room, cc):
     for folder in ("bindings", "recorders"):
         os.symlink(f"{TOP}/{folder}", f"{room}/{folder}")
     os.symlink(program, f"{room}/postcopy")
-    for name in ("c", "rs"):
-        with open(f"{room}/smallest.{name}", "w", encoding="ascii") as file:
-            file.write(re.search(rf"```\w+\n(/[/*] smallest\.{name}: .*?)```", page, re.S)[1])
+    with open(f"{room}/smallest.c", "w", encoding="ascii") as file:
+        file.write(re.search(r"```c\n(/\* smallest\.c: .*?)```", page, re.S)[1])
 
     def wrote(*lines):
         ran = subprocess.run(["bash", "-e", "-c", "\n".join(lines)], cwd=room, stdin=subprocess.DEVNULL, capture_output=True, encoding="utf-8")
@@ -412,11 +411,10 @@ def record(folder, placed=lambda page: page + 1, is_closed=True):
 
 
 def test_lines_for_windows(program, room):
-    """The lines of docs/RECORDING.md that judge a larger machine through windows, on one machine and by an array job, whose tasks run here one
+    """The lines of docs/LARGE.md that judge a larger machine through windows, on one machine and by an array job, whose tasks run here one
     after the other. Their status is 0 if each window is clean, and only then: not if what they show cannot be written, nor if the recording
     made no text and that of an earlier one is there. So it is too where the last window has fewer pages than the others."""
-    section = re.search(r"^## Larger machines\n(.*?)^## ", read("docs/RECORDING.md"), re.M | re.S)[1]
-    written, cut, judged, _, as_tasks, put_together = re.findall(r"^```sh\n(.*?)^```$", section, re.M | re.S)
+    written, cut, judged, _, as_tasks, put_together = re.findall(r"^```sh\n(.*?)^```$", read("docs/LARGE.md"), re.M | re.S)
     as_tasks = f'sbatch() {{ for SLURM_ARRAY_TASK_ID in $(seq "${{2#--array=1-}}"); do export SLURM_ARRAY_TASK_ID; sh -c "$4"; done; }}\n{as_tasks}'
     os.symlink(program, f"{room}/postcopy")
 
