@@ -74,6 +74,8 @@ NEWER = {
     "cut-behind-package": [((11, 1), AGAIN, "source failed, target (HANGS|ENDED|failed|postcopy-paused)")],
     "started-after-failed-load": [((11, 1), AGAIN, "source failed, target (ENDED|failed|postcopy-paused)")],
 }
+# A fault that recorders/qemu/shows shows, and the versions that have it: since, and up to, which is not included.
+SHOWN = [("lost-write", (0, 0), (10, 0)), ("uneven", (10, 0), (100, 0)), ("both-ran", (10, 0), (100, 0)), ("source-waits", (0, 0), (10, 0)), ("syncs", (11, 0), (100, 0))]
 # What the name of each folder ends with: QEMU's options are cut at commas, its log's name has a percent sign for the process,
 # and a socket's path has at most 107 bytes.
 STRANGE = f", 100%s of = 'it' {'x' * 100}"
@@ -148,6 +150,8 @@ def pytest_generate_tests(metafunc):
         cases = LINUX if is_all else LINUX[:1]  # which tells that all are left out
     elif metafunc.function is test_killed:
         cases = KILLED if is_all else KILLED[:1]
+    elif metafunc.function is test_shows:
+        cases = SHOWN if is_all else SHOWN[:2]
     else:
         cases = [it for it in CASES if is_all or it[0] in IN_GATE]
     metafunc.parametrize("case", cases, ids=[it[0] for it in cases])
@@ -201,6 +205,15 @@ def test_killed(qemu, program, pytestconfig, monkeypatch, case):
     assert is_right, f"{said}\n  wanted {verdict}; {outcome}\n  kept in {folder}"
     assert (recorder.returncode, f"\nThe {side} was killed by signal 9: " in said, os.path.exists(f"{folder}/certificate")) == (1, True, False), folder
     shutil.rmtree(os.path.dirname(folder))
+
+
+def test_shows(qemu, case):
+    """A fault is shown where a version has it, and else it is told that it is not."""
+    name, since, before = case
+    done = subprocess.run([f"{TOP}/recorders/qemu/shows", name, "--qemu", qemu], capture_output=True, text=True)
+    is_there = since <= Emulator(qemu).version < before
+    wanted = (1, "shown: ") if is_there else (0, "not shown: ")
+    assert (done.returncode, done.stdout.splitlines()[-1].startswith(wanted[1])) == (wanted[0], True), f"{done.stdout}{done.stderr}"
 
 
 def test_linux(qemu, program, pytestconfig, monkeypatch, case):

@@ -25,6 +25,19 @@ def seconds_waited(path):
         return 0.0  # it has ended, or the kernel does not count this
 
 
+def last_words(status, errors):
+    """Returns the assertion that failed, or the last line of what a QEMU said, by the file of its errors; or its status."""
+    with open(errors, encoding="utf-8", errors="replace") as file:
+        lines = file.read().splitlines()
+    return ([line for line in lines if "Assertion" in line] or lines or [f"status {status}, and it said nothing"])[-1]
+
+
+def how_it_ended(status, errors):
+    """Returns how the process of a QEMU ended, and its last words."""
+    how = "aborted" if status == -signal.SIGABRT else f"was killed by signal {-status}" if status < 0 else "exited"
+    return f"{how}: {last_words(status, errors)}"
+
+
 class PipeReader:
     """Reads a pipe into a file, until QEMU has ended and everything is read. If the file cannot be written, `fault` says why, and the rest of
     the pipe is read all the same, because QEMU would wait."""
@@ -155,17 +168,11 @@ class Machine:
             pass
 
     def last_error(self):
-        """Returns the assertion that failed, or the last line of what it said, or its status."""
-        with open(self.errors, encoding="utf-8", errors="replace") as file:
-            lines = file.read().splitlines()
-        failed = [line for line in lines if "Assertion" in line]
-        return (failed or lines or [f"status {self.process.poll()}, and it said nothing"])[-1]
+        return last_words(self.process.poll(), self.errors)
 
     def how_it_ended(self):
         """Returns how its process ended, and its last words."""
-        status = self.process.poll()
-        how = "aborted" if status == -signal.SIGABRT else f"was killed by signal {-status}" if status < 0 else "exited"
-        return f"{how}: {self.last_error()}"
+        return how_it_ended(self.process.poll(), self.errors)
 
     def end(self, is_well):
         """Ends QEMU, and reads everything that it recorded. Returns why something of this is lost, or nothing. (A QEMU that is not well would
