@@ -102,7 +102,7 @@ def too_slow(folder):
             remarks = json.load(file)["remarks"]
     except OSError:
         return None
-    return next((it for it in remarks if re.match("gave up: pre-copy: completed|it took more than|[0-9]+ cut not reached", it)), None)
+    return next((it for it in remarks if re.match("pre-copy: (completed|device)|it took more than|[0-9]+ cut not reached", it)), None)
 
 
 def wanted_of(name, version, verdict, outcome):

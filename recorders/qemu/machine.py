@@ -7,7 +7,7 @@ import subprocess
 import threading
 import time
 
-from dialect import PC_RAM
+from dialect import FRONT, PC_RAM
 from files import write
 from qmp import Gone, Hangs, Qmp, Refused
 from roots import die_with_parent
@@ -75,6 +75,21 @@ class PipeReader:
         self.thread.join()
 
 
+def memory(plan):
+    """Returns QEMU's options for the guest's memory. The block that has the window is PC_RAM; QEMU makes the blocks in the order of the options."""
+    kind = "memory-backend-memfd,hugetlb=on,hugetlbsize=2M" if plan.huge else "memory-backend-ram"
+    block = ["-object", f"{kind},id={PC_RAM},size={plan.ram}M"]
+    length = plan.ram // 2 if plan.memory == "uneven" else plan.ram * 2
+    front = ["-object", f"memory-backend-ram,id={FRONT},size={length}M"]
+    if plan.memory == "dimm":
+        return ["-m", f"{plan.ram}M,slots=1,maxmem={plan.ram + 2 * length}M", *front, *block, "-machine", f"memory-backend={PC_RAM}",
+                "-device", f"pc-dimm,memdev={FRONT}"]
+    if plan.memory != "one":
+        return ["-m", f"{plan.ram + length}M", *front, *block, "-numa", f"node,nodeid=0,memdev={PC_RAM}", "-numa", f"node,nodeid=1,memdev={FRONT}"]
+    is_named_here = plan.huge or plan.machine != "pc"  # (another machine has another name for its block)
+    return ["-m", f"{plan.ram}M", *([*block, "-machine", f"memory-backend={PC_RAM}"] if is_named_here else [])]
+
+
 class Machine:
     """QEMU runs in `folder`, which has the files that it reads and writes. Its sockets, its pipe and a link to the preloaded library are in
     `room`, so the name of the folder is in no option of QEMU. `machine` is the type of the machine, and `trace` has the events that it
@@ -89,7 +104,7 @@ class Machine:
         self.reader = PipeReader(self.pipe, f"{folder}/{name}.raw")
         self.errors = f"{folder}/{name}.errors"
         command = [
-            path, "-name", name, *self.hardware(machine, plan), "-m", f"{plan.ram}M", "-smp", str(plan.cpus),
+            path, "-name", name, *self.hardware(machine, plan), *memory(plan), "-smp", str(plan.cpus),
             "-nodefaults", "-no-user-config", "-display", "none", *self.guest(plan),
             "-qmp", f"unix:{self.socket},server=on,wait=off", "-D", self.pipe,
             *(word for event in trace for word in ("-trace", event)), *extra]
@@ -109,9 +124,7 @@ class Machine:
 
     def hardware(self, machine, plan):
         """Returns QEMU's options for the machine, its processors and its memory."""
-        memory = ["-object", f"memory-backend-memfd,id={PC_RAM},size={plan.ram}M,hugetlb=on,hugetlbsize=2M",
-                  "-machine", f"memory-backend={PC_RAM}"] if plan.huge else []
-        return ["-machine", f"{machine},accel={'kvm' if plan.kvm else 'tcg'}", *memory]
+        return ["-machine", f"{machine},accel={'kvm' if plan.kvm else 'tcg'}"]
 
     def guest(self, plan):
         """Returns QEMU's options for the guest and its record of what it does."""

@@ -1,4 +1,5 @@
 """Plans of migrations: random ones, and those that compare versions."""
+import axes
 from faults import KINDS as FAULTS
 from faults import NEED_CUT
 from kinds import plan_of
@@ -60,6 +61,16 @@ def random_plan(drawn, with_faults=False, without_flush=False):
     if with_faults and drawn.random() < 0.5:
         plan.fault = drawn.choice([fault for fault in FAULTS if plan.cuts or fault not in NEED_CUT])
         plan.skip = drawn.choice((0, 3, 20))
+    return plan
+
+
+def plan_by_axes(drawn, row):
+    """Returns a plan with the values of a row of axes, whose sizes, rates and moments are random. `drawn` is a random.Random."""
+    plan = plan_of("live", pages=drawn.choice((64, 64, 128, 256)), words=drawn.choice((1, 8, 32)), writes=drawn.choice((4, 8, 15)),
+                   bandwidth=drawn.choice((500_000, 1_000_000, 2_000_000)), post_bandwidth=drawn.choice((300_000, 1_000_000)),
+                   warm=drawn.choice((0, 200, 2000)), pre=drawn.choice((0.0, 0.3)), after=drawn.choice((200, 2000)), limit=30.0, **axes.fields_of(row))
+    plan.pre_pages = drawn.choice((0, plan.pages * 9 // 8))
+    plan.cuts = random_cuts(drawn, plan) if row["recovery"] == "yes" else []
     return plan
 
 

@@ -1,0 +1,102 @@
+"""The axes of a campaign's plans, rows in which each pair of their values stands, and what each pair gave."""
+import collections
+import itertools
+
+from kinds import MEMORIES
+from results import markdown, versions_of
+
+# The values of each axis, by its name. The first is what a plan has that is drawn without axes.
+AXES = {
+    "memory": tuple(MEMORIES),
+    "machine": ("pc", "q35"),
+    "capability": ("none", "auto-converge", "xbzrle"),
+    "translations": ("flushed", "kept"),  # whether the guest drops that of a page before each access
+    "preempt": ("no", "yes"),
+    "multifd": ("no", "yes"),
+    "recovery": ("no", "yes"),
+    "guest": ("runs", "paused"),
+    "processors": (1, 2, 4),
+}
+
+
+def pairs_of(row):
+    """Returns the pairs of a row, each as ((axis, value), (axis, value))."""
+    return set(itertools.combinations(((axis, row[axis]) for axis in AXES), 2))
+
+
+def all_pairs():
+    return {((one, a), (other, b)) for one, other in itertools.combinations(AXES, 2) for a in AXES[one] for b in AXES[other]}
+
+
+def rows(drawn):
+    """Returns rows, each with a value of each axis, so that each pair stands in one of them. `drawn` is a random.Random."""
+    found, left = [], all_pairs()
+    while left:
+        row = dict(drawn.choice(sorted(left, key=str)))
+        for axis in drawn.sample(list(AXES), len(AXES)):
+            if axis not in row:
+                row[axis] = max(drawn.sample(AXES[axis], len(AXES[axis])), key=lambda value: len(left & new_pairs(row, axis, value)))
+        found.append(row)
+        left -= pairs_of(row)
+    return found
+
+
+def new_pairs(row, axis, value):
+    """Returns the pairs that a value of a further axis makes with those of a row."""
+    places = list(AXES)
+    return {tuple(sorted([(axis, value), other], key=lambda one: places.index(one[0]))) for other in row.items()}
+
+
+def fields_of(row):
+    """Returns what a row sets in a plan, but for its cuts."""
+    return {"memory": row["memory"], "machine": row["machine"], "further": [] if row["capability"] == "none" else [row["capability"]],
+            "flush": row["translations"] == "flushed", "preempt": row["preempt"] == "yes", "multifd": 2 if row["multifd"] == "yes" else 0,
+            "paused": row["guest"] == "paused", "cpus": row["processors"]}
+
+
+def row_of(plan):
+    """Returns the row of a plan that was drawn by axes."""
+    return {"memory": plan.memory, "machine": plan.machine, "capability": plan.further[0] if plan.further else "none", "translations": "flushed" if plan.flush else "kept",
+            "preempt": "yes" if plan.preempt else "no", "multifd": "yes" if plan.multifd else "no", "recovery": "yes" if plan.cuts else "no",
+            "guest": "paused" if plan.paused else "runs", "processors": plan.cpus}
+
+
+def in_words(part):
+    return ", ".join(f"{axis} {value}" for axis, value in part)
+
+
+def counted(results):
+    """Returns what each value and each pair gave, as {part: {version: Counter}}. A part is a tuple of one or two (axis, value)."""
+    found = collections.defaultdict(lambda: collections.defaultdict(collections.Counter))
+    for result in results:
+        row = row_of(result.plan)
+        for part in [*((one,) for one in row.items()), *pairs_of(row)]:
+            found[part][result.version][result.in_a_word] += 1
+    return found
+
+
+def order(part):
+    return len(part), str(part)
+
+
+def table(results):
+    """Returns the table of what each value and each pair gave, by version."""
+    versions, found = versions_of(results), counted(results)
+    lines = [[in_words(part), *(", ".join(f"{count} {word}" for word, count in found[part][version].most_common()) for version in versions)] for part in sorted(found, key=order)]
+    return markdown([["Of the migrations with", *versions], *lines])
+
+
+def never_clean(results):
+    """Yields a line for each value, and each pair of other values, of which a version made two or more migrations, and none was clean."""
+    found, blamed = counted(results), set()
+    for part in sorted(found, key=order):
+        for version, words in sorted(found[part].items()):
+            if sum(words.values()) < 2 or any(word in ("clean", "cut not reached") for word in words) or any((version, (one,)) in blamed for one in part):
+                continue
+            blamed.add((version, part))
+            yield f"never clean with {version or 'no QEMU'}: {in_words(part)}: {', '.join(f'{count} {word}' for word, count in words.most_common())}"
+
+
+def not_made(results):
+    """Returns the pairs that no migration had."""
+    return all_pairs().difference(*(pairs_of(row_of(result.plan)) for result in results))

@@ -1,0 +1,177 @@
+"""The axes of plans: rows with each pair, the plans of rows, what each pair gave, and how a QEMU and the words of `migrate` have them."""
+import contextlib
+import io
+import random
+import subprocess
+import sys
+import tempfile
+from types import SimpleNamespace
+from unittest import mock
+
+import axes
+import build
+import kinds
+import machine
+import plans
+import results
+import witness
+from emulator import Emulator
+from kinds import plan_from_text, plan_of
+from records import Hole
+from results import Result
+from run import Migration, Outcome, PrecopyEnded
+from versions_test import QEMU, command, program, qemu_like, read
+
+
+def of_rows(tests):
+    for seed in range(20):
+        rows = axes.rows(random.Random(seed))
+        tests.wants("each pair stands in a row", axes.all_pairs().difference(*map(axes.pairs_of, rows)), set())
+        tests.wants("in few of them", len(rows) < 30, True)
+        tests.wants("the same seed, the same rows", axes.rows(random.Random(seed)), rows)
+        made = [plans.plan_by_axes(random.Random(seed), row) for row in rows]
+        tests.wants("a plan has the values of its row", [axes.row_of(plan) for plan in made], rows)
+        tests.wants("a plan's text and back", [plan_from_text(plan.to_text()) for plan in made], made)
+    tests.wants("a plan that is drawn without axes has the first value of each", [value for value in axes.row_of(plan_of("live")).values()], [values[0] for values in axes.AXES.values()])
+
+
+def of_results(tests):
+    """What each value and each pair gave, which was never clean, and which was not made."""
+    first = {axis: values[0] for axis, values in axes.AXES.items()}
+
+    def result(verdict, version="10.0.13", **values):
+        return Result(plans.plan_by_axes(random.Random(1), {**first, **values}), verdict, "completed", version=version)
+
+    made = [result("clean, yes"), result("clean, yes", memory="numa"), *[result("faulty line 7 read", memory="numa", translations="kept")] * 2,
+            *[result("faulty line 7 read", "7.2.22", translations="kept")] * 2, result("faulty line 9 read", memory="dimm")]
+    tests.wants("never clean", [line for line in axes.never_clean(made) if "memory" in line or "7.2.22" in line], [
+        "never clean with 7.2.22: capability none: 2 `read`", "never clean with 7.2.22: guest runs: 2 `read`", "never clean with 7.2.22: machine pc: 2 `read`",
+        "never clean with 7.2.22: memory one: 2 `read`", "never clean with 7.2.22: multifd no: 2 `read`", "never clean with 7.2.22: preempt no: 2 `read`",
+        "never clean with 7.2.22: processors 1: 2 `read`", "never clean with 7.2.22: recovery no: 2 `read`", "never clean with 7.2.22: translations kept: 2 `read`"])
+    tests.wants("a value of which none was", [line for line in axes.never_clean(made) if "10.0.13" in line], ["never clean with 10.0.13: translations kept: 2 `read`"])
+    made.append(result("clean, yes", translations="kept"))
+    tests.wants("a pair of which none was", [line for line in axes.never_clean(made) if "10.0.13" in line], ["never clean with 10.0.13: memory numa, translations kept: 2 `read`"])
+    lines = axes.table(made).splitlines()
+    tests.wants("the table", [line for line in lines if line.startswith(("| Of", "| memory numa, translations kept |"))],
+                ["| Of the migrations with | 7.2.22 | 10.0.13 |", "| memory numa, translations kept | | 2 `read` |"])
+    tests.wants("pairs that were not made", (("memory", "uneven"), ("machine", "pc")) in axes.not_made(made), True)
+    tests.wants("and one that was", (("memory", "numa"), ("translations", "kept")) in axes.not_made(made), False)
+    tests.wants("a line", result("clean, yes", memory="numa", machine="q35", capability="xbzrle", multifd="yes").line().split(":")[0].split(", ")[3:],
+                ["memory numa", "machine q35", "xbzrle", "multifd"])
+
+
+def of_campaigns(tests):
+    """Every second plan is of a row, each QEMU gets each row, and without axes the plans are those of the seed alone."""
+    campaign, emulators = command("campaign"), ["one", "other"]
+    asked = SimpleNamespace(seed=5, count=120, axes=True, faults=False, no_flush=False)
+    made = list(campaign.plans_of(asked, emulators))
+    tests.wants("as many as are asked for", len(made), 120)
+    tests.wants("the same seed gives the same", list(campaign.plans_of(asked, emulators)), made)
+    for emulator in emulators:
+        rows = [axes.row_of(plan) for plan, its in made[1::2] if its == emulator]
+        tests.wants("each QEMU gets each pair", axes.all_pairs().difference(*map(axes.pairs_of, rows)), set())
+    drawn = random.Random(5)
+    tests.wants("the others are drawn as without axes", [plan for plan, _ in made[::2]], [plans.random_plan(drawn) for _ in range(60)])
+    tests.wants("by each QEMU in turn", [its for _, its in made[::2]], emulators * 30)
+    drawn, asked.axes = random.Random(5), False
+    tests.wants("without axes", list(campaign.plans_of(asked, emulators)), [(plans.random_plan(drawn), emulators[number % 2]) for number in range(120)])
+    with tempfile.TemporaryDirectory() as room, contextlib.redirect_stdout(io.StringIO()) as said:
+        campaign.tell_axes([Result(plan, "faulty line 1 read", "completed", version="7.2.22") for plan, _ in made[1::2]][:4], room)
+        tests.wants("what is told", (said.getvalue().split("\n")[1].split(";")[1], "  never clean with 7.2.22: " in said.getvalue(), read(f"{room}/pairs").startswith("| Of the")),
+                    (f" {len(axes.not_made([Result(plan, '', '') for plan, _ in made[1:9:2]]))} pairs were not made", True, True))
+
+
+def of_machines(tests, room):
+    """The options of a QEMU for the memory, and what it is asked for before."""
+    for memory, wanted in (("one", ["-m", "32M"]),
+                           ("numa", ["-m", "96M", "-object", "memory-backend-ram,id=front,size=64M", "-object", "memory-backend-ram,id=pc.ram,size=32M",
+                                     "-numa", "node,nodeid=0,memdev=pc.ram", "-numa", "node,nodeid=1,memdev=front"]),
+                           ("uneven", ["-m", "48M", "-object", "memory-backend-ram,id=front,size=16M", "-object", "memory-backend-ram,id=pc.ram,size=32M",
+                                       "-numa", "node,nodeid=0,memdev=pc.ram", "-numa", "node,nodeid=1,memdev=front"]),
+                           ("dimm", ["-m", "32M,slots=1,maxmem=160M", "-object", "memory-backend-ram,id=front,size=64M", "-object", "memory-backend-ram,id=pc.ram,size=32M",
+                                     "-machine", "memory-backend=pc.ram", "-device", "pc-dimm,memdev=front"])):
+        tests.wants(f"the options of {memory}", machine.memory(plan_of("live", memory=memory)), wanted)
+    tests.wants("each memory has its options", set(kinds.MEMORIES), {"one", "numa", "uneven", "dimm"})
+    named = ["-object", "memory-backend-ram,id=pc.ram,size=32M", "-machine", "memory-backend=pc.ram"]
+    tests.wants("those of another machine", machine.memory(plan_of("live", machine="q35")), ["-m", "32M", *named])
+    tests.wants("of huge pages", machine.memory(plan_of("huge"))[3], "memory-backend-memfd,hugetlb=on,hugetlbsize=2M,id=pc.ram,size=32M")
+    plan = plan_of("live", further=["xbzrle", "postcopy-ram"], parameters={"cpu-throttle-initial": 5})
+    tests.wants("capabilities, each once", plan.capabilities(), ["postcopy-ram", "postcopy-blocktime", "xbzrle"])
+    tests.wants("and of pre-copy alone", plan_of("live", further=["xbzrle"], is_precopy=True).capabilities(), ["xbzrle"])
+    tests.wants("what is not looked at", [len(plan_of(kind, memory=memory).not_looked_at()) for kind, memory in (("live", "one"), ("live", "numa"), ("multifd", "dimm"))], [0, 1, 2])
+    emulator = Emulator(qemu_like(room, "10.0.13", [], "Invalid parameter it"))
+    said = tests.refuses("a parameter that is refused", build.Missing, lambda: emulator.require(plan, program(f"{room}/library")))
+    tests.wants("it is named", "cannot migrate with postcopy-ram, postcopy-blocktime, xbzrle, cpu-throttle-initial: Invalid parameter it" in said, True)
+    tests.wants("what is asked", '"migrate-set-parameters", "arguments": {"cpu-throttle-initial": 5}' in read(f"{room}/asked"), True)
+    tests.wants("a machine that is there", emulator.machine_for(emulator, "pc-i440fx-7.2"), "pc-i440fx-7.2")
+    said = tests.refuses("one that is not", build.Missing, lambda: emulator.machine_for(emulator, "q35"))
+    tests.wants("in a word", Result(plan, f"not judged: the recorder ended with build.Missing: {said}", "").in_a_word, "machine not there")
+
+
+def of_words(tests):
+    migrate = command("migrate")
+    parser = migrate.words()
+    asked = parser.parse_intermixed_args(["live", "x", "--memory", "numa", "--machine", "q35", "--capability", "xbzrle", "--capability", "auto-converge",
+                                          "--parameter", "a=5", "--parameter", "b=zlib", "--parameter", "c=true"])
+    plan = migrate.plan_of_words(parser, asked)
+    tests.wants("the plan", (plan.memory, plan.machine, plan.further, plan.parameters), ("numa", "q35", ["xbzrle", "auto-converge"], {"a": 5, "b": "zlib", "c": True}))
+    for words, said in ((["--capability", "release-ram"], "'release-ram' cannot be recorded: "), (["--parameter", "a"], "'a' is not NAME=VALUE"), (["--memory", "two"], "invalid choice")):
+        done = subprocess.run([sys.executable, "-B", f"{QEMU}/migrate", "x", *words], capture_output=True, text=True)
+        tests.wants(f"the words {' '.join(words)}", (done.returncode, said in done.stderr), (2, True))
+
+
+def of_owners(tests):
+    """Each end has whose it is, in QEMU's words."""
+    plan, unjudged = plan_of("live"), "not judged: there was no post-copy: the state was never handed over in a package"
+    for verdict, outcome, wanted in (
+            (unjudged, "source failed, target failed; gave up: pre-copy: failed: Unable to write to socket: Broken pipe; more", "pre-copy failed: Unable to write to socket: Broken pipe"),
+            (unjudged, "source failed, target failed; gave up: pre-copy: failed", "pre-copy failed"),
+            (unjudged, "source none, target none; gave up: migrate-set-capabilities: Postcopy is not compatible with it", "refused: migrate-set-capabilities: Postcopy is not compatible with it"),
+            ("not judged: the recorder ended with build.Missing: QEMU 10.0.13 (/q) cannot migrate with postcopy-ram, multifd: Postcopy is not yet compatible with multifd", "",
+             "refused: Postcopy is not yet compatible with multifd"),
+            (f"{unjudged}; pre-copy lost 3 of 64 pages", "completed", "lost pages in pre-copy"), (f"{unjudged}; pre-copy lost none of 64 pages", "completed", "nothing lost in pre-copy"),
+            (unjudged, "completed", "no post-copy"),
+            ("incomplete page 7", "source postcopy-device, target postcopy-paused; source: migrate-pause: it is refused; no recovery: source postcopy-device, target postcopy-paused",
+             "source waits forever")):
+        result = Result(plan, verdict, outcome)
+        tests.wants(f"in a word: {wanted}", (result.in_a_word, result.is_clean), (wanted, False))
+
+
+def of_the_end_of_precopy(tests, room):
+    """Pre-copy that comes to its end is compared, and one that fails has QEMU's words."""
+    wire = SimpleNamespace(has_state=False, strange="")
+    open(f"{room}/halt.mem", "wb").close()
+    for differ, sent, changes, wanted in (([1, 5], 64, {}, "; pre-copy lost 2 of 64 pages"), ([], 64, {}, "; pre-copy lost none of 64 pages"), ([], 0, {}, ""),
+                                          ([1], 64, {"has_state": True}, ""), ([1], 64, {"strange": "a command 12"}, "")):
+        recording = SimpleNamespace(wire=SimpleNamespace(**{**vars(wire), **changes}))
+        with mock.patch.multiple(witness, recording_in=lambda folder, recording=recording: recording, pages_that_differ=lambda recording, found=(differ, sent): found):
+            tests.wants(f"pre-copy that lost {differ} of {sent}, {changes}", witness.of_precopy(room), wanted)
+    with mock.patch.multiple(witness, recording_in=mock.Mock(side_effect=Hole("a page is not there"))):
+        tests.wants("one whose files are not whole", witness.of_precopy(room), "")
+    tests.wants("one of which no memory was kept", witness.of_precopy(f"{room}/none"), "")
+    one = Migration.__new__(Migration)
+    one.plan, one.outcome, one.say, saved = plan_of("live", pre=0.0), Outcome(), lambda line: None, []
+    one.relay, one.save_memory = SimpleNamespace(sent_before=0, is_post=False), lambda: saved.append("memory")
+    for status, asked in (("completed", None), ("failed", {"error-desc": "it broke"})):
+        one.source = mock.Mock(return_value=asked, wait_for=lambda wanted, seconds, status=status: status)
+        if asked:
+            tests.wants("its words", tests.refuses("pre-copy that fails", PrecopyEnded, one.switch), "pre-copy: failed: it broke")
+        else:
+            one.switch()
+            one.at_end()
+            tests.wants("pre-copy that comes to its end", (one.outcome.remarks, saved), (["pre-copy: completed"], ["memory"]))
+    one.relay.is_post = True
+    one.at_end()
+    tests.wants("where there was a post-copy, the memory of the halt stays", saved, ["memory"])
+    tests.wants("in a word", results.Result(one.plan, "not judged: there was no post-copy", "source completed, target completed; pre-copy: completed").end, "pre-copy came to its end")
+
+
+def run(tests):
+    of_rows(tests)
+    of_results(tests)
+    of_campaigns(tests)
+    of_words(tests)
+    of_owners(tests)
+    for of_them in (of_machines, of_the_end_of_precopy):
+        with tempfile.TemporaryDirectory() as room:
+            of_them(tests, room)
