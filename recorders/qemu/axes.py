@@ -2,6 +2,7 @@
 import collections
 import itertools
 
+from build import Missing
 from kinds import MEMORIES
 from results import markdown, versions_of
 
@@ -9,10 +10,9 @@ from results import markdown, versions_of
 AXES = {
     "memory": tuple(MEMORIES),
     "machine": ("pc", "q35"),
-    "capability": ("none", "auto-converge", "xbzrle"),
+    "capability": ("none", "auto-converge", "xbzrle", "multifd"),
     "translations": ("flushed", "kept"),  # whether the guest drops that of a page before each access
     "preempt": ("no", "yes"),
-    "multifd": ("no", "yes"),
     "recovery": ("no", "yes"),
     "guest": ("runs", "paused"),
     "processors": (1, 2, 4),
@@ -24,18 +24,32 @@ def pairs_of(row):
     return set(itertools.combinations(((axis, row[axis]) for axis in AXES), 2))
 
 
-def all_pairs():
-    return {((one, a), (other, b)) for one, other in itertools.combinations(AXES, 2) for a in AXES[one] for b in AXES[other]}
+def all_pairs(values=None):
+    values = values or AXES
+    return {((one, a), (other, b)) for one, other in itertools.combinations(values, 2) for a in values[one] for b in values[other]}
 
 
-def rows(drawn):
-    """Returns rows, each with a value of each axis, so that each pair stands in one of them. `drawn` is a random.Random."""
-    found, left = [], all_pairs()
+def possible(requires):
+    """Returns the axes with the values that a QEMU can have, each beside the first of all others, and why it cannot have the rest, as
+    {(axis, value): why}. `requires` raises Missing for the fields of a plan that it cannot make."""
+    first, refused = {axis: values[0] for axis, values in AXES.items()}, {}
+    for axis, values in AXES.items():
+        for value in values[1:]:
+            try:
+                requires(fields_of({**first, axis: value}))
+            except Missing as fault:
+                refused[axis, value] = str(fault)
+    return {axis: tuple(value for value in values if (axis, value) not in refused) for axis, values in AXES.items()}, refused
+
+
+def rows(drawn, values):
+    """Returns rows, each with a value of each axis, so that each pair of these values stands in one of them. `drawn` is a random.Random."""
+    found, left = [], all_pairs(values)
     while left:
         row = dict(drawn.choice(sorted(left, key=str)))
-        for axis in drawn.sample(list(AXES), len(AXES)):
+        for axis in drawn.sample(list(values), len(values)):
             if axis not in row:
-                row[axis] = max(drawn.sample(AXES[axis], len(AXES[axis])), key=lambda value: len(left & new_pairs(row, axis, value)))
+                row[axis] = max(drawn.sample(values[axis], len(values[axis])), key=lambda value: len(left & new_pairs(row, axis, value)))
         found.append(row)
         left -= pairs_of(row)
     return found
@@ -49,15 +63,15 @@ def new_pairs(row, axis, value):
 
 def fields_of(row):
     """Returns what a row sets in a plan, but for its cuts."""
-    return {"memory": row["memory"], "machine": row["machine"], "further": [] if row["capability"] == "none" else [row["capability"]],
-            "flush": row["translations"] == "flushed", "preempt": row["preempt"] == "yes", "multifd": 2 if row["multifd"] == "yes" else 0,
+    return {"memory": row["memory"], "machine": row["machine"], "further": [row["capability"]] if row["capability"] not in ("none", "multifd") else [],
+            "multifd": 2 if row["capability"] == "multifd" else 0, "flush": row["translations"] == "flushed", "preempt": row["preempt"] == "yes",
             "paused": row["guest"] == "paused", "cpus": row["processors"]}
 
 
 def row_of(plan):
     """Returns the row of a plan that was drawn by axes."""
-    return {"memory": plan.memory, "machine": plan.machine, "capability": plan.further[0] if plan.further else "none", "translations": "flushed" if plan.flush else "kept",
-            "preempt": "yes" if plan.preempt else "no", "multifd": "yes" if plan.multifd else "no", "recovery": "yes" if plan.cuts else "no",
+    return {"memory": plan.memory, "machine": plan.machine, "capability": "multifd" if plan.multifd else plan.further[0] if plan.further else "none",
+            "translations": "flushed" if plan.flush else "kept", "preempt": "yes" if plan.preempt else "no", "recovery": "yes" if plan.cuts else "no",
             "guest": "paused" if plan.paused else "runs", "processors": plan.cpus}
 
 

@@ -25,10 +25,10 @@ from versions_test import QEMU, command, program, qemu_like, read
 
 def of_rows(tests):
     for seed in range(20):
-        rows = axes.rows(random.Random(seed))
+        rows = axes.rows(random.Random(seed), axes.AXES)
         tests.wants("each pair stands in a row", axes.all_pairs().difference(*map(axes.pairs_of, rows)), set())
         tests.wants("in few of them", len(rows) < 30, True)
-        tests.wants("the same seed, the same rows", axes.rows(random.Random(seed)), rows)
+        tests.wants("the same seed, the same rows", axes.rows(random.Random(seed), axes.AXES), rows)
         made = [plans.plan_by_axes(random.Random(seed), row) for row in rows]
         tests.wants("a plan has the values of its row", [axes.row_of(plan) for plan in made], rows)
         tests.wants("a plan's text and back", [plan_from_text(plan.to_text()) for plan in made], made)
@@ -46,7 +46,7 @@ def of_results(tests):
             *[result("faulty line 7 read", "7.2.22", translations="kept")] * 2, result("faulty line 9 read", memory="dimm")]
     tests.wants("never clean", [line for line in axes.never_clean(made) if "memory" in line or "7.2.22" in line], [
         "never clean with 7.2.22: capability none: 2 `read`", "never clean with 7.2.22: guest runs: 2 `read`", "never clean with 7.2.22: machine pc: 2 `read`",
-        "never clean with 7.2.22: memory one: 2 `read`", "never clean with 7.2.22: multifd no: 2 `read`", "never clean with 7.2.22: preempt no: 2 `read`",
+        "never clean with 7.2.22: memory one: 2 `read`", "never clean with 7.2.22: preempt no: 2 `read`",
         "never clean with 7.2.22: processors 1: 2 `read`", "never clean with 7.2.22: recovery no: 2 `read`", "never clean with 7.2.22: translations kept: 2 `read`"])
     tests.wants("a value of which none was", [line for line in axes.never_clean(made) if "10.0.13" in line], ["never clean with 10.0.13: translations kept: 2 `read`"])
     made.append(result("clean, yes", translations="kept"))
@@ -56,25 +56,37 @@ def of_results(tests):
                 ["| Of the migrations with | 7.2.22 | 10.0.13 |", "| memory numa, translations kept | | 2 `read` |"])
     tests.wants("pairs that were not made", (("memory", "uneven"), ("machine", "pc")) in axes.not_made(made), True)
     tests.wants("and one that was", (("memory", "numa"), ("translations", "kept")) in axes.not_made(made), False)
-    tests.wants("a line", result("clean, yes", memory="numa", machine="q35", capability="xbzrle", multifd="yes").line().split(":")[0].split(", ")[3:],
-                ["memory numa", "machine q35", "xbzrle", "multifd"])
+    tests.wants("a line", result("clean, yes", memory="numa", machine="q35", capability="xbzrle", preempt="yes").line().split(":")[0].split(", ")[3:],
+                ["memory numa", "machine q35", "xbzrle", "preempt"])
 
 
 def of_campaigns(tests):
     """Every second plan is of a row, each QEMU gets each row, and without axes the plans are those of the seed alone."""
-    campaign, emulators = command("campaign"), ["one", "other"]
+    campaign, emulators = command("campaign"), [SimpleNamespace(path="one"), SimpleNamespace(path="other")]
+    values = {"one": axes.AXES, "other": {**axes.AXES, "capability": ("none", "xbzrle")}}
     asked = SimpleNamespace(seed=5, count=120, axes=True, faults=False, no_flush=False)
-    made = list(campaign.plans_of(asked, emulators))
+    made = list(campaign.plans_of(asked, emulators, values))
     tests.wants("as many as are asked for", len(made), 120)
-    tests.wants("the same seed gives the same", list(campaign.plans_of(asked, emulators)), made)
+    tests.wants("the same seed gives the same", list(campaign.plans_of(asked, emulators, values)), made)
     for emulator in emulators:
         rows = [axes.row_of(plan) for plan, its in made[1::2] if its == emulator]
-        tests.wants("each QEMU gets each pair", axes.all_pairs().difference(*map(axes.pairs_of, rows)), set())
+        tests.wants("each QEMU gets each pair of the values that it can have", set().union(*map(axes.pairs_of, rows)), axes.all_pairs(values[emulator.path]))
+    def requires(fields):
+        if fields["multifd"] or fields["machine"] == "q35":
+            raise build.Missing("it cannot")
+
+    found, refused = axes.possible(requires)
+    tests.wants("the values that a QEMU can have", (found["capability"], found["machine"], found["memory"], refused),
+                (("none", "auto-converge", "xbzrle"), ("pc",), tuple(kinds.MEMORIES), {("capability", "multifd"): "it cannot", ("machine", "q35"): "it cannot"}))
+    lacking = SimpleNamespace(path="one", require=lambda plan, library: requires({"multifd": plan.multifd, "machine": ""}), machine_for=lambda emulator, name: name)
+    with contextlib.redirect_stdout(io.StringIO()) as said:
+        tests.wants("of each", campaign.possible([lacking], "library")["one"]["capability"], ("none", "auto-converge", "xbzrle"))
+    tests.wants("what is left out is told", said.getvalue(), "left out, capability multifd: it cannot\n")
     drawn = random.Random(5)
     tests.wants("the others are drawn as without axes", [plan for plan, _ in made[::2]], [plans.random_plan(drawn) for _ in range(60)])
     tests.wants("by each QEMU in turn", [its for _, its in made[::2]], emulators * 30)
     drawn, asked.axes = random.Random(5), False
-    tests.wants("without axes", list(campaign.plans_of(asked, emulators)), [(plans.random_plan(drawn), emulators[number % 2]) for number in range(120)])
+    tests.wants("without axes", list(campaign.plans_of(asked, emulators, values)), [(plans.random_plan(drawn), emulators[number % 2]) for number in range(120)])
     with tempfile.TemporaryDirectory() as room, contextlib.redirect_stdout(io.StringIO()) as said:
         campaign.tell_axes([Result(plan, "faulty line 1 read", "completed", version="7.2.22") for plan, _ in made[1::2]][:4], room)
         tests.wants("what is told", (said.getvalue().split("\n")[1].split(";")[1], "  never clean with 7.2.22: " in said.getvalue(), read(f"{room}/pairs").startswith("| Of the")),

@@ -268,7 +268,7 @@ def of_a_full_disk(tests, room):
     def emulator_of(name):
         return SimpleNamespace(path=f"/{name}", version_text="10.0.13")
 
-    for name, words, file in (("campaign", ["1", "--qemu", "one"], "results"), ("campaign", ["1", "--qemu", "one"], "table"), ("compare", ["one", "--case", "live", "--runs", "1"], "table")):
+    for name, words, file in (("campaign", ["1", "--no-axes", "--qemu", "one"], "results"), ("campaign", ["1", "--no-axes", "--qemu", "one"], "table"), ("compare", ["one", "--case", "live", "--runs", "1"], "table")):
         series, folder = command(name), f"{room}/{name}-{file}"
 
         def make_all(todo, *_, path=f"{folder}/{file}"):
