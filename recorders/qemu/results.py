@@ -30,7 +30,7 @@ ENDS = (
 # Why a recording is not judged, and the word for it.
 NO_POSTCOPY = "there was no post-copy"
 UNFINISHED = "the migration did not come to its end: "  # and how it ended
-UNJUDGED = (("lost pages in pre-copy", r"; pre-copy lost \d"), ("nothing lost in pre-copy", "; pre-copy lost none"), ("no post-copy", NO_POSTCOPY), ("lost stack", "are no event"),
+UNJUDGED = (("lost pages in pre-copy", r"; pre-copy lost \d"), ("nothing lost in pre-copy", "; pre-copy lost none"), ("no post-copy", NO_POSTCOPY), ("lost stack", "are no event"), ("unknown stream", "the stream has what is not known here"),
             ("refused{}", "cannot migrate with [^:]*(?P<words>: .*)"), ("machine not there", "has no machine"))
 
 

@@ -110,7 +110,8 @@ def of_machines(tests, room):
     plan = plan_of("live", further=["xbzrle", "postcopy-ram"], parameters={"cpu-throttle-initial": 5})
     tests.wants("capabilities, each once", plan.capabilities(), ["postcopy-ram", "postcopy-blocktime", "xbzrle"])
     tests.wants("and of pre-copy alone", plan_of("live", further=["xbzrle"], is_precopy=True).capabilities(), ["xbzrle"])
-    tests.wants("what is not looked at", [len(plan_of(kind, memory=memory).not_looked_at()) for kind, memory in (("live", "one"), ("live", "numa"), ("multifd", "dimm"))], [0, 1, 2])
+    tests.wants("what is not looked at", [len(plan_of(kind, memory=memory).not_looked_at()) for kind, memory in (("live", "one"), ("live", "numa"), ("multifd", "dimm"))] +
+                plan.not_looked_at(), [0, 1, 2, kinds.UNSEEN["xbzrle"]])
     emulator = Emulator(qemu_like(room, "10.0.13", [], "Invalid parameter it"))
     said = tests.refuses("a parameter that is refused", build.Missing, lambda: emulator.require(plan, program(f"{room}/library")))
     tests.wants("it is named", "cannot migrate with postcopy-ram, postcopy-blocktime, xbzrle, cpu-throttle-initial: Invalid parameter it" in said, True)
@@ -142,7 +143,7 @@ def of_owners(tests):
             ("not judged: the recorder ended with build.Missing: QEMU 10.0.13 (/q) cannot migrate with postcopy-ram, multifd: Postcopy is not yet compatible with multifd", "",
              "refused: Postcopy is not yet compatible with multifd"),
             (f"{unjudged}; pre-copy lost 3 of 64 pages", "completed", "lost pages in pre-copy"), (f"{unjudged}; pre-copy lost none of 64 pages", "completed", "nothing lost in pre-copy"),
-            (unjudged, "completed", "no post-copy"),
+            (unjudged, "completed", "no post-copy"), ("not judged: the stream has what is not known here: a page with flags 0x60", "completed", "unknown stream"),
             ("incomplete page 7", "source postcopy-device, target postcopy-paused; source: migrate-pause: it is refused; no recovery: source postcopy-device, target postcopy-paused",
              "source waits forever")):
         result = Result(plan, verdict, outcome)

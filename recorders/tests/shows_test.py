@@ -1,7 +1,9 @@
 """recorders/qemu/shows without a QEMU: its forwarder, what it makes of where both sides stand, its words and its status."""
 import contextlib
+import glob
 import io
 import os
+import re
 import socket
 import subprocess
 import sys
@@ -14,8 +16,9 @@ import build
 import machine
 import plain
 import qmp
-from versions_test import QEMU, command, program, qemu_like
+from versions_test import QEMU, command, program, qemu_like, read
 
+TOP = os.path.dirname(os.path.dirname(QEMU))
 shows = command("shows")
 
 
@@ -215,10 +218,20 @@ def of_the_status(tests, room):
         tests.wants("each is told", said.getvalue().splitlines()[1:-1], [f"{one}: why" for one in found])
 
 
+def of_pages(tests):
+    """The pages name the cases, and each fault of QEMU that has a report has a case of its name."""
+    pages = [f"{TOP}/docs/FOUND.md", *sorted(glob.glob(f"{TOP}/docs/reports/*.md"))]
+    named = {page: set(re.findall(r"(?:`|qemu/|\()shows ([a-z][a-z-]+)", read(page))) for page in pages}
+    tests.wants("what the pages name", sorted(set().union(*named.values()) - set(shows.CASES)), [])
+    tests.wants("what the page of faults lacks", sorted(set(shows.CASES) - named[pages[0]]), [])
+    tests.wants("each report shows its own case", [page for page in pages[1:] if os.path.basename(page)[:-3] not in named[page]], [])
+
+
 def run(tests):
     for of_them in (of_the_forwarder, of_a_cut_after_the_package, of_last_words, of_words, of_the_status):
         with tempfile.TemporaryDirectory() as room:
             of_them(tests, room)
+    of_pages(tests)
     of_ends_of_cuts(tests)
     of_loads(tests)
     of_lost_writes(tests)
