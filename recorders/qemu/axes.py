@@ -19,6 +19,9 @@ AXES = {
 }
 
 
+GOOD = ("clean", "cut not reached", "nothing lost in pre-copy")  # words of results that are no fault
+
+
 def pairs_of(row):
     """Returns the pairs of a row, each as ((axis, value), (axis, value))."""
     return set(itertools.combinations(((axis, row[axis]) for axis in AXES), 2))
@@ -100,15 +103,17 @@ def table(results):
     return markdown([["Of the migrations with", *versions], *lines])
 
 
-def never_clean(results):
-    """Yields a line for each value, and each pair of other values, of which a version made two or more migrations, and none was clean."""
-    found, blamed = counted(results), set()
-    for part in sorted(found, key=order):
-        for version, words in sorted(found[part].items()):
-            if sum(words.values()) < 2 or any(word in ("clean", "cut not reached") for word in words) or any((version, (one,)) in blamed for one in part):
-                continue
-            blamed.add((version, part))
-            yield f"never clean with {version or 'no QEMU'}: {in_words(part)}: {', '.join(f'{count} {word}' for word, count in words.most_common())}"
+def in_common(results):
+    """Yields a line for each version and each thing that became of two or more migrations that were not clean: the values that all of these
+    have, and of how many migrations with these values it became."""
+    versions = sorted({result.version for result in results})
+    for version, word in sorted({(result.version, result.in_a_word) for result in results} - {(version, word) for version in versions for word in GOOD}):
+        of_version = [(row_of(result.plan).items(), result.in_a_word) for result in results if result.version == version]
+        found = [row for row, its in of_version if its == word]
+        common = [one for one in found[0] if all(one in row for row in found)]
+        every = sum(all(one in row for one in common) for row, _ in of_version)
+        if len(found) > 1:
+            yield f"{version or 'no QEMU'}: {len(found)} {word}; {len(found)} of {every} with {in_words(common) or 'nothing in common'}"
 
 
 def not_made(results):

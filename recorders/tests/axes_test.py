@@ -36,7 +36,7 @@ def of_rows(tests):
 
 
 def of_results(tests):
-    """What each value and each pair gave, which was never clean, and which was not made."""
+    """What each value and each pair gave, what those have in common that were not clean, and what was not made."""
     first = {axis: values[0] for axis, values in axes.AXES.items()}
 
     def result(verdict, version="10.0.13", **values):
@@ -44,13 +44,12 @@ def of_results(tests):
 
     made = [result("clean, yes"), result("clean, yes", memory="numa"), *[result("faulty line 7 read", memory="numa", translations="kept")] * 2,
             *[result("faulty line 7 read", "7.2.22", translations="kept")] * 2, result("faulty line 9 read", memory="dimm")]
-    tests.wants("never clean", [line for line in axes.never_clean(made) if "memory" in line or "7.2.22" in line], [
-        "never clean with 7.2.22: capability none: 2 `read`", "never clean with 7.2.22: guest runs: 2 `read`", "never clean with 7.2.22: machine pc: 2 `read`",
-        "never clean with 7.2.22: memory one: 2 `read`", "never clean with 7.2.22: preempt no: 2 `read`",
-        "never clean with 7.2.22: processors 1: 2 `read`", "never clean with 7.2.22: recovery no: 2 `read`", "never clean with 7.2.22: translations kept: 2 `read`"])
-    tests.wants("a value of which none was", [line for line in axes.never_clean(made) if "10.0.13" in line], ["never clean with 10.0.13: translations kept: 2 `read`"])
-    made.append(result("clean, yes", translations="kept"))
-    tests.wants("a pair of which none was", [line for line in axes.never_clean(made) if "10.0.13" in line], ["never clean with 10.0.13: memory numa, translations kept: 2 `read`"])
+    tests.wants("what all have in common of which it became", list(axes.in_common(made)), [
+        "10.0.13: 3 `read`; 3 of 5 with machine pc, capability none, preempt no, recovery no, guest runs, processors 1",
+        "7.2.22: 2 `read`; 2 of 2 with memory one, machine pc, capability none, translations kept, preempt no, recovery no, guest runs, processors 1"])
+    apart = [result("faulty line 1 read", **{axis: values[-1] for axis, values in axes.AXES.items()}), result("faulty line 1 read")]
+    tests.wants("where that is nothing", list(axes.in_common(apart)), ["10.0.13: 2 `read`; 2 of 2 with nothing in common"])
+    tests.wants("of one alone, and of what is no fault, nothing is said", list(axes.in_common(made[:2] + made[-1:])), [])
     lines = axes.table(made).splitlines()
     tests.wants("the table", [line for line in lines if line.startswith(("| Of", "| memory numa, translations kept |"))],
                 ["| Of the migrations with | 7.2.22 | 10.0.13 |", "| memory numa, translations kept | | 2 `read` |"])
@@ -89,7 +88,7 @@ def of_campaigns(tests):
     tests.wants("without axes", list(campaign.plans_of(asked, emulators, values)), [(plans.random_plan(drawn), emulators[number % 2]) for number in range(120)])
     with tempfile.TemporaryDirectory() as room, contextlib.redirect_stdout(io.StringIO()) as said:
         campaign.tell_axes([Result(plan, "faulty line 1 read", "completed", version="7.2.22") for plan, _ in made[1::2]][:4], room)
-        tests.wants("what is told", (said.getvalue().split("\n")[1].split(";")[1], "  never clean with 7.2.22: " in said.getvalue(), read(f"{room}/pairs").startswith("| Of the")),
+        tests.wants("what is told", (said.getvalue().split("\n")[1].split(";")[1], "  7.2.22: 4 `read`; 4 of 4 with " in said.getvalue(), read(f"{room}/pairs").startswith("| Of the")),
                     (f" {len(axes.not_made([Result(plan, '', '') for plan, _ in made[1:9:2]]))} pairs were not made", True, True))
 
 
