@@ -11,11 +11,6 @@ MEMORIES = {
     "uneven": "two NUMA nodes: the window is in the second RAM block, and the first is shorter",
     "dimm": "a DIMM: the window is in the second RAM block, and the DIMM is the first",
 }
-# What the recorder does not see of a migration with a capability.
-UNSEEN = {
-    "multifd": "what pre-copy sent over the connections of multifd",
-    "xbzrle": "a page that comes as a delta: a migration that has one is not judged",
-}
 # Capabilities that a recorded migration cannot have, and why.
 UNFIT = {
     "release-ram": "the source gives pages up before the recorder has saved its memory at the halt",
@@ -74,7 +69,7 @@ class Plan:
     def not_looked_at(self):
         """Returns what of the migration the recorder does not see."""
         other = [f"the RAM block {FRONT}: only the window, which is in the block {PC_RAM}, is judged"] if self.memory != "one" else []
-        return [*other, *(UNSEEN[name] for name in self.capabilities() if name in UNSEEN)]
+        return other + ["what pre-copy sent over the connections of multifd"] * ("multifd" in self.capabilities())
 
     def to_text(self):
         return json.dumps(asdict(self), indent=1)

@@ -126,7 +126,8 @@ class Migration:
     def record(self, library, machine, traces):
         cuts = [CutPlan(behind) for behind in self.plan.cuts]
         self.relay = Relay(self.folder, self.room, Window(self.plan.base, self.plan.pages), self.room.name("target"),
-                           self.plan.fault, self.plan.skip, cuts, bool(self.plan.multifd), self.save_memory)
+                           self.plan.fault, self.plan.skip, cuts, bool(self.plan.multifd), self.save_memory,
+                           "xbzrle" in self.plan.capabilities())
 
         def start(name, emulator, *extra):
             self.machines.append(self.machine_class(name, self.folder, self.room, self.plan, library, emulator.path, machine, traces[name], extra))

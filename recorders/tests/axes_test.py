@@ -109,8 +109,7 @@ def of_machines(tests, room):
     plan = plan_of("live", further=["xbzrle", "postcopy-ram"], parameters={"cpu-throttle-initial": 5})
     tests.wants("capabilities, each once", plan.capabilities(), ["postcopy-ram", "postcopy-blocktime", "xbzrle"])
     tests.wants("and of pre-copy alone", plan_of("live", further=["xbzrle"], is_precopy=True).capabilities(), ["xbzrle"])
-    tests.wants("what is not looked at", [len(plan_of(kind, memory=memory).not_looked_at()) for kind, memory in (("live", "one"), ("live", "numa"), ("multifd", "dimm"))] +
-                plan.not_looked_at(), [0, 1, 2, kinds.UNSEEN["xbzrle"]])
+    tests.wants("what is not looked at", [len(plan_of(kind, memory=memory).not_looked_at()) for kind, memory in (("live", "one"), ("live", "numa"), ("multifd", "dimm"))], [0, 1, 2])
     emulator = Emulator(qemu_like(room, "10.0.13", [], "Invalid parameter it"))
     said = tests.refuses("a parameter that is refused", build.Missing, lambda: emulator.require(plan, program(f"{room}/library")))
     tests.wants("it is named", "cannot migrate with postcopy-ram, postcopy-blocktime, xbzrle, cpu-throttle-initial: Invalid parameter it" in said, True)
