@@ -79,7 +79,7 @@ def memory(plan):
     """Returns QEMU's options for the guest's memory. The block that has the window is PC_RAM; QEMU makes the blocks in the order of the options."""
     kind = "memory-backend-memfd,hugetlb=on,hugetlbsize=2M" if plan.huge else "memory-backend-ram"
     block = ["-object", f"{kind},id={PC_RAM},size={plan.ram}M"]
-    length = plan.ram // 2 if plan.memory == "uneven" else plan.ram * 2
+    length = plan.ram // 2 if plan.memory == "uneven" else plan.ram + plan.ram // 2
     front = ["-object", f"memory-backend-ram,id={FRONT},size={length}M"]
     if plan.memory == "dimm":
         return ["-m", f"{plan.ram}M,slots=1,maxmem={plan.ram + 2 * length}M", *front, *block, "-machine", f"memory-backend={PC_RAM}",

@@ -66,7 +66,7 @@ def random_plan(drawn, with_faults=False, without_flush=False):
 
 def plan_by_axes(drawn, row):
     """Returns a plan with the values of a row of axes, whose sizes, rates and moments are random. `drawn` is a random.Random."""
-    plan = plan_of("live", pages=drawn.choice((64, 64, 128, 256)), words=drawn.choice((1, 8, 32)), writes=drawn.choice((4, 8, 15)),
+    plan = plan_of("live", ram=16, pages=drawn.choice((64, 64, 128, 256)), words=drawn.choice((1, 8, 32)), writes=drawn.choice((4, 8, 15)),
                    bandwidth=drawn.choice((500_000, 1_000_000, 2_000_000)), post_bandwidth=drawn.choice((300_000, 1_000_000)),
                    warm=drawn.choice((0, 200, 2000)), pre=0.0, after=drawn.choice((200, 2000)), limit=30.0, **axes.fields_of(row))
     plan.pre_pages = plan.pages // 2 if plan.paused else drawn.choice((plan.pages // 2, plan.pages * 9 // 8))  # (a guest that is stopped dirties no page again)

@@ -95,11 +95,11 @@ def of_campaigns(tests):
 def of_machines(tests, room):
     """The options of a QEMU for the memory, and what it is asked for before."""
     for memory, wanted in (("one", ["-m", "32M"]),
-                           ("numa", ["-m", "96M", "-object", "memory-backend-ram,id=front,size=64M", "-object", "memory-backend-ram,id=pc.ram,size=32M",
+                           ("numa", ["-m", "80M", "-object", "memory-backend-ram,id=front,size=48M", "-object", "memory-backend-ram,id=pc.ram,size=32M",
                                      "-numa", "node,nodeid=0,memdev=pc.ram", "-numa", "node,nodeid=1,memdev=front"]),
                            ("uneven", ["-m", "48M", "-object", "memory-backend-ram,id=front,size=16M", "-object", "memory-backend-ram,id=pc.ram,size=32M",
                                        "-numa", "node,nodeid=0,memdev=pc.ram", "-numa", "node,nodeid=1,memdev=front"]),
-                           ("dimm", ["-m", "32M,slots=1,maxmem=160M", "-object", "memory-backend-ram,id=front,size=64M", "-object", "memory-backend-ram,id=pc.ram,size=32M",
+                           ("dimm", ["-m", "32M,slots=1,maxmem=128M", "-object", "memory-backend-ram,id=front,size=48M", "-object", "memory-backend-ram,id=pc.ram,size=32M",
                                      "-machine", "memory-backend=pc.ram", "-device", "pc-dimm,memdev=front"])):
         tests.wants(f"the options of {memory}", machine.memory(plan_of("live", memory=memory)), wanted)
     tests.wants("each memory has its options", set(kinds.MEMORIES), {"one", "numa", "uneven", "dimm"})
