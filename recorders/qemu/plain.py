@@ -41,9 +41,9 @@ class Side:
             self.process.kill()
             self.process.wait()
             raise Missing(f"{name}: {fault}: {last_words(self.process.returncode, self.errors)}") from None
-        self.set("events")
 
     def hear(self, event):
+        """Takes an event: the state of the migration if it has one, or its name."""
         self.events.append(event.get("data", {}).get("status", event["event"]))
 
     def __call__(self, command, **arguments):

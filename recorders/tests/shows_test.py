@@ -106,7 +106,7 @@ def run_of(source, target):
     said = []
     return SimpleNamespace(source=source, target=target, sides=(source, target), room=SimpleNamespace(name=str), say=said.append, said=said,
                            stands=lambda: [source.stands(), target.stands()], forwarder=SimpleNamespace(was_cut=SimpleNamespace(wait=lambda seconds: True)),
-                           start_cut=lambda case, answers_lost: None)
+                           start_cut=lambda case: None)
 
 
 RUNS, ENDED, STILL = ("failed", "running"), ("ended", "ended"), ("postcopy-paused", "finish-migrate")
