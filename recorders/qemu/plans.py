@@ -17,6 +17,8 @@ COMPARED = {
     "multifd": ("none, with multifd", "multifd", {"pages": 256, "warm": 200, "after": 500}),
     "kvm": ("none, by KVM", "kvm", {}),
     "lost-write": ("64 pages without `--flush`: lost writes", "lost-write", {}),
+    "second-block": ("the same in the second RAM block", "lost-write", {"memory": "numa"}),
+    "shorter-block": ("the same, and the first block is shorter", "lost-write", {"memory": "uneven"}),
     "cut-behind-last-page": ("a cut after the last page", "recovery", {"pages": 64, "warm": 200, "cuts": [55]}),
     "cut-behind-package": ("a cut after the package", "recovery", CUT_BEHIND_PACKAGE),
     "cut-behind-package-preempt": ("a cut after the package, with preempt", "preempt", CUT_BEHIND_PACKAGE),
