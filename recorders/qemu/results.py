@@ -21,6 +21,7 @@ ENDS = (
     ("target hangs", "target HANGS"),
     ("source hangs", "source HANGS"),
     ("target failed by itself", "the target went to"),
+    ("source failed after a cut", "no recovery: source failed"),
     ("pre-copy came to its end", "pre-copy: (completed|device)"),
     ("pre-copy failed{}", "gave up: pre-copy: failed(?P<words>: [^;]*)?"),
     ("refused{}", "gave up(?P<words>: (?:migrate|cont|stop)[a-z-]*: [^;]*)"),

@@ -143,7 +143,8 @@ def of_owners(tests):
             (f"{unjudged}; pre-copy lost 3 of 64 pages", "completed", "lost pages in pre-copy"), (f"{unjudged}; pre-copy lost none of 64 pages", "completed", "nothing lost in pre-copy"),
             (unjudged, "completed", "no post-copy"), ("not judged: the stream has what is not known here: a page with flags 0x60", "completed", "unknown stream"),
             ("incomplete page 7", "source postcopy-device, target postcopy-paused; source: migrate-pause: it is refused; no recovery: source postcopy-device, target postcopy-paused",
-             "source waits forever")):
+             "source waits forever"),
+            ("incomplete page 7", "source failed, target postcopy-paused; no recovery: source failed, target postcopy-paused", "source failed after a cut")):
         result = Result(plan, verdict, outcome)
         tests.wants(f"in a word: {wanted}", (result.in_a_word, result.is_clean), (wanted, False))
 
