@@ -125,7 +125,11 @@ def of_ends_of_cuts(tests):
         after = {"it can": (waits, at_target), "both are recovered": (STILL, at_target)}.get(what) or (source.stands(), target.stands())
         with mock.patch.object(shows.time, "sleep", lambda seconds: None):
             tests.wants(what, shows.end_of_cut(run, after), wanted)
-    tests.wants("a cut that shows a fault of one case is none of another", [shows.BOTH in shows.CASES[name].shown_by for name in ("both-ran", "source-waits")], [True, False])
+    tests.wants("a cut that shows a fault of one case is none of another", [shows.BOTH.startswith(shows.CASES[name].shown_by) for name in ("both-ran", "source-waits")], [True, False])
+    by = shows.CASES["multifd-recovery"].shown_by
+    tests.wants("a recovery that does not begin, one that goes on, and one that completed", [end.startswith(by) for end in (
+        f"{shows.RECOVERY}source postcopy-recover, finish-migrate; target postcopy-paused, running", f"{shows.RECOVERY}source postcopy-active, finish-migrate", shows.RECOVERED)],
+                [True, False, False])
 
 
 def of_loads(tests):
