@@ -45,6 +45,18 @@ FAULTS = [
     ("forget", ["recovery", "--flush", "--fault", "forget", "--skip", "0", "--after", "20000"], "faulty line [0-9]+ (early|read)", DONE),
     ("early", ["live", "--flush", "--fault", "early"], "faulty line [0-9]+ (early|read)", DONE),
 ]
+# The axes: another memory, another machine, a capability. Where the window is in the second RAM block, all versions lose writes: it looks as if
+# nothing were left to send, so pre-copy may come to its end.
+LOST_IN_PRECOPY = "not judged: there was no post-copy: .*; pre-copy lost [0-9]+ of 64 pages"
+AXES = [
+    ("numa", ["live", "--flush", "--memory", "numa"], CLEAN, DONE),
+    ("dimm", ["recovery", "--flush", "--memory", "dimm"], CLEAN, DONE),
+    ("numa-lost-write", ["lost-write", "--memory", "numa"], f"faulty line [0-9]+ read|{LOST_IN_PRECOPY}", DONE),
+    ("uneven-lost-write", ["lost-write", "--memory", "uneven"], "faulty line [0-9]+ read", DONE),
+    ("q35", ["live", "--flush", "--machine", "q35"], CLEAN, DONE),
+    ("xbzrle", ["left", "--flush", "--capability", "xbzrle"], CLEAN, DONE),
+    ("auto-converge", ["preempt", "--flush", "--capability", "auto-converge", "--parameter", "cpu-throttle-initial=5"], CLEAN, DONE),
+]
 # Ends of QEMU, those of 7.2. What is left of the logs is judged; a target whose load has failed may start the guest before it ends.
 # That guest may have lost its own stack with the other pages, and then it tells what is no event.
 LEFT = "incomplete .*|faulty line [0-9]+ (read|early)"
@@ -62,7 +74,7 @@ KILLED = [
     ("target", RUNS, "incomplete page [0-9]+", "source postcopy-[a-z]*, target ENDED"),
     ("source", "ram_save_page ", "not judged: there was no post-copy: .*", "source ENDED, target ENDED"),
 ]
-CASES = KINDS + FAULTS + ENDS
+CASES = KINDS + FAULTS + AXES + ENDS
 # An unmodified Linux guest, by recorders/qemu/linux: a name, its words, and patterns of what the audit has to say and of the status.
 LINUX = [("clean", [], CLEAN, 0), *((fault, ["--fault", fault], "faulty line [0-9]+ (read|altered|early|stale)", 1)
                                     for fault in ("flip", "stale", "swap", "drop", "keep-drop", "preflip"))]
@@ -70,10 +82,13 @@ LINUX = [("clean", [], CLEAN, 0), *((fault, ["--fault", fault], "faulty line [0-
 AGAIN = "shape line [0-9]+ both|incomplete returned"
 NEWER = {
     "lost-write": [((10, 0), CLEAN, DONE)],
+    "uneven-lost-write": [((10, 0), "not judged: there was no post-copy: .*", "source ENDED, target ENDED")],
     "cut-behind-last-page": [((10, 0), AGAIN, "source failed, target postcopy-paused")],
     "cut-behind-package": [((11, 1), AGAIN, "source failed, target (HANGS|ENDED|failed|postcopy-paused)")],
     "started-after-failed-load": [((11, 1), AGAIN, "source failed, target (ENDED|failed|postcopy-paused)")],
 }
+# A fault that recorders/qemu/shows shows, and the versions that have it: since, and up to, which is not included.
+SHOWN = [("lost-write", (0, 0), (10, 0)), ("uneven", (10, 0), (100, 0)), ("both-ran", (10, 0), (100, 0)), ("source-waits", (0, 0), (10, 0)), ("syncs", (11, 0), (100, 0))]
 # What the name of each folder ends with: QEMU's options are cut at commas, its log's name has a percent sign for the process,
 # and a socket's path has at most 107 bytes.
 STRANGE = f", 100%s of = 'it' {'x' * 100}"
@@ -100,7 +115,7 @@ def too_slow(folder):
             remarks = json.load(file)["remarks"]
     except OSError:
         return None
-    return next((it for it in remarks if re.match("gave up: pre-copy: completed|it took more than|[0-9]+ cut not reached", it)), None)
+    return next((it for it in remarks if re.match("pre-copy: (completed|device)|it took more than|[0-9]+ cut not reached", it)), None)
 
 
 def wanted_of(name, version, verdict, outcome):
@@ -148,6 +163,8 @@ def pytest_generate_tests(metafunc):
         cases = LINUX if is_all else LINUX[:1]  # which tells that all are left out
     elif metafunc.function is test_killed:
         cases = KILLED if is_all else KILLED[:1]
+    elif metafunc.function is test_shows:
+        cases = SHOWN if is_all else SHOWN[:2]
     else:
         cases = [it for it in CASES if is_all or it[0] in IN_GATE]
     metafunc.parametrize("case", cases, ids=[it[0] for it in cases])
@@ -201,6 +218,17 @@ def test_killed(qemu, program, pytestconfig, monkeypatch, case):
     assert is_right, f"{said}\n  wanted {verdict}; {outcome}\n  kept in {folder}"
     assert (recorder.returncode, f"\nThe {side} was killed by signal 9: " in said, os.path.exists(f"{folder}/certificate")) == (1, True, False), folder
     shutil.rmtree(os.path.dirname(folder))
+
+
+def test_shows(qemu, pytestconfig, case):
+    """A fault is shown where a version has it, and else it is told that it is not."""
+    name, since, before = case
+    done = subprocess.run([f"{TOP}/recorders/qemu/shows", name, "--qemu", qemu], capture_output=True, text=True)
+    if done.returncode == 3 and not pytestconfig.getoption("--all"):
+        pytest.skip(done.stdout.splitlines()[-1])
+    is_there = since <= Emulator(qemu).version < before
+    wanted = (1, "shown: ") if is_there else (0, "not shown: ")
+    assert (done.returncode, done.stdout.splitlines()[-1].startswith(wanted[1])) == (wanted[0], True), f"{done.stdout}{done.stderr}"
 
 
 def test_linux(qemu, program, pytestconfig, monkeypatch, case):

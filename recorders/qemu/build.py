@@ -66,6 +66,13 @@ def build_rom(rom):
     os.replace(f"{rom}.new", rom)
 
 
+def build_hot(path, values):
+    """Builds a guest of two loops, with these values of its symbols, and returns the ROM."""
+    run("gcc", "-m32", "-c", *(f"-Wa,--defsym,{name}={value}" for name, value in values.items()), "-o", f"{path}.o", f"{HERE}/guest/hot.S")
+    run("objcopy", "-O", "binary", "-j", ".text", f"{path}.o", f"{path}.bin")
+    return f"{path}.bin"
+
+
 def build_library(library):
     run("gcc", "-O2", "-Wall", "-Wextra", "-shared", "-fPIC", "-o", f"{library}.new", f"{HERE}/preload.c", "-ldl", "-lpthread")
     os.replace(f"{library}.new", library)

@@ -10,6 +10,7 @@ from dataclasses import dataclass
 
 FIRST = (0, 0)
 PC_RAM = "pc.ram"  # the guest's memory, in all versions
+FRONT = "front"    # a block of memory that comes before it, in plans that have one
 KEPT = "7.2"  # the version of recordings that have none
 STAMP = re.compile(r"^\d+@\d+\.\d+:")  # before a line of the trace, in versions before STAMPED_BEFORE
 STAMPED_BEFORE = (7, 0)

@@ -60,20 +60,22 @@ class Emulator:
                           "what its version has in place of it")
         return needed + [event for event in dialect.BESIDES[side] if event in self.events and event not in needed]
 
-    def machines(self):
-        """Returns the types of machines, and what `pc` stands for."""
+    def machines(self, name="pc"):
+        """Returns the types of machines, and what this one stands for."""
         told = self.ask("-machine", "help").stdout
-        alias = re.search(r"^pc +.*\(alias of (\S+)\)", told, re.MULTILINE)
-        return set(re.findall(r"^(\S+)", told, re.MULTILINE)), alias[1] if alias else "pc"
+        alias = re.search(rf"^{re.escape(name)} +.*\(alias of (\S+)\)", told, re.MULTILINE)
+        return set(re.findall(r"^(\S+)", told, re.MULTILINE)), alias[1] if alias else name
 
-    def machine_for(self, target):
-        """Returns the type of machine for both sides: the source's `pc`, or the target's if the source is newer."""
+    def machine_for(self, target, name="pc"):
+        """Returns the type of machine for both sides: what the source has for this name, or what the target has if the source is newer."""
         if self.path == target.path:
-            return "pc"
+            if name != "pc" and name not in self.machines(name)[0]:
+                raise Missing(f"{self} ({self.path}) has no machine {name}")
+            return name
         older, newer = sorted((self, target), key=lambda one: one.version)
-        machine = older.machines()[1]
-        if machine not in newer.machines()[0]:
-            raise Missing(f"{newer} ({newer.path}) has no machine {machine}, which {older} has for pc")
+        machine = older.machines(name)[1]
+        if machine not in newer.machines(name)[0]:
+            raise Missing(f"{newer} ({newer.path}) has no machine {machine}, which {older} has for {name}")
         return machine
 
     def require(self, plan, library):
@@ -86,12 +88,13 @@ class Emulator:
         names = plan.capabilities()
         asked = [{"execute": "qmp_capabilities"},
                  {"execute": "migrate-set-capabilities",
-                  "arguments": {"capabilities": [{"capability": name, "state": True} for name in names]}}]
+                  "arguments": {"capabilities": [{"capability": name, "state": True} for name in names]}},
+                 *[{"execute": "migrate-set-parameters", "arguments": plan.parameters}] * bool(plan.parameters)]
         text = "".join(json.dumps(one) + "\n" for one in [*asked, {"execute": "quit"}])
         done = self.ask("-machine", "none", "-nodefaults", "-no-user-config", "-display", "none", "-qmp", "stdio", text=text)
         for line in done.stdout.splitlines():
             if refused := json.loads(line).get("error"):
-                raise Missing(f"{self} ({self.path}) cannot migrate with {', '.join(names)}: {refused['desc']}")
+                raise Missing(f"{self} ({self.path}) cannot migrate with {', '.join([*names, *plan.parameters])}: {refused['desc']}")
         said = self.ask("-version", LD_PRELOAD=os.path.abspath(library)).stderr.strip()
         if os.path.abspath(library) in said:
             raise Missing(f"{self} ({self.path}) does not take the preloaded library: {said[:300]}")

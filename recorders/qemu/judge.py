@@ -9,7 +9,7 @@ from convert import recording_in
 from files import write
 from records import Hole
 from results import UNFINISHED
-from witness import witness
+from witness import of_precopy, witness
 
 NOT_RUN = 127  # the status of a program that cannot be run, as a shell has it
 TOP = os.path.dirname(os.path.dirname(os.path.dirname(os.path.abspath(__file__))))
@@ -77,7 +77,7 @@ def judge(folder, ended="", is_from_halt=False):
         session, left_out = session_of(folder, not ended, is_from_halt)
         write(f"{folder}/session", session.text())
     except (Hole, OSError) as fault:
-        verdict = Verdict(f"not judged: {fault}")
+        verdict = Verdict(f"not judged: {fault}{of_precopy(folder)}")
     else:
         verdict = Verdict(verdict_line(folder, ended), session, left_out)
     verdict.restart = restart

@@ -2,9 +2,23 @@
 import json
 from dataclasses import asdict, dataclass, field, replace
 
-from dialect import KEPT
+from dialect import FRONT, KEPT, PC_RAM
 
 BASE = 0x400000
+MEMORIES = {
+    "one": "one RAM block",
+    "numa": "two NUMA nodes: the window is in the second RAM block, and the first is longer",
+    "uneven": "two NUMA nodes: the window is in the second RAM block, and the first is shorter",
+    "dimm": "a DIMM: the window is in the second RAM block, and the DIMM is the first",
+}
+# Capabilities that a recorded migration cannot have, and why.
+UNFIT = {
+    "release-ram": "the source gives pages up before the recorder has saved its memory at the halt",
+    "pause-before-switchover": "the migration would wait to be continued",
+    "mapped-ram": "the migration goes to a file",
+    "background-snapshot": "the migration goes to a file",
+    "x-colo": "the guest runs on both sides",
+}
 
 
 @dataclass
@@ -39,15 +53,23 @@ class Plan:
     workload: str = ""        # of a Linux guest, whose accesses a plugin records: words of its kernel's command line
     recorded: float = 0.0     # and for how many seconds it is recorded before the migration starts
     run_on: float = 0.0       # and goes on at the target, behind the end
+    memory: str = "one"       # the guest's memory, one of MEMORIES
+    machine: str = "pc"
+    further: list = field(default_factory=list)      # capabilities besides those that the plan itself needs
+    parameters: dict = field(default_factory=dict)   # of the migration, by name
     base: int = BASE
     source_version: str = KEPT  # of QEMU; whoever makes the migration fills it in
     target_version: str = KEPT
 
     def capabilities(self):
         """Returns the capabilities that both QEMUs are asked for."""
-        if self.is_precopy:
-            return []
-        return ["postcopy-ram", "postcopy-blocktime", *["postcopy-preempt"] * self.preempt, *["multifd"] * bool(self.multifd)]
+        own = [] if self.is_precopy else ["postcopy-ram", "postcopy-blocktime", *["postcopy-preempt"] * self.preempt, *["multifd"] * bool(self.multifd)]
+        return own + [name for name in self.further if name not in own]
+
+    def not_looked_at(self):
+        """Returns what of the migration the recorder does not see."""
+        other = [f"the RAM block {FRONT}: only the window, which is in the block {PC_RAM}, is judged"] if self.memory != "one" else []
+        return other + ["what pre-copy sent over the connections of multifd"] * ("multifd" in self.capabilities())
 
     def to_text(self):
         return json.dumps(asdict(self), indent=1)

@@ -1,5 +1,4 @@
 """The results of migrations of Linux guests, one line for each, and the table of them by version."""
-import collections
 import contextlib
 import json
 import os
@@ -24,7 +23,6 @@ LATER = "the switch in a later round"
 PLAIN = "pre-copy alone"
 NO_POSTCOPY = "not judged: there was no post-copy"
 NOT_REACHED = ", not reached"
-MANY = 30
 GREEN = ("clean", "nothing lost", "nothing lost in pre-copy")
 BARE = ("nothing lost", "lost pages", "something wrong")
 RUIN = ("clean", "faulty", "incomplete", "not judged", *BARE, *(f"{word} in pre-copy" for word in BARE))
@@ -154,13 +152,6 @@ def heading(results):
     loads = sorted(result.load for result in results if result.load)
     some = "" if len(loads) == len(results) else f"{len(loads)} of them "
     return f"{len(results)} migrations" + (f", {some}at a load of {loads[0]:.0f} to {loads[-1]:.0f}" if loads else "") + ":"
-
-
-def of_full_rows(results):
-    """Returns the results of rows that have many of each version."""
-    counts = collections.Counter((result.row, result.version) for result in results)
-    versions = {result.version for result in results}
-    return [result for result in results if all(counts[result.row, version] >= MANY for version in versions)]
 
 
 def table(results):

@@ -10,7 +10,7 @@ from dialect import interface_of
 from machine import Machine
 from qmp import Gone
 from roots import Missing
-from run import Migration, PrecopyEnded
+from run import Migration
 
 BOOTED = "guest: booted"
 RECORD_BYTES = 16
@@ -162,17 +162,7 @@ class LinuxMigration(Migration):
             self.outcome.stands_still = True
             self.remark(f"the guest stands still at the target: {status}")
 
-    def switch(self):
-        """Switches, unless pre-copy comes to its end first. The guest goes on at the target then too, and may be wrong there."""
-        try:
-            super().switch()
-        except PrecopyEnded as fault:
-            if fault.status not in ("device", "completed"):
-                raise
-            self.remark(str(fault))
-
     def at_end(self):
-        if not self.relay.is_post:
-            self.save_memory()  # pre-copy came to its end, and the source has stood still since then
+        super().at_end()
         if not self.is_bare:
             self.target("pmemsave", val=self.plan.base, size=self.plan.pages * 4096, filename="end.mem")

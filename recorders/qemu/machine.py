@@ -7,7 +7,7 @@ import subprocess
 import threading
 import time
 
-from dialect import PC_RAM
+from dialect import FRONT, PC_RAM
 from files import write
 from qmp import Gone, Hangs, Qmp, Refused
 from roots import die_with_parent
@@ -23,6 +23,19 @@ def seconds_waited(path):
             return int(file.read().split()[1]) / 1e9
     except (OSError, IndexError):
         return 0.0  # it has ended, or the kernel does not count this
+
+
+def last_words(status, errors):
+    """Returns the assertion that failed, or the last line of what a QEMU said, by the file of its errors; or its status."""
+    with open(errors, encoding="utf-8", errors="replace") as file:
+        lines = file.read().splitlines()
+    return ([line for line in lines if "Assertion" in line] or lines or [f"status {status}, and it said nothing"])[-1]
+
+
+def how_it_ended(status, errors):
+    """Returns how the process of a QEMU ended, and its last words."""
+    how = "aborted" if status == -signal.SIGABRT else f"was killed by signal {-status}" if status < 0 else "exited"
+    return f"{how}: {last_words(status, errors)}"
 
 
 class PipeReader:
@@ -62,6 +75,21 @@ class PipeReader:
         self.thread.join()
 
 
+def memory(plan):
+    """Returns QEMU's options for the guest's memory. The block that has the window is PC_RAM; QEMU makes the blocks in the order of the options."""
+    kind = "memory-backend-memfd,hugetlb=on,hugetlbsize=2M" if plan.huge else "memory-backend-ram"
+    block = ["-object", f"{kind},id={PC_RAM},size={plan.ram}M"]
+    length = plan.ram // 2 if plan.memory == "uneven" else plan.ram + plan.ram // 2
+    front = ["-object", f"memory-backend-ram,id={FRONT},size={length}M"]
+    if plan.memory == "dimm":
+        return ["-m", f"{plan.ram}M,slots=1,maxmem={plan.ram + 2 * length}M", *front, *block, "-machine", f"memory-backend={PC_RAM}",
+                "-device", f"pc-dimm,memdev={FRONT}"]
+    if plan.memory != "one":
+        return ["-m", f"{plan.ram + length}M", *front, *block, "-numa", f"node,nodeid=0,memdev={PC_RAM}", "-numa", f"node,nodeid=1,memdev={FRONT}"]
+    is_named_here = plan.huge or plan.machine != "pc"  # (another machine has another name for its block)
+    return ["-m", f"{plan.ram}M", *([*block, "-machine", f"memory-backend={PC_RAM}"] if is_named_here else [])]
+
+
 class Machine:
     """QEMU runs in `folder`, which has the files that it reads and writes. Its sockets, its pipe and a link to the preloaded library are in
     `room`, so the name of the folder is in no option of QEMU. `machine` is the type of the machine, and `trace` has the events that it
@@ -76,7 +104,7 @@ class Machine:
         self.reader = PipeReader(self.pipe, f"{folder}/{name}.raw")
         self.errors = f"{folder}/{name}.errors"
         command = [
-            path, "-name", name, *self.hardware(machine, plan), "-m", f"{plan.ram}M", "-smp", str(plan.cpus),
+            path, "-name", name, *self.hardware(machine, plan), *memory(plan), "-smp", str(plan.cpus),
             "-nodefaults", "-no-user-config", "-display", "none", *self.guest(plan),
             "-qmp", f"unix:{self.socket},server=on,wait=off", "-D", self.pipe,
             *(word for event in trace for word in ("-trace", event)), *extra]
@@ -96,9 +124,7 @@ class Machine:
 
     def hardware(self, machine, plan):
         """Returns QEMU's options for the machine, its processors and its memory."""
-        memory = ["-object", f"memory-backend-memfd,id={PC_RAM},size={plan.ram}M,hugetlb=on,hugetlbsize=2M",
-                  "-machine", f"memory-backend={PC_RAM}"] if plan.huge else []
-        return ["-machine", f"{machine},accel={'kvm' if plan.kvm else 'tcg'}", *memory]
+        return ["-machine", f"{machine},accel={'kvm' if plan.kvm else 'tcg'}"]
 
     def guest(self, plan):
         """Returns QEMU's options for the guest and its record of what it does."""
@@ -155,17 +181,11 @@ class Machine:
             pass
 
     def last_error(self):
-        """Returns the assertion that failed, or the last line of what it said, or its status."""
-        with open(self.errors, encoding="utf-8", errors="replace") as file:
-            lines = file.read().splitlines()
-        failed = [line for line in lines if "Assertion" in line]
-        return (failed or lines or [f"status {self.process.poll()}, and it said nothing"])[-1]
+        return last_words(self.process.poll(), self.errors)
 
     def how_it_ended(self):
         """Returns how its process ended, and its last words."""
-        status = self.process.poll()
-        how = "aborted" if status == -signal.SIGABRT else f"was killed by signal {-status}" if status < 0 else "exited"
-        return f"{how}: {self.last_error()}"
+        return how_it_ended(self.process.poll(), self.errors)
 
     def end(self, is_well):
         """Ends QEMU, and reads everything that it recorded. Returns why something of this is lost, or nothing. (A QEMU that is not well would

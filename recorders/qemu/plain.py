@@ -1,57 +1,159 @@
-"""A QEMU with only the test guest: no preloaded library, no trace, no relay. All questions to it are in QMP."""
+"""QEMUs with only a small guest, and a forwarder between them: no preloaded library, no trace, no relay. All questions are in QMP."""
 import os
+import socket
 import subprocess
+import threading
 import time
 
 from build import Missing
+from machine import how_it_ended, last_words, seconds_waited
 from qmp import Gone, Hangs, Qmp
 from roots import die_with_parent
 
-SECONDS = 10  # for each wait
+SECONDS = 10  # for each wait, and each answer
+PACKAGED = b"\x08\x00\x07\x00\x04"  # a command, of the kind package, with 4 bytes: the length of what follows
+
+
+class Ended(Exception):
+    """A QEMU has ended by itself, or does not answer. The message says which, and how."""
+
+    def __init__(self, side, how):
+        super().__init__(f"the {side.name} {how}")
+        self.side, self.how = side, how
 
 
 class Side:
-    """A QEMU with the test guest, whose port is a file."""
+    """A QEMU with a guest, whose port 0xe9 is a file and whose serial port is a socket. `words` are further options."""
 
-    def __init__(self, name, emulator, room, rom, accelerator, *extra):
-        self.hangs = False
-        self.name, self.told, self.errors = name, room.name(f"{name}.told"), room.name(f"{name}.errors")
+    def __init__(self, name, emulator, room, rom, accelerator, *words):
+        self.name, self.room, self.hangs, self.events = name, room, False, []
+        self.told, self.errors = room.name(f"{name}.told"), room.name(f"{name}.errors")
         monitor = room.name(f"{name}.qmp")
         with open(self.errors, "w", encoding="utf-8") as errors:
             self.process = subprocess.Popen(
-                [emulator.path, "-machine", f"pc,accel={accelerator}", "-m", "32M", "-nodefaults", "-no-user-config", "-display", "none",
-                 "-bios", rom, "-chardev", f"file,id=told,path={self.told}", "-device", "isa-debugcon,iobase=0xe9,chardev=told",
-                 "-qmp", f"unix:{monitor},server=on,wait=off", *extra], stderr=errors, stdin=subprocess.DEVNULL, preexec_fn=die_with_parent)
+                [emulator.path, "-machine", f"pc,accel={accelerator}", "-nodefaults", "-no-user-config", "-display", "none", "-bios", rom,
+                 "-chardev", f"file,id=told,path={self.told}", "-device", "isa-debugcon,iobase=0xe9,chardev=told",
+                 "-chardev", f"socket,id=port,path={room.name(f'{name}.port')},server=on,wait=off", "-device", "isa-serial,chardev=port",
+                 "-qmp", f"unix:{monitor},server=on,wait=off", *words], stderr=errors, stdin=subprocess.DEVNULL, preexec_fn=die_with_parent)
         try:
-            self.qmp = Qmp(monitor, lambda: self.process.poll() is None, SECONDS)
+            self.qmp = Qmp(monitor, lambda: self.process.poll() is None, SECONDS, lambda: seconds_waited(f"/proc/{self.process.pid}"), self.hear)
         except Gone as fault:
             self.process.kill()
             self.process.wait()
-            raise Missing(f"{name}: {fault}: {self.said()}") from None
+            raise Missing(f"{name}: {fault}: {last_words(self.process.returncode, self.errors)}") from None
 
-    def said(self):
-        with open(self.errors, encoding="utf-8") as file:
-            return (file.read().strip().splitlines() or [""])[-1]
+    def hear(self, event):
+        """Takes an event: the state of the migration if it has one, or its name."""
+        self.events.append(event.get("data", {}).get("status", event["event"]))
+
+    def __call__(self, command, **arguments):
+        if self.hangs:
+            raise Ended(self, "hangs")
+        try:
+            return self.qmp(command, **arguments)
+        except Hangs:
+            self.hangs = True
+            raise Ended(self, "hangs") from None
+        except Gone:
+            self.process.wait()
+            raise Ended(self, how_it_ended(self.process.returncode, self.errors)) from None
 
     def stands(self):
         """Returns the states of the migration and of the guest, in QEMU's words."""
-        if self.hangs:
-            return "hangs", "hangs"
         try:
-            return self.qmp("query-migrate").get("status", "none"), self.qmp("query-status")["status"]
-        except Hangs:
-            self.hangs = True
-            return "hangs", "hangs"
-        except Gone:
-            return "ended", "ended"
+            return self("query-migrate").get("status", "none"), self("query-status")["status"]
+        except Ended:
+            return ("hangs", "hangs") if self.hangs else ("ended", "ended")
+
+    def ram(self, what):
+        """Returns a number of the migration's memory, such as `remaining`."""
+        return self("query-migrate").get("ram", {}).get(what, 0)
+
+    def set(self, *names, **parameters):
+        """Sets capabilities and parameters of the migration."""
+        if names:
+            self("migrate-set-capabilities", capabilities=[{"capability": name, "state": True} for name in names])
+        if parameters:
+            self("migrate-set-parameters", **{name.replace("_", "-"): value for name, value in parameters.items()})
 
     def count(self):
+        """Returns how many bytes the guest has told."""
         return os.path.getsize(self.told)
+
+    def send_byte(self):
+        """Sends a byte to the guest's serial port."""
+        self.port = socket.socket(socket.AF_UNIX)
+        self.port.connect(self.room.name(f"{self.name}.port"))
+        self.port.send(b"x")
+
+    def memory(self, at, size):
+        name = self.room.name(f"{self.name}.memory")
+        self("pmemsave", val=at, size=size, filename=name)
+        with open(name, "rb") as file:
+            return file.read()
 
     def end(self):
         self.process.kill()
         self.process.wait()
         self.qmp.close()
+
+
+class Forwarder:
+    """Hands on bytes in both directions, until it is told to lose those of one, or to cut. With `cuts_after_package` it cuts by itself once it
+    has handed on the package with the state of the devices."""
+
+    def __init__(self, path, target):
+        self.target, self.loses_down, self.loses_up, self.cuts_after_package = target, False, False, False
+        self.ends, self.lost, self.last, self.was_cut = [], 0, time.monotonic(), threading.Event()
+        self.listener = socket.socket(socket.AF_UNIX)
+        self.listener.bind(path)
+        self.listener.listen()
+        threading.Thread(target=self.accept, daemon=True).start()
+
+    def accept(self):
+        while True:
+            try:
+                source, _ = self.listener.accept()
+            except OSError:
+                return  # it is closed
+            target = socket.socket(socket.AF_UNIX)
+            target.connect(self.target)
+            self.ends += [source, target]
+            threading.Thread(target=self.copy, args=(target, source, lambda: self.loses_up), daemon=True).start()
+            threading.Thread(target=self.copy, args=(source, target, lambda: self.loses_down), daemon=True).start()
+
+    def copy(self, here, there, loses):
+        try:
+            while data := here.recv(1 << 14):
+                self.last = time.monotonic()
+                if self.cuts_after_package and (package := up_to_package(here, data)):
+                    there.sendall(package)
+                    self.cut()
+                elif loses():
+                    self.lost += len(data)
+                else:
+                    there.sendall(data)
+        except OSError:
+            pass  # the connection is closed
+
+    def cut(self):
+        for end in [*self.ends, self.listener]:
+            try:
+                end.shutdown(socket.SHUT_RDWR)  # which also wakes whoever waits for the next connection
+            except OSError:
+                pass
+        self.listener.close()
+        self.was_cut.set()
+
+
+def up_to_package(here, data):
+    """Returns what was read up to the end of the package that begins in `data`, reading on until it is whole, or nothing if none begins there."""
+    if (place := data.find(PACKAGED)) < 0 or len(data) < place + 9:
+        return b""
+    end = place + 9 + int.from_bytes(data[place + 5:place + 9], "big")
+    while len(data) < end and (more := here.recv(end - len(data))):
+        data += more
+    return data[:end]
 
 
 def wait_until(is_so, pause=0.01, seconds=SECONDS):

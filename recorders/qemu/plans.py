@@ -1,4 +1,5 @@
 """Plans of migrations: random ones, and those that compare versions."""
+import axes
 from faults import KINDS as FAULTS
 from faults import NEED_CUT
 from kinds import plan_of
@@ -16,6 +17,8 @@ COMPARED = {
     "multifd": ("none, with multifd", "multifd", {"pages": 256, "warm": 200, "after": 500}),
     "kvm": ("none, by KVM", "kvm", {}),
     "lost-write": ("64 pages without `--flush`: lost writes", "lost-write", {}),
+    "second-block": ("the same in the second RAM block", "lost-write", {"memory": "numa"}),
+    "shorter-block": ("the same, and the first block is shorter", "lost-write", {"memory": "uneven"}),
     "cut-behind-last-page": ("a cut after the last page", "recovery", {"pages": 64, "warm": 200, "cuts": [55]}),
     "cut-behind-package": ("a cut after the package", "recovery", CUT_BEHIND_PACKAGE),
     "cut-behind-package-preempt": ("a cut after the package, with preempt", "preempt", CUT_BEHIND_PACKAGE),
@@ -60,6 +63,16 @@ def random_plan(drawn, with_faults=False, without_flush=False):
     if with_faults and drawn.random() < 0.5:
         plan.fault = drawn.choice([fault for fault in FAULTS if plan.cuts or fault not in NEED_CUT])
         plan.skip = drawn.choice((0, 3, 20))
+    return plan
+
+
+def plan_by_axes(drawn, row):
+    """Returns a plan with the values of a row of axes, whose sizes, rates and moments are random. `drawn` is a random.Random."""
+    plan = plan_of("live", ram=16, pages=drawn.choice((64, 64, 128, 256)), words=drawn.choice((1, 8, 32)), writes=drawn.choice((4, 8, 15)),
+                   bandwidth=drawn.choice((500_000, 1_000_000, 2_000_000)), post_bandwidth=drawn.choice((300_000, 1_000_000)),
+                   warm=drawn.choice((0, 200, 2000)), pre=0.0, after=drawn.choice((200, 2000)), limit=30.0, **axes.fields_of(row))
+    plan.pre_pages = plan.pages // 2 if plan.paused else drawn.choice((plan.pages // 2, plan.pages * 9 // 8))  # (a guest that is stopped dirties no page again)
+    plan.cuts = [drawn.randrange(plan.pages // 8, plan.pages // 4)] if row["recovery"] == "yes" else []  # (earlier ones end the targets of old versions)
     return plan
 
 

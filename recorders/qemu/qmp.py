@@ -1,4 +1,5 @@
 """The monitor of a QEMU: commands and their answers, as JSON over a socket."""
+import contextlib
 import json
 import socket
 import time
@@ -18,13 +19,13 @@ class Hangs(Gone):
 
 class Qmp:
     """`waited` returns how many seconds QEMU's main thread, which answers, has waited for a processor. If it waited for half of the time
-    or more, it gets the same time again, TIMES in all."""
+    or more, it gets the same time again, TIMES in all. `hear` takes each event that comes before an answer."""
 
     TIMES = 10
 
-    def __init__(self, path, is_running, seconds=20, waited=lambda: 0.0):
+    def __init__(self, path, is_running, seconds=20, waited=lambda: 0.0, hear=lambda event: None):
         self.socket = socket.socket(socket.AF_UNIX)
-        self.seconds, self.waited, self.begun = seconds, waited, b""
+        self.seconds, self.waited, self.hear, self.begun = seconds, waited, hear, b""
         self.socket.settimeout(seconds)
         self.connect(path, is_running, time.monotonic() + seconds)
         self.line()
@@ -61,12 +62,12 @@ class Qmp:
         raise Hangs(f"it has not answered for {self.seconds} s") from None
 
     def __call__(self, command, **arguments):
-        try:
+        with contextlib.suppress(OSError):  # if it has ended, what it said before that can still be read
             self.socket.sendall(json.dumps({"execute": command, "arguments": arguments}).encode())
-        except OSError as fault:
-            raise Gone(str(fault)) from None
         while True:
             answer = self.line()
+            if "event" in answer:
+                self.hear(answer)
             if "error" in answer:
                 raise Refused(f"{command}: {answer['error']['desc']}")
             if "return" in answer:

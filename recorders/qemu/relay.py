@@ -90,7 +90,7 @@ class Relay:
     connections. It is held only for a moment, also by the holder of `lock`, and its holder waits for nobody.
     """
 
-    def __init__(self, folder, room, window, target, fault=None, skip=0, cuts=(), has_multifd=False, before_package=lambda: None):
+    def __init__(self, folder, room, window, target, fault=None, skip=0, cuts=(), has_multifd=False, before_package=lambda: None, has_deltas=False):
         self.log = open(f"{folder}/relay.log", "w")
         self.contents = open(f"{folder}/relay.pages", "wb")
         self.window, self.target, self.cuts = window, target, list(cuts)
@@ -100,6 +100,7 @@ class Relay:
         self.connections, self.threads, self.lost, self.complaint, self.unrecorded = [], [], [], None, ""
         self.has_multifd, self.unread = has_multifd, []
         self.before_package = before_package
+        self.last = {} if has_deltas else None  # by offset, the contents that came and that were handed on last, of each page of the window
         self.was_cut, self.is_cut_off = threading.Event(), False
         self.sent_before = self.sent_after = 0
         self.path = room.name("relay")
@@ -307,13 +308,16 @@ class Relay:
 
     def copy_rest(self, connection, tap):
         """Hands on the rest, which is not understood."""
-        data = tap.end()
+        data = tap.end() or tap.reader.read1(1 << 16)
         while data:
             connection.target.sendall(data)
             data = tap.reader.read1(1 << 16)
 
     def take(self, connection, item):
         """Records an item, and hands it over."""
+        if isinstance(item, stream.Delta):
+            self.take_delta(connection, item)
+            return
         if isinstance(item, stream.Page):
             self.take_page(connection, item)
             return
@@ -355,6 +359,24 @@ class Relay:
         for place, one in enumerate(given):
             self.hand_over(connection, one, "again" if place and one is given[place - 1] else "down")
 
+    def take_delta(self, connection, page):
+        """Records the page that a delta makes, and hands on the delta. (No fault is put into one.)"""
+        is_inside = self.window.page(page.block, page.offset) is not None
+        if is_inside:
+            try:
+                page.came, page.contents = (stream.changed(old, page.delta) for old in self.last[page.offset])
+            except (KeyError, TypeError, stream.Strange):
+                self.send(connection, page.raw)
+                raise stream.Strange(f"a delta of a page that was not kept, or that is none, at {page.offset:#x}") from None
+        self.count(is_inside)
+        self.remember(page)
+        self.tell_page("down", connection, page)
+        self.send(connection, page.raw)
+
+    def remember(self, page):
+        if self.last is not None and not self.is_post and self.window.page(page.block, page.offset) is not None:
+            self.last[page.offset] = page.came, page.contents
+
     def count(self, is_inside):
         if is_inside:
             self.sent_after += self.is_post
@@ -381,6 +403,7 @@ class Relay:
         return True
 
     def hand_over(self, connection, page, how="down"):
+        self.remember(page)
         self.tell_page(how, connection, page)
         self.send(connection, page.head + page.contents)
 

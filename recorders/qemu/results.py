@@ -5,12 +5,14 @@ import os
 import re
 from dataclasses import asdict, dataclass
 
+from dialect import version_of
 from kinds import plan_from_text
 
 BUSY = "not at its end on a busy machine"
-# The names of a migration's ends in the table. Any other end is there in QEMU's words.
+# The names of a migration's ends in the table, and of some what QEMU says. Any other end is there in QEMU's words.
 ENDS = (
     ("source waits for itself", "Cannot resume if there is no paused migration"),
+    ("source waits forever", "no recovery: source postcopy-(active|device|recover)"),
     ("target aborted", "target ENDED.*; target(:| aborted:) [^;]*Assertion .* failed"),
     ("target ended: `Operation not permitted`", "target ENDED.*loadvm failed during postcopy: -1: .*Operation not permitted"),
     ("target ended while it loaded", "target ENDED.*(load of migration failed|loadvm failed)"),
@@ -19,15 +21,18 @@ ENDS = (
     ("target hangs", "target HANGS"),
     ("source hangs", "source HANGS"),
     ("target failed by itself", "the target went to"),
-    ("pre-copy came to its end", "gave up: pre-copy: (completed|device)"),
-    ("pre-copy failed", "gave up: pre-copy: failed"),
+    ("source failed after a cut", "no recovery: source failed"),
+    ("pre-copy came to its end", "pre-copy: (completed|device)"),
+    ("pre-copy failed{}", "gave up: pre-copy: failed(?P<words>: [^;]*)?"),
+    ("refused{}", "gave up(?P<words>: (?:migrate|cont|stop)[a-z-]*: [^;]*)"),
     ("not at its end within its limit", "it took more than"),
 )
 
 # Why a recording is not judged, and the word for it.
 NO_POSTCOPY = "there was no post-copy"
 UNFINISHED = "the migration did not come to its end: "  # and how it ended
-UNJUDGED = (("no post-copy", NO_POSTCOPY), ("lost stack", "are no event"))
+UNJUDGED = (("lost pages in pre-copy", r"; pre-copy lost \d"), ("nothing lost in pre-copy", "; pre-copy lost none"), ("no post-copy", NO_POSTCOPY), ("lost stack", "are no event"), ("unknown stream", "the stream has what is not known here"),
+            ("refused{}", "cannot migrate with [^:]*(?P<words>: .*)"), ("machine not there", "has no machine"))
 
 
 @dataclass
@@ -70,14 +75,14 @@ class Result:
         if self.is_unfinished:
             return self.end
         if self.verdict.startswith("not judged"):
-            return next((name for name, words in UNJUDGED if words in self.verdict), "not judged")
+            return named(UNJUDGED, self.verdict) or "not judged"
         return self.reason
 
     @property
     def is_unfinished(self):
         """Returns whether the end says what became of it: a QEMU died, hangs, or failed in pre-copy, or what was recorded until then is right."""
         is_right = self.verdict.startswith(("clean", "incomplete", f"not judged: {UNFINISHED}"))
-        is_in_precopy = NO_POSTCOPY in self.verdict and self.end.endswith(("hangs", "failed"))
+        is_in_precopy = NO_POSTCOPY in self.verdict and (self.end.endswith("hangs") or self.end.startswith(("pre-copy failed", "refused")))
         return self.outcome != "completed" and is_right or self.is_by_death or is_in_precopy
 
     @property
@@ -94,7 +99,7 @@ class Result:
         """Returns the name of the end, or the message about it."""
         if self.outcome == "completed":
             return self.outcome
-        known = next((name for name, form in ENDS if re.search(form, self.outcome)), "")
+        known = named(ENDS, self.outcome)
         if self.death and (self.is_by_death or not known):
             return name_of(self.death)
         return known or re.sub(r"\d+", "N", self.outcome)
@@ -115,7 +120,18 @@ class Result:
         parts = [plan.kind, f"{plan.pages} pages of {plan.words}", f"{plan.cpus} processors"]
         parts += [f"cut at {' '.join(map(str, plan.cuts))}"] if plan.cuts else []
         parts += [] if self.fault == "-" else [self.fault]
+        parts += [f"{what} {value}" for what, value in (("memory", plan.memory), ("machine", plan.machine)) if value not in ("one", "pc")]
+        parts += [*plan.further, *(f"{name} {value}" for name, value in plan.parameters.items())]
+        parts += [what for what in ("paused", "preempt", "multifd") if getattr(plan, what) and what not in plan.kind]
         return "; ".join([f"{', '.join(parts)}: {self.verdict}", *([self.restart] if self.restart else []), self.outcome])
+
+
+def named(names, words):
+    """Returns the first of these names whose form is in the words, with what the form takes from them; or nothing."""
+    for name, form in names:
+        if match := re.search(form, words):
+            return name.format(match.groupdict().get("words") or "")
+    return ""
 
 
 def name_of(death):
@@ -163,6 +179,11 @@ def outcome_in_words(outcome):
     if outcome["source"] == outcome["target"] == "completed" and not outcome["lost"] and not outcome["stands_still"]:
         return "completed"
     return "; ".join([f"source {outcome['source']}, target {outcome['target']}", *outcome["remarks"]])
+
+
+def versions_of(found):
+    """Returns the versions of the recorded migrations, from old to new."""
+    return sorted({result.version for result in found} - {""}, key=lambda text: [version_of(one) for one in text.split(" to ")])
 
 
 def rows(head, counts):

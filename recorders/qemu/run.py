@@ -17,10 +17,10 @@ QEMUS_DOWNTIME = 300  # milliseconds: QEMU's own limit, where no other is asked 
 
 
 class PrecopyEnded(Gone):
-    """Pre-copy was over before the switch."""
+    """Pre-copy was over before the switch. `why` has QEMU's words."""
 
-    def __init__(self, status):
-        super().__init__(f"pre-copy: {status}")
+    def __init__(self, status, why=""):
+        super().__init__(f"pre-copy: {status}{why and f': {why}'}")
         self.status = status
 
 
@@ -120,13 +120,14 @@ class Migration:
         """Decides the type of both machines, and what each side traces. Raises Missing if a QEMU lacks something that the plan needs."""
         for emulator in {self.source_emulator, self.target_emulator}:
             emulator.require(self.plan, library)
-        return (self.source_emulator.machine_for(self.target_emulator),
+        return (self.source_emulator.machine_for(self.target_emulator, self.plan.machine),
                 {"source": self.source_emulator.trace("source"), "target": self.target_emulator.trace("target")})
 
     def record(self, library, machine, traces):
         cuts = [CutPlan(behind) for behind in self.plan.cuts]
         self.relay = Relay(self.folder, self.room, Window(self.plan.base, self.plan.pages), self.room.name("target"),
-                           self.plan.fault, self.plan.skip, cuts, bool(self.plan.multifd), self.save_memory)
+                           self.plan.fault, self.plan.skip, cuts, bool(self.plan.multifd), self.save_memory,
+                           "xbzrle" in self.plan.capabilities())
 
         def start(name, emulator, *extra):
             self.machines.append(self.machine_class(name, self.folder, self.room, self.plan, library, emulator.path, machine, traces[name], extra))
@@ -188,8 +189,15 @@ class Migration:
         self.finish()
 
     def switch(self):
-        """Waits for pre-copy, and asks for post-copy. Raises PrecopyEnded if pre-copy comes to its end first, or fails."""
-        self.wait_for_precopy()
+        """Waits for pre-copy, and asks for post-copy, unless pre-copy comes to its end first. The guest goes on at the target then too, and may
+        be wrong there. Raises PrecopyEnded if pre-copy fails."""
+        try:
+            self.wait_for_precopy()
+        except PrecopyEnded as fault:
+            if fault.status not in ("device", "completed"):
+                raise
+            self.remark(str(fault))
+            return
         self.say(f"pre-copy: {self.relay.sent_before} pages; now post-copy")
         self.source("migrate-start-postcopy")
 
@@ -214,6 +222,8 @@ class Migration:
             machine("migrate-set-capabilities", capabilities=capabilities)
             if self.plan.multifd:
                 machine("migrate-set-parameters", **{"multifd-channels": self.plan.multifd})
+            if self.plan.parameters:
+                machine("migrate-set-parameters", **self.plan.parameters)
         # With a downtime of 1 ms, pre-copy does not end by itself. If it did, nothing would be left for post-copy.
         self.source("migrate-set-parameters", **{
             "max-bandwidth": self.plan.bandwidth, "max-postcopy-bandwidth": self.plan.post_bandwidth,
@@ -228,7 +238,7 @@ class Migration:
             time.sleep(0.005)
             status = self.source.migration()
         if status != "active":
-            raise PrecopyEnded(status)
+            raise PrecopyEnded(status, self.source("query-migrate").get("error-desc", "") if status == "failed" else "")
         time.sleep(self.plan.pre)
         while 0 <= self.plan.left < self.source("query-migrate").get("ram", {}).get("remaining", 0) and time.monotonic() < until:
             pass  # the moment is short: pre-copy comes to its end at its next look
@@ -329,7 +339,9 @@ class Migration:
         self.say(outcome.line())
 
     def at_end(self):
-        """Does what must be done while the guest is stopped at the target."""
+        """Does what must be done while the guest is stopped at the target. If pre-copy came to its end, the source has stood still since then."""
+        if not self.relay.is_post:
+            self.save_memory()
 
     def look_at_ends(self):
         """Looks whether the QEMUs have ended by themselves. A target whose load failed does so soon."""

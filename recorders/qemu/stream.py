@@ -12,7 +12,8 @@ from dataclasses import dataclass, field
 from dialect import COMMANDS
 
 PAGE_BYTES = 4096
-ZERO, MEM_SIZE, PAGE, EOS, CONTINUE, MULTIFD_FLUSH = 0x02, 0x04, 0x08, 0x10, 0x20, 0x200  # flags in a page's header
+ZERO, MEM_SIZE, PAGE, EOS, CONTINUE, XBZRLE, MULTIFD_FLUSH = 0x02, 0x04, 0x08, 0x10, 0x20, 0x40, 0x200  # flags in a page's header
+DELTA = 1  # the only kind of delta that there is
 EOF, SECTION_START, SECTION_PART, SECTION_END, SECTION_FULL = 0x00, 0x01, 0x02, 0x03, 0x04
 CONFIGURATION, COMMAND, FOOTER = 0x07, 0x08, 0x7E
 MAGIC = b"QEVM\0\0\0\3"
@@ -53,6 +54,12 @@ class Page(Item):
     @property
     def names_block(self):
         return len(self.head) > 8
+
+
+@dataclass
+class Delta(Page):
+    """A page of pre-copy as what changed in it since it was sent last. Its contents are set once they are known."""
+    delta: bytes = b""
 
 
 @dataclass
@@ -169,11 +176,17 @@ def section(tap, blocks):
         if flags & MEM_SIZE:
             lengths(tap, offset)
             yield Item(tap.end())
-        elif flags & (ZERO | PAGE):
+        elif flags & (ZERO | PAGE | XBZRLE):
             if not flags & CONTINUE:
                 blocks[0] = tap.name()
             if not blocks[0]:
                 raise Strange(f"a page of no block, with flags {flags:#x}")
+            if flags & XBZRLE:
+                if tap.number("B") != DELTA:
+                    raise Strange(f"a delta of an unknown kind, with flags {flags:#x}")
+                delta = tap.take(tap.number("H"))
+                yield Delta(tap.end(), blocks[0], offset, delta=delta)
+                continue
             length = len(tap.raw)
             contents = tap.take(PAGE_BYTES if flags & PAGE else 1)
             raw = tap.end()
@@ -185,6 +198,26 @@ def section(tap, blocks):
             return
         else:
             raise Strange(f"a page with flags {flags:#x}")
+
+
+def changed(old, delta):
+    """Returns the contents of a page after a delta, which has runs of bytes that stay and of new bytes in turn, each with its length in 7 or 14
+    bits. A page of zeros may be one byte."""
+    page, at, place, is_new = bytearray(old if len(old) == PAGE_BYTES else PAGE_BYTES), 0, 0, False
+    try:
+        while place < len(delta):
+            length, place = delta[place], place + 1
+            if length & 0x80:
+                length, place = length & 0x7F | delta[place] << 7, place + 1
+            if is_new:
+                page[at:at + length] = delta[place:place + length]
+                place += length
+            at, is_new = at + length, not is_new
+    except IndexError:
+        place += 1
+    if at > PAGE_BYTES or place > len(delta):
+        raise Strange("a delta that is longer than a page, or not whole")
+    return bytes(page)
 
 
 def lengths(tap, total):

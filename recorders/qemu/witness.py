@@ -17,6 +17,20 @@ def pages_that_differ(recording):
     return [page for page in left if contents.page("relay.pages", wire.last_before[page]) != contents.page("halt.mem", page)], len(left)
 
 
+def of_precopy(folder):
+    """Returns how many pages a pre-copy that came to its end has lost, in words, or nothing if it is not known."""
+    if not os.path.exists(f"{folder}/halt.mem"):
+        return ""
+    try:
+        recording = recording_in(folder)
+        differ, sent = pages_that_differ(recording)
+    except (Hole, OSError):
+        return ""
+    if recording.wire.has_state or recording.wire.strange or not sent:
+        return ""
+    return f"; pre-copy lost {len(differ) or 'none'} of {sent} pages"
+
+
 def witness(folder):
     if not os.path.exists(f"{folder}/halt.mem"):
         return "the source's memory at the halt was not kept\n"

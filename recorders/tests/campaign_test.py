@@ -232,8 +232,8 @@ def wait_for(path, is_there):
 
 def of_words(tests):
     """A series of no migrations is no command: nothing would be wrong in it."""
-    for words in (["qemu/campaign", "0"], ["qemu/campaign", "2", "--jobs", "0"], ["qemu/compare", "x", "--runs", "0"], ["qemu/both_sides", "--tries", "0"],
-                  ["qemu/direct", "live", "--tries", "-1"], ["criu/campaign", "0"], ["criu/campaign", "2", "--jobs", "x"], ["qemu/linux_runs", "-5", "x"],
+    for words in (["qemu/campaign", "0"], ["qemu/campaign", "2", "--jobs", "0"], ["qemu/compare", "x", "--runs", "0"], ["qemu/shows", "hang", "--runs", "0"],
+                  ["criu/campaign", "0"], ["criu/campaign", "2", "--jobs", "x"], ["qemu/linux_runs", "-5", "x"],
                   *(["qemu/migrate", "x", option, number] for option in ("--pre", "--pace", "--warm", "--skip", "--multifd") for number in ("-1", "nan")),
                   ["qemu/migrate", "x", "--cut", "-2"], ["criu/migrate", "x", "--delay", "-5"], ["criu/migrate", "x", "--after", "-5"],
                   ["qemu/linux", "x", "--recorded", "-1"], ["qemu/linux", "x", "--limit", "inf"], ["qemu/linux", "x", "--skip", "-1"]):

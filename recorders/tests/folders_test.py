@@ -280,7 +280,7 @@ def of_what_cannot_be_written(tests, room):
                                       env={**environment, "PYTHONPATH": f"{QEMU}:{os.path.dirname(HERE)}", **buffered})
                 tests.wants(f"{act} {buffered}", (done.returncode, done.stderr), wanted)
     os.close(closed)
-    for name in ("campaign", "compare", "both_sides", "direct", "found", "linux", "linux_runs", "migrate", "versions", "../criu/campaign",
+    for name in ("campaign", "compare", "found", "linux", "linux_runs", "migrate", "shows", "versions", "../criu/campaign",
                  "../criu/migrate", "../criu/versions"):
         done = subprocess.run(["sh", "-c", '"$@" >&-', "sh", sys.executable, "-B", f"{QEMU}/{name}", "--help"], capture_output=True, text=True)
         word = os.path.basename(name)

@@ -75,9 +75,6 @@ def of_results(tests):
     tests.wants("one that did not come to its end", Result("7.2.22", True, 2, "busy", True, "", "not judged: gave up: ..", 0, []).in_a_word, "not judged")
     tests.wants("the line above the table", [linux_results.heading(some) for some in (results[:1], [Result("7.2.22", True, 1, "busy", True, "", "", 0, [], load=load) for load in (0.0, 7.2, 3.9)])],
                 ["1 migrations:", "3 migrations, 2 of them at a load of 4 to 7:"])
-    with mock.patch.object(linux_results, "MANY", 2):
-        full = [result(version, is_bare=True, verdict="", lost=lost) for version in ("7.2.22", "10.0.13") for lost in (0, 3)]
-        tests.wants("the rows that have many of each version", linux_results.of_full_rows([*full, *results[:4]]), full)
     tests.wants("as a text and back", [result_from_text(one.to_text()) for one in results], results)
     tests.wants("the table", linux_results.table(results).splitlines(), [
         "| Migrations of | 7.2.22 | 10.0.13 |", "| --- | --- | --- |",
@@ -372,12 +369,11 @@ def of_runs(tests, room):
     with open(f"{room}/linux", "w", encoding="ascii") as out:
         out.write(MADE_UP % tuple(result.to_text() for result in results))
     runs = command("linux_runs")
-    runs.HERE, runs.PAGE, runs.FOUND, runs.KEPT = room, f"{room}/page.md", f"{room}/found.md", f"{room}/kept"
+    runs.HERE, runs.PAGE, runs.KEPT = room, f"{room}/page.md", f"{room}/kept"
     earlier = Result("7.2.22", False, 1, "spread", True, "", "", None, [], word="not judged", made="2026-11-27")
     linux_results.write_results(runs.KEPT, [earlier, earlier])
-    for path in (runs.PAGE, runs.FOUND):
-        with open(path, "w", encoding="ascii") as page:
-            page.write("before\n{}old\n{}after\n".format(*runs.MARKS))
+    with open(runs.PAGE, "w", encoding="ascii") as page:
+        page.write("before\n{}old\n{}after\n".format(*runs.MARKS))
 
     def made(*words):
         kept, sys.argv = sys.argv, ["linux_runs", *words]
@@ -435,12 +431,10 @@ def of_earlier_folders(tests, folder, made):
 
 
 def of_kept_results(tests):
-    """The tables in the pages are those of the results that the checkout keeps."""
+    """The table of runs is that of the results that the checkout keeps."""
     runs = command("linux_runs")
-    results = linux_results.results_in(runs.KEPT)
-    for path, some in ((runs.PAGE, results), (runs.FOUND, linux_results.of_full_rows(results))):
-        page = read(path)
-        tests.wants(f"the table of what is kept, in {os.path.basename(path)}", found_page.put(page, runs.told(some), runs.MARKS) == page, True)
+    page = read(runs.PAGE)
+    tests.wants("the table of what is kept", found_page.put(page, runs.told(linux_results.results_in(runs.KEPT)), runs.MARKS) == page, True)
 
 
 def of_interfaces(tests):

@@ -9,7 +9,7 @@ import time
 import stream
 from folders import Room
 from relay import CutPlan, Relay, Window
-from streams import END, EOS, HEADER, bitmap, command, discard, footer, package, page, request, section_part
+from streams import END, EOS, HEADER, bitmap, command, delta, discard, footer, package, page, request, section_part
 
 BASE, PAGES = 0x400000, 8
 
@@ -408,8 +408,33 @@ def wait_for(is_so, seconds=10):
         time.sleep(0.01)
 
 
+def of_deltas(tests):
+    """The page that a delta makes is kept, and the delta is handed on; one of a page that was not kept is strange, and what follows is handed on all the same."""
+    one, other = b"\x01\x01\x63", b"\x02\x01\x64"  # (byte 1 is 0x63; byte 2 is 0x64)
+    data = BEFORE + section(delta(0x1000, one, "pc.ram"), delta(at(3), one), delta(at(3), other)) + SWITCH + AFTER
+    contents = {}
+
+    class Kept(Relay):
+        def store(self, page):
+            contents[self.stored] = page
+            return super().store(page)
+
+    for fault, first in ((None, 3), ("preflip", 3 ^ 16)):
+        found, log = through(data, kind=Kept, has_deltas=True, fault=fault)
+        tests.wants("no byte of a delta is lost", found.count(delta(at(3), one) + delta(at(3), other)), 1)
+        *_, taken, given = [line.split() for line in told(log, f"down 0 page pre pc.ram {at(3)}")][-1]
+        tests.wants(f"the page that came, and the one at the target, with {fault}", [contents[int(place)][:4] for place in (taken, given)],
+                    [bytes([3, 0x63, 0x64, 3]), bytes([first, 0x63, 0x64, 3])])
+    tests.wants("nothing is strange", told(log, "strange"), [])
+    for why, options in (("of a page that was not sent", {"has_deltas": True}), ("where none is expected", {})):
+        data = HEADER + section(page(0x1000, filled(9), "pc.ram"), delta(at(3), one)) + SWITCH + AFTER
+        found, log = through(data, **options)
+        tests.wants(f"a delta {why}", (found == data, len(told(log, "strange a delta of a page that was not kept")), told(log, "down 0 state")), (True, 1, []))
+
+
 def run(tests):
     of_faults(tests)
+    of_deltas(tests)
     of_a_cut(tests)
     of_what_is_on_its_way(tests)
     of_few_pages(tests)

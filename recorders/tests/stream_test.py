@@ -3,7 +3,7 @@ import struct
 
 import contents
 import stream
-from streams import (CONFIGURATION, END, EOS, HEADER, answer, bitmap, command, discard, footer, name, package, page, reader,
+from streams import (CONFIGURATION, END, EOS, HEADER, answer, bitmap, command, delta, discard, footer, name, package, page, reader,
                      request, section_part, section_start, sizes, zeros)
 
 A, B = bytes([1]) * 4096, bytes([2]) * 4096
@@ -41,8 +41,26 @@ def of_cells(tests):
     tests.wants("a page of 512 words has nothing behind them", contents.cells_of(struct.pack("<512Q", *range(512)), 512), "".join(f"{it:016x}" for it in range(512)))
 
 
+def of_deltas(tests):
+    """A delta makes a page of the one before: the example of QEMU's own page about xbzrle."""
+    old = bytes(1001) + bytes.fromhex("05060708090a0b0c0d0e0f101112136800006b006d") + bytes(3074)
+    new = bytes(1001) + bytes.fromhex("0102030405060708090a0b0c0d0e0f68000067 0069") + bytes(3074)
+    changes = bytes.fromhex("e9070f0102030405060708090a0b0c0d0e0f03016701 0169")
+    tests.wants("the example", stream.changed(old, changes), new)
+    tests.wants("of a page of zeros", stream.changed(b"\0", b"\x02\x01\x07"), bytes(2) + b"\7" + bytes(4093))
+    tests.wants("nothing that changed", stream.changed(old, b""), old)
+    for wrong in (b"\x02\x05\x07", b"\xff\x7f\x01\x07", b"\x80", b"\x02\x81"):
+        tests.refuses(f"a delta that is not whole, or longer than a page: {wrong!r}", stream.Strange, lambda wrong=wrong: stream.changed(old, wrong))
+    data = HEADER + section_part() + page(0x5000, A, "pc.ram") + delta(0x5000, changes) + delta(0x6000, b"", "vga.vram") + EOS
+    found = [item for item in down(data) if isinstance(item, stream.Delta)]
+    tests.wants("deltas", [(item.block, item.offset, item.delta) for item in found], [("pc.ram", 0x5000, changes), ("vga.vram", 0x6000, b"")])
+    tests.wants("no byte is lost", b"".join(item.raw for item in down(data)), data)
+    tests.refuses("a delta of another kind", stream.Strange, lambda: down(HEADER + section_part() + struct.pack(">Q", 0x5040) + name("pc.ram") + b"\2"))
+
+
 def run(tests):
     of_cells(tests)
+    of_deltas(tests)
     items = down(WHOLE)
     tests.wants("no byte is lost", b"".join(item.raw for item in items), WHOLE)
     pages = [(item.block, item.offset, item.is_zero, item.names_block) for item in items if isinstance(item, stream.Page)]

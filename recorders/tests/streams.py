@@ -39,6 +39,11 @@ def zeros(offset, block=None):
     return struct.pack(">Q", offset | 0x02 | (0 if block else 0x20)) + (name(block) if block else b"") + b"\0"
 
 
+def delta(offset, changes, block=None):
+    """A page as a delta of xbzrle."""
+    return struct.pack(">Q", offset | 0x40 | (0 if block else 0x20)) + (name(block) if block else b"") + b"\1" + struct.pack(">H", len(changes)) + changes
+
+
 def command(number, data=b""):
     return b"\x08" + struct.pack(">HH", number, len(data)) + data
 

@@ -208,7 +208,7 @@ def of_one_that_hangs(tests, room):
     tests.wants("where its migration stands", [hanging.migration(), hanging.wait_for(("completed",), 30)], ["hangs", "hangs"])
     tests.wants("it is waited for once", hanging.qmp.calls, 1)
     side = plain.Side.__new__(plain.Side)
-    side.qmp, side.hangs = Silent(), False
+    side.name, side.qmp, side.hangs = "target", Silent(), False
     tests.wants("one that is asked without the recorder", (side.stands(), side.stands(), side.qmp.calls), (("hangs", "hangs"), ("hangs", "hangs"), 1))
     one = migration.Migration.__new__(migration.Migration)
     one.outcome, one.say = migration.Outcome(), lambda line: None
@@ -219,41 +219,6 @@ def of_one_that_hangs(tests, room):
     waited = []
     late = SimpleNamespace(name="target", hangs=False, migration=lambda: "ended", wait_for_end=waited.append, is_running=lambda: not waited, how_it_ended=lambda: "aborted: it")
     tests.wants("one that does not answer, as it is about to end", one.end_of(late, "completed"), "ENDED")
-
-
-def of_the_forwarder(tests, room):
-    """both_sides hands bytes on, and loses those of one direction."""
-    both_sides = command("both_sides")
-    with socket.socket(socket.AF_UNIX) as listener:
-        listener.bind(f"{room}/to")
-        listener.listen()
-        listener.settimeout(10)
-        forwarder = both_sides.Forwarder(f"{room}/from", f"{room}/to")
-        with socket.socket(socket.AF_UNIX) as source:
-            source.settimeout(10)
-            source.connect(f"{room}/from")
-            target, _ = listener.accept()
-            target.settimeout(10)
-            source.sendall(b"down")
-            tests.wants("handed on", target.recv(100), b"down")
-            forwarder.loses_down = True
-            source.sendall(b"lost")
-            target.sendall(b"up")
-            tests.wants("and back", source.recv(100), b"up")
-            until = time.monotonic() + 10
-            while forwarder.lost < 4 and time.monotonic() < until:
-                time.sleep(0.01)
-            with socket.socket(socket.AF_UNIX) as lane:
-                lane.settimeout(10)
-                lane.connect(f"{room}/from")
-                other, _ = listener.accept()
-                other.sendall(b"of the lane")
-                tests.wants("a second connection", lane.recv(100), b"of the lane")
-                forwarder.cut()
-                tests.wants("it is cut too", lane.recv(100), b"")
-                other.close()
-            tests.wants("what is lost is counted, and does not come", (forwarder.lost, target.recv(100)), (4, b""))
-            target.close()
 
 
 def of_the_table(tests):
@@ -303,7 +268,7 @@ def of_a_full_disk(tests, room):
     def emulator_of(name):
         return SimpleNamespace(path=f"/{name}", version_text="10.0.13")
 
-    for name, words, file in (("campaign", ["1", "--qemu", "one"], "results"), ("campaign", ["1", "--qemu", "one"], "table"), ("compare", ["one", "--case", "live", "--runs", "1"], "table")):
+    for name, words, file in (("campaign", ["1", "--no-axes", "--qemu", "one"], "results"), ("campaign", ["1", "--no-axes", "--qemu", "one"], "table"), ("compare", ["one", "--case", "live", "--runs", "1"], "table")):
         series, folder = command(name), f"{room}/{name}-{file}"
 
         def make_all(todo, *_, path=f"{folder}/{file}"):
@@ -358,7 +323,7 @@ def of_what_was_found(tests, room):
 
 
 def run(tests):
-    for of_them in (of_what_is_lacking, of_roots, of_no_roots, of_one_that_hangs, of_the_forwarder, of_comparisons, of_a_full_disk, of_what_was_found):
+    for of_them in (of_what_is_lacking, of_roots, of_no_roots, of_one_that_hangs, of_comparisons, of_a_full_disk, of_what_was_found):
         with tempfile.TemporaryDirectory() as room:
             of_them(tests, room)
     of_the_table(tests)

@@ -1,0 +1,121 @@
+"""The axes of a campaign's plans, rows in which each pair of their values stands, and what each pair gave."""
+import collections
+import itertools
+
+from build import Missing
+from kinds import MEMORIES
+from results import markdown, versions_of
+
+# The values of each axis, by its name. The first is what a plan has that is drawn without axes.
+AXES = {
+    "memory": tuple(MEMORIES),
+    "machine": ("pc", "q35"),
+    "capability": ("none", "auto-converge", "xbzrle", "multifd"),
+    "translations": ("flushed", "kept"),  # whether the guest drops that of a page before each access
+    "preempt": ("no", "yes"),
+    "recovery": ("no", "yes"),
+    "guest": ("runs", "paused"),
+    "processors": (1, 2, 4),
+}
+
+
+GOOD = ("clean", "cut not reached", "nothing lost in pre-copy")  # words of results that are no fault
+
+
+def pairs_of(row):
+    """Returns the pairs of a row, each as ((axis, value), (axis, value))."""
+    return set(itertools.combinations(((axis, row[axis]) for axis in AXES), 2))
+
+
+def all_pairs(values=None):
+    values = values or AXES
+    return {((one, a), (other, b)) for one, other in itertools.combinations(values, 2) for a in values[one] for b in values[other]}
+
+
+def possible(requires):
+    """Returns the axes with the values that a QEMU can have, each beside the first of all others, and why it cannot have the rest, as
+    {(axis, value): why}. `requires` raises Missing for the fields of a plan that it cannot make."""
+    first, refused = {axis: values[0] for axis, values in AXES.items()}, {}
+    for axis, values in AXES.items():
+        for value in values[1:]:
+            try:
+                requires(fields_of({**first, axis: value}))
+            except Missing as fault:
+                refused[axis, value] = str(fault)
+    return {axis: tuple(value for value in values if (axis, value) not in refused) for axis, values in AXES.items()}, refused
+
+
+def rows(drawn, values):
+    """Returns rows, each with a value of each axis, so that each pair of these values stands in one of them. `drawn` is a random.Random."""
+    found, left = [], all_pairs(values)
+    while left:
+        row = dict(drawn.choice(sorted(left, key=str)))
+        for axis in drawn.sample(list(values), len(values)):
+            if axis not in row:
+                row[axis] = max(drawn.sample(values[axis], len(values[axis])), key=lambda value: len(left & new_pairs(row, axis, value)))
+        found.append(row)
+        left -= pairs_of(row)
+    return found
+
+
+def new_pairs(row, axis, value):
+    """Returns the pairs that a value of a further axis makes with those of a row."""
+    places = list(AXES)
+    return {tuple(sorted([(axis, value), other], key=lambda one: places.index(one[0]))) for other in row.items()}
+
+
+def fields_of(row):
+    """Returns what a row sets in a plan, but for its cuts."""
+    return {"memory": row["memory"], "machine": row["machine"], "further": [row["capability"]] if row["capability"] not in ("none", "multifd") else [],
+            "multifd": 2 if row["capability"] == "multifd" else 0, "flush": row["translations"] == "flushed", "preempt": row["preempt"] == "yes",
+            "paused": row["guest"] == "paused", "cpus": row["processors"]}
+
+
+def row_of(plan):
+    """Returns the row of a plan that was drawn by axes."""
+    return {"memory": plan.memory, "machine": plan.machine, "capability": "multifd" if plan.multifd else plan.further[0] if plan.further else "none",
+            "translations": "flushed" if plan.flush else "kept", "preempt": "yes" if plan.preempt else "no", "recovery": "yes" if plan.cuts else "no",
+            "guest": "paused" if plan.paused else "runs", "processors": plan.cpus}
+
+
+def in_words(part):
+    return ", ".join(f"{axis} {value}" for axis, value in part)
+
+
+def counted(results):
+    """Returns what each value and each pair gave, as {part: {version: Counter}}. A part is a tuple of one or two (axis, value)."""
+    found = collections.defaultdict(lambda: collections.defaultdict(collections.Counter))
+    for result in results:
+        row = row_of(result.plan)
+        for part in [*((one,) for one in row.items()), *pairs_of(row)]:
+            found[part][result.version][result.in_a_word] += 1
+    return found
+
+
+def order(part):
+    return len(part), str(part)
+
+
+def table(results):
+    """Returns the table of what each value and each pair gave, by version."""
+    versions, found = versions_of(results), counted(results)
+    lines = [[in_words(part), *(", ".join(f"{count} {word}" for word, count in found[part][version].most_common()) for version in versions)] for part in sorted(found, key=order)]
+    return markdown([["Of the migrations with", *versions], *lines])
+
+
+def in_common(results):
+    """Yields a line for each version and each thing that became of two or more migrations that were not clean: the values that all of these
+    have, and of how many migrations with these values it became."""
+    versions = sorted({result.version for result in results})
+    for version, word in sorted({(result.version, result.in_a_word) for result in results} - {(version, word) for version in versions for word in GOOD}):
+        of_version = [(row_of(result.plan).items(), result.in_a_word) for result in results if result.version == version]
+        found = [row for row, its in of_version if its == word]
+        common = [one for one in found[0] if all(one in row for row in found)]
+        every = sum(all(one in row for one in common) for row, _ in of_version)
+        if len(found) > 1:
+            yield f"{version or 'no QEMU'}: {len(found)} {word}; {len(found)} of {every} with {in_words(common) or 'nothing in common'}"
+
+
+def not_made(results):
+    """Returns the pairs that no migration had."""
+    return all_pairs().difference(*(pairs_of(row_of(result.plan)) for result in results))

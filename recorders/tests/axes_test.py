@@ -1,0 +1,189 @@
+"""The axes of plans: rows with each pair, the plans of rows, what each pair gave, and how a QEMU and the words of `migrate` have them."""
+import contextlib
+import io
+import random
+import subprocess
+import sys
+import tempfile
+from types import SimpleNamespace
+from unittest import mock
+
+import axes
+import build
+import kinds
+import machine
+import plans
+import results
+import witness
+from emulator import Emulator
+from kinds import plan_from_text, plan_of
+from records import Hole
+from results import Result
+from run import Migration, Outcome, PrecopyEnded
+from versions_test import QEMU, command, program, qemu_like, read
+
+
+def of_rows(tests):
+    for seed in range(20):
+        rows = axes.rows(random.Random(seed), axes.AXES)
+        tests.wants("each pair stands in a row", axes.all_pairs().difference(*map(axes.pairs_of, rows)), set())
+        tests.wants("in few of them", len(rows) < 30, True)
+        tests.wants("the same seed, the same rows", axes.rows(random.Random(seed), axes.AXES), rows)
+        made = [plans.plan_by_axes(random.Random(seed), row) for row in rows]
+        tests.wants("a plan has the values of its row", [axes.row_of(plan) for plan in made], rows)
+        tests.wants("a plan's text and back", [plan_from_text(plan.to_text()) for plan in made], made)
+    tests.wants("a plan that is drawn without axes has the first value of each", [value for value in axes.row_of(plan_of("live")).values()], [values[0] for values in axes.AXES.values()])
+
+
+def of_results(tests):
+    """What each value and each pair gave, what those have in common that were not clean, and what was not made."""
+    first = {axis: values[0] for axis, values in axes.AXES.items()}
+
+    def result(verdict, version="10.0.13", **values):
+        return Result(plans.plan_by_axes(random.Random(1), {**first, **values}), verdict, "completed", version=version)
+
+    made = [result("clean, yes"), result("clean, yes", memory="numa"), *[result("faulty line 7 read", memory="numa", translations="kept")] * 2,
+            *[result("faulty line 7 read", "7.2.22", translations="kept")] * 2, result("faulty line 9 read", memory="dimm")]
+    tests.wants("what all have in common of which it became", list(axes.in_common(made)), [
+        "10.0.13: 3 `read`; 3 of 5 with machine pc, capability none, preempt no, recovery no, guest runs, processors 1",
+        "7.2.22: 2 `read`; 2 of 2 with memory one, machine pc, capability none, translations kept, preempt no, recovery no, guest runs, processors 1"])
+    apart = [result("faulty line 1 read", **{axis: values[-1] for axis, values in axes.AXES.items()}), result("faulty line 1 read")]
+    tests.wants("where that is nothing", list(axes.in_common(apart)), ["10.0.13: 2 `read`; 2 of 2 with nothing in common"])
+    tests.wants("of one alone, and of what is no fault, nothing is said", list(axes.in_common(made[:2] + made[-1:])), [])
+    lines = axes.table(made).splitlines()
+    tests.wants("the table", [line for line in lines if line.startswith(("| Of", "| memory numa, translations kept |"))],
+                ["| Of the migrations with | 7.2.22 | 10.0.13 |", "| memory numa, translations kept | | 2 `read` |"])
+    tests.wants("pairs that were not made", (("memory", "uneven"), ("machine", "pc")) in axes.not_made(made), True)
+    tests.wants("and one that was", (("memory", "numa"), ("translations", "kept")) in axes.not_made(made), False)
+    tests.wants("a line", result("clean, yes", memory="numa", machine="q35", capability="xbzrle", preempt="yes").line().split(":")[0].split(", ")[3:],
+                ["memory numa", "machine q35", "xbzrle", "preempt"])
+
+
+def of_campaigns(tests):
+    """Every second plan is of a row, each QEMU gets each row, and without axes the plans are those of the seed alone."""
+    campaign, emulators = command("campaign"), [SimpleNamespace(path="one"), SimpleNamespace(path="other")]
+    values = {"one": axes.AXES, "other": {**axes.AXES, "capability": ("none", "xbzrle")}}
+    asked = SimpleNamespace(seed=5, count=120, axes=True, faults=False, no_flush=False)
+    made = list(campaign.plans_of(asked, emulators, values))
+    tests.wants("as many as are asked for", len(made), 120)
+    tests.wants("the same seed gives the same", list(campaign.plans_of(asked, emulators, values)), made)
+    for emulator in emulators:
+        rows = [axes.row_of(plan) for plan, its in made[1::2] if its == emulator]
+        tests.wants("each QEMU gets each pair of the values that it can have", set().union(*map(axes.pairs_of, rows)), axes.all_pairs(values[emulator.path]))
+    def requires(fields):
+        if fields["multifd"] or fields["machine"] == "q35":
+            raise build.Missing("it cannot")
+
+    found, refused = axes.possible(requires)
+    tests.wants("the values that a QEMU can have", (found["capability"], found["machine"], found["memory"], refused),
+                (("none", "auto-converge", "xbzrle"), ("pc",), tuple(kinds.MEMORIES), {("capability", "multifd"): "it cannot", ("machine", "q35"): "it cannot"}))
+    lacking = SimpleNamespace(path="one", require=lambda plan, library: requires({"multifd": plan.multifd, "machine": ""}), machine_for=lambda emulator, name: name)
+    with contextlib.redirect_stdout(io.StringIO()) as said:
+        tests.wants("of each", campaign.possible([lacking], "library")["one"]["capability"], ("none", "auto-converge", "xbzrle"))
+    tests.wants("what is left out is told", said.getvalue(), "left out, capability multifd: it cannot\n")
+    drawn = random.Random(5)
+    tests.wants("the others are drawn as without axes", [plan for plan, _ in made[::2]], [plans.random_plan(drawn) for _ in range(60)])
+    tests.wants("by each QEMU in turn", [its for _, its in made[::2]], emulators * 30)
+    drawn, asked.axes = random.Random(5), False
+    tests.wants("without axes", list(campaign.plans_of(asked, emulators, values)), [(plans.random_plan(drawn), emulators[number % 2]) for number in range(120)])
+    with tempfile.TemporaryDirectory() as room, contextlib.redirect_stdout(io.StringIO()) as said:
+        campaign.tell_axes([Result(plan, "faulty line 1 read", "completed", version="7.2.22") for plan, _ in made[1::2]][:4], room)
+        tests.wants("what is told", (said.getvalue().split("\n")[1].split(";")[1], "  7.2.22: 4 `read`; 4 of 4 with " in said.getvalue(), read(f"{room}/pairs").startswith("| Of the")),
+                    (f" {len(axes.not_made([Result(plan, '', '') for plan, _ in made[1:9:2]]))} pairs were not made", True, True))
+
+
+def of_machines(tests, room):
+    """The options of a QEMU for the memory, and what it is asked for before."""
+    for memory, wanted in (("one", ["-m", "32M"]),
+                           ("numa", ["-m", "80M", "-object", "memory-backend-ram,id=front,size=48M", "-object", "memory-backend-ram,id=pc.ram,size=32M",
+                                     "-numa", "node,nodeid=0,memdev=pc.ram", "-numa", "node,nodeid=1,memdev=front"]),
+                           ("uneven", ["-m", "48M", "-object", "memory-backend-ram,id=front,size=16M", "-object", "memory-backend-ram,id=pc.ram,size=32M",
+                                       "-numa", "node,nodeid=0,memdev=pc.ram", "-numa", "node,nodeid=1,memdev=front"]),
+                           ("dimm", ["-m", "32M,slots=1,maxmem=128M", "-object", "memory-backend-ram,id=front,size=48M", "-object", "memory-backend-ram,id=pc.ram,size=32M",
+                                     "-machine", "memory-backend=pc.ram", "-device", "pc-dimm,memdev=front"])):
+        tests.wants(f"the options of {memory}", machine.memory(plan_of("live", memory=memory)), wanted)
+    tests.wants("each memory has its options", set(kinds.MEMORIES), {"one", "numa", "uneven", "dimm"})
+    named = ["-object", "memory-backend-ram,id=pc.ram,size=32M", "-machine", "memory-backend=pc.ram"]
+    tests.wants("those of another machine", machine.memory(plan_of("live", machine="q35")), ["-m", "32M", *named])
+    tests.wants("of huge pages", machine.memory(plan_of("huge"))[3], "memory-backend-memfd,hugetlb=on,hugetlbsize=2M,id=pc.ram,size=32M")
+    plan = plan_of("live", further=["xbzrle", "postcopy-ram"], parameters={"cpu-throttle-initial": 5})
+    tests.wants("capabilities, each once", plan.capabilities(), ["postcopy-ram", "postcopy-blocktime", "xbzrle"])
+    tests.wants("and of pre-copy alone", plan_of("live", further=["xbzrle"], is_precopy=True).capabilities(), ["xbzrle"])
+    tests.wants("what is not looked at", [len(plan_of(kind, memory=memory).not_looked_at()) for kind, memory in (("live", "one"), ("live", "numa"), ("multifd", "dimm"))], [0, 1, 2])
+    emulator = Emulator(qemu_like(room, "10.0.13", [], "Invalid parameter it"))
+    said = tests.refuses("a parameter that is refused", build.Missing, lambda: emulator.require(plan, program(f"{room}/library")))
+    tests.wants("it is named", "cannot migrate with postcopy-ram, postcopy-blocktime, xbzrle, cpu-throttle-initial: Invalid parameter it" in said, True)
+    tests.wants("what is asked", '"migrate-set-parameters", "arguments": {"cpu-throttle-initial": 5}' in read(f"{room}/asked"), True)
+    tests.wants("a machine that is there", emulator.machine_for(emulator, "pc-i440fx-7.2"), "pc-i440fx-7.2")
+    said = tests.refuses("one that is not", build.Missing, lambda: emulator.machine_for(emulator, "q35"))
+    tests.wants("in a word", Result(plan, f"not judged: the recorder ended with build.Missing: {said}", "").in_a_word, "machine not there")
+
+
+def of_words(tests):
+    migrate = command("migrate")
+    parser = migrate.words()
+    asked = parser.parse_intermixed_args(["live", "x", "--memory", "numa", "--machine", "q35", "--capability", "xbzrle", "--capability", "auto-converge",
+                                          "--parameter", "a=5", "--parameter", "b=zlib", "--parameter", "c=true"])
+    plan = migrate.plan_of_words(parser, asked)
+    tests.wants("the plan", (plan.memory, plan.machine, plan.further, plan.parameters), ("numa", "q35", ["xbzrle", "auto-converge"], {"a": 5, "b": "zlib", "c": True}))
+    for words, said in ((["--capability", "release-ram"], "'release-ram' cannot be recorded: "), (["--parameter", "a"], "'a' is not NAME=VALUE"), (["--memory", "two"], "invalid choice")):
+        done = subprocess.run([sys.executable, "-B", f"{QEMU}/migrate", "x", *words], capture_output=True, text=True)
+        tests.wants(f"the words {' '.join(words)}", (done.returncode, said in done.stderr), (2, True))
+
+
+def of_owners(tests):
+    """Each end has whose it is, in QEMU's words."""
+    plan, unjudged = plan_of("live"), "not judged: there was no post-copy: the state was never handed over in a package"
+    for verdict, outcome, wanted in (
+            (unjudged, "source failed, target failed; gave up: pre-copy: failed: Unable to write to socket: Broken pipe; more", "pre-copy failed: Unable to write to socket: Broken pipe"),
+            (unjudged, "source failed, target failed; gave up: pre-copy: failed", "pre-copy failed"),
+            (unjudged, "source none, target none; gave up: migrate-set-capabilities: Postcopy is not compatible with it", "refused: migrate-set-capabilities: Postcopy is not compatible with it"),
+            ("not judged: the recorder ended with build.Missing: QEMU 10.0.13 (/q) cannot migrate with postcopy-ram, multifd: Postcopy is not yet compatible with multifd", "",
+             "refused: Postcopy is not yet compatible with multifd"),
+            (f"{unjudged}; pre-copy lost 3 of 64 pages", "completed", "lost pages in pre-copy"), (f"{unjudged}; pre-copy lost none of 64 pages", "completed", "nothing lost in pre-copy"),
+            (unjudged, "completed", "no post-copy"), ("not judged: the stream has what is not known here: a page with flags 0x60", "completed", "unknown stream"),
+            ("incomplete page 7", "source postcopy-device, target postcopy-paused; source: migrate-pause: it is refused; no recovery: source postcopy-device, target postcopy-paused",
+             "source waits forever"),
+            ("incomplete page 7", "source failed, target postcopy-paused; no recovery: source failed, target postcopy-paused", "source failed after a cut")):
+        result = Result(plan, verdict, outcome)
+        tests.wants(f"in a word: {wanted}", (result.in_a_word, result.is_clean), (wanted, False))
+
+
+def of_the_end_of_precopy(tests, room):
+    """Pre-copy that comes to its end is compared, and one that fails has QEMU's words."""
+    wire = SimpleNamespace(has_state=False, strange="")
+    open(f"{room}/halt.mem", "wb").close()
+    for differ, sent, changes, wanted in (([1, 5], 64, {}, "; pre-copy lost 2 of 64 pages"), ([], 64, {}, "; pre-copy lost none of 64 pages"), ([], 0, {}, ""),
+                                          ([1], 64, {"has_state": True}, ""), ([1], 64, {"strange": "a command 12"}, "")):
+        recording = SimpleNamespace(wire=SimpleNamespace(**{**vars(wire), **changes}))
+        with mock.patch.multiple(witness, recording_in=lambda folder, recording=recording: recording, pages_that_differ=lambda recording, found=(differ, sent): found):
+            tests.wants(f"pre-copy that lost {differ} of {sent}, {changes}", witness.of_precopy(room), wanted)
+    with mock.patch.multiple(witness, recording_in=mock.Mock(side_effect=Hole("a page is not there"))):
+        tests.wants("one whose files are not whole", witness.of_precopy(room), "")
+    tests.wants("one of which no memory was kept", witness.of_precopy(f"{room}/none"), "")
+    one = Migration.__new__(Migration)
+    one.plan, one.outcome, one.say, saved = plan_of("live", pre=0.0), Outcome(), lambda line: None, []
+    one.relay, one.save_memory = SimpleNamespace(sent_before=0, is_post=False), lambda: saved.append("memory")
+    for status, asked in (("completed", None), ("failed", {"error-desc": "it broke"})):
+        one.source = mock.Mock(return_value=asked, wait_for=lambda wanted, seconds, status=status: status)
+        if asked:
+            tests.wants("its words", tests.refuses("pre-copy that fails", PrecopyEnded, one.switch), "pre-copy: failed: it broke")
+        else:
+            one.switch()
+            one.at_end()
+            tests.wants("pre-copy that comes to its end", (one.outcome.remarks, saved), (["pre-copy: completed"], ["memory"]))
+    one.relay.is_post = True
+    one.at_end()
+    tests.wants("where there was a post-copy, the memory of the halt stays", saved, ["memory"])
+    tests.wants("in a word", results.Result(one.plan, "not judged: there was no post-copy", "source completed, target completed; pre-copy: completed").end, "pre-copy came to its end")
+
+
+def run(tests):
+    of_rows(tests)
+    of_results(tests)
+    of_campaigns(tests)
+    of_words(tests)
+    of_owners(tests)
+    for of_them in (of_machines, of_the_end_of_precopy):
+        with tempfile.TemporaryDirectory() as room:
+            of_them(tests, room)
