@@ -10,18 +10,16 @@ from roots import die_with_parent
 SECONDS = 10  # for each wait
 
 
-class Side:
-    """A QEMU with the test guest, whose port is a file."""
+class Running:
+    """A QEMU that was started by these words, with a monitor."""
 
-    def __init__(self, name, emulator, room, rom, accelerator, *extra):
+    def __init__(self, name, room, words, **environment):
         self.hangs = False
-        self.name, self.told, self.errors = name, room.name(f"{name}.told"), room.name(f"{name}.errors")
+        self.name, self.errors = name, room.name(f"{name}.errors")
         monitor = room.name(f"{name}.qmp")
         with open(self.errors, "w", encoding="utf-8") as errors:
-            self.process = subprocess.Popen(
-                [emulator.path, "-machine", f"pc,accel={accelerator}", "-m", "32M", "-nodefaults", "-no-user-config", "-display", "none",
-                 "-bios", rom, "-chardev", f"file,id=told,path={self.told}", "-device", "isa-debugcon,iobase=0xe9,chardev=told",
-                 "-qmp", f"unix:{monitor},server=on,wait=off", *extra], stderr=errors, stdin=subprocess.DEVNULL, preexec_fn=die_with_parent)
+            self.process = subprocess.Popen([*words, "-qmp", f"unix:{monitor},server=on,wait=off"], stderr=errors, stdin=subprocess.DEVNULL,
+                                            preexec_fn=die_with_parent, env={**os.environ, **environment})
         try:
             self.qmp = Qmp(monitor, lambda: self.process.poll() is None, SECONDS)
         except Gone as fault:
@@ -45,13 +43,27 @@ class Side:
         except Gone:
             return "ended", "ended"
 
-    def count(self):
-        return os.path.getsize(self.told)
-
     def end(self):
         self.process.kill()
         self.process.wait()
         self.qmp.close()
+
+
+def words_of_test_guest(emulator, rom, accelerator, told, ram=32):
+    """Returns the words that start a QEMU with the test guest, whose port is the file `told`, and which has `ram` MiB."""
+    return [emulator.path, "-machine", f"pc,accel={accelerator}", "-m", f"{ram}M", "-nodefaults", "-no-user-config", "-display", "none",
+            "-bios", rom, "-chardev", f"file,id=told,path={told}", "-device", "isa-debugcon,iobase=0xe9,chardev=told"]
+
+
+class Side(Running):
+    """A QEMU with the test guest."""
+
+    def __init__(self, name, emulator, room, rom, accelerator, *extra):
+        self.told = room.name(f"{name}.told")
+        super().__init__(name, room, [*words_of_test_guest(emulator, rom, accelerator, self.told), *extra])
+
+    def count(self):
+        return os.path.getsize(self.told)
 
 
 def wait_until(is_so, pause=0.01, seconds=SECONDS):

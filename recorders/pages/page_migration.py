@@ -1,0 +1,148 @@
+"""One migration on this machine, recorded by page contents: of the test guest, or of a guest that is started by any words."""
+import os
+import shutil
+import threading
+import time
+from dataclasses import dataclass
+
+import build
+import folders
+from kinds import Plan
+from page_source import Lost, Monitor, Observer, words_of_qmp
+from page_target import BLOCKS, new_key, prepare
+from plain import Running, wait_until, words_of_test_guest
+from relay import Relay, Window
+
+PAGE = 4096
+SECONDS = 120  # for each part
+BYTES_OF_ACCESS = 20  # that the test guest tells, and more
+ENDED = ("completed", "failed", "cancelled", "ended", "hangs")
+FAULTS = ("flip", "stale", "swap", "drop", "preflip", "keep-drop")
+SIDES = ("target", "source")
+
+
+@dataclass
+class Settings:
+    """How to migrate. Rates are in bytes a second."""
+    ram: int = 64  # MiB of the test guest
+    pages: int = 1024  # in which it is busy
+    accelerator: str = "tcg"
+    warm: float = 1.0  # seconds before the migration
+    pre: float = 0.5   # seconds of pre-copy
+    bandwidth: int = 2 << 20
+    is_tracking: bool = False
+    fault: str = ""
+    words: tuple = ()  # that start the guest's QEMU, in place of the test guest
+
+
+class Migration:
+    def __init__(self, settings, folder, emulator, say):
+        self.settings, self.folder, self.emulator, self.say = settings, folder, emulator, say
+        self.room, self.machines, self.relay = None, {}, None
+
+    def run(self):
+        """Makes the migration. Returns what the QEMUs say of it. Raises Missing, or Lost if the source was not recorded."""
+        if os.path.lexists(self.folder):
+            raise build.Missing(f"{self.folder} is there: name a new folder")
+        build.require_tools()
+        self.rom = build.build()[0]
+        os.makedirs(self.folder)
+        self.room = folders.Room()
+        try:
+            return self.migrate(new_key())
+        finally:
+            for machine in self.machines.values():
+                machine.end()
+            if self.relay:
+                self.relay.end()
+            for side in SIDES:
+                if os.path.exists(self.room.name(f"{side}.errors")):
+                    shutil.copy(self.room.name(f"{side}.errors"), f"{self.folder}/{side}.errors")
+            self.room.end()
+
+    def start(self, side, *extra, **environment):
+        settings = self.settings
+        if not settings.words:
+            build.rom_for(Plan(pages=settings.pages), self.rom, f"{self.folder}/guest.bin")
+        words = settings.words or words_of_test_guest(self.emulator, f"{self.folder}/guest.bin", settings.accelerator, self.room.name(f"{side}.told"), settings.ram)
+        self.machines[side] = Running(side, self.room, [*words, *extra], **environment)
+        return self.machines[side].qmp
+
+    def migrate(self, key):
+        settings, room = self.settings, self.room
+        target = self.start("target", "-incoming", "defer", **prepare(f"{self.folder}/target", key, settings.is_tracking))
+        source = self.start("source", "-qmp", f"unix:{room.name('watch')},server=on,wait=off")
+        observer = Observer(f"{self.folder}/source", key, self.machines["source"].process.pid)
+        monitor = Monitor(room.name("watch"), lambda: True)
+        observer.name_blocks(monitor.names())
+        self.say(f"the source has {observer.pages} pages of {observer.blocks} blocks")
+        faults = []
+        watching = threading.Thread(target=watch, args=(observer, words_of_qmp(monitor), self.say, faults))
+        watching.start()
+        try:
+            for qmp in (target, source):
+                qmp("migrate-set-capabilities", capabilities=[{"capability": "postcopy-ram", "state": True}])
+            source("migrate-set-parameters", **{"max-bandwidth": settings.bandwidth, "downtime-limit": 1})
+            target("migrate-incoming", uri=f"unix:{room.name('migration')}")
+            self.warm_up()
+            source("migrate", uri=f"unix:{self.way()}")
+            wait_until(lambda: self.stands("source") not in ("none", "setup"))
+            time.sleep(settings.pre)
+            source("migrate-start-postcopy")
+            outcome = self.follow()
+        finally:
+            if not self.is_over():
+                self.machines["source"].process.kill()  # nobody waits for a migration that came to no end
+            watching.join()
+        if faults:
+            raise faults[0]
+        if not os.path.exists(f"{self.folder}/target/{BLOCKS}"):
+            raise build.Missing(f"{outcome}: pre-copy came to its end before the switch, and there was no post-copy")
+        return outcome
+
+    def warm_up(self):
+        """Lets the guest run. The test guest has to have filled its pages."""
+        time.sleep(self.settings.warm)
+        if not self.settings.words and not wait_until(lambda: os.path.getsize(self.room.name("source.told")) > self.settings.pages * BYTES_OF_ACCESS, seconds=SECONDS):
+            raise build.Missing("the test guest does nothing")
+
+    def way(self):
+        """Returns the socket to which the source connects: the target's, or a relay's that puts a fault in."""
+        if not self.settings.fault:
+            return self.room.name("migration")
+        self.relay = Relay(self.folder, self.room, Window(0, self.settings.ram << 20 >> 12), self.room.name("migration"), self.settings.fault, 3)
+        return self.relay.path
+
+    def put_in(self):
+        """Returns the pages of the fault that the relay has put in."""
+        with open(f"{self.folder}/relay.log", encoding="ascii") as log:
+            return [int(page) for line in log if line.startswith("fault ") for page in line.split()[2:]]
+
+    def stands(self, side):
+        return self.machines[side].stands()[0]
+
+    def is_over(self):
+        return self.stands("source") in ENDED
+
+    def follow(self):
+        """Waits until the migration is at its end, and says how far it is. Returns what the QEMUs say."""
+        until, said = time.monotonic() + SECONDS, 0.0
+        while not (self.is_over() and self.stands("target") in ENDED) and time.monotonic() < until:
+            if time.monotonic() > said + 1:
+                said = time.monotonic()
+                self.say(f"source {self.stands('source')}, target {self.stands('target')}{self.left()}")
+            if self.is_over() and time.monotonic() > said + 0.5:
+                until = min(until, time.monotonic() + 20)  # a target that lacks pages may wait for ever
+            time.sleep(0.02)
+        return ", ".join(f"{side} {self.stands(side)}" for side in ("source", "target"))
+
+    def left(self):
+        ram = {} if self.is_over() else self.machines["source"].qmp("query-migrate").get("ram", {})
+        return f", {ram['remaining'] >> 20} of {ram['total'] >> 20} MiB are left" if ram else ""
+
+
+def watch(observer, words, say, faults):
+    try:
+        observer.watch(words, say)
+    except Lost as fault:
+        faults.append(fault)
