@@ -35,11 +35,11 @@ static int in_order(const void *one, const void *other)
     return a->start < b->start ? 1 : -1;
 }
 
-/* Adds a mapping, which may be a further part of the block before it. */
+/* Adds a mapping, which may be a further part of the block before it: behind each block QEMU leaves a page that is none. */
 static int add_mapping(struct blocks *found, const struct block *mapping)
 {
     struct block *last = found->count ? &found->at[found->count - 1] : NULL;
-    if (last && last->start + last->length == mapping->start) {
+    if (last && last->start + last->length == mapping->start && !strcmp(last->path, mapping->path)) {
         last->length += mapping->length;
         return 0;
     }
