@@ -10,7 +10,6 @@ import signal
 import subprocess
 import sys
 import time
-import xml.etree.ElementTree as tree
 
 import pytest
 from cases import same
@@ -346,65 +345,59 @@ def test_used_folder(sides):
         page_source.Observer(sides.source, KEY, os.getpid())
 
 
-# Monitors, and libvirt
+# The command
 
-@pytest.mark.parametrize("states, words", [
-    ([("active", True), ("postcopy-active", True), ("postcopy-active", False), ("postcopy-active", False), ("completed", False)], ["halt", "end"]),
-    ([("active", True), ("completed", False)], ["end"]),
-    ([("active", True), ("device", False), ("failed", True)], ["failed"]),
-    ([("postcopy-active", False), ("postcopy-paused", False), ("postcopy-recover", False), ("completed", False)], ["halt", "end"]),
-    ([("postcopy-active", False), ("failed", False), ("failed", True)], ["halt", "back"]),
-    ([("completed", True), ("none", True), ("active", False)], []),
+def run(*words, **how):
+    return subprocess.run([COMMAND, *words], capture_output=True, text=True, timeout=60, **how)
+
+
+def test_command(sides):
+    """The steps of a migration that a person makes, but for the guest and its QEMU."""
+    key = f"{sides.room}/key"
+    done = run("key")
+    same("key", bool(re.fullmatch("[0-9a-f]{32}\n", done.stdout)), True)
+    page_target.write(key, done.stdout)
+    lines = run("target", sides.target, "--key", key)
+    same("lines", re.findall("^([A-Z_]+)=", lines.stdout, re.MULTILINE), ["LD_PRELOAD", "POSTCOPY_PAGES", "POSTCOPY_PAGES_KEY"])
+    same("nobody records", run("wait", sides.target, "--seconds", "0.1").returncode, 1)
+    done = run("target", sides.target, "--key", key, "--", sides.guarded, "target", "100")
+    same("target", (done.returncode, done.stdout, "the target records" in done.stderr or "recorded" in done.stderr), (0, "absent\n", True))
+    same("it records", run("wait", sides.target, "--seconds", "0.1").returncode, 0)
+    process = sides.start_source()
+    with subprocess.Popen([COMMAND, "source", sides.source, "--key", key, "--pid", str(process.pid)], stdout=subprocess.PIPE, text=True) as source:
+        same("ready", source.stdout.readline(), f"ready: 640 pages of 2 blocks of process {process.pid}\n")
+        process.kill()
+        same("source", (re.findall("^[a-z]+", source.stdout.read(), re.MULTILINE), source.wait()), (["held", "hashed", "recorded"], 0))
+    process.wait()
+    done = run("audit", sides.target, sides.source)
+    same("audit", (done.stdout.split("\n")[:2], done.returncode), (["clean", f"640 pages. What `clean` means here stands in {sides.target}/README."], 0))
+
+
+def test_command_with_xml(sides):
+    page_target.write(f"{sides.room}/key", KEY)
+    done = run("target", sides.target, "--key", f"{sides.room}/key", "--track", "--xml", input="<domain type='kvm'><memory>1024</memory></domain>")
+    if "chmod o+x" in done.stderr:
+        pytest.skip("the emulator's user of this machine does not come to the folder of the tests")
+    found = dict(re.findall(r"<qemu:env name=\"(\w+)\" value=\"([^\"]*)\"", done.stdout))
+    same("XML", (done.returncode, found), (0, {"LD_PRELOAD": f"{sides.target}/pages.so", "POSTCOPY_PAGES": sides.target, "POSTCOPY_PAGES_KEY": KEY,
+                                              "POSTCOPY_PAGES_TRACK": "1"}))
+
+
+@pytest.mark.parametrize("words, status, says", [
+    (["target", "{}/t", "--key", "{}/none"], 3, "No such file"),
+    (["target", "{}/t", "--key", "/dev/null"], 3, "has no key"),
+    (["target", "{}/a b", "--key", "{}/key"], 3, "a space or a colon"),
+    (["target", "{}/t", "--key", "{}/key", "--xml", "--", "qemu"], 2, "without --xml"),
+    (["source", "{}/s", "--key", "{}/key"], 2, "one of the arguments"),
+    (["source", "{}/s", "--key", "{}/key", "--qmp", "{}/none"], 3, "No such file"),
+    (["source", "{}/s", "--key", "{}/key", "--domain", "none"], 1, "names no process"),
+    (["audit", "{}/t", "{}/s"], 3, "is not there"),
+    (["target", "{}/t", "--key", "{}/key", "--", "true"], 1, "the library was not loaded"),
 ])
-def test_states(states, words):
-    found = page_source.States()
-    assert [word for state in states if (word := found.word(*state))] == words
-
-
-LIBVIRT = """event MIGRATION at 1.2 for domain 'guest': {"status":"setup"}
-event MIGRATION at 1.3 for domain 'guest': {"status":"active"}
-event MIGRATION at 1.4 for domain 'guest': {"status":"postcopy-active"}
-event STOP at 1.5 for domain 'guest': <null>
-"""
-
-
-@pytest.mark.parametrize("more, words", [
-    ("""event MIGRATION at 1.6 for domain 'guest': {"status":"completed"}\n""", ["halt", "end"]),
-    ("event RESUME at 1.6 for domain 'guest': <null>\n", ["halt", "back"]),
-    ("", ["halt"]),
-])
-def test_events_of_libvirt(more, words):
-    assert list(page_source.words_of_libvirt((LIBVIRT + more).splitlines())) == words
-
-
-def test_domain_that_ends():
-    assert list(page_source.words_of_libvirt([])) == ["failed"]
-
-
-DOMAIN = """<domain type='kvm'><name>guest</name><memory unit='MiB'>512</memory>{}<devices/></domain>"""
-OLD = "<qemu:commandline xmlns:qemu='http://libvirt.org/schemas/domain/qemu/1.0'><qemu:env name='POSTCOPY_PAGES' value='/old'/><qemu:arg value='-S'/></qemu:commandline>"
-
-
-@pytest.mark.parametrize("earlier", ["", OLD])
-def test_xml(earlier):
-    domain = page_target.domain_of(DOMAIN.format(earlier))
-    page_target.with_environment(domain, {"POSTCOPY_PAGES": "/new", "LD_PRELOAD": "/new/pages.so"})
-    text = page_target.text_of(domain)
-    again = tree.fromstring(text)
-    found = [(env.get("name"), env.get("value")) for env in again.iter("{http://libvirt.org/schemas/domain/qemu/1.0}env")]
-    assert found == [("POSTCOPY_PAGES", "/new"), ("LD_PRELOAD", "/new/pages.so")]
-    assert ("qemu:arg" in text) == bool(earlier)
-    assert page_target.memory_of_domain(domain) == 512 << 20
-
-
-def test_no_xml():
-    with pytest.raises(build.Missing):
-        page_target.domain_of("<network/>")
-
-
-@pytest.mark.parametrize("words, memory", [(["-m", "512"], 512 << 20), (["-m", "2G"], 2 << 30), (["-m", "size=1024M,slots=2"], 1 << 30), ([], 0)])
-def test_memory_of_words(words, memory):
-    assert page_target.memory_of_words(["qemu", *words]) == memory
+def test_refused_words(guarded, tmp_path, words, status, says):
+    page_target.write(f"{tmp_path}/key", KEY)
+    done = run(*(word.format(tmp_path) for word in words))
+    same(" ".join(words), (done.returncode, says in done.stderr), (status, True))
 
 
 # Migrations between two QEMUs

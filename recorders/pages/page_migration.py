@@ -1,4 +1,4 @@
-"""One migration on this machine, recorded by page contents: of the test guest, or of a guest that is started by any words."""
+"""One migration on this machine, recorded by page contents: of the test guest, of Debian's Linux, or of a guest that is started by any words."""
 import os
 import shutil
 import threading
@@ -6,15 +6,17 @@ import time
 from dataclasses import dataclass
 
 import build
+import debian
 import folders
 from kinds import Plan
+from linux_run import BOOTED, WORDS
 from page_source import Lost, Monitor, Observer, words_of_qmp
 from page_target import BLOCKS, new_key, prepare
 from plain import Running, wait_until, words_of_test_guest
 from relay import Relay, Window
 
 PAGE = 4096
-SECONDS = 120  # for each part
+SECONDS = 300  # for each part
 BYTES_OF_ACCESS = 20  # that the test guest tells, and more
 ENDED = ("completed", "failed", "cancelled", "ended", "hangs")
 FAULTS = ("flip", "stale", "swap", "drop", "preflip", "keep-drop")
@@ -24,15 +26,16 @@ SIDES = ("target", "source")
 @dataclass
 class Settings:
     """How to migrate. Rates are in bytes a second."""
-    ram: int = 64  # MiB of the test guest
-    pages: int = 1024  # in which it is busy
+    ram: int = 64  # MiB of the guest
+    pages: int = 1024  # in which the test guest is busy
+    is_linux: bool = False
     accelerator: str = "tcg"
     warm: float = 1.0  # seconds before the migration
     pre: float = 0.5   # seconds of pre-copy
     bandwidth: int = 2 << 20
     is_tracking: bool = False
     fault: str = ""
-    words: tuple = ()  # that start the guest's QEMU, in place of the test guest
+    words: tuple = ()  # that start the QEMU of another guest
 
 
 class Migration:
@@ -45,8 +48,8 @@ class Migration:
         if os.path.lexists(self.folder):
             raise build.Missing(f"{self.folder} is there: name a new folder")
         build.require_tools()
-        self.rom = build.build()[0]
         os.makedirs(self.folder)
+        self.make_guest()
         self.room = folders.Room()
         try:
             return self.migrate(new_key())
@@ -60,12 +63,25 @@ class Migration:
                     shutil.copy(self.room.name(f"{side}.errors"), f"{self.folder}/{side}.errors")
             self.room.end()
 
+    def make_guest(self):
+        if self.settings.is_linux:
+            self.guest = debian.get(self.say)
+            debian.build_initramfs(f"{self.guest}/busybox", f"{self.folder}/initrd")
+        elif not self.settings.words:
+            self.guest = f"{self.folder}/guest.bin"
+            build.rom_for(Plan(pages=self.settings.pages), build.build()[0], self.guest)
+
+    def words(self, side):
+        """Returns the words that start the QEMU of a side."""
+        settings, told = self.settings, f"{self.folder}/{side}.console"
+        if settings.is_linux:
+            return [self.emulator.path, "-machine", f"pc,accel={settings.accelerator}", "-m", f"{settings.ram}M", "-smp", "2", "-nodefaults",
+                    "-no-user-config", "-display", "none", "-device", "VGA", "-device", "virtio-balloon-pci", "-device", "virtio-rng-pci",
+                    "-serial", f"file:{told}", "-kernel", f"{self.guest}/vmlinuz", "-initrd", f"{self.folder}/initrd", "-append", WORDS]
+        return settings.words or words_of_test_guest(self.emulator, self.guest, settings.accelerator, told, settings.ram)
+
     def start(self, side, *extra, **environment):
-        settings = self.settings
-        if not settings.words:
-            build.rom_for(Plan(pages=settings.pages), self.rom, f"{self.folder}/guest.bin")
-        words = settings.words or words_of_test_guest(self.emulator, f"{self.folder}/guest.bin", settings.accelerator, self.room.name(f"{side}.told"), settings.ram)
-        self.machines[side] = Running(side, self.room, [*words, *extra], **environment)
+        self.machines[side] = Running(side, self.room, [*self.words(side), *extra], **environment)
         return self.machines[side].qmp
 
     def migrate(self, key):
@@ -101,10 +117,17 @@ class Migration:
         return outcome
 
     def warm_up(self):
-        """Lets the guest run. The test guest has to have filled its pages."""
+        """Lets the guest run: the test guest until it has filled its pages, and Linux until it has booted."""
         time.sleep(self.settings.warm)
-        if not self.settings.words and not wait_until(lambda: os.path.getsize(self.room.name("source.told")) > self.settings.pages * BYTES_OF_ACCESS, seconds=SECONDS):
-            raise build.Missing("the test guest does nothing")
+        if not self.settings.words and not wait_until(self.is_warm, pause=0.2, seconds=SECONDS):
+            raise build.Missing("the guest does not come to its work")
+
+    def is_warm(self):
+        path = f"{self.folder}/source.console"
+        if not self.settings.is_linux:
+            return os.path.getsize(path) > self.settings.pages * BYTES_OF_ACCESS
+        with open(path, encoding="utf-8", errors="replace") as console:
+            return BOOTED in console.read()
 
     def way(self):
         """Returns the socket to which the source connects: the target's, or a relay's that puts a fault in."""

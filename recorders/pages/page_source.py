@@ -1,4 +1,5 @@
 """The source's side of a recording by page contents: the process, its monitor, and the observer beside it."""
+import contextlib
 import os
 import re
 import socket
@@ -8,7 +9,7 @@ import threading
 import time
 
 import build
-from files import write
+from files import naming, write
 from page_target import KEY_VARIABLE, take_folder
 from qmp import Gone, Hangs, Qmp, Refused
 from roots import die_with_parent
@@ -106,7 +107,7 @@ def words_of_libvirt(lines):
 
 def process_of_socket(path):
     """Returns the process that listens on a socket."""
-    with socket.socket(socket.AF_UNIX) as end:
+    with socket.socket(socket.AF_UNIX) as end, naming(path):
         end.connect(path)
         return struct.unpack("3i", end.getsockopt(socket.SOL_SOCKET, socket.SO_PEERCRED, 12))[0]
 
@@ -150,8 +151,8 @@ class Observer:
         except BrokenPipeError:
             pass  # it has ended
         finally:
-            with self.process.stdin:
-                pass
+            with contextlib.suppress(BrokenPipeError):
+                self.process.stdin.close()
 
     def watch(self, words, say=lambda line: None):
         """Records the source's memory. `words` are those of its monitor, and `say` takes what the observer tells. Raises Lost if there is
