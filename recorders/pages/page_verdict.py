@@ -32,7 +32,10 @@ def lines(path):
 def blocks_of(folder):
     """Returns the blocks of a side, or None if it has recorded none."""
     found = lines(f"{folder}/{BLOCKS}")
-    return None if found is None else [Block(int(first), int(pages), path) for _, first, pages, path in (line.split(" ", 3) for line in found)]
+    try:
+        return None if found is None else [Block(int(first), int(pages), path) for _, first, pages, path in (line.split(" ", 3) for line in found)]
+    except ValueError:
+        raise build.Missing(f"{folder}/{BLOCKS} is not whole") from None
 
 
 def name_blocks(blocks, names):
@@ -100,7 +103,7 @@ def verdict_of(session, blocks, is_whole, said):
         raise build.Missing(error.strip())
     found = json.loads(answer)
     word, told = found["verdict"], list(said)
-    if word == "clean":
+    if word != "faulty":
         answer, _, _ = ask("audit", "--complete-pages", "--quiet", session)
         word = answer.strip()
         if word.startswith("incomplete page"):

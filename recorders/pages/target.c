@@ -259,12 +259,14 @@ static void *tell_left(void *unused)
 /* The first placement or release: all blocks are guarded. What was left is recorded while the guest goes on. */
 static void begin(void)
 {
+    if (stage != OPEN)
+        return;
     pthread_mutex_lock(&lock);
     if (stage == OPEN && is_any_guarded()) {
         int error = write_blocks(folder, &blocks);
-        stage = BEGUN;
         postcopy_record_got_sent(pager, STATE);
         ready = postcopy_record_ready(pager);
+        stage = BEGUN; /* from here on another thread may record what it puts in place */
         has_teller = pthread_create(&teller, NULL, tell_left, NULL) == 0;
         if (!has_teller)
             tell_left(NULL);

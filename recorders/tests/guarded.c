@@ -10,7 +10,7 @@
  *         twice=P    it is put in place twice
  *         write=P    it is written to when all pages are there
  *         die=P      the process is killed before it
- *         show       the second block's pages are put into the file, and shown by UFFDIO_CONTINUE
+ *         show       the second block's pages are put into the file, and shown two by two by UFFDIO_CONTINUE
  *
  * A page whose number is 3 more than a multiple of 4 is zeros. The last line tells which pages are absent in the end.
  */
@@ -68,8 +68,8 @@ static void put(char *at, long page)
         buffer[PAGE - 1] ^= 16;
     if (is_shown && at >= memory[1] && at < memory[1] + pages_of[1] * PAGE) {
         memcpy(other + (at - memory[1]), buffer, PAGE);
-        struct uffdio_continue show = {{(uintptr_t)at, PAGE}, 0, 0};
-        check(ioctl(uffd, UFFDIO_CONTINUE, &show) == 0, "UFFDIO_CONTINUE");
+        struct uffdio_continue show = {{(uintptr_t)at - PAGE, 2 * PAGE}, 0, 0};
+        check((at - memory[1]) / PAGE % 2 == 0 || ioctl(uffd, UFFDIO_CONTINUE, &show) == 0, "UFFDIO_CONTINUE");
         return;
     }
     struct uffdio_copy copy = {(uintptr_t)at, (uintptr_t)buffer, PAGE, 0, 0};
