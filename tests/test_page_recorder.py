@@ -335,8 +335,10 @@ def test_changed_source(sides):
         yield "end"
 
     process = []
+    sides.run_target()
     told = sides.run_source(words=words(), do=process.append)
     same("told", [line for line in told if line.startswith("changed")], ["changed 1"])
+    same("verdict", sides.judged().told, ["page 9, block 0 + 0x9000: altered"])
 
 
 def test_used_folder(sides):
