@@ -35,6 +35,7 @@ class Settings:
     bandwidth: int = 2 << 20
     is_tracking: bool = False
     fault: str = ""
+    capabilities: tuple = ()  # besides that of post-copy
     words: tuple = ()  # that start the QEMU of another guest
 
 
@@ -97,7 +98,7 @@ class Migration:
         watching.start()
         try:
             for qmp in (target, source):
-                qmp("migrate-set-capabilities", capabilities=[{"capability": "postcopy-ram", "state": True}])
+                qmp("migrate-set-capabilities", capabilities=[{"capability": name, "state": True} for name in ("postcopy-ram", *settings.capabilities)])
             source("migrate-set-parameters", **{"max-bandwidth": settings.bandwidth, "downtime-limit": 1})
             target("migrate-incoming", uri=f"unix:{room.name('migration')}")
             self.warm_up()
