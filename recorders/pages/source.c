@@ -47,6 +47,7 @@ enum { LONGEST_FOR_WORD = 2, LONGEST = 60 }; /* seconds for which a process that
 static pid_t process;
 static const char *folder;
 static int memory = -1, page_map = -1;
+static sigset_t while_waiting; /* the signals that are blocked then */
 static struct blocks blocks;
 
 /* Hashes of all pages. At most one is made at a time, by a thread beside the one that attends to the process. */
@@ -215,13 +216,19 @@ static enum word word_of(const char *line)
     return word;
 }
 
-/* Waits for a line for some milliseconds. */
-static enum word heard(int milliseconds)
+static void note_child(int number)
+{
+    (void)number; /* it ends a wait */
+}
+
+/* Waits for a line, for a change of the process, or for a moment. */
+static enum word heard(int has_monitor)
 {
     static char line[64];
     static size_t length;
     struct pollfd input = {STDIN_FILENO, POLLIN, 0};
-    if (poll(&input, 1, milliseconds) <= 0)
+    struct timespec moment = {.tv_nsec = (looking ? 5 : 200) * 1000000};
+    if (ppoll(&input, (nfds_t)has_monitor, &moment, &while_waiting) <= 0)
         return NONE;
     ssize_t got = read(STDIN_FILENO, line + length, 1);
     if (got <= 0)
@@ -267,7 +274,7 @@ static int watch(void)
     enum word last = NONE;
     int has_monitor = 1;
     for (;;) {
-        enum word word = has_monitor ? heard(2) : (usleep(2000), NONE);
+        enum word word = heard(has_monitor);
         if (word == NO_MONITOR)
             has_monitor = 0;
         else if (word)
@@ -307,6 +314,11 @@ int main(int count, char **words)
     sprintf(path, "/proc/%d/mem", process);
     name_of_key(name);
     signal(SIGPIPE, SIG_IGN);
+    signal(SIGCHLD, note_child);
+    sigset_t blocked;
+    sigemptyset(&blocked);
+    sigaddset(&blocked, SIGCHLD);
+    sigprocmask(SIG_BLOCK, &blocked, &while_waiting);
     if (postcopy_recording_join(folder, name))
         refuse(errno == EEXIST ? "the folder is of another key" : folder, errno == EEXIST ? 0 : errno);
     if ((memory = open(path, O_RDONLY | O_CLOEXEC)) < 0)
