@@ -29,6 +29,7 @@ class Settings:
     ram: int = 64  # MiB of the guest
     pages: int = 1024  # in which the test guest is busy
     is_linux: bool = False
+    append: str = ""  # to the words of Linux
     accelerator: str = "tcg"
     warm: float = 1.0  # seconds before the migration
     pre: float = 0.5   # seconds of pre-copy
@@ -78,7 +79,7 @@ class Migration:
         if settings.is_linux:
             return [self.emulator.path, "-machine", f"pc,accel={settings.accelerator}", "-m", f"{settings.ram}M", "-smp", "2", "-nodefaults",
                     "-no-user-config", "-display", "none", "-device", "VGA", "-device", "virtio-balloon-pci", "-device", "virtio-rng-pci",
-                    "-serial", f"file:{told}", "-kernel", f"{self.guest}/vmlinuz", "-initrd", f"{self.folder}/initrd", "-append", WORDS]
+                    "-serial", f"file:{told}", "-kernel", f"{self.guest}/vmlinuz", "-initrd", f"{self.folder}/initrd", "-append", f"{WORDS} {settings.append}"]
         return settings.words or words_of_test_guest(self.emulator, self.guest, settings.accelerator, told, settings.ram)
 
     def start(self, side, *extra, **environment):
