@@ -228,6 +228,22 @@ def test_target_that_dies(sides):
     same("verdict", (verdict.is_whole, verdict.is_clean, verdict.word), (False, False, "incomplete resume"))
 
 
+@pytest.mark.parametrize("side, party", [("source", "source"), ("source", "machine"), ("target", "pager"), ("target", "guest")])
+def test_log_without_its_end(sides, side, party):
+    """Nothing else is missing, and what is there is right: all the same the answer is not that of a whole recording."""
+    sides.run_target()
+    sides.run_source()
+    folder = getattr(sides, side)
+    names = [f"{folder}/{name}" for name in os.listdir(folder) if re.fullmatch(f"{party}[.][0-9]+[.][0-9]+", name)]
+    found = [name for name in names if re.search("^end ", open(name, encoding="ascii").read(), re.MULTILINE)]
+    same("files with an end", len(found), 1)
+    with open(found[0], encoding="ascii") as file:
+        text = file.read()
+    page_target.write(found[0], re.sub("^end .*\n", "", text, flags=re.MULTILINE))
+    verdict = sides.judged()
+    same("verdict", (verdict.word, verdict.is_whole, verdict.is_clean, "has no end" in verdict.told[0]), ("clean", False, False, True))
+
+
 def test_library_is_not_loaded(sides, capfd):
     page_target.prepare(sides.target, KEY, False)
     subprocess.run([sides.guarded, "target", "0"], check=True, capture_output=True)
