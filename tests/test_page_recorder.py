@@ -112,11 +112,10 @@ def siphash(key, number):
     return v[0] ^ v[1] ^ v[2] ^ v[3]
 
 
-def hash_of(key, words):
+def hash_of(keys, words):
     """The hash of a page: NH of its words, and a multilinear function of the parts of that, modulo 2^61 - 1."""
     if not any(words):
         return 0
-    keys = [siphash(key, at) for at in range(515)]
     total = sum(((words[at] + keys[at]) & MASK) * ((words[at + 1] + keys[at + 1]) & MASK) for at in range(0, 512, 2)) % (1 << 128)
     return sum((total >> 43 * part & (1 << 43) - 1) * keys[512 + part] for part in range(3)) % PRIME or 1
 
@@ -134,7 +133,8 @@ def test_hash(sides):
     found = {int(page): int(contents, 16) for page, contents in re.findall(r"^\d+ page (\d+) (\w+)$", text, re.MULTILINE)}
     # A key is two numbers of 16 digits here, and the authors' is little-endian.
     own = bytes.fromhex(KEY)[7::-1] + bytes.fromhex(KEY)[:7:-1]
-    same("hashes", found, {page: hash_of(own, words_of(page)) for page in range(PAGES) if page % 4 != 3})
+    keys = [siphash(own, at) for at in range(515)]
+    same("hashes", found, {page: hash_of(keys, words_of(page)) for page in range(PAGES) if page % 4 != 3})
 
 
 def test_clean(sides):
