@@ -388,7 +388,9 @@ def test_command(sides):
         same("source", (re.findall("^[a-z]+", source.stdout.read(), re.MULTILINE), source.wait()), (["held", "hashed", "recorded"], 0))
     process.wait()
     done = run("audit", sides.target, sides.source)
-    same("audit", (done.stdout.split("\n")[:2], done.returncode), (["clean", f"640 pages. What `clean` means here stands in {sides.target}/README."], 0))
+    same("audit", (done.stdout.splitlines(), done.returncode), (
+        ["clean", "Each of 640 pages came, and was what the source's memory held in the end.",
+         f"Nothing is said of accesses, of devices, or of what was written since: {sides.target}/README"], 0))
 
 
 def test_command_with_xml(sides):
