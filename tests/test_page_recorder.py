@@ -207,6 +207,14 @@ def test_tracked(sides):
     same("not looked at", looked_at & (zeros | {300}), set())
 
 
+def test_fault_in_tracked(sides):
+    """A page with a fault to which nobody wrote: what is told first is that it held something else in the end."""
+    if "tracks no writes" in sides.run_target("flip=200", is_tracking=True).stderr:
+        pytest.skip("this kernel tracks no writes")
+    sides.run_source()
+    same("told", sides.judged().told, ["page 200, block 0 + 0xc8000: read"])
+
+
 # What goes wrong
 
 def test_page_that_never_came(sides):

@@ -23,7 +23,8 @@ what the source's memory held when the migration was complete, while its process
 
 It says nothing of what the guest did before or since, of devices and their state, of whether the guest used a page before it was
 there, nor of what was written to a page at the target later. Nobody looked at the stream: the `send` of each page is what the source's
-memory held, and a page that was changed at the source as it was sent, on the way or at the target, is `altered` in each case.
+memory held, and a page that was changed at the source as it was sent, on the way or at the target, is `altered` in each case; or
+`read`, if nobody wrote to it and it was looked at in the end.
 """
 
 
