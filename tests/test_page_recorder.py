@@ -60,6 +60,15 @@ class Sides:
     def __init__(self, guarded, room):
         self.guarded, self.room = guarded, room
         self.target, self.source = f"{room}/target", f"{room}/source"
+        self.told = []  # by the observer
+
+    def after_halt(self, word, do=lambda: None):
+        """Yields the word of a halt, and another one when the memory was hashed, and `do` was done."""
+        yield "halt"
+        while not any(line.startswith("hashed") for line in self.told):
+            time.sleep(0.01)
+        do()
+        yield word
 
     def run_target(self, *words, key=KEY, is_tracking=False, **how):
         environment = {**os.environ, **page_target.prepare(self.target, key, is_tracking)}
@@ -71,8 +80,8 @@ class Sides:
         return process
 
     def run_source(self, words=("end",), key=KEY, do=lambda process: None):
-        """Records the source, to which `do` happens meanwhile. Returns what the observer told."""
-        told, process = [], self.start_source()
+        """Records the source, to which `do` happens before the words come. Returns what the observer told."""
+        told, process = self.told, self.start_source()
         try:
             observer = page_source.Observer(self.source, key, process.pid)
             do(process)
@@ -345,22 +354,22 @@ def test_no_migration(sides):
 def test_source_goes_on(sides):
     """What was hashed at the halt is recorded, and that the guest goes on at the source: no answer is clean."""
     sides.run_target()
-    sides.run_source(words=("halt", "back"))
+    sides.run_source(words=sides.after_halt("back"))
     verdict = sides.judged()
     same("verdict", (re.sub("[0-9]+", "N", verdict.word), verdict.is_clean), ("shape line N both", False))
 
 
+def test_source_goes_on_at_once(sides):
+    """Nobody knows of what is hashed then whether the guest wrote it since."""
+    with pytest.raises(page_source.Lost, match="before its memory was hashed"):
+        sides.run_source(words=("back",))
+
+
 def test_changed_source(sides):
     """The memory is hashed at the halt and in the end: what is recorded is the end, and the difference is told."""
-    def words():
-        yield "halt"
-        time.sleep(1)
-        poke(process[0], 9)
-        yield "end"
-
     process = []
     sides.run_target()
-    told = sides.run_source(words=words(), do=process.append)
+    told = sides.run_source(words=sides.after_halt("end", lambda: poke(process[0], 9)), do=process.append)
     same("told", [line for line in told if line.startswith("changed")], ["changed 1"])
     same("verdict", sides.judged().told, ["page 9, block 0 + 0x9000: altered"])
 

@@ -288,7 +288,9 @@ static int watch(void)
             refuse("it ended before its memory was hashed: nothing is recorded", 0);
         if (last == HALT_SEEN && !looking && !at_halt.hashes && !at_halt.error)
             begin_to_look(&at_halt);
-        if (last == BACK && !looking)
+        if (last == BACK && (looking || !at_halt.hashes))
+            refuse("the guest went on at the source before its memory was hashed: nothing is recorded", 0);
+        if (last == BACK)
             return 1;
         if (state == HELD && !held_since)
             held_since = now();
