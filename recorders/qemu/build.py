@@ -106,6 +106,13 @@ def build_work():
     return built(f"{OUT}/work", ("linux_guest/work.c",), (), "-static")
 
 
+def build_observer(name, *how):
+    """Returns one of the two observers of the recorder by page contents: `target`, a library with `how`, or `source`, a program."""
+    library = "../../bindings/c/postcopy_record"
+    return built(f"{OUT}/pages-{name}", (f"../pages/{name}.c", "../pages/pages.c", f"{library}.c"), ("../pages/pages.h", f"{library}.h"),
+                 f"-I{HERE}/../../bindings/c", *how)
+
+
 def build():
     """Returns the paths of the ROM and of the library. Builds them if they are missing or older than their sources."""
     make_folder(OUT)

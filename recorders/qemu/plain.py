@@ -22,19 +22,16 @@ class Ended(Exception):
         self.side, self.how = side, how
 
 
-class Side:
-    """A QEMU with a guest, whose port 0xe9 is a file and whose serial port is a socket. `words` are further options."""
+class Running:
+    """A QEMU that was started by these words, with a monitor."""
 
-    def __init__(self, name, emulator, room, rom, accelerator, *words):
+    def __init__(self, name, room, words, **environment):
         self.name, self.room, self.hangs, self.events = name, room, False, []
-        self.told, self.errors = room.name(f"{name}.told"), room.name(f"{name}.errors")
+        self.errors = room.name(f"{name}.errors")
         monitor = room.name(f"{name}.qmp")
         with open(self.errors, "w", encoding="utf-8") as errors:
-            self.process = subprocess.Popen(
-                [emulator.path, "-machine", f"pc,accel={accelerator}", "-nodefaults", "-no-user-config", "-display", "none", "-bios", rom,
-                 "-chardev", f"file,id=told,path={self.told}", "-device", "isa-debugcon,iobase=0xe9,chardev=told",
-                 "-chardev", f"socket,id=port,path={room.name(f'{name}.port')},server=on,wait=off", "-device", "isa-serial,chardev=port",
-                 "-qmp", f"unix:{monitor},server=on,wait=off", *words], stderr=errors, stdin=subprocess.DEVNULL, preexec_fn=die_with_parent)
+            self.process = subprocess.Popen([*words, "-qmp", f"unix:{monitor},server=on,wait=off"], stderr=errors, stdin=subprocess.DEVNULL,
+                                            preexec_fn=die_with_parent, env={**os.environ, **environment})
         try:
             self.qmp = Qmp(monitor, lambda: self.process.poll() is None, SECONDS, lambda: seconds_waited(f"/proc/{self.process.pid}"), self.hear)
         except Gone as fault:
@@ -76,6 +73,27 @@ class Side:
         if parameters:
             self("migrate-set-parameters", **{name.replace("_", "-"): value for name, value in parameters.items()})
 
+    def end(self):
+        self.process.kill()
+        self.process.wait()
+        self.qmp.close()
+
+
+def words_of_test_guest(emulator, rom, accelerator, told):
+    """Returns the words that start a QEMU with a guest whose port 0xe9 is the file `told`."""
+    return [emulator.path, "-machine", f"pc,accel={accelerator}", "-nodefaults", "-no-user-config", "-display", "none", "-bios", rom,
+            "-chardev", f"file,id=told,path={told}", "-device", "isa-debugcon,iobase=0xe9,chardev=told"]
+
+
+class Side(Running):
+    """A QEMU with a test guest, whose serial port is a socket. `words` are further options."""
+
+    def __init__(self, name, emulator, room, rom, accelerator, *words):
+        self.told = room.name(f"{name}.told")
+        super().__init__(name, room, [
+            *words_of_test_guest(emulator, rom, accelerator, self.told),
+            "-chardev", f"socket,id=port,path={room.name(f'{name}.port')},server=on,wait=off", "-device", "isa-serial,chardev=port", *words])
+
     def count(self):
         """Returns how many bytes the guest has told."""
         return os.path.getsize(self.told)
@@ -91,11 +109,6 @@ class Side:
         self("pmemsave", val=at, size=size, filename=name)
         with open(name, "rb") as file:
             return file.read()
-
-    def end(self):
-        self.process.kill()
-        self.process.wait()
-        self.qmp.close()
 
 
 class Forwarder:

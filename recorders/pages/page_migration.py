@@ -1,0 +1,173 @@
+"""One migration on this machine, recorded by page contents: of the test guest, of Debian's Linux, or of a guest that is started by any words."""
+import os
+import shutil
+import threading
+import time
+from dataclasses import dataclass
+
+import build
+import debian
+import folders
+from kinds import Plan
+from linux_run import BOOTED, WORDS
+from page_source import Lost, Monitor, Observer, words_of_qmp
+from page_target import BLOCKS, new_key, prepare
+from plain import Running, wait_until, words_of_test_guest
+from relay import Relay, Window
+
+PAGE = 4096
+SECONDS = 300  # for each part
+BYTES_OF_ACCESS = 20  # that the test guest tells, and more
+ENDED = ("completed", "failed", "cancelled", "ended", "hangs")
+FAULTS = ("flip", "stale", "swap", "drop", "preflip", "keep-drop")
+SIDES = ("target", "source")
+
+
+@dataclass
+class Settings:
+    """How to migrate. Rates are in bytes a second."""
+    ram: int = 64  # MiB of the guest
+    pages: int = 1024  # in which the test guest is busy
+    is_linux: bool = False
+    append: str = ""  # to the words of Linux
+    accelerator: str = "tcg"
+    warm: float = 1.0  # seconds before the migration
+    pre: float = 0.5   # seconds of pre-copy
+    bandwidth: int = 2 << 20
+    is_tracking: bool = False
+    fault: str = ""
+    capabilities: tuple = ()  # besides that of post-copy
+    words: tuple = ()  # that start the QEMU of another guest
+
+
+class Migration:
+    def __init__(self, settings, folder, emulator, say):
+        self.settings, self.folder, self.emulator, self.say = settings, folder, emulator, say
+        self.room, self.machines, self.relay = None, {}, None
+
+    def run(self):
+        """Makes the migration. Returns what the QEMUs say of it. Raises Missing, or Lost if the source was not recorded."""
+        if os.path.lexists(self.folder):
+            raise build.Missing(f"{self.folder} is there: name a new folder")
+        build.require_tools()
+        os.makedirs(self.folder)
+        self.make_guest()
+        self.room = folders.Room()
+        try:
+            return self.migrate(new_key())
+        finally:
+            for machine in self.machines.values():
+                machine.end()
+            if self.relay:
+                self.relay.end()
+            for side in SIDES:
+                if os.path.exists(self.room.name(f"{side}.errors")):
+                    shutil.copy(self.room.name(f"{side}.errors"), f"{self.folder}/{side}.errors")
+            self.room.end()
+
+    def make_guest(self):
+        if self.settings.is_linux:
+            self.guest = debian.get(self.say)
+            debian.build_initramfs(f"{self.guest}/busybox", f"{self.folder}/initrd")
+        elif not self.settings.words:
+            self.guest = f"{self.folder}/guest.bin"
+            build.rom_for(Plan(pages=self.settings.pages), build.build()[0], self.guest)
+
+    def words(self, side):
+        """Returns the words that start the QEMU of a side."""
+        settings, told = self.settings, f"{self.folder}/{side}.console"
+        if settings.is_linux:
+            return [self.emulator.path, "-machine", f"pc,accel={settings.accelerator}", "-m", f"{settings.ram}M", "-smp", "2", "-nodefaults",
+                    "-no-user-config", "-display", "none", "-device", "VGA", "-device", "virtio-balloon-pci", "-device", "virtio-rng-pci",
+                    "-serial", f"file:{told}", "-kernel", f"{self.guest}/vmlinuz", "-initrd", f"{self.folder}/initrd", "-append", f"{WORDS} {settings.append}"]
+        return settings.words or [*words_of_test_guest(self.emulator, self.guest, settings.accelerator, told), "-m", f"{settings.ram}M"]
+
+    def start(self, side, *extra, **environment):
+        self.machines[side] = Running(side, self.room, [*self.words(side), *extra], **environment)
+        return self.machines[side].qmp
+
+    def migrate(self, key):
+        settings, room = self.settings, self.room
+        target = self.start("target", "-incoming", "defer", **prepare(f"{self.folder}/target", key, settings.is_tracking))
+        source = self.start("source", "-qmp", f"unix:{room.name('watch')},server=on,wait=off")
+        observer = Observer(f"{self.folder}/source", key, self.machines["source"].process.pid)
+        monitor = Monitor(room.name("watch"), lambda: True)
+        observer.name_blocks(monitor.names())
+        self.say(f"the source has {observer.pages} pages of {observer.blocks} blocks")
+        faults = []
+        watching = threading.Thread(target=watch, args=(observer, words_of_qmp(monitor), self.say, faults))
+        watching.start()
+        try:
+            for qmp in (target, source):
+                qmp("migrate-set-capabilities", capabilities=[{"capability": name, "state": True} for name in ("postcopy-ram", *settings.capabilities)])
+            source("migrate-set-parameters", **{"max-bandwidth": settings.bandwidth, "downtime-limit": 1})
+            target("migrate-incoming", uri=f"unix:{room.name('migration')}")
+            self.warm_up()
+            source("migrate", uri=f"unix:{self.way()}")
+            wait_until(lambda: self.stands("source") not in ("none", "setup"))
+            time.sleep(settings.pre)
+            source("migrate-start-postcopy")
+            outcome = self.follow()
+        finally:
+            if not self.is_over():
+                self.machines["source"].process.kill()  # nobody waits for a migration that came to no end
+            watching.join()
+        if faults:
+            raise faults[0]
+        if not os.path.exists(f"{self.folder}/target/{BLOCKS}"):
+            raise build.Missing(f"{outcome}: pre-copy came to its end before the switch, and there was no post-copy")
+        return outcome
+
+    def warm_up(self):
+        """Lets the guest run: the test guest until it has filled its pages, and Linux until it has booted."""
+        time.sleep(self.settings.warm)
+        if not self.settings.words and not wait_until(self.is_warm, pause=0.2, seconds=SECONDS):
+            raise build.Missing("the guest does not come to its work")
+
+    def is_warm(self):
+        path = f"{self.folder}/source.console"
+        if not self.settings.is_linux:
+            return os.path.getsize(path) > self.settings.pages * BYTES_OF_ACCESS
+        with open(path, encoding="utf-8", errors="replace") as console:
+            return BOOTED in console.read()
+
+    def way(self):
+        """Returns the socket to which the source connects: the target's, or a relay's that puts a fault in."""
+        if not self.settings.fault:
+            return self.room.name("migration")
+        self.relay = Relay(self.folder, self.room, Window(0, self.settings.ram << 20 >> 12), self.room.name("migration"), self.settings.fault, 3)
+        return self.relay.path
+
+    def put_in(self):
+        """Returns the pages of the fault that the relay has put in."""
+        with open(f"{self.folder}/relay.log", encoding="ascii") as log:
+            return [int(page) for line in log if line.startswith("fault ") for page in line.split()[2:]]
+
+    def stands(self, side):
+        return self.machines[side].stands()[0]
+
+    def is_over(self):
+        return self.stands("source") in ENDED
+
+    def follow(self):
+        """Waits until the migration is at its end, and says how far it is. Returns what the QEMUs say."""
+        until, said = time.monotonic() + SECONDS, 0.0
+        while not (self.is_over() and self.stands("target") in ENDED) and time.monotonic() < until:
+            if time.monotonic() > said + 1:
+                said = time.monotonic()
+                self.say(f"source {self.stands('source')}, target {self.stands('target')}{self.left()}")
+            if self.is_over() and time.monotonic() > said + 0.5:
+                until = min(until, time.monotonic() + 20)  # a target that lacks pages may wait for ever
+            time.sleep(0.02)
+        return ", ".join(f"{side} {self.stands(side)}" for side in ("source", "target"))
+
+    def left(self):
+        ram = {} if self.is_over() else self.machines["source"].qmp("query-migrate").get("ram", {})
+        return f", {ram['remaining'] >> 20} of {ram['total'] >> 20} MiB are left" if ram else ""
+
+
+def watch(observer, words, say, faults):
+    try:
+        observer.watch(words, say)
+    except Lost as fault:
+        faults.append(fault)

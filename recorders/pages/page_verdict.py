@@ -1,0 +1,122 @@
+"""What the program says of both sides of a recording by page contents, with the places of pages in QEMU's memory."""
+import json
+import os
+import subprocess
+import tempfile
+from dataclasses import dataclass
+
+import build
+from judge import program
+from page_source import NAMES
+from page_target import BLOCKS
+
+PAGE = 4096
+MOST_TOLD = 10
+
+
+@dataclass
+class Block:
+    first: int
+    pages: int
+    name: str
+
+
+def lines(path):
+    try:
+        with open(path, encoding="utf-8", errors="replace") as file:
+            return file.read().splitlines()
+    except FileNotFoundError:
+        return None
+
+
+def blocks_of(folder):
+    """Returns the blocks of a side, or None if it has recorded none."""
+    found = lines(f"{folder}/{BLOCKS}")
+    try:
+        return None if found is None else [Block(int(first), int(pages), path) for _, first, pages, path in (line.split(" ", 3) for line in found)]
+    except ValueError:
+        raise build.Missing(f"{folder}/{BLOCKS} is not whole") from None
+
+
+def name_blocks(blocks, names):
+    """Gives blocks the names that QEMU has for them, if these are of as many blocks of the same lengths."""
+    told = sorted((line.split(" ", 1) for line in names or []), key=lambda one: -int(one[0]))  # equal ones stay in QEMU's order
+    if [int(length) for length, _ in told] == [block.pages * PAGE for block in blocks]:
+        for block, (_, name) in zip(blocks, told):
+            block.name = name
+
+
+def place_of(page, blocks):
+    """Returns where a page is: the name of its block, and the address in it."""
+    for number, block in enumerate(blocks):
+        if block.first <= page < block.first + block.pages:
+            return f"{block.name or f'block {number}'} + {(page - block.first) * PAGE:#x}"
+    return "in no block"
+
+
+def ask(*words):
+    done = subprocess.run([program(), *words], stdout=subprocess.PIPE, stderr=subprocess.PIPE, text=True)
+    return done.stdout, done.stderr, done.returncode
+
+
+@dataclass
+class Verdict:
+    """What was found: the program's verdict, the pages that it tells of, and whether both recordings were whole."""
+    word: str
+    told: list
+    is_whole: bool
+    pages: int = 0
+    unwritten: int = -1  # -1: writes were not tracked
+
+    @property
+    def is_clean(self):
+        return self.word == "clean" and self.is_whole
+
+
+def judged(target, source):
+    """Returns the Verdict on two sides. Raises Missing if they are not the sides of one migration."""
+    sides = {"target": blocks_of(target), "source": blocks_of(source)}
+    for (side, blocks), folder in zip(sides.items(), (target, source)):
+        if not os.path.isdir(folder):
+            raise build.Missing(f"{folder} is not there")
+        if blocks is None:
+            raise build.Missing(f"{folder}: nothing was recorded at the {side}: " + (
+                "its QEMU was not started with the library, or there was no post-copy" if side == "target" else "the observer did not see the halt"))
+    if [block.pages for block in sides["target"]] != [block.pages for block in sides["source"]]:
+        raise build.Missing("the two sides have different blocks of memory, of so many pages: "
+                            + "; ".join(f"{side} {' '.join(str(block.pages) for block in blocks)}" for side, blocks in sides.items()))
+    blocks = sides["source"]
+    name_blocks(blocks, lines(f"{source}/{NAMES}"))
+    with tempfile.TemporaryDirectory() as room:
+        _, said, status = ask("session", target, source, "-o", f"{room}/session")
+        is_whole = status == 0
+        if not is_whole:
+            _, why, status = ask("session", "--cut", target, source, "-o", f"{room}/session")
+            if status:
+                raise build.Missing(why.strip() or said.strip())
+        return verdict_of(f"{room}/session", blocks, is_whole, [] if is_whole else [line[9:] for line in said.splitlines()[:-1]])  # but for what `session` is told to do
+
+
+def verdict_of(session, blocks, is_whole, said):
+    answer, error, status = ask("audit", "--all", "--format", "json", session)
+    if status not in (0, 1):
+        raise build.Missing(error.strip())
+    found = json.loads(answer)
+    word, told = found["verdict"], list(said)
+    if word != "faulty":
+        answer, _, _ = ask("audit", "--complete-pages", "--quiet", session)
+        word = answer.strip()
+        if word.startswith("incomplete page"):
+            told.append(f"page {word.split()[-1]}, {place_of(int(word.split()[-1]), blocks)}: it never came")
+    for page in found.get("pages", [])[:MOST_TOLD]:
+        told.append(f"page {page['page']}, {place_of(page['page'], blocks)}: {page['reason']}")
+    if (more := len(found.get("pages", [])) - MOST_TOLD) > 0:
+        told.append(f"and {more} more pages")
+    return Verdict(word, told, is_whole, sum(block.pages for block in blocks), unwritten_in(session))
+
+
+def unwritten_in(session):
+    """Returns how many pages were looked at in the end, or -1."""
+    with open(session, encoding="ascii") as file:
+        count = sum(line.startswith("r ") for line in file)
+    return count or -1

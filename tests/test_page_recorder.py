@@ -1,0 +1,483 @@
+"""The recorder by page contents: what both observers record, how each failure shows, and migrations between two QEMUs.
+
+Most cases are of a process, recorders/tests/guarded.c, that has blocks of memory and guards them as a target's QEMU does. The hash is
+computed here once more, by its definition. The migrations are left out where QEMU is not there and may not be installed.
+"""
+import os
+import re
+import shutil
+import signal
+import subprocess
+import sys
+import time
+
+import pytest
+from cases import same
+
+TOP = os.path.dirname(os.path.dirname(os.path.abspath(__file__)))
+sys.path[:0] = [f"{TOP}/recorders/pages", f"{TOP}/recorders/qemu", f"{TOP}/recorders"]
+import build
+import page_source
+import page_target
+import page_verdict
+from needed import can_have
+
+COMMAND = f"{TOP}/recorders/qemu/pages"
+PAGES = 640
+KEY = "00010203040506070809" + "0a0b0c0d0e0f"
+LEFT = 100  # pages of the first block that are there when it is guarded, and 20 of the 40 of the second
+MASK = (1 << 64) - 1
+PRIME = (1 << 61) - 1
+
+
+def missing():
+    """What this machine lacks, or None."""
+    try:
+        build.require_tools()
+    except build.Missing as fault:
+        return str(fault)
+    return None
+
+
+@pytest.fixture(scope="module")
+def guarded(tmp_path_factory):
+    if why := missing():
+        pytest.skip(why)
+    path = f"{tmp_path_factory.mktemp('guarded')}/guarded"
+    subprocess.run(["gcc", "-O2", "-Wall", "-Wextra", "-Werror", "-o", path, f"{TOP}/recorders/tests/guarded.c"], check=True)
+    return path
+
+
+@pytest.fixture
+def sides(guarded, tmp_path, program, monkeypatch):
+    monkeypatch.setenv("POSTCOPY", program)
+    return Sides(guarded, tmp_path)
+
+
+class Sides:
+    """The two sides of a migration of the process."""
+
+    def __init__(self, guarded, room):
+        self.guarded, self.room = guarded, room
+        self.target, self.source = f"{room}/target", f"{room}/source"
+        self.told = []  # by the observer
+
+    def after_halt(self, word, do=lambda: None):
+        """Yields the word of a halt, and another one when the memory was hashed, and `do` was done."""
+        yield "halt"
+        while not any(line.startswith("hashed") for line in self.told):
+            time.sleep(0.01)
+        do()
+        yield word
+
+    def run_target(self, *words, key=KEY, is_tracking=False, **how):
+        environment = {**os.environ, **page_target.prepare(self.target, key, is_tracking)}
+        return subprocess.run([self.guarded, "target", str(LEFT), *words], env=environment, capture_output=True, text=True, timeout=60, **how)
+
+    def start_source(self):
+        process = subprocess.Popen([self.guarded, "source"], stdin=subprocess.PIPE, stdout=subprocess.PIPE, text=True)
+        process.stdout.readline()
+        return process
+
+    def run_source(self, words=("end",), key=KEY, do=lambda process: None):
+        """Records the source, to which `do` happens before the words come. Returns what the observer told."""
+        told, process = self.told, self.start_source()
+        try:
+            observer = page_source.Observer(self.source, key, process.pid)
+            do(process)
+            observer.watch(words, told.append)
+        finally:
+            process.kill()
+            process.wait()
+        return told
+
+    def judged(self):
+        return page_verdict.judged(self.target, self.source)
+
+
+def siphash(key, number):
+    """SipHash-2-4 of a number of 64 bits, after its authors' description."""
+    k0, k1 = (int.from_bytes(key[at:at + 8], "little") for at in (0, 8))
+    v = [k0 ^ 0x736f6d6570736575, k1 ^ 0x646f72616e646f6d, k0 ^ 0x6c7967656e657261, k1 ^ 0x7465646279746573]
+
+    def turned(word, by):
+        return (word << by | word >> (64 - by)) & MASK
+
+    def rounds(count):
+        for _ in range(count):
+            v[0], v[2] = (v[0] + v[1]) & MASK, (v[2] + v[3]) & MASK
+            v[1], v[3] = turned(v[1], 13) ^ v[0], turned(v[3], 16) ^ v[2]
+            v[0] = turned(v[0], 32)
+            v[2], v[0] = (v[2] + v[1]) & MASK, (v[0] + v[3]) & MASK
+            v[1], v[3] = turned(v[1], 17) ^ v[2], turned(v[3], 21) ^ v[0]
+            v[2] = turned(v[2], 32)
+
+    for word in (number, 8 << 56):
+        v[3] ^= word
+        rounds(2)
+        v[0] ^= word
+    v[2] ^= 0xff
+    rounds(4)
+    return v[0] ^ v[1] ^ v[2] ^ v[3]
+
+
+def hash_of(keys, words):
+    """The hash of a page: NH of its words, and a multilinear function of the parts of that, modulo 2^61 - 1."""
+    if not any(words):
+        return 0
+    total = sum(((words[at] + keys[at]) & MASK) * ((words[at + 1] + keys[at + 1]) & MASK) for at in range(0, 512, 2)) % (1 << 128)
+    return sum((total >> 43 * part & (1 << 43) - 1) * keys[512 + part] for part in range(3)) % PRIME or 1
+
+
+def words_of(page):
+    return [0] * 512 if page % 4 == 3 else [page * 1000003 + word + 1 for word in range(512)]
+
+
+def test_hash(sides):
+    """The first of SipHash's published values for eight bytes, and the hash of each page as the source records it."""
+    key = bytes(range(16))
+    same("SipHash-2-4", siphash(key, int.from_bytes(bytes(range(8)), "little")), 0x93f5f5799a932462)
+    sides.run_source()
+    text = "".join(open(f"{sides.source}/{name}", encoding="ascii").read() for name in os.listdir(sides.source) if name.startswith("machine."))
+    found = {int(page): int(contents, 16) for page, contents in re.findall(r"^\d+ page (\d+) (\w+)$", text, re.MULTILINE)}
+    # A key is two numbers of 16 digits here, and the authors' is little-endian.
+    own = bytes.fromhex(KEY)[7::-1] + bytes.fromhex(KEY)[:7:-1]
+    keys = [siphash(own, at) for at in range(515)]
+    same("hashes", found, {page: hash_of(keys, words_of(page)) for page in range(PAGES) if page % 4 != 3})
+
+
+def test_clean(sides):
+    done = sides.run_target()
+    sides.run_source()
+    verdict = sides.judged()
+    same("the process", (done.returncode, done.stdout), (0, "absent\n"))
+    same("verdict", (verdict.word, verdict.is_whole, verdict.told, verdict.pages, verdict.unwritten), ("clean", True, [], PAGES, -1))
+
+
+@pytest.mark.parametrize("page, place", [(200, "block 0 + 0xc8000"), (598, "block 0 + 0x256000"), (630, "/memfd:block + 0x1e000")])
+def test_told(sides, page, place):
+    """A page that is put in place with other contents than it had at the source: it is told, and no other."""
+    sides.run_target(f"flip={page}")
+    sides.run_source()
+    verdict = sides.judged()
+    same("verdict", (verdict.word, verdict.told), ("faulty", [f"page {page}, {place}: altered"]))
+
+
+def test_left_is_hashed(sides):
+    """What was left is compared, too: a source that has other contents there."""
+    sides.run_target()
+    sides.run_source(do=lambda process: poke(process, 7))
+    same("told", sides.judged().told, ["page 7, block 0 + 0x7000: altered"])
+
+
+def poke(process, page):
+    """Changes a byte of the first block of a process."""
+    with open(f"/proc/{process.pid}/smaps", encoding="ascii") as maps:
+        text = maps.read()
+    start = next(int(match[1], 16) for match in re.finditer(r"^([0-9a-f]+)-([0-9a-f]+) rw-p", text, re.MULTILINE)
+                 if int(match[2], 16) - int(match[1], 16) == 600 * 4096)
+    with open(f"/proc/{process.pid}/mem", "r+b", buffering=0) as memory:
+        memory.seek(start + page * 4096)
+        byte = memory.read(1)
+        memory.seek(start + page * 4096)
+        memory.write(bytes([byte[0] ^ 1]))
+
+
+def test_twice(sides):
+    """A page that comes twice: the second is refused, and nothing is wrong."""
+    sides.run_target("twice=201")
+    sides.run_source()
+    same("verdict", sides.judged().word, "clean")
+    same("skipped", sum(len(re.findall(r" skip \d+$", open(f"{sides.target}/{name}").read(), re.MULTILINE))
+                        for name in os.listdir(sides.target) if name.startswith("pager.")), 1)
+
+
+def test_shown(sides):
+    """Shared memory that is shown by UFFDIO_CONTINUE, and a fault in it."""
+    done = sides.run_target("show", "flip=637")
+    if done.returncode == 3:
+        pytest.skip(done.stderr)
+    sides.run_source()
+    same("told", sides.judged().told, ["page 637, /memfd:block + 0x25000: altered"])
+
+
+def test_tracked(sides):
+    """Of the pages that are there or were put in place, all but the one that was written to are looked at in the end."""
+    done = sides.run_target("write=300", is_tracking=True)
+    if "tracks no writes" in done.stderr:
+        pytest.skip("this kernel tracks no writes")
+    sides.run_source()
+    verdict = sides.judged()
+    text = subprocess.run([os.environ["POSTCOPY"], "session", sides.target, sides.source], capture_output=True, text=True).stdout
+    looked_at = {int(line.split()[2]) for line in text.splitlines() if line.startswith("r ")}
+    same("verdict", (verdict.word, verdict.unwritten), ("clean", len(looked_at)))
+    zeros = {page for page in range(LEFT, 600) if page % 4 == 3}  # which the kernel cannot protect
+    same("looked at", set(range(600)) - zeros - {300} - looked_at, set())
+    same("not looked at", looked_at & (zeros | {300}), set())
+
+
+def test_fault_in_tracked(sides):
+    """A page with a fault to which nobody wrote: what is told first is that it held something else in the end."""
+    if "tracks no writes" in sides.run_target("flip=200", is_tracking=True).stderr:
+        pytest.skip("this kernel tracks no writes")
+    sides.run_source()
+    same("told", sides.judged().told, ["page 200, block 0 + 0xc8000: read"])
+
+
+# What goes wrong
+
+def test_page_that_never_came(sides):
+    """It is never read: it stays absent, and nobody waits. No answer is clean."""
+    done = sides.run_target("drop=402")
+    sides.run_source()
+    verdict = sides.judged()
+    same("absent", done.stdout, "402 absent\n")
+    same("verdict", (verdict.word, verdict.is_whole, verdict.is_clean, verdict.told[-1]),
+         ("incomplete page 402", False, False, "page 402, block 0 + 0x192000: it never came"))
+    whole = subprocess.run([os.environ["POSTCOPY"], "session", sides.target, sides.source], capture_output=True, text=True)
+    same("without completeness", (whole.returncode, "has no end" in whole.stderr), (1, True))
+
+
+def test_target_that_dies(sides):
+    same("the process", sides.run_target("die=402").returncode, -signal.SIGKILL)
+    sides.run_source()
+    verdict = sides.judged()
+    same("verdict", (verdict.is_whole, verdict.is_clean, verdict.word), (False, False, "incomplete resume"))
+
+
+@pytest.mark.parametrize("side, party", [("source", "source"), ("source", "machine"), ("target", "pager"), ("target", "guest")])
+def test_log_without_its_end(sides, side, party):
+    """Nothing else is missing, and what is there is right: all the same the answer is not that of a whole recording."""
+    sides.run_target()
+    sides.run_source()
+    folder = getattr(sides, side)
+    names = [f"{folder}/{name}" for name in os.listdir(folder) if re.fullmatch(f"{party}[.][0-9]+[.][0-9]+", name)]
+    found = [name for name in names if re.search("^end ", open(name, encoding="ascii").read(), re.MULTILINE)]
+    same("files with an end", len(found), 1)
+    with open(found[0], encoding="ascii") as file:
+        text = file.read()
+    page_target.write(found[0], re.sub("^end .*\n", "", text, flags=re.MULTILINE))
+    verdict = sides.judged()
+    same("verdict", (verdict.word, verdict.is_whole, verdict.is_clean, "has no end" in verdict.told[0]), ("clean", False, False, True))
+
+
+def test_library_is_not_loaded(sides, capfd):
+    page_target.prepare(sides.target, KEY, False)
+    subprocess.run([sides.guarded, "target", "0"], check=True, capture_output=True)
+    sides.run_source()
+    with pytest.raises(build.Missing, match="nothing was recorded at the target"):
+        sides.judged()
+    same("waited for", page_target.wait_for_process(sides.target, 0.1), None)
+
+
+def test_another_key(sides):
+    sides.run_target()
+    sides.run_source(key=page_target.new_key())
+    with pytest.raises(build.Missing, match="(?s)recording"):
+        sides.judged()
+
+
+def test_no_key(sides):
+    done = sides.run_target(key="0")
+    same("the process", (done.returncode, "is no key" in done.stderr), (0, True))
+
+
+SMALL_DISK = """
+mount -t tmpfs -o size=2m none "$1" && cp "$2"/* "$1" && { cat /dev/zero > "$1/filler"; truncate -s "-$3" "$1/filler"; } 2> /dev/null || exit 77
+LD_PRELOAD="$4" "$5" target 100
+status=$?
+rm "$1/filler" && cp "$1"/* "$2" && exit $status
+"""
+
+
+@pytest.mark.parametrize("free", ["0", "600K"])
+def test_full_disk(sides, free):
+    """A disk that is full where the logs begin, and one with room for the first two files: the process goes on, it says so, and nothing is clean."""
+    variables = page_target.prepare(sides.target, KEY, False)
+    kept = f"{sides.room}/kept"
+    shutil.copytree(sides.target, kept)
+    library = variables.pop("LD_PRELOAD")
+    done = subprocess.run(["unshare", "-m", "bash", "-c", SMALL_DISK, "-", sides.target, kept, free, library, sides.guarded],
+                          env={**os.environ, **variables}, capture_output=True, text=True)
+    if done.returncode in (1, 77):
+        pytest.skip(f"no small disk can be mounted here: {done.stderr}")
+    same("the process", (done.returncode, "No space left on device" in done.stderr, "is not recorded" in done.stderr), (0, True, True))
+    sides.target = kept
+    sides.run_source()
+    if free == "0":
+        with pytest.raises(build.Missing, match="nothing was recorded at the target"):
+            sides.judged()
+    else:
+        verdict = sides.judged()
+        same("verdict", (verdict.is_whole, verdict.is_clean), (False, False))
+
+
+def test_source_is_gone(sides):
+    process = sides.start_source()
+    process.kill()
+    process.wait()
+    with pytest.raises(page_source.Lost, match="No such file"):
+        page_source.Observer(sides.source, KEY, process.pid)
+
+
+def test_no_memory_of_a_guest(sides):
+    with subprocess.Popen(["sleep", "60"]) as process:
+        with pytest.raises(page_source.Lost, match="no guest's memory"):
+            page_source.Observer(sides.source, KEY, process.pid)
+        process.kill()
+
+
+def test_killed_source_is_held(sides):
+    """Without a monitor the memory is hashed where the process ends, even by SIGKILL."""
+    sides.run_target()
+    told = sides.run_source(words=(), do=lambda process: process.kill())
+    same("told", [line.split()[0] for line in told], ["held", "hashed", "recorded"])
+    same("verdict", sides.judged().word, "clean")
+
+
+def test_halt_that_never_comes(sides):
+    """The monitor says nothing, and the process ends: it is let go, and nothing is recorded."""
+    def silent():
+        time.sleep(30)
+        yield "end"
+
+    with pytest.raises(page_source.Lost, match="never seen to halt"):
+        sides.run_source(words=silent(), do=lambda process: process.kill())
+    same("files", [name for name in os.listdir(sides.source) if name.startswith("source.")], [])
+
+
+def test_no_migration(sides):
+    with pytest.raises(page_source.Lost, match="there was no post-copy"):
+        sides.run_source(words=("failed",))
+
+
+def test_source_goes_on(sides):
+    """What was hashed at the halt is recorded, and that the guest goes on at the source: no answer is clean."""
+    sides.run_target()
+    sides.run_source(words=sides.after_halt("back"))
+    verdict = sides.judged()
+    same("verdict", (re.sub("[0-9]+", "N", verdict.word), verdict.is_clean), ("shape line N both", False))
+
+
+def test_source_goes_on_at_once(sides):
+    """Nobody knows of what is hashed then whether the guest wrote it since."""
+    with pytest.raises(page_source.Lost, match="before its memory was hashed"):
+        sides.run_source(words=("back",))
+
+
+def test_changed_source(sides):
+    """The memory is hashed at the halt and in the end: what is recorded is the end, and the difference is told."""
+    process = []
+    sides.run_target()
+    told = sides.run_source(words=sides.after_halt("end", lambda: poke(process[0], 9)), do=process.append)
+    same("told", [line for line in told if line.startswith("changed")], ["changed 1"])
+    same("verdict", sides.judged().told, ["page 9, block 0 + 0x9000: altered"])
+
+
+def test_used_folder(sides):
+    sides.run_source()
+    with pytest.raises(build.Missing, match="name a new or an empty folder"):
+        page_source.Observer(sides.source, KEY, os.getpid())
+
+
+# The command
+
+def run(*words, **how):
+    return subprocess.run([COMMAND, *words], capture_output=True, text=True, timeout=60, **how)
+
+
+def test_command(sides):
+    """The steps of a migration that a person makes, but for the guest and its QEMU."""
+    key = f"{sides.room}/key"
+    done = run("key")
+    same("key", bool(re.fullmatch("[0-9a-f]{32}\n", done.stdout)), True)
+    page_target.write(key, done.stdout)
+    lines = run("target", sides.target, "--key", key)
+    same("lines", re.findall("^([A-Z_]+)=", lines.stdout, re.MULTILINE), ["LD_PRELOAD", "POSTCOPY_PAGES", "POSTCOPY_PAGES_KEY"])
+    same("nobody records", run("wait", sides.target, "--seconds", "0.1").returncode, 1)
+    done = run("target", sides.target, "--key", key, "--", sides.guarded, "target", "100")
+    same("target", (done.returncode, done.stdout, "the target records" in done.stderr or "recorded" in done.stderr), (0, "absent\n", True))
+    same("it records", run("wait", sides.target, "--seconds", "0.1").returncode, 0)
+    process = sides.start_source()
+    with subprocess.Popen([COMMAND, "source", sides.source, "--key", key, "--pid", str(process.pid)], stdout=subprocess.PIPE, text=True) as source:
+        same("ready", source.stdout.readline(), f"ready: 640 pages of 2 blocks of process {process.pid}\n")
+        process.kill()
+        same("source", (re.findall("^[a-z]+", source.stdout.read(), re.MULTILINE), source.wait()), (["held", "hashed", "recorded"], 0))
+    process.wait()
+    done = run("audit", sides.target, sides.source)
+    same("audit", (done.stdout.splitlines(), done.returncode), (
+        ["clean", "Each of 640 pages came, and was what the source's memory held in the end.",
+         f"Nothing is said of accesses, of devices, or of what was written since: {sides.target}/README"], 0))
+
+
+def test_command_with_xml(sides):
+    page_target.write(f"{sides.room}/key", KEY)
+    done = run("target", sides.target, "--key", f"{sides.room}/key", "--track", "--xml", input="<domain type='kvm'><memory>1024</memory></domain>")
+    if "chmod o+x" in done.stderr:
+        pytest.skip("the emulator's user of this machine does not come to the folder of the tests")
+    found = dict(re.findall(r"<qemu:env name=\"(\w+)\" value=\"([^\"]*)\"", done.stdout))
+    same("XML", (done.returncode, found), (0, {"LD_PRELOAD": f"{sides.target}/pages.so", "POSTCOPY_PAGES": sides.target, "POSTCOPY_PAGES_KEY": KEY,
+                                              "POSTCOPY_PAGES_TRACK": "1"}))
+
+
+@pytest.mark.parametrize("words, status, says", [
+    (["target", "{}/t", "--key", "{}/none"], 3, "No such file"),
+    (["target", "{}/t", "--key", "/dev/null"], 3, "has no key"),
+    (["target", "{}/a b", "--key", "{}/key"], 3, "a space or a colon"),
+    (["target", "{}/t", "--key", "{}/key", "--xml", "--", "qemu"], 2, "without --xml"),
+    (["source", "{}/s", "--key", "{}/key"], 2, "one of the arguments"),
+    (["source", "{}/s", "--key", "{}/key", "--qmp", "{}/none"], 3, "No such file"),
+    (["source", "{}/s", "--key", "{}/key", "--domain", "none"], 1, "names no process"),
+    (["audit", "{}/t", "{}/s"], 3, "is not there"),
+    (["target", "{}/t", "--key", "{}/key", "--", "true"], 1, "the library was not loaded"),
+])
+def test_refused_words(guarded, tmp_path, words, status, says):
+    page_target.write(f"{tmp_path}/key", KEY)
+    done = run(*(word.format(tmp_path) for word in words))
+    same(" ".join(words), (done.returncode, says in done.stderr), (status, True))
+
+
+# Migrations between two QEMUs
+
+NEEDED = ("qemu-system-x86_64:qemu-system-x86", "gcc:gcc,libc6-dev", "ld:binutils")
+
+
+@pytest.fixture(scope="module")
+def qemu(pytestconfig):
+    """The name of a QEMU that is there, with what its recorder needs."""
+    name = pytestconfig.getoption("--qemu")
+    for is_last in (False, True):
+        why = missing() or (None if shutil.which(name) or os.path.isdir(name) else f"{name} is not there")
+        if why and (is_last or not can_have(*NEEDED)):
+            pytest.skip(why)
+    return name
+
+
+def migrated(qemu, room, program, *words):
+    done = subprocess.run([COMMAND, "migrate", f"{room}/run", "--qemu", qemu, *words], stdout=subprocess.PIPE, text=True,
+                          env={**os.environ, "POSTCOPY": program})
+    if done.returncode == 3:
+        pytest.skip("the migration did not come to a post-copy")
+    return done.stdout.split("QEMU says: ")[1].splitlines(), done.returncode
+
+
+@pytest.mark.qemu
+@pytest.mark.parametrize("words", [[], ["--track"], ["--kvm"]], ids=["tcg", "tracked", "kvm"])
+def test_clean_migration(qemu, tmp_path, program, words):
+    if "--kvm" in words and not os.access("/dev/kvm", os.R_OK | os.W_OK):
+        pytest.skip("there is no /dev/kvm that this user may open")
+    said, status = migrated(qemu, tmp_path, program, *words)
+    same("said", (said[:2], status), (["source completed, target completed", "clean"], 0))
+    if "--track" in words:
+        same("unwritten", bool(re.match("To [1-9][0-9]* of them nobody wrote", said[-1])), True)
+
+
+@pytest.mark.qemu
+@pytest.mark.parametrize("fault, first, told", [("flip", "faulty", "altered"), ("swap", "faulty", "altered"), ("drop", "incomplete page ", "it never came")])
+def test_fault_in_migration(qemu, tmp_path, program, fault, first, told):
+    """The pages of the fault that the relay put in are told, and no other, by a migration that completed in QEMU's words."""
+    said, status = migrated(qemu, tmp_path, program, "--fault", fault)
+    pages = re.fullmatch(f"Put in: {fault}, page ([0-9 ]+)", said[1])[1].split()
+    found = [match.groups() for line in said[3:] if (match := re.fullmatch(r"  page (\d+), pc\.ram \+ 0x[0-9a-f]+: (.*)", line))]
+    same("said", (said[0], said[2].startswith(first), status), ("source completed, target completed", True, 1))
+    same("told", found, [(page, told) for page in sorted(pages, key=int)])
