@@ -3,6 +3,7 @@ import glob
 import os
 import re
 
+from case_table import CASES
 from page_text import TOP, headings, links, number_of, read, rows
 
 GUARANTEES, REFERENCE, HOSTING, FORMATS, MAP = "docs/GUARANTEES.md", "docs/REFERENCE.md", "docs/HOSTING.md", "docs/FORMATS.md", "docs/MAP.md"
@@ -56,7 +57,7 @@ def wrong_counts(pages, sources):
         "crates": {len(sources.crates), len(sources.crates | sources.test_crates)},
         "mutants": {tried, others, tried + others},
         "examples": {sources.folders_in("examples")},
-        "cases": {sources.folders_in("tests/cases")},
+        "cases": {len(os.listdir(CASES))},
         "files of definitions": {len(definition_files())},
     }
     pattern = rf"(?<![\d,.])(\d[\d,]*) ({'|'.join(counts)})\b"

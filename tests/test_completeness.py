@@ -11,16 +11,14 @@ something: there they have to name the first thing that is missing, with status 
 for the halt, the resume and the pages alone, and with both options as with `--complete`. The model goes by docs/FORMATS.md, and
 looks through whole logs for each page and each record.
 """
-import glob
-import os
 import random
 import subprocess
 
+from case_table import case_files
 import pytest
 from cases import count
 from session_text import RECEIPTS, SessionText
 
-TOP = os.path.dirname(os.path.dirname(os.path.abspath(__file__)))
 CHANGES = 12
 WHOLE, PAGES = "--complete", "--complete-pages"
 
@@ -69,7 +67,7 @@ def known():
     """The sessions of the folders, once each."""
     found = set()
     for name in ("session", "stdin", "stdout"):
-        for path in glob.glob(f"{TOP}/examples/*/{name}") + glob.glob(f"{TOP}/tests/cases/*/{name}"):
+        for path in case_files(name):
             with open(path, encoding="utf-8", errors="replace", newline="") as file:
                 text = file.read()
             end = text.find("\nend\n")
