@@ -1,4 +1,5 @@
 """The cases of the test that runs: how many came out as wanted, which did not, and what was left out."""
+import pytest
 
 # So many characters of a value are told, and so many cases of a test that failed.
 MOST, TOLD = 400, 40
@@ -13,12 +14,16 @@ class Cases:
 
 
 running = Cases()
+# Whether a test ends at its first case that failed.
+ends_at_first = False
 
 
 def begin():
     """A test begins."""
     global running
     running = Cases()
+# Whether a test ends at its first case that failed.
+ends_at_first = False
 
 
 def count(is_well, what):
@@ -29,6 +34,8 @@ def count(is_well, what):
         running.failed.append(what)
         if len(running.failed) <= TOLD:
             print(f"failed: {what}")
+        if ends_at_first:
+            pytest.fail("a case failed, and the others are left out", pytrace=False)
     return bool(is_well)
 
 

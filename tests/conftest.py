@@ -21,6 +21,8 @@ def pytest_addoption(parser):
     group = parser.getgroup("postcopy")
     group.addoption("--program", default=f"{TOP}/crates/postcopy/out/postcopy", help="the program to test")
     group.addoption("--all", action="store_true", help="also the cases that the gate leaves out, since they take minutes")
+    group.addoption("--first", action="store_true", help="end at the first case that fails")
+    group.addoption("--calls", help="the program that the tests of the crates' calls run; one is compiled where none is given")
     group.addoption("--counts", action="store_true", help="tell how many cases each test tried")
     group.addoption("--qemu", default="qemu-system-x86_64", help="the QEMU that the tests of its recorder migrate by; they were run with 7.2, 10.0 and 11.1")
 
@@ -83,6 +85,9 @@ class Told:
 
 
 def pytest_configure(config):
+    cases.ends_at_first = config.getoption("--first")
+    if cases.ends_at_first:
+        config.option.maxfail = 1
     if not hasattr(config, "workerinput"):
         config.pluginmanager.register(Told(), "told")
 
@@ -94,6 +99,14 @@ def program(pytestconfig):
     if not os.access(file, os.X_OK):
         pytest.fail(f"there is no program {file}: run tests/quick, ./postcopy or 'rt ci' first", pytrace=False)
     return file
+
+
+@pytest.fixture(scope="session")
+def programs(tmp_path_factory):
+    """The programs that have wrong bodies behind numbers, which all processes share."""
+    from planted_programs import Programs
+    folder = tmp_path_factory.getbasetemp()
+    return Programs(folder.parent if "PYTEST_XDIST_WORKER" in os.environ else folder)
 
 
 @pytest.fixture

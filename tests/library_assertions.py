@@ -1,13 +1,13 @@
 """What the package for Python says of sessions that lack something: `missing`, `missing_pages` and `testing.assert_clean`."""
 import contextlib
-import glob
 import os
 import warnings
 
+from case_table import CASES, case_files
 from session_text import SessionText
 
 TOP = os.path.dirname(os.path.dirname(os.path.abspath(__file__)))
-WHOLE = f"{TOP}/tests/cases/complete-whole-migration/session"
+WHOLE = f"{CASES}/complete-whole-migration/session"
 EMPTY = b"postcopy-session 1\npages 2\ncells 1\ninit 0\nguest 0\nsource 0\nlink 0\npager 0\nend\n"
 # What docs/ANSWERS.md says that the program notes.
 NOTE = "the guest neither reads nor writes a page after a resume, so no use of one was judged"
@@ -61,7 +61,7 @@ def fails(same, what, found, *words):
 def of_calls(postcopy, same):
     """Pages are complete exactly where what is missing first is told after them, or nothing is."""
     found = set()
-    for name in (EMPTY, WITHOUT_DONE, *sorted(glob.glob(f"{TOP}/examples/*/session") + glob.glob(f"{TOP}/tests/cases/*/session"))):
+    for name in (EMPTY, WITHOUT_DONE, *case_files("session")):
         whole, pages = postcopy.missing(name), postcopy.missing_pages(name)
         is_later = whole.kind is postcopy.Kind.INCOMPLETE and str(whole).split(" ")[1] not in ("halt", "returned", "resume", "page")
         wanted = (postcopy.Kind.CLEAN, b"") if is_later else (whole.kind, whole.text)
@@ -75,16 +75,16 @@ def of_assertions(postcopy, same):
     told = "Nothing in the logs is wrong, but they do not tell of a whole migration."
     for what, text, line, words in (
             ("four empty logs", EMPTY, "incomplete halt", "The guest was never halted"),
-            ("a guest that is never resumed", f"{TOP}/tests/cases/explain-incomplete-resume/session", "incomplete resume", "The guest never went on at the target"),
-            ("a guest that returned", f"{TOP}/tests/cases/complete-returned/session", "incomplete returned", "The guest returned to the source"),
-            ("a page that never came", f"{TOP}/tests/cases/complete-placement-left-out/session", "incomplete page 2", "Page 2 was owed to the target")):
+            ("a guest that is never resumed", f"{CASES}/explain-incomplete-resume/session", "incomplete resume", "The guest never went on at the target"),
+            ("a guest that returned", f"{CASES}/complete-returned/session", "incomplete returned", "The guest returned to the source"),
+            ("a page that never came", f"{CASES}/complete-placement-left-out/session", "incomplete page 2", "Page 2 was owed to the target")):
         for how in ({}, {"complete": "pages"}, {"complete": "whole"}):
             fails(same, f"{what}, {how}", said(lambda: assert_clean(text, **how)), f"{line}\n", told, words, *CLEAR[how.get("complete") != "whole":])
         same(f"{what}, where nothing is asked", said(lambda: assert_clean(text, complete=None)), None)
     for what, text, line, words in (
             ("without all and done", f"{TOP}/examples/handover/session", "incomplete all", "The pager never said"),
             ("without done", WITHOUT_DONE, "incomplete done", "The source never learned"),
-            ("a drop that is left out", f"{TOP}/tests/cases/complete-drop-left-out/session", "incomplete line 60", "by its record at line 60")):
+            ("a drop that is left out", f"{CASES}/complete-drop-left-out/session", "incomplete line 60", "by its record at line 60")):
         for how in ({}, {"complete": "pages"}, {"complete": None}):
             same(f"{what}, {how}", said(lambda: assert_clean(text, **how)), None)
         fails(same, f"{what}, as a whole migration", said(lambda: assert_clean(text, complete="whole")), f"{line}\n", told, words, *CLEAR)
@@ -95,7 +95,7 @@ def of_assertions(postcopy, same):
         fails(same, f"a text that is refused, {how}", said(lambda: assert_clean(f"{TOP}/examples/leading-zero/session", **how)),
               "session-text line 7\n", 'Line 7, column 9: found "03" in "r 0 0 0 03"; expected X', "a number has no leading zero")
     for how in ({}, {"complete": "whole"}, {"complete": None}):
-        for what, text, notes in (("with uses", WHOLE, []), ("with a release alone", RELEASED, [NOTE]), ("without any", f"{TOP}/tests/cases/complete-with-nothing-owed/session", [NOTE])):
+        for what, text, notes in (("with uses", WHOLE, []), ("with a release alone", RELEASED, [NOTE]), ("without any", f"{CASES}/complete-with-nothing-owed/session", [NOTE])):
             with warnings.catch_warnings(record=True) as caught:
                 warnings.simplefilter("always")
                 assert_clean(text, **how)

@@ -1,9 +1,10 @@
 """What docs/EMBEDDING.md claims that a call takes of the stack and of the heap, beside what calls take over sessions of many kinds."""
-import glob
 import os
 import re
 import subprocess
 import sys
+
+from case_table import case_files
 
 TOP = os.path.dirname(os.path.dirname(os.path.abspath(__file__)))
 RECORDS = (1 << 18) + 1  # of a log, which grows by doubling: it has room for nearly twice as many then
@@ -44,7 +45,7 @@ def tests_of_claims(measuring, folder, count):
     plainly, = re.findall(r"up to ([\d.]+) bytes for each byte of text on sessions", page)
     limits, = re.findall(r"up to (\d+) bytes for each byte of such a text, and up to (\d+) where it draws", page)
 
-    known = {path: path for path in glob.glob(f"{TOP}/examples/*/session") + glob.glob(f"{TOP}/tests/cases/*/session")}
+    known = {path: path for path in case_files("session")}
     plain = {f"a session of {pages} pages": texts().plain_session(16 * pages, pages, 16) for pages in (625, 1250)}
     plain["pages alone"] = texts().plain_session(5000, 5000, 16)
     alike = {f"a log of '{record}'": of_one_log(log, record) for log, record in (

@@ -1,6 +1,5 @@
 """Sessions that are made of recorders' files, beside sessions that are known: those of the example folders and of the test
 cases, spread over files, and those that examples/recording/session_from_traces.py writes of traces that are cut short."""
-import glob
 import importlib.util
 import os
 import random
@@ -8,6 +7,7 @@ import re
 import subprocess
 import sys
 
+from case_table import case_files
 from recorded_model import Unfit, session_of
 from session_text import LOGS, SessionText
 from window_model import window
@@ -42,7 +42,7 @@ def text_of(path):
 def known_sessions(audit):
     """Sessions of the right shape, once each: the texts and the first lines of their reports."""
     found = {}
-    for path in sorted(glob.glob(f"{TOP}/examples/*/session") + glob.glob(f"{TOP}/tests/cases/*/session")):
+    for path in case_files("session"):
         text = text_of(path)
         if text and text not in found:
             said = audit(text)

@@ -77,33 +77,42 @@ class Unfit(Exception):
     """Why a mutant can't be applied."""
 
 
-def changed_by(crate, mutant):
-    """The files of a crate that a mutant changes, each with its new text."""
-    path, old, texts = None, None, {}
+def changes_in(mutant):
+    """What a mutant changes: file, old text and new text."""
+    path, old = None, None
     with open(mutant, encoding="utf-8") as file:
         lines = file.read().split("\n")
     for line in lines:
         if line.startswith("file: "):
             path = line[len("file: ") :].strip()
-            if not path.startswith(tuple(f"{part}/" for part in PARTS)) or not os.path.isfile(f"{TOP}/crates/{crate}/{path}"):
-                raise Unfit(f"the crate has no file {path}")
-            if path not in texts:
-                with open(f"{TOP}/crates/{crate}/{path}", encoding="utf-8") as file:
-                    texts[path] = file.read()
         elif line.startswith("old: "):
             old = line[len("old: ") :]
         elif line.startswith("new:"):
-            new = line[len("new:") :].removeprefix(" ")
             if not path or not old:
                 raise Unfit("a line 'new:' has no line 'file:' or 'old:' before it")
-            if old == new:
-                raise Unfit(f"it changes nothing: {old}")
-            count = texts[path].count(old)
-            if count != 1:
-                raise Unfit(f"in {path} this stands {count} times, and not once: {old}")
-            texts[path] = texts[path].replace(old, new)
+            yield path, old, line[len("new:") :].removeprefix(" ")
             old = None
-    if not texts or old is not None:
+    if not path or old is not None:
+        raise Unfit("it has no pair of lines 'old:' and 'new:'")
+
+
+def changed_by(crate, mutant):
+    """The files of a crate that a mutant changes, or of the tree where there is no crate, each with its new text."""
+    texts = {}
+    for path, old, new in changes_in(mutant):
+        if path not in texts:
+            is_there = path.startswith(tuple(f"{part}/" for part in PARTS)) if crate else not path.startswith(("crates/", "."))
+            name = f"crates/{crate}/{path}" if crate else path
+            if not is_there or not os.path.isfile(f"{TOP}/{name}"):
+                raise Unfit(f"there is no file {name}" if is_there else f"a body of this kind is in no {path}")
+            texts[path] = read(name)
+        if old == new:
+            raise Unfit(f"it changes nothing: {old}")
+        count = texts[path].count(old)
+        if count != 1:
+            raise Unfit(f"in {path} this stands {count} times, and not once: {old}")
+        texts[path] = texts[path].replace(old, new)
+    if not texts:
         raise Unfit("it has no pair of lines 'old:' and 'new:'")
     return texts
 
@@ -120,7 +129,7 @@ def fault_in(crate, mutant):
 
 
 class Planted(NamedTuple):
-    """A wrong body that no clause refuses."""
+    """A wrong body that no clause refuses, of a crate or (with the name '') of none."""
 
     name: str
     file: str
@@ -140,7 +149,7 @@ def planted():
 
 def fault_of_planted(body):
     """What is wrong with such a body, if anything is."""
-    if body.crate not in crates():
+    if body.crate and body.crate not in crates():
         return f"there is no crate '{body.crate}'"
     found = re.fullmatch(r"(tests/test_\w+\.py)(?:::(\w+))?(\[[\w-]+\])?", body.test)
     if not found or not os.path.isfile(f"{TOP}/{found[1]}") or found[2] and f"def {found[2]}(" not in read(found[1]):

@@ -1,6 +1,8 @@
 """Whether what the pages claim is so: counts, sums, sizes, answers, and sentences that were once untrue."""
+import os
 import re
 
+from case_table import CASES
 from page_text import headings, links, number_of, read, rows
 
 GUARANTEES, FORMATS, ANSWERS, SCRIPTS = "docs/GUARANTEES.md", "docs/FORMATS.md", "docs/ANSWERS.md", "docs/SCRIPTS.md"
@@ -42,7 +44,7 @@ def wrong_counts(pages, sources):
         "crates": {len(sources.crates), len(sources.crates | sources.test_crates)},
         "mutants": {tried, others, tried + others},
         "examples": {sources.folders_in("examples")},
-        "cases": {sources.folders_in("tests/cases")},
+        "cases": {len(os.listdir(CASES))},
     }
     pattern = rf"(?<![\d,.])(\d[\d,]*) ({'|'.join(counts)})\b"
     for name, page in pages.items():

@@ -13,6 +13,7 @@ import unicodedata
 import xml.etree.ElementTree as ElementTree
 from urllib.parse import unquote
 
+from case_table import CASES
 import pytest
 from cases import same
 from sarif_shape import faults
@@ -128,7 +129,7 @@ class Tests:
         self.same("clean sessions", self.told("clean", "clean"), (0, "", ""))
         self.same("a file that is not there", self.told("nothing", "early")[:2], (3, "nothing: not judged: no such file or directory\n" + self.told("early")[1]))
         for name, shown in (("a\nb: clean", '"a\\u000ab: clean"'), ("x\x1b[31m", '"x\\u001b[31m"'), ('"q"', '"\\"q\\""'), ("back\\slash é", "back\\slash é")):
-            shutil.copy(f"{TOP}/tests/cases/refused-page-past-the-machine/session", f"{self.room}/{name}")
+            shutil.copy(f"{CASES}/refused-page-past-the-machine/session", f"{self.room}/{name}")
             status, output, errors = self.told(name)
             self.same(f"a session of the name {shown}", (status, output.startswith(f"{shown}:7:5: session-text: found "), output.count("\n"), errors), (1, True, 1, ""))
         os.makedirs(f"{self.room}/folder/guest.1.0")
@@ -204,7 +205,7 @@ class Tests:
         """Names with odd characters, in each form: none is told as it is, and the name is read back."""
         names = odd_names(1000, 3)
         for name in names:
-            os.symlink(f"{TOP}/tests/cases/complete-four-empty-logs/session", f"{self.room}/{name}")
+            os.symlink(f"{CASES}/complete-four-empty-logs/session", f"{self.room}/{name}")
         def back(told):
             return [json.loads(it) if it.startswith('"') else it for it in told]
         told = {form: self.told("--complete-pages", "--as", form, *names) for form in ("lines", "github", "junit", "sarif")}
@@ -250,7 +251,7 @@ class Tests:
         """Sessions that do not tell of a whole migration, where that is asked for."""
         front = "the session does not tell of a whole migration: incomplete"
         for case, place, rest in (("four-empty-logs", "", "halt"), ("placement-left-out", "", "page 2"), ("drop-left-out", ":60", "line 60")):
-            shutil.copy(f"{TOP}/tests/cases/complete-{case}/session", f"{self.room}/{case}")
+            shutil.copy(f"{CASES}/complete-{case}/session", f"{self.room}/{case}")
             for times in (1, 2):
                 notes = self.notes([case] * times)
                 self.same(f"whether something is noted of {case}, {times} times", bool(notes), case != "drop-left-out")
@@ -265,7 +266,7 @@ class Tests:
             run, = self.sarif_log("--complete", case)["runs"]
             region = run["results"][0]["locations"][0]["physicalLocation"].get("region")
             self.same(f"the place of {case}", region, {"startLine": int(place[1:])} if place else None)
-        shutil.copy(f"{TOP}/tests/cases/complete-whole-migration/session", f"{self.room}/whole")
+        shutil.copy(f"{CASES}/complete-whole-migration/session", f"{self.room}/whole")
         self.same("a whole migration", self.told("--complete", "whole"), (0, "", ""))
         self.same("a fault, where a whole migration is asked for", self.told("--complete", "early"), self.told("early"))
 
@@ -285,7 +286,7 @@ class Tests:
     def refused(self):
         """Texts that are refused, with the words that stand in their folders."""
         for case in ("page-past-the-machine", "upper-case-contents", "count-too-large", "gzip-file"):
-            at = f"{TOP}/tests/cases/refused-{case}"
+            at = f"{CASES}/refused-{case}"
             shutil.copy(f"{at}/session", f"{self.room}/{case}")
             with open(f"{at}/stderr", encoding="ascii") as file:
                 place, text = re.fullmatch(r"session:(\d+:\d+): (.*)\n", file.read()).groups()

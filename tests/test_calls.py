@@ -25,10 +25,20 @@ LIMIT = 900
 pytestmark = [pytest.mark.toolchain, pytest.mark.slow, pytest.mark.xdist_group("calls")]
 
 
+def told_by(program, names):
+    """What a program that has the tests of these crates tells of each."""
+    for test in re.findall(r"^(\S+): test$", subprocess.run([program, "--list"], stdout=subprocess.PIPE, text=True).stdout, re.M):
+        if test.partition("::")[0] in names:
+            ran = subprocess.run([program, test], stdin=subprocess.DEVNULL, stdout=subprocess.PIPE, stderr=subprocess.STDOUT, errors="replace", timeout=LIMIT)
+            yield f"{ran.stdout}test {test} ... {'FAILED' if ran.returncode else 'ok'}\n"
+
+
 @pytest.fixture(scope="module")
 def told(request):
     """What is told of the tests of the crates that were asked for."""
     names = {it.callspec.params["name"] for it in request.session.items if it.path == request.path and hasattr(it, "callspec")}
+    if request.config.getoption("--calls"):
+        return "".join(told_by(request.config.getoption("--calls"), names))
     with tempfile.TemporaryDirectory(prefix="postcopy-tests-") as folder:
         copy_to(folder, {})
         ran = subprocess.run(["rt", "try", "--test", "--seconds", str(LIMIT)], cwd=join_to(folder, names), stdin=subprocess.DEVNULL,

@@ -10,11 +10,11 @@ import subprocess
 from concurrent.futures import ThreadPoolExecutor
 
 import pytest
+from case_table import case_file
 from cases import same
 from check_model import Session, verdict
 from session_text import LOGS
 
-TOP = os.path.dirname(os.path.dirname(os.path.abspath(__file__)))
 BYTES = b"0149 \n\r-\xff"
 MORE = b"0 \n"
 
@@ -76,11 +76,11 @@ def test_changed_certificates(program):
     found = set()
     others = []
     for _, certificate in CERTIFICATES:
-        with open(os.path.join(TOP, certificate), "rb") as text:
+        with open(case_file(certificate), "rb") as text:
             others.append(text.read())
     with ThreadPoolExecutor(os.cpu_count()) as pool:
         for path, certificate in CERTIFICATES:
-            path, certificate = os.path.join(TOP, path), os.path.join(TOP, certificate)
+            path, certificate = case_file(path), case_file(certificate)
             with open(path, "rb") as text:
                 recorded = text.read()
             session = Session(recorded.decode())

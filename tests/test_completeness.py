@@ -14,17 +14,15 @@ looks through whole logs for each page and each record.
 On standard error they have to say beside `clean` and `yes` how many owed pages never came, if some did not and the guest was resumed,
 and whether the guest used no page; and beside an answer that something is missing, that nothing in the logs is wrong.
 """
-import glob
-import os
 import random
 import subprocess
 
+from case_table import case_files
 import pytest
 from cases import count
 from note_model import note, was_owed
 from session_text import RECEIPTS, SessionText
 
-TOP = os.path.dirname(os.path.dirname(os.path.abspath(__file__)))
 CHANGES = 12
 WHOLE, PAGES = "--complete", "--complete-pages"
 
@@ -70,7 +68,7 @@ def known():
     """The sessions of the folders, once each."""
     found = set()
     for name in ("session", "stdin", "stdout"):
-        for path in glob.glob(f"{TOP}/examples/*/{name}") + glob.glob(f"{TOP}/tests/cases/*/{name}"):
+        for path in case_files(name):
             with open(path, encoding="utf-8", errors="replace", newline="") as file:
                 text = file.read()
             end = text.find("\nend\n")

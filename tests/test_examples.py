@@ -1,18 +1,17 @@
-"""Runs the program over each folder of examples/ and tests/cases/, and compares what it writes.
+"""Runs the program over each folder of examples/ and each case of tests/cases/, and compares what it writes.
 
-A folder has `args` (one word a line), the files that these name, and what is wanted: `stdout`, `status` and, where
+A case of a table is laid out as a folder (tests/case_table.py). A folder has `args` (one word a line), the files that these name, and what is wanted: `stdout`, `status` and, where
 it is told, `stderr`. Standard input is `stdin`, or empty. `what` says in a line what the folder shows. What a migration
 writes depends on its threads: its folder has in place of `stdout` a file `checked`, what the program, with no word,
 answers to what was written.
 """
-import glob
 import os
 import subprocess
 
 import pytest
+from case_table import case_file, case_files, name_of
 
-TOP = os.path.dirname(os.path.dirname(os.path.abspath(__file__)))
-FOLDERS = [os.path.relpath(it, TOP).rstrip("/") for kind in ("examples", "tests/cases") for it in sorted(glob.glob(f"{TOP}/{kind}/*/"))]
+FOLDERS = [name_of(it) for it in case_files("")]
 # So many folders there are at least.
 LEAST = 390
 
@@ -30,7 +29,7 @@ def shown(text):
 
 @pytest.mark.parametrize("folder", FOLDERS)
 def test_folder(program, folder):
-    at = f"{TOP}/{folder}"
+    at = case_file(folder)
     words = read(f"{at}/args").decode().splitlines()
     given = read(f"{at}/stdin") if os.path.isfile(f"{at}/stdin") else b""
     ran = subprocess.run([program, *words], cwd=at, input=given, capture_output=True)

@@ -8,18 +8,16 @@ session has to have that record at that line.
 Of small sessions all mergings are made: it has to say of a fault that every order shows it just where each of them does, and then
 the demand of the faulty record fails in each.
 """
-import glob
-import os
 import random
 import re
 import subprocess
 
+from case_table import case_files, name_of
 import pytest
 from cases import count, right
 from session_text import LOGS, SessionText
 from small_sessions import every_order_shows, small_session
 
-TOP = os.path.dirname(os.path.dirname(os.path.abspath(__file__)))
 CHANGES = 12
 SMALL = 600
 NAMED = re.compile(rf"[Ll]ine ([0-9]+) \(({'|'.join(LOGS)}) ([0-9]+)\)")
@@ -76,7 +74,7 @@ def wrong_of(program, text):
 
 def made_texts():
     """The sessions of the folders, and those made from them: the file of each, and its text."""
-    files = sorted(glob.glob(f"{TOP}/examples/*/session") + glob.glob(f"{TOP}/tests/cases/*/session"))
+    files = case_files("session")
     rng, texts = random.Random(7), []
     for file in files:
         with open(file, encoding="latin-1", newline="") as given:
@@ -121,7 +119,7 @@ def test_explained(program):
         wrong, first = wrong_of(program, text)
         words = first.split(" ")
         kinds.add(" ".join([words[0], *words[3:]]))
-        right(wrong, os.path.relpath(file, TOP))
+        right(wrong, name_of(file))
     wanted = {"clean", "knot", "session-text", *(f"shape {r}" for r in ("phases", "named", "start", "second-send", "both")),
               *(f"faulty {r}" for r in ("read", "early", "given", "stale", "twice", "altered", "unfit", "over"))}
     assert not wanted - kinds, "no session comes out so"

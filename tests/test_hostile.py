@@ -22,6 +22,7 @@ from concurrent.futures import ProcessPoolExecutor
 from typing import NamedTuple
 
 import pytest
+from case_table import case_file
 from cases import right
 from check_model import Session, run_not_walked, verdict
 from expected_words import place_of, texts_beyond, texts_of
@@ -152,7 +153,7 @@ OWN = {
 def read(name):
     if name in OWN:
         return OWN[name]
-    with open(os.path.join(TOP, name), "rb") as file:
+    with open(case_file(name), "rb") as file:
         return file.read()
 
 
@@ -415,7 +416,7 @@ def failed(name, why):
 def refused_in_turn(case):
     """What is wrong with a command where each call fails in turn: for each try what went wrong, or None."""
     folder, words, put_in = case
-    names = [it for it in words.split()[1:] if f"{folder}/{it}" in OWN or os.path.isfile(os.path.join(TOP, folder, it))]
+    names = [it for it in words.split()[1:] if f"{folder}/{it}" in OWN or os.path.isfile(case_file(f"{folder}/{it}"))]
     for name in names:
         with open(name, "wb") as file:
             file.write(read(f"{folder}/{name}"))

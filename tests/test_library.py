@@ -7,10 +7,10 @@ its struct and its calls are compared with the crate's, and so are Python's and 
 the man page has each of them. No call takes more of the stack and of memory than docs/EMBEDDING.md says. The examples for C, Python and Rust are built and run against an installation, and a test of sessions
 by pytest. What lacks a command is left out: the header in C++, the example for Rust, an installation by pip.
 """
-import glob
 import json
 import os
 import re
+from case_table import case_files, name_of
 import runpy
 import shlex
 import shutil
@@ -167,7 +167,7 @@ def compare_languages(postcopy, program):
 
 def examples(folder):
     """The examples of these commands: the folder's name, the words with files for their texts, and the status and output that are wanted."""
-    for at in sorted(glob.glob(f"{TOP}/examples/*/") + glob.glob(f"{TOP}/tests/cases/*/")):
+    for at in case_files(""):
         words = read(f"{at}args").split()
         names = [f"{at}{it}" if it != "-" else "-" for it in words[1:]]
         if not words or COMMANDS.get(words[0]) != len(names) or not all(it == "-" or os.path.isfile(it) for it in names):
@@ -182,7 +182,7 @@ def examples(folder):
                 names[place] = f"{folder}/{os.path.basename(at[:-1])}-{place}"
                 with open(names[place], "wb") as file:
                     file.write(parts.pop(0))
-        yield os.path.relpath(at, TOP), [words[0], *names], int(read(f"{at}status")), read(f"{at}stdout", "rb")
+        yield name_of(at), [words[0], *names], int(read(f"{at}status")), read(f"{at}stdout", "rb")
 
 
 def run_from_c(found, room):

@@ -13,6 +13,7 @@ import subprocess
 import unicodedata
 
 import pytest
+from case_table import case_file
 from cases import leave_out, same
 from made_sessions import numbered, text_of_file
 from recorded_faults import MOVED
@@ -84,7 +85,7 @@ class Tests:
 
 
 def put(path, name):
-    with open(f"{TOP}/{name}", "rb") as file, open(path, "wb") as copy:
+    with open(case_file(name), "rb") as file, open(path, "wb") as copy:
         copy.write(file.read())
 
 
@@ -100,7 +101,7 @@ def of_one(tests, name):
     for words in (("audit",), ("explain",), ("draw",), ("steps", f"{TOP}/examples/lost-and-repeated/script")):
         gone = subprocess.run([tests.program, *words, f"{name}gone"], stdin=subprocess.DEVNULL, capture_output=True)
         tests.same(f"{words[0]} of no file {told}", (gone.returncode, gone.stdout, gone.stderr.decode()), (3, b"", f"file {shown(f'{name}gone')}\n{shown(f'{name}gone')}: no such file or directory\n"))
-    tests.told(f"a certificate {told}", ("check", f"{TOP}/{MISFIT}/session", f"misfit/{name}"), 1, "page line 4\n", f"{shown(f'misfit/{name}')}:4: found ")
+    tests.told(f"a certificate {told}", ("check", case_file(f"{MISFIT}/session"), f"misfit/{name}"), 1, "page line 4\n", f"{shown(f'misfit/{name}')}:4: found ")
 
 
 def of_several(tests, found):
@@ -113,7 +114,7 @@ def of_several(tests, found):
     told = [read_back(it.rpartition(": ")[0]) for it in output.split("\n")[:len(words)]]
     tests.same("the names in the list", told, words)
     for option in ((), ("--all",), ("--complete",), ("--quiet",)):
-        alone = {kind: json.loads(tests.run("audit", "--format", "json", *option, f"{TOP}/{EXAMPLES[kind]}")[1]) for kind in ("clean", "faulty")}
+        alone = {kind: json.loads(tests.run("audit", "--format", "json", *option, case_file(EXAMPLES[kind]))[1]) for kind in ("clean", "faulty")}
         status, output, errors = tests.run("audit", "--format", "json", *option, *words)
         objects = [json.loads(it, object_pairs_hook=list) for it in output.splitlines() if it]
         tests.same(f"the objects of sessions with {option}", [it[0] for it in objects], [("file", word) for word in words])

@@ -5,20 +5,18 @@ an object is made here, by docs/FORMATS.md and the session's own lines; the prog
 space, with the same status and the same words on standard error. The object of an explanation is that of the audit with records, each
 of a kind that its role has, and named in the words of the explanation. About a page or a line, its topic says what these words say.
 """
-import glob
 import itertools
 import json
 import os
 import re
 import subprocess
 
+from case_table import case_files, name_of
 import pytest
 from cases import same
 
 from session_text import SessionText
 from told_topics import steps_of, topic_of
-
-TOP = os.path.dirname(os.path.dirname(os.path.realpath(__file__)))
 
 # What names the page of a record of these words, by its place among the record's fields.
 PAGE_FIELD = {"r": 2, "w": 2, "send": 1, "place": 1, "zero": 1}
@@ -245,9 +243,9 @@ def texts(folder):
 @pytest.mark.cases(35000)
 def test_objects(program, room):
     tests = Tests(program, room)
-    for folder in sorted(glob.glob(f"{TOP}/examples/*") + glob.glob(f"{TOP}/tests/cases/*")):
+    for folder in case_files(""):
         session, certificate = texts(folder)
-        what = os.path.relpath(folder, TOP)
+        what = name_of(folder)
         if session is not None and len(session) < 1_000_000:
             tests.session(what, session)
             if certificate is not None:

@@ -13,12 +13,13 @@ import shutil
 import subprocess
 
 import pytest
+from case_table import case_file
 from cases import count, same
 from command_table import listed
 from told_topics import topic_of
 
 TOP = os.path.dirname(os.path.dirname(os.path.realpath(__file__)))
-SESSIONS = [f"{TOP}/{name}" for name in ("examples/handover/session", "examples/early-access/session", "examples/stale-page/session",
+SESSIONS = [case_file(name) for name in ("examples/handover/session", "examples/early-access/session", "examples/stale-page/session",
                                          "tests/cases/complete-pages-without-the-rest/session", "tests/cases/audit-all/session",
                                          "tests/cases/audit-all-wrong-shape/session", "tests/cases/object-of-what-is-missing/session", "examples/wrong-read/session")]
 WHOLE, PAGES, ALL, QUIET, JSON = ("--complete",), ("--complete-pages",), ("--all",), ("--quiet",), ("--format", "json")

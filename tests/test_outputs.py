@@ -11,10 +11,9 @@ import select
 import subprocess
 
 import pytest
+from case_table import case_files
 from cases import right, same
 from test_saved import Run
-
-TOP = os.path.dirname(os.path.dirname(os.path.realpath(__file__)))
 
 # A session whose certificate has 65,536 pages: more than a pipe holds. Its guest reads a page at the target.
 LARGE = b"""postcopy-session 1
@@ -73,9 +72,7 @@ end
 
 
 def folders():
-    for kind in ("examples", "tests/cases"):
-        for name in sorted(os.listdir(f"{TOP}/{kind}")):
-            yield f"{TOP}/{kind}/{name}"
+    yield from case_files("")
 
 
 def words_of(folder):

@@ -14,12 +14,11 @@ row has one title, and its label in a box that has room for it. Which records ha
 picture_rows.py says; where each box, arrow, stub, column and sign stands, how it is painted, and what the legend says of it, is
 what picture_shapes.py wants of the order. So it is in a picture of a page of some of them, whether it has a fault or not.
 """
-import glob
-import os
 import random
 import re
 import xml.etree.ElementTree as ElementTree
 
+import case_table
 import pytest
 import test_random_schedules as schedules
 from cases import right
@@ -34,7 +33,6 @@ from test_later_releases import over_the_lane
 from test_shown_orders import Program
 from world_model import REASONS
 
-TOP = os.path.dirname(os.path.dirname(os.path.abspath(__file__)))
 MOST_ROWS = 203
 RECORDED = 150
 SVG = "{http://www.w3.org/2000/svg}"
@@ -305,11 +303,11 @@ def sessions():
     yield "a guest that is never resumed", never_resumed(90)
     for repeats in range(36, 41):
         yield f"a page that is sent {repeats} times again", sent_often(repeats)
-    for file in sorted(glob.glob(TOP + "/examples/*/session") + glob.glob(TOP + "/tests/cases/*/session")):
+    for file in case_table.case_files("session"):
         with open(file, encoding="latin-1") as text:
-            yield file[len(TOP) + 1 :], text.read()
+            yield case_table.name_of(file), text.read()
     for name in ("explain-stale-page", "explain-wrong-read", "explain-early-access", "explain-second-placement"):
-        with open(f"{TOP}/tests/cases/{name}/session", encoding="latin-1") as text:
+        with open(f"{case_table.CASES}/{name}/session", encoding="latin-1") as text:
             yield f"{name}, a page used often", used_often(text.read())
     rng = random.Random(20)
     for n in range(RECORDED):

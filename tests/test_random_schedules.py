@@ -7,18 +7,17 @@ be replayed as safe. In the guest's log each virtual processor has to do what th
 lane, no record may be of one; and where the source was told that all is there, each owed page has to be placed. The example
 folders of `steps` are schedules too: what they want has to be what the model makes.
 """
-import glob
 import os
 import random
 import subprocess
 from concurrent.futures import ProcessPoolExecutor
 
+from case_table import case_files, name_of
 import pytest
 from cases import right
 from guests import AFTER, BEFORE, guest_log, random_op, strays_from_the_script
 from steps_model import Migration, Script, contents_of, recorded
 
-TOP = os.path.dirname(os.path.dirname(os.path.abspath(__file__)))
 SCHEDULES = 800
 FATES = ("deliver", "lose", "repeat", "back")
 ALONE = ("halt", "push", "serve", "source-tick", "pop", "pop-lane", "fault", "flush", "deliver", "pager-tick")
@@ -149,7 +148,7 @@ def folder_fault(program, folder):
 
 def folders():
     """The example folders in which `steps` records a session of the files beside it."""
-    for folder in sorted(glob.glob(f"{TOP}/examples/*/") + glob.glob(f"{TOP}/tests/cases/*/")):
+    for folder in case_files(""):
         with open(f"{folder}/args") as args, open(f"{folder}/status") as status:
             if args.read().split() == ["steps", "script", "events"] and status.read() == "0\n":
                 yield folder
@@ -160,7 +159,7 @@ def test_folders(program):
     examples = list(folders())
     assert examples
     for folder in examples:
-        right(folder_fault(program, folder), os.path.relpath(folder, TOP))
+        right(folder_fault(program, folder), name_of(folder))
 
 
 @pytest.mark.cases(SCHEDULES)

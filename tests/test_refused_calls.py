@@ -215,10 +215,12 @@ def run(program, refusing):
 @pytest.mark.toolchain
 @pytest.mark.slow
 @pytest.mark.cases(1)
-def test_refused_calls(room, refusing):
-    copy_to(room, {NAME: listed()[NAME]})
-    made, said = compile_program(room, NAME, "-O0")
-    assert made, f"{said[-6000:]}\nthe program was not made"
+def test_refused_calls(room, refusing, pytestconfig):
+    made = pytestconfig.getoption("--calls")
+    if not made:
+        copy_to(room, {NAME: listed()[NAME]})
+        made, said = compile_program(room, NAME, "-O0")
+        assert made, f"{said[-6000:]}\nthe program was not made"
     said, failed = run(made, refusing)
     calls, streams, last = calls_in(said)
     for fault in dict.fromkeys(faults_of(calls)):

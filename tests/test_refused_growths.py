@@ -16,11 +16,10 @@ from concurrent.futures import ProcessPoolExecutor
 
 import pytest
 import test_hostile as hostile
+from case_table import case_file
 from cases import right
 from command_table import commands
 from test_saved import Run, recorded
-
-TOP = os.path.dirname(os.path.dirname(os.path.realpath(__file__)))
 
 # What is given for an option that takes any text. `new` and `./new` are one file.
 VALUES = {"--output": ["new"], "--lines": ["lines", "./new"], "--page": ["0"], "--line": ["9"]}
@@ -51,7 +50,7 @@ MOST, WAIT = 9999999, 60
 def make_inputs(program, room, is_all):
     for folder, names in (("examples", EXAMPLES), ("tests/cases", CASES)):
         for name in names:
-            shutil.copytree(f"{TOP}/{folder}/{name}", f"{room}/{name}")
+            shutil.copytree(case_file(f"{folder}/{name}"), f"{room}/{name}")
     for name in EXAMPLES[:2]:
         shutil.copy(f"{room}/{EXAMPLES[2]}/session", f"{room}/{name}/other")
     for name in ("whole", "spread"):

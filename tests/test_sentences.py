@@ -8,12 +8,12 @@ that is new has to be written here too, and needs a case.
 Two sessions have a record of each kind. What each of these did is written here by hand, and so is what is told where such a record
 names one that it must not name: the session is changed there. The object of an explanation has to have the records of the sentences.
 """
-import glob
 import json
 import os
 import re
 import subprocess
 
+from case_table import CASES, case_file, case_files, name_of
 import pytest
 from cases import count, same
 
@@ -143,7 +143,7 @@ FORMS = {
 # What is told of a text that is refused is no sentence on a session.
 REFUSED = r"This is no text of a session: .*"
 
-RECORDED, BY_THE_LANE, RETURNED = (f"{TOP}/{name}/session" for name in ("examples/recording", "examples/pushed-by-the-lane", "tests/cases/explain-incomplete-returned"))
+RECORDED, BY_THE_LANE, RETURNED = (case_file(f"{name}/session") for name in ("examples/recording", "examples/pushed-by-the-lane", "tests/cases/explain-incomplete-returned"))
 
 # A record of each kind: its session, its line, its log and number, and what it did.
 RECORDS = (
@@ -212,7 +212,7 @@ def variants():
 
 def cases():
     """The folders whose arguments ask to explain a text, with what these are and what is wanted."""
-    for path in sorted(glob.glob(f"{TOP}/tests/cases/*/args") + glob.glob(f"{TOP}/examples/*/args")):
+    for path in case_files("args"):
         words, folder = read(path).split("\n")[:-1], os.path.dirname(path)
         if words[:1] == ["explain"] and "json" not in words and os.path.exists(f"{folder}/stdout"):
             yield folder, words, read(f"{folder}/stdout")
@@ -225,7 +225,7 @@ def test_sentences(program):
     forms = {(name, form): re.compile(form) for name in FORMS for form in FORMS[name]}
     reached = set()
     for folder, args, wanted in cases():
-        what = os.path.relpath(folder, TOP)
+        what = name_of(folder)
         stdin = f"{folder}/stdin" if os.path.exists(f"{folder}/stdin") else os.devnull
         with open(stdin, "rb") as file:
             ran = subprocess.run([program, *args], cwd=folder, stdin=file, capture_output=True)
@@ -249,7 +249,7 @@ def test_records(program):
     """What each kind of record did."""
     for session, line, name, done in RECORDS:
         told = explained(program, "--line", str(line), session)
-        same(f"line {line} of {os.path.relpath(session, TOP)}", told[1:2], [f"This is line {line} ({name}): {done}."])
+        same(f"line {line} of {name_of(session)}", told[1:2], [f"This is line {line} ({name}): {done}."])
     for form in EACH_DONE:
         count(any(re.fullmatch(form, done) for _, _, _, done in RECORDS), f"no record of {form!r}")
 
@@ -265,7 +265,7 @@ def test_named(program, room):
         with open(f"{room}/session", "w", encoding="ascii") as file:
             file.write("\n".join(lines))
         told, line = explained(program, f"{room}/session"), next(iter(changes))
-        same(f"{changes} in {os.path.relpath(session, TOP)}", [told[0], told[2]], [f"shape line {line} named", wanted])
+        same(f"{changes} in {name_of(session)}", [told[0], told[2]], [f"shape line {line} named", wanted])
     for wanted in EACH_WANTED:
         count(any(told.startswith(f"It has to name {wanted}, and names ") for _, _, told in NAMED), f"no record that has to name {wanted}")
 
@@ -311,7 +311,7 @@ STORIES = (
      of_one_page(2, [], [], [], []).replace("guest 2\nhalt\n", "guest 3\nhalt\nz 0 0\n"), (), [
          "Line 8 (guest 1) does not have the right shape: virtual processor 0 releases page 0.",
          "The guest does nothing between its halt and its resume. Its first halt is line 7 (guest 0), and its first resume is line 9 (guest 2)."]),
-    ("a fault that the report does not name", read(f"{TOP}/tests/cases/audit-all/session"), ("--page", "1"), [
+    ("a fault that the report does not name", read(f"{CASES}/audit-all/session"), ("--page", "1"), [
         "Of the looks before it, this one reaches furthest: line 11 (guest 4): the guest looks at the placement pager 5.",
         "No look reaches it at all.", "What the logs say of page 1:"]),
 )
@@ -349,11 +349,11 @@ def test_records_of_objects(program):
     """The object of an explanation has the records of the sentences, in their order. Where both links delivered, the sentences have one."""
     forms = [(name, re.compile(form)) for name in ROLES for form in FORMS[name]]
     roles = set()
-    for path in sorted(glob.glob(f"{TOP}/tests/cases/*/session") + glob.glob(f"{TOP}/examples/*/session")):
+    for path in case_files("session"):
         told = explained(program, "--format", "json", path)
         if os.path.getsize(path) > 1_000_000 or not told or '"records":' not in told[0]:
             continue
-        records, what = json.loads(told[0])["records"], os.path.relpath(path, TOP)
+        records, what = json.loads(told[0])["records"], name_of(path)
         wanted = list(roles_in(explained(program, path)[1:], forms))
         same(f"the records of {what}", [it for it in records if it["role"] != "delivered"], [it for it in wanted if it["role"] != "delivered"])
         count(all(it in records for it in wanted), f"a delivery is told in words alone, in {what}")

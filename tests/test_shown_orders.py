@@ -5,15 +5,12 @@ broken at the named record, or at one that comes before it in that order. Of a c
 certificate of the report, and `check` has to say `yes` to it; in its order the session has to be safe. Of each, `replay` and
 `draw` have to answer to the report as it stands what they answer to the text below its first line.
 """
-import glob
-import os
 import subprocess
 
+from case_table import case_files, name_of
 import pytest
 from cases import right
 from session_text import SessionText
-
-TOP = os.path.dirname(os.path.dirname(os.path.abspath(__file__)))
 
 
 def lines_in_order(session, runs):
@@ -74,12 +71,12 @@ def clean_told_wrongly(program, session, report):
 @pytest.mark.cases(172)
 def test_shown_orders(program, room):
     asked, kinds = Program(program, room), set()
-    for file in sorted(glob.glob(f"{TOP}/examples/*/session") + glob.glob(f"{TOP}/tests/cases/*/session")):
+    for file in case_files("session"):
         with open(file, encoding="latin-1", newline="") as text:
             session = text.read()
         report, _ = asked.says("audit", session=session)
         for kind, wrong in (("faulty ", fault_shown_wrongly), ("clean\n", clean_told_wrongly)):
             if report.startswith(kind):
                 kinds.add(kind)
-                right(wrong(asked, session, report), os.path.relpath(file, TOP))
+                right(wrong(asked, session, report), name_of(file))
     assert len(kinds) == 2, "no faulty session, or no clean one, was found"

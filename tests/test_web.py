@@ -19,6 +19,7 @@ import shutil
 import socket
 import subprocess
 
+from case_table import CASES, case_files, name_of
 import pytest
 import web_files
 import web_reports
@@ -140,7 +141,7 @@ def node_for(module):
 def sessions():
     """Each file of the examples and cases that is a session or was to be one, once, with the certificates beside it."""
     seen = set()
-    for folder in sorted(glob.glob(f"{TOP}/examples/*/") + glob.glob(f"{TOP}/tests/cases/*/")):
+    for folder in case_files(""):
         for name in ("session", "stdin"):
             if os.path.isfile(f"{folder}{name}"):
                 certificate = f"{folder}certificate"
@@ -175,7 +176,7 @@ def tests_of_calls(room, program):
     same("the number of the module's answers", len(answers), len(jobs))
     for ((call, names, topic), said_so), answer in zip(jobs, answers):
         ran = subprocess.run([program, *said_so], stdin=subprocess.DEVNULL, stdout=subprocess.PIPE, stderr=subprocess.PIPE)
-        wanted, what = text_of(call, ran.stdout), f"{call} of {' and '.join(os.path.relpath(it, TOP) for it in names)}, {topic}"
+        wanted, what = text_of(call, ran.stdout), f"{call} of {' and '.join(name_of(it) for it in names)}, {topic}"
         same(f"how much the memory grows by the same again, {what}", answer["grown"], 0)
         if "why" in answer:
             refused = names[-1 if answer["kind"] == "CERT_TEXT" else 0]
@@ -184,7 +185,7 @@ def tests_of_calls(room, program):
         found = f"{told(answer)}\n".encode() if call == "check" else base64.b64decode(answer["text"])
         same(what, found, wanted)
         if call == "audit":
-            same(f"the numbers of {os.path.relpath(names[0], TOP)}", told(answer).encode(), wanted.split(b"\n")[0])
+            same(f"the numbers of {name_of(names[0])}", told(answer).encode(), wanted.split(b"\n")[0])
 
 
 # The page in a browser.
@@ -192,7 +193,7 @@ def tests_of_calls(room, program):
 
 def tests_of_topics(browser, program):
     """The way from one fault to the next, by buttons and by keys, and to any page."""
-    faulty, clean = f"{TOP}/tests/cases/audit-all/session", example("handover")[0]
+    faulty, clean = f"{CASES}/audit-all/session", example("handover")[0]
 
     def is_told(topic, *words):
         browser.settle()

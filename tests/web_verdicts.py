@@ -1,8 +1,9 @@
 """Tests of the verdicts that the page shows: on sessions of each kind, on certificates, and on what a clean session lacks."""
 import re
 
+from case_table import CASES
 from cases import same
-from web_checks import TOP, example, is_shown, read, write
+from web_checks import example, is_shown, read, write
 
 # What a session that is clean lacks, by the case that has it, and what the page says of it; none where all that it needs is told.
 LACKS = {
@@ -49,7 +50,7 @@ def tests_of_verdicts(browser, room):
 def tests_of_lacks(browser, room):
     """A session that does not tell that its guest moved is not green, nor said to show how the guest found its pages."""
     for name, lack in LACKS.items():
-        files = [f"{TOP}/tests/cases/{name}/session"]
+        files = [f"{CASES}/{name}/session"]
         if lack:
             is_shown(browser, name, files, "odd", "Not a whole migration.", "Nothing went wrong in what was recorded", lack)
         else:

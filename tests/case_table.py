@@ -1,0 +1,97 @@
+#!/usr/bin/env python3
+"""The cases of the tables tests/cases/*.cases, each laid out as a folder of the form that those of examples/ have.
+
+    tests/case_table.py FOLDER     lays out all of them below a new folder, where each can be run by hand: cd FOLDER/CASE; postcopy $(cat args)
+
+A case begins with a line 'case NAME' and ends with an empty one. 'what' says in a line what it shows, 'args' has the program's words, quoted
+as a shell wants them, and 'status' the status that is wanted. 'file NAME TEXT' is a file of the case: one of tests/cases/texts, or of
+examples/. Below 'stdout', 'stderr', 'stdin' and 'checked' their lines follow, each behind a bar and a space. tests/test_examples.py says what these are.
+A folder in tests/cases/ is a case too, and is copied.
+"""
+import atexit
+import glob
+import os
+import shlex
+import shutil
+import sys
+import tempfile
+
+TOP = os.path.dirname(os.path.dirname(os.path.realpath(__file__)))
+TABLES = f"{TOP}/tests/cases"
+LINES = ("stdout", "stderr", "stdin", "checked")
+
+
+def write(name, text):
+    os.makedirs(os.path.dirname(name), exist_ok=True)
+    with open(name, "x", encoding="utf-8") as file:
+        file.write(text)
+
+
+def lay_out_case(folder, lines):
+    """Makes the folder of a case of these lines."""
+    open_text = None
+    for line in lines:
+        word, _, rest = line.partition(" ")
+        if word == "|":
+            open_text.write(f"{rest}\n")
+            continue
+        if open_text:
+            open_text.close()
+            open_text = None
+        if word == "case":
+            at = f"{folder}/{rest}"
+            os.mkdir(at)
+        elif word == "args":
+            write(f"{at}/args", "".join(f"{it}\n" for it in shlex.split(rest)))
+        elif word in ("what", "status"):
+            write(f"{at}/{word}", f"{rest}\n")
+        elif word == "file":
+            name, _, text = rest.partition(" ")
+            source = f"{TOP}/{text}" if text.startswith("examples/") else f"{TABLES}/texts/{text}"
+            os.makedirs(os.path.dirname(f"{at}/{name}"), exist_ok=True)
+            shutil.copyfile(source, f"{at}/{name}")
+        elif line in LINES:
+            open_text = open(f"{at}/{word}", "x", encoding="utf-8")
+        else:
+            raise ValueError(f"this is no line of a case: {line}")
+    if open_text:
+        open_text.close()
+
+
+def lay_out(folder):
+    """Makes the folders of all cases below a new folder, and gives it."""
+    os.mkdir(folder)
+    for name in sorted(os.listdir(TABLES)):
+        if name.endswith(".cases"):
+            with open(f"{TABLES}/{name}", encoding="utf-8") as file:
+                for case in file.read().rstrip("\n").split("\n\n"):
+                    lay_out_case(folder, case.split("\n"))
+        elif name != "texts":
+            shutil.copytree(f"{TABLES}/{name}", f"{folder}/{name}")
+    return folder
+
+
+def case_files(name):
+    """The files of this name in the folders of examples/ and of all cases; the folders themselves, for no name."""
+    return [*sorted(glob.glob(f"{TOP}/examples/*/{name}")), *sorted(glob.glob(f"{CASES}/*/{name}"))]
+
+
+def case_file(name):
+    """Where a file stands that is named as one of examples/ or of tests/cases/."""
+    return f"{CASES}/{name.removeprefix('tests/cases/')}" if name.startswith("tests/cases/") else f"{TOP}/{name}"
+
+
+def name_of(path):
+    """How such a file or folder is named."""
+    return f"tests/cases/{os.path.relpath(path, CASES)}" if path.startswith(CASES) else os.path.relpath(path, TOP)
+
+
+if __name__ == "__main__":
+    if len(sys.argv) != 2 or os.path.exists(sys.argv[1]):
+        sys.exit(__doc__)
+    lay_out(sys.argv[1])
+else:
+    # A folder with those of all cases, which goes with this process.
+    ROOM = tempfile.mkdtemp(prefix="postcopy-cases-")
+    atexit.register(shutil.rmtree, ROOM, ignore_errors=True)
+    CASES = lay_out(f"{ROOM}/cases")
