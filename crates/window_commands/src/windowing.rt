@@ -181,7 +181,8 @@ fn answer_to<'a, S: TextSource>(
 }
 
 /// Why nothing is cut out, if the machine does not have the pages of the window.
-const OUTSIDE: &str = "the window has no page, or one that the machine of this recording does not have";
+const OUTSIDE: &str =
+    "the window has no page, or one that the machine of this recording does not have";
 
 /// The answer that says so.
 const NO_SUCH_PAGES: &[u8] = b"no-such-pages";
