@@ -106,10 +106,10 @@ class Reference:
         rows = {}
         for file in files("crates/*/must-fail/*.edit", "crates/*/mutants/*.edit", "tests/planted/*.edit"):
             text = read(file)
-            is_planted, crate = file.startswith("tests/"), file.split("/")[1]
-            said = re.search(r"^test: (.*)", text, re.M)
-            crate = re.search(r"^crate: (.*)", text, re.M)[1] if is_planted else crate
-            refused = f"`{said[1]}`" if is_planted else "a clause, in each gate" if "/must-fail/" in file else "a clause"
+            is_planted = file.startswith("tests/")
+            said = dict(re.findall(r"^(crate|test): (.*)", text, re.M))
+            crate = said.get("crate", "outside the crates") if is_planted else file.split("/")[1]
+            refused = f"`{said['test']}`" if is_planted else "a clause, in each gate" if "/must-fail/" in file else "a clause"
             name = os.path.basename(file).removesuffix(".edit").replace("_", " ")
             rows.setdefault(crate, []).append(f"| {name} | `{self.changed(crate, text)}` | {refused} |\n")
         for crate in sorted(rows):
