@@ -147,6 +147,11 @@ def test_promises(whole):
     assert whole.definitions.unknown == set()
 
 
+def test_inner(whole):
+    """Nothing that the program or the library promises rests on a definition that only proofs use."""
+    assert [it.file for it in whole.reached().found.values() if "/inner/" in it.file] == []
+
+
 @pytest.mark.cases(170)
 def test_order(whole):
     """A file stands after those that it rests on."""
