@@ -2,7 +2,12 @@
 
 use crate::texts::{EARLY_ACCESS, HANDOVER, STALE_PAGE, WRONG_SHAPE};
 use audit_report::Report;
-use judged_texts::{AuditPart, Outcome, TextAudit, audit_text, print_audited, replay_texts};
+use cert_check::Verdict;
+use judged_texts::{
+    AuditPart, Outcome, TextAudit, audit_text, check_texts_alone, print_audited, replay_texts,
+};
+use page_facts::first_page_fault;
+use session_log::read_session;
 use std::alloc::{AllocError, Global};
 
 /// What becomes of a session along what its audit wrote.
@@ -66,4 +71,20 @@ fn other_reports_tell_no_order(rt: HostRuntime) {
             Ok(Outcome::RunsText(2))
         )
     );
+}
+
+/// Whether a session's certificate is right by the check of texts alone, and no page of it has a fault.
+fn is_found_right(alloc: Global, session: &str) -> Result<bool, AllocError> {
+    let audited = audit_text(alloc, session.as_bytes())?;
+    let cert = print_audited(alloc, &audited, AuditPart::Certificate)?;
+    let verdict = check_texts_alone(alloc, session.as_bytes(), &cert)?;
+    match read_session(alloc, session.as_bytes()) {
+        Ok(read) => Ok(verdict == Verdict::Yes && first_page_fault(alloc, &read)?.is_none()),
+        Err(_) => Ok(false),
+    }
+}
+
+#[test]
+fn certificates_are_right(rt: HostRuntime) {
+    assert!(rt; matches!(is_found_right(rt.alloc(), HANDOVER), Ok(true)));
 }
