@@ -77,8 +77,8 @@ def case_files(name):
 
 
 def case_file(name):
-    """Where a file stands that is named as one of examples/ or of tests/cases/."""
-    return f"{CASES}/{name.removeprefix('tests/cases/')}" if name.startswith("tests/cases/") else f"{TOP}/{name}"
+    """Where a file stands that is named as one of examples/ or of tests/cases/, or by its whole path."""
+    return f"{CASES}/{name.removeprefix('tests/cases/')}" if name.startswith("tests/cases/") else os.path.join(TOP, name)
 
 
 def name_of(path):

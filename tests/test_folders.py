@@ -129,7 +129,6 @@ def test_other_words(run, room):
             same(" ".join(words), (told.returncode, told.stdout, told.stderr), (3, "", f"file {folder}\n{folder}: it is a directory\n"))
 
 
-@pytest.mark.quick
 @pytest.mark.cases(4)
 def test_read_once(program, room, refusing):
     """What `session` opens once is opened no more often for a judgement, also where no session comes of it."""
