@@ -181,8 +181,8 @@ def test_reference(whole, room):
     for it in (one for some in reference.scripts() for one in some):
         count(f"| `{it}` | " in pages["scripts.md"], f"scripts.md lacks {it}")
     for file, some in whole.reached().files:
-        count(file in pages["promises.md"] and all(it.text in pages["definitions.md"] for it in some), f"a page lacks {file}")
-    same("the files", sorted(pages), ["calls.md", "definitions.md", "headline.md", "promises.md", "scripts.md", "wrong-bodies.md"])
+        count(file in pages["guarantees.md"] and all(it.text in pages["definitions.md"] for it in some), f"a page lacks {file}")
+    same("the files", sorted(pages), ["calls.md", "definitions.md", "guarantees.md", "headline.md", "scripts.md", "wrong-bodies.md"])
     ran = subprocess.run([f"{TOP}/tools/pages", "--reference", room], stdout=subprocess.PIPE, stderr=subprocess.STDOUT, text=True)
     same("what is said of them", (ran.returncode, sorted(it.split(":")[0] for it in ran.stdout.splitlines())), (0, [f"{room}/{it}" for it in sorted(pages)]))
     for name, text in pages.items():

@@ -76,7 +76,7 @@ class Reference:
                 "\n## Cited only by contracts between crates\n\nNothing that the program or the library for C promises rests on these.\n\n"
                 f"| File | Definitions |\n|---|---|\n{rest}")
 
-    def promises_page(self):
+    def guarantees_page(self):
         """For each row of GUARANTEES with a contract, what its clauses rest on."""
         page = "# What each promise rests on\n\nFor each row of docs/GUARANTEES.md: the files in reading order, with the definitions that are meant and their lines.\n"
         for promise, parts in promises(self.calls, read(GUARANTEES)):
@@ -127,7 +127,7 @@ class Reference:
         return file
 
     def pages(self):
-        return {"headline.md": self.headline_page(), "promises.md": self.promises_page(), "definitions.md": self.definitions_page(),
+        return {"headline.md": self.headline_page(), "guarantees.md": self.guarantees_page(), "definitions.md": self.definitions_page(),
                 "calls.md": self.calls_page(), "wrong-bodies.md": self.bodies_page(), "scripts.md": scripts_page()}
 
 
