@@ -21,11 +21,11 @@ use Rattle.audit_model.proofs.Headline.{certified_safe}
 use Rattle.audit_model.proofs.ExampleD.{certified_d}
 use Rattle.audit_model.proofs.Walked.{walk_merges}
 use Rattle.audit_model.proofs.WrittenOut.{each_few, shape_by_tests, walks_by_test}
-use Rattle.recorded_files.specs.Reaches.{names_in}
-use Rattle.recorded_files.specs.inner.Reaches.{reach}
-use Rattle.recorded_files.proofs.Cuts.{is_front}
+use Rattle.recorder_files.specs.Reaches.{names_in}
+use Rattle.recorder_files.specs.inner.Reaches.{reach}
+use Rattle.recorder_files.proofs.Cuts.{is_front}
 use Rattle.cut_logs.specs.Left.{HasSafeFront}
-use Rattle.recorded_files.specs.Fronts.{IsFront, cut_to}
+use Rattle.recorder_files.specs.Fronts.{IsFront, cut_to}
 
 abbrev whole : Recorded
 whole = record {

@@ -24,7 +24,7 @@ use Rattle.audit_model.specs.Mergings.{Cursors}
 use Rattle.audit_model.specs.Names.{if_there}
 use Rattle.page_facts.specs.PageFaults.{page_at}
 use Rattle.cut_logs.specs.FrontLaws.{IsInFront, HasHalt, HasTouch, KeepsFaults, FaultsWere}
-use Rattle.recorded_files.specs.Fronts.{IsFront, cut_to}
+use Rattle.recorder_files.specs.Fronts.{IsFront, cut_to}
 use Rattle.cut_logs.proofs.Taken.{taken_at, taken_is, before_taken, halt_taken, fault_taken, faulty_is}
 use Rattle.cut_logs.proofs.Named.{guest_there}
 

@@ -17,7 +17,7 @@ use Rattle.audit_model.proofs.Cuts.{log_there}
 use Rattle.page_facts.specs.PageFaults.{page_at, Precedes, IsFaultless, IsLeastReason, IsClean}
 use Rattle.page_facts.proofs.LeastReason.{most_rank}
 use Rattle.cut_logs.specs.FrontLaws.{IsInFront, HasHalt, HasTouch, KeepsFirstFaults, FirstFaultsWere}
-use Rattle.recorded_files.specs.Fronts.{IsFront, cut_to}
+use Rattle.recorder_files.specs.Fronts.{IsFront, cut_to}
 use Rattle.cut_logs.proofs.Taken.{taken_at, taken_is}
 use Rattle.cut_logs.proofs.Faults.{keeps_at, faults_were}
 

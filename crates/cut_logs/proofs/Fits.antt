@@ -12,7 +12,7 @@ use Rattle.audit_model.specs.Names.{if_there}
 use Rattle.audit_model.specs.Fitting.{contents_of, Fits, IsWithinLimits}
 use Rattle.audit_model.specs.Mergings.{Cursors}
 use Rattle.audit_model.proofs.Fits.{of_record, session_is}
-use Rattle.recorded_files.specs.Fronts.{cut_to}
+use Rattle.recorder_files.specs.Fronts.{cut_to}
 use Rattle.cut_logs.proofs.Taken.{taken_is}
 
 row_taken : {A : Type 0} (row_by : A → Consists) (k : ℕ) (log : List A) (n : ℕ) (row : Consists) → option_map row_by (slice_get (take k log) n) ≡ Some row → option_map row_by (slice_get log n) ≡ Some row

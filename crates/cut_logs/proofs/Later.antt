@@ -8,7 +8,7 @@ use Rattle.page_facts.specs.declared.page_fault.PageFault.{PageFault}
 use Rattle.page_facts.specs.PageFaults.{page_at, Precedes, IsLeastReason, IsFirstFault}
 use Rattle.page_facts.proofs.FirstOfAll.{one_least}
 use Rattle.cut_logs.specs.FrontLaws.{IsInFront, HasHalt, HasStill, IsNoLater, FirstFaultsAreLater}
-use Rattle.recorded_files.specs.Fronts.{IsFront, cut_to}
+use Rattle.recorder_files.specs.Fronts.{IsFront, cut_to}
 use Rattle.cut_logs.proofs.Faults.{faults_were}
 use Rattle.cut_logs.proofs.First.{same_log_by, same_page, page_was, reason_was}
 use Rattle.cut_logs.proofs.Found.{has_first}

@@ -26,7 +26,7 @@ use Rattle.audit_model.proofs.Consistent.{there}
 use Rattle.audit_model.proofs.Fits.{of_record}
 use Rattle.cut_logs.specs.FrontLaws.{HasState}
 use Rattle.cut_logs.specs.Left.{HasNoFault, is_halted, is_lone, without_lone, left_of}
-use Rattle.recorded_files.specs.Fronts.{NamesThere, IsFront, cut_to}
+use Rattle.recorder_files.specs.Fronts.{NamesThere, IsFront, cut_to}
 use Rattle.cut_logs.proofs.Named.{guest_there, link_there, lane_there, pager_there}
 use Rattle.cut_logs.proofs.Parts.{below, is_front_of_whole, cut_again}
 use Rattle.cut_logs.proofs.Safe.{still_faultless, still_safe}

@@ -11,7 +11,7 @@ use Rattle.audit_model.specs.Walks.{next, cursors_from, MayFollow, Walks}
 use Rattle.audit_model.proofs.Cuts.{same_from_test}
 use Rattle.audit_model.proofs.Walked.{merging_is_walk, walk_is_merging}
 use Rattle.cut_logs.specs.FrontLaws.{IsInFront, is_in_front, in_front, behind_front, KeepsMergings, MergingsGoOn, IsPart}
-use Rattle.recorded_files.specs.Fronts.{IsFront, cut_to}
+use Rattle.recorder_files.specs.Fronts.{IsFront, cut_to}
 use Rattle.cut_logs.proofs.Named.{sent_there, cut_length, same_receipt}
 
 -- a walk that goes on

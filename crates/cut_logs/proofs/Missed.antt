@@ -14,10 +14,10 @@ use Rattle.migration_types.specs.Sessions.{Recorded, log_length}
 use Rattle.audit_model.specs.Faults.{IsOver}
 use Rattle.audit_model.specs.Mergings.{Cursors}
 use Rattle.audit_model.proofs.WrittenOut.{shape_by_tests, first_by_test}
-use Rattle.recorded_files.specs.Fronts.{IsFront, cut_to}
-use Rattle.recorded_files.specs.Reaches.{names_in}
-use Rattle.recorded_files.specs.inner.Reaches.{reach}
-use Rattle.recorded_files.proofs.Cuts.{is_front}
+use Rattle.recorder_files.specs.Fronts.{IsFront, cut_to}
+use Rattle.recorder_files.specs.Reaches.{names_in}
+use Rattle.recorder_files.specs.inner.Reaches.{reach}
+use Rattle.recorder_files.proofs.Cuts.{is_front}
 use Rattle.cut_logs.specs.FrontLaws.{LacksFault}
 
 abbrev whole : Recorded

@@ -28,7 +28,7 @@ use Rattle.audit_model.specs.Shape.{IsRightShape}
 use Rattle.audit_model.proofs.Consistent.{left_by_source, left_by_pager}
 use Rattle.audit_model.proofs.History.{AtSource≢Nowhere, home_at_resume, halt_is_at_halt}
 use Rattle.cut_logs.specs.FrontLaws.{IsInFront, HasHalt}
-use Rattle.recorded_files.specs.Fronts.{NamesThere, IsFront, cut_to}
+use Rattle.recorder_files.specs.Fronts.{NamesThere, IsFront, cut_to}
 use Rattle.cut_logs.proofs.Taken.{taken_at}
 
 -- where a receipt is one for a record, there is the receipt's record

@@ -8,7 +8,7 @@ use Rattle.migration_types.specs.Receipts.{Name}
 use Rattle.migration_types.specs.Rows.{row_of, guest_row, source_row, link_row, lane_row, pager_row}
 use Rattle.migration_types.specs.Sessions.{Recorded, log_length}
 use Rattle.audit_model.specs.Mergings.{Cursors}
-use Rattle.recorded_files.specs.Fronts.{IsFront, cut_to}
+use Rattle.recorder_files.specs.Fronts.{IsFront, cut_to}
 use Rattle.cut_logs.proofs.Taken.{taken_at}
 
 module _ (s : Recorded) (d c : Cursors) where

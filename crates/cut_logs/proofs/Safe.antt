@@ -18,7 +18,7 @@ use Rattle.audit_model.specs.World.{World, start, guest_step, pager_step, step, 
 use Rattle.audit_model.proofs.Walked.{merging_is_walk, walk_at}
 use Rattle.cut_logs.specs.FrontLaws.{IsInFront, HasState, behind_front}
 use Rattle.cut_logs.specs.Left.{HasNoFault}
-use Rattle.recorded_files.specs.Fronts.{IsFront, cut_to}
+use Rattle.recorder_files.specs.Fronts.{IsFront, cut_to}
 use Rattle.cut_logs.proofs.Taken.{taken_at}
 use Rattle.cut_logs.proofs.Named.{cut_length, front_has_halt}
 use Rattle.cut_logs.proofs.Faults.{same_flat, still_clean}

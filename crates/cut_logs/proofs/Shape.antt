@@ -23,7 +23,7 @@ use Rattle.audit_model.specs.Names.{if_there}
 use Rattle.audit_model.specs.Mergings.{Cursors}
 use Rattle.audit_model.specs.Shape.{passes, is_halt, is_resume, is_miss, is_state, is_send_of, is_sending, is_ready, is_taking, is_want, is_placement, is_down, is_up, goes_down, goes_up, down_sending, lane_sending, taken_sending, is_or_repeats, delivers, earlier, in_phase_by, in_phase, guest_named, source_named, link_named, lane_named, pager_named, source_start, pager_start, is_first_send, is_alone, keeps, is_right, IsRightShape}
 use Rattle.cut_logs.specs.FrontLaws.{HasState, KeepsShape, IsBack, KeepsShapeFaults}
-use Rattle.recorded_files.specs.Fronts.{IsFront, cut_to}
+use Rattle.recorder_files.specs.Fronts.{IsFront, cut_to}
 use Rattle.cut_logs.proofs.Taken.{taken_at, taken_is, before_taken, none_taken}
 use Rattle.cut_logs.proofs.Named.{guest_there, source_there, link_there, lane_there, pager_there, cut_length}
 

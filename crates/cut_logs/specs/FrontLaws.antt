@@ -15,7 +15,7 @@ use Rattle.audit_model.specs.Faults.{IsPageFault}
 use Rattle.audit_model.specs.Mergings.{IsMerging, Cursors}
 use Rattle.page_facts.specs.declared.page_fault.PageFault.{PageFault}
 use Rattle.page_facts.specs.PageFaults.{page_at, IsFirstFault, Precedes}
-use Rattle.recorded_files.specs.Fronts.{IsFront, cut_to}
+use Rattle.recorder_files.specs.Fronts.{IsFront, cut_to}
 
 -- ---- faults of pages
 

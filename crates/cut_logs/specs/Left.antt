@@ -9,7 +9,7 @@ use Rattle.audit_model.specs.Shape.{passes, IsRightShape}
 use Rattle.audit_model.specs.Faults.{HasNoPageFault}
 use Rattle.audit_model.specs.Mergings.{HasMerging, Cursors}
 use Rattle.audit_model.specs.World.{IsSafe}
-use Rattle.recorded_files.specs.Fronts.{IsFront, cut_to}
+use Rattle.recorder_files.specs.Fronts.{IsFront, cut_to}
 
 -- A session of any size that fits its machine, has the right shape and has a merging. No record has a fault of its page.
 pub record HasNoFault (s : Recorded) : Type 0 where

@@ -10,7 +10,7 @@ ghost use Rattle.audit_model.specs.Shape.{IsRightShape};
 ghost use Rattle.audit_model.specs.Faults.{HasNoPageFault};
 ghost use Rattle.page_facts.specs.PageFaults.{IsClean};
 ghost use Rattle.cut_logs.specs.Left.{HasNoFault, without_lone, left_of, HasSafeFront};
-ghost use Rattle.recorded_files.specs.Fronts.{IsFront, cut_to};
+ghost use Rattle.recorder_files.specs.Fronts.{IsFront, cut_to};
 ghost use Rattle.cut_logs.specs.FrontLaws.{HasHalt, KeepsFaults, LacksFault, FaultsWere, KeepsFirstFaults, FirstFaultsWere, FirstFaultsAreLater, HasState, KeepsShape, KeepsShapeFaults, KeepsMergings, MergingsGoOn, IsPart};
 
 /// A front has the first records of each log, with their numbers, and all that these name. In logs that are cut to a

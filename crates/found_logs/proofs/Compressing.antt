@@ -6,9 +6,9 @@ use Rattle.std.specs.List.Sorted.{IsPermutation}
 use Rattle.std.proofs.lemmas.List.{get_or-map, length-map, take_all, take_more}
 use Rattle.std.proofs.lemmas.List.Elements.{Contains-append_left, Contains-push}
 use Rattle.std.proofs.lemmas.List.Sorted.{Contains-permutation, IsPermutation-sym}
-use Rattle.recorded_files.specs.declared.lines.Party.{Party}
-use Rattle.surveyed_logs.specs.Names.{IsCompressedName, IsNameOf}
-use Rattle.surveyed_logs.proofs.Endings.{one_whole}
+use Rattle.recorder_files.specs.declared.lines.Party.{Party}
+use Rattle.recorder_files.specs.Names.{IsCompressedName, IsNameOf}
+use Rattle.recorder_files.proofs.Endings.{one_whole}
 use Rattle.found_logs.specs.Found.{AreCompressed, IsCompressed, IsCompressedFile, path_in}
 use Rattle.found_logs.specs.inner.Compressing.{AddsCompressed, AddsCompressedOf}
 use Rattle.found_logs.proofs.Finding.{contains_none, contains_pushed, map_pushed}

@@ -7,9 +7,9 @@ use Rattle.std.proofs.lemmas.List.{map-append, take_all, take_more}
 use Rattle.std.proofs.lemmas.List.Elements.{Contains-append_cases, Contains-append_left, Contains-push}
 use Rattle.std.proofs.lemmas.List.Sorted.{Contains-permutation, IsPermutation-sym}
 use Rattle.migration_types.specs.declared.records.LogName.TheVariants.{Guest, Source, Link, Lane, Pager}
-use Rattle.recorded_files.specs.declared.lines.Party.{Party}
-use Rattle.recorded_files.specs.declared.lines.Party.TheVariants.{Machine, Of}
-use Rattle.surveyed_logs.specs.Names.{AreDigits, IsNameOf, file_name}
+use Rattle.recorder_files.specs.declared.lines.Party.{Party}
+use Rattle.recorder_files.specs.declared.lines.Party.TheVariants.{Machine, Of}
+use Rattle.recorder_files.specs.Names.{AreDigits, IsNameOf, file_name}
 use Rattle.found_logs.specs.Found.{AreFound, IsFileOf, path_in, told_of}
 use Rattle.found_logs.specs.inner.Finding.{AddsFolder, AddsNames}
 use Rattle.found_logs.specs.declared.found.FoundFile.{FoundFile}

@@ -7,11 +7,11 @@ use Rattle.std.specs.List.Sorted.{IsPermutation}
 use Rattle.std.proofs.lemmas.List.Elements.{Contains-append_left, Contains-push}
 use Rattle.std.proofs.lemmas.List.Sorted.{IsPermutation-append_left, IsPermutation-middle, IsPermutation-refl, IsPermutation-sym, IsPermutation-to_front, IsPermutation-trans}
 use Rattle.migration_types.specs.declared.records.LogName.TheVariants.{Guest, Source, Link, Lane, Pager}
-use Rattle.recorded_files.specs.Said.{Said, Says}
-use Rattle.recorded_files.specs.declared.lines.Party.{Party}
-use Rattle.recorded_files.specs.declared.lines.Party.TheVariants.{Machine, Of}
-use Rattle.surveyed_logs.specs.Surveys.{IsSurveyOf}
-use Rattle.surveyed_logs.specs.declared.surveying.Surveyed.{Surveyed}
+use Rattle.recorder_files.specs.Said.{Said, Says}
+use Rattle.recorder_files.specs.declared.lines.Party.{Party}
+use Rattle.recorder_files.specs.declared.lines.Party.TheVariants.{Machine, Of}
+use Rattle.recorder_files.specs.Surveys.{IsSurveyOf}
+use Rattle.recorder_files.specs.declared.surveying.Surveyed.{Surveyed}
 use Rattle.found_logs.specs.Logs.{log_of}
 use Rattle.found_logs.specs.Found.{AreFound, IsFoundIn, IsSurveyed, path_in, told_of}
 use Rattle.found_logs.specs.inner.Finding.{AreLogsOf, GetsFile, HasName, IsNothing, IsReadAs, TakesFile}

@@ -2,8 +2,8 @@
 use Rattle.std.proofs.Common.{◌≡◌, ◌∙◌, ◌<◌, ◌+◌, ℕ, get_or, List, [], ◌∷◌, ◌++◌, Option, refl, ap, sym, map, length}
 use Rattle.std.specs.List.{flat_map}
 use Rattle.std.proofs.lemmas.List.{flat_map_more}
-use Rattle.machine_logs.specs.Machine.{FileTells}
-use Rattle.machine_logs.specs.declared.machine_log.MachineEntry.{MachineEntry}
+use Rattle.recorder_files.specs.Machine.{FileTells}
+use Rattle.recorder_files.specs.declared.machine_log.MachineEntry.{MachineEntry}
 use Rattle.found_logs.specs.Logs.{TellMachine}
 use Rattle.found_logs.proofs.Firsts.{AreFirst, all_known, next_first, none_first}
 

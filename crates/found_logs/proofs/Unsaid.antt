@@ -2,8 +2,8 @@
 use Rattle.std.proofs.Common.{◌≡◌, ℕ, List, [], ◌∷◌, length, refl, arith}
 use Rattle.migration_types.specs.declared.records.LogName.{LogName}
 use Rattle.migration_types.specs.declared.records.LogName.TheVariants.{Guest, Source, Link, Lane, Pager}
-use Rattle.recorded_files.specs.declared.lines.Party.{Party}
-use Rattle.recorded_files.specs.declared.lines.Party.TheVariants.{Machine, Of}
+use Rattle.recorder_files.specs.declared.lines.Party.{Party}
+use Rattle.recorder_files.specs.declared.lines.Party.TheVariants.{Machine, Of}
 use Rattle.found_logs.specs.Logs.{log_in, log_of, HasAll}
 use Rattle.found_logs.specs.declared.found.FoundLogs.{FoundLogs}
 

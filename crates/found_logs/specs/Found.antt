@@ -2,10 +2,10 @@
 use Rattle.std.specs.Prelude.{◌≡◌, ℕ, ◌-◌, ◌==◌, if◌then◌else◌, List, [], ◌∷◌, ◌++◌, Option, Some, None, IfSome, length, map, slice_get, string_bytes}
 use Rattle.std.specs.List.{AllByRecursion, AllZip, Contains}
 use Rattle.std.specs.List.Sorted.{IsPermutation}
-use Rattle.recorded_files.specs.Said.{Says}
-use Rattle.recorded_files.specs.declared.lines.Party.{Party}
-use Rattle.surveyed_logs.specs.Names.{IsCompressedName, IsNameOf}
-use Rattle.surveyed_logs.specs.Surveys.{IsSurveyOf}
+use Rattle.recorder_files.specs.Said.{Says}
+use Rattle.recorder_files.specs.declared.lines.Party.{Party}
+use Rattle.recorder_files.specs.Names.{IsCompressedName, IsNameOf}
+use Rattle.recorder_files.specs.Surveys.{IsSurveyOf}
 use Rattle.found_logs.specs.Logs.{log_of}
 use Rattle.found_logs.specs.declared.found.FoundFile.{FoundFile}
 use Rattle.found_logs.specs.declared.found.FoundLog.{FoundLog}

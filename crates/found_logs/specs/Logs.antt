@@ -3,14 +3,14 @@ use Rattle.std.specs.Prelude.{◌≡◌, ◌≢◌, ℕ, Bool, true, false, List
 use Rattle.std.specs.List.{AllZip}
 use Rattle.migration_types.specs.declared.records.LogName.{LogName}
 use Rattle.migration_types.specs.declared.records.LogName.TheVariants.{Guest, Source, Link, Lane, Pager}
-use Rattle.recorded_files.specs.declared.lines.Party.{Party}
-use Rattle.recorded_files.specs.declared.lines.Party.TheVariants.{Machine, Of}
-use Rattle.surveyed_logs.specs.Lacks.{lacks, record_count}
-use Rattle.surveyed_logs.specs.Parts.{AllFit, ArePartsOf}
-use Rattle.surveyed_logs.specs.declared.parts.LogPart.{LogPart}
-use Rattle.machine_logs.specs.Machine.{FileTells, IsDescribed}
-use Rattle.machine_logs.specs.declared.machine_log.MachineEntry.{MachineEntry}
-use Rattle.machine_logs.specs.declared.describing.Description.{Description}
+use Rattle.recorder_files.specs.declared.lines.Party.{Party}
+use Rattle.recorder_files.specs.declared.lines.Party.TheVariants.{Machine, Of}
+use Rattle.recorder_files.specs.Lacks.{lacks, record_count}
+use Rattle.recorder_files.specs.Parts.{AllFit, ArePartsOf}
+use Rattle.recorder_files.specs.declared.log_parts.LogPart.{LogPart}
+use Rattle.recorder_files.specs.Machine.{FileTells, IsDescribed}
+use Rattle.recorder_files.specs.declared.machine_log.MachineEntry.{MachineEntry}
+use Rattle.recorder_files.specs.declared.describing.Description.{Description}
 use Rattle.found_logs.specs.declared.found.FoundLog.{FoundLog}
 use Rattle.found_logs.specs.declared.found.FoundLogs.{FoundLogs}
 

@@ -7,9 +7,9 @@ ghost use Rattle.found_logs.specs.Found.{IsCompressed};
 ghost use Rattle.found_logs.specs.inner.Compressing.{AddsCompressed};
 
 use crate::found::joined;
+use recorder_files::read_compressed_name;
 use session_words::{Piece, add, push_message, sentence};
 use std::alloc::{AllocError, Global};
-use surveyed_logs::read_compressed_name;
 
 /// Returns whether this is one of the names.
 fn is_among(names: &[String], name: &[u8]) -> bool

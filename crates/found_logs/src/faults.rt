@@ -1,13 +1,12 @@
 //! Why files are none of a recorder, or not those of one log, in words.
 
 use crate::found::FoundLog;
-use recorded_files::{FileFault, Last, Opening, Party, read_numbered};
+use recorder_files::{FileFault, Last, Opening, PartFault, Party, Surveyed, read_numbered};
 use session_words::{
     FIRST_RECORD, FoundRecord, Piece, Stop, changed_file, find_in, find_record, find_record_from,
     line_of, line_words, open_file, push_placed, push_sentence, sentence,
 };
 use std::alloc::{AllocError, Global};
-use surveyed_logs::{PartFault, Surveyed};
 use text_access::TextSource;
 
 /// Why a number is told twice.

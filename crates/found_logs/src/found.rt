@@ -10,12 +10,11 @@ ghost use Rattle.found_logs.specs.inner.Finding.{AddsFolder, AddsNames, AreLogsO
 
 use crate::compressed::push_compressed;
 use migration_types::LogName;
-use recorded_files::Party;
+use recorder_files::{Party, Surveyed, read_file_name};
 use session_words::{Piece, Stop, add, push, sentence, unread};
 use std::alloc::{AllocError, Global};
 use std::io;
 use std::io::ErrorKind;
-use surveyed_logs::{Surveyed, read_file_name};
 use text_access::TextSource;
 
 /// The cause if a name is not that of a folder.

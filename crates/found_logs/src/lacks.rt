@@ -1,21 +1,22 @@
 //! What logs lack, in words.
 
 ghost use Rattle.std.specs.Prelude.{◌≡◌, ◌≢◌, [], IfOk, OnOk};
-ghost use Rattle.surveyed_logs.specs.Lacks.{lacks};
-ghost use Rattle.surveyed_logs.specs.Parts.{AllFit, ArePartsOf};
+ghost use Rattle.recorder_files.specs.Lacks.{lacks};
+ghost use Rattle.recorder_files.specs.Parts.{AllFit, ArePartsOf};
 ghost use Rattle.found_logs.specs.Logs.{LacksNothing};
 ghost use Rattle.session_words.specs.Telling.{SaysUnless};
 
 use crate::faults::{GONE_ON, last_place, part_stop, path_of, twice_stop};
 use crate::found::FoundLog;
-use recorded_files::{FileReader, Party, Turn, next_turn};
+use recorder_files::{
+    FileReader, LogLack, LogPart, Party, Turn, count_records, find_lacks, find_parts, next_turn,
+};
 use session_words::{
     Piece, Stop, add, changed_file, line_on, open_file, push, push_message, push_sentence,
     push_system_error, sentence, unread_file,
 };
 use std::alloc::{AllocError, Global};
 use std::io::Read;
-use surveyed_logs::{LogLack, LogPart, count_records, find_lacks, find_parts};
 use text_access::TextSource;
 
 /// What is said behind the pages that are missing in the machine's log.

@@ -3,14 +3,13 @@
 ghost use Rattle.std.specs.Prelude.{◌≡◌, ◌++◌, List, IfOk, OnOk};
 ghost use Rattle.migration_types.specs.declared.size.Size.{Size as MachineSize};
 ghost use Rattle.recordings.specs.Recordings.{IsMachine};
-ghost use Rattle.machine_logs.specs.Machine.{FileTells};
-ghost use Rattle.machine_logs.specs.declared.machine_log.MachineEntry.{MachineEntry as Entry};
+ghost use Rattle.recorder_files.specs.Machine.{FileTells};
+ghost use Rattle.recorder_files.specs.declared.machine_log.MachineEntry.{MachineEntry as Entry};
 ghost use Rattle.found_logs.specs.Logs.{known_in, Describe, TellMachine};
 
 use crate::faults::twice_stop;
 use crate::found::{FoundLog, push_listed};
-use machine_logs::{DescribeFault, Description, MachineLog, MachineLogFault};
-use recorded_files::{FileFault, Party};
+use recorder_files::{DescribeFault, Description, FileFault, MachineLog, MachineLogFault, Party};
 use session_words::{
     Piece, Stop, changed_file, find_record, find_record_from, open_file, push_other_contents,
     push_outside, push_page_twice, push_sentence, push_two_pages, push_wrong_record, sentence,

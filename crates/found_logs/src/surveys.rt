@@ -1,9 +1,9 @@
 //! The first pass: each file is read to its end by itself.
 
 ghost use Rattle.std.specs.Prelude.{◌≡◌, ◌∷◌, ◌++◌, ℕ, [], List, Option, IfOk, OnOk, string_bytes};
-ghost use Rattle.recorded_files.specs.declared.lines.Party.{Party as Writer};
-ghost use Rattle.recorded_files.specs.Said.{CameTo};
-ghost use Rattle.surveyed_logs.specs.Surveys.{IsSurveyOf};
+ghost use Rattle.recorder_files.specs.declared.lines.Party.{Party as Writer};
+ghost use Rattle.recorder_files.specs.Said.{CameTo};
+ghost use Rattle.recorder_files.specs.Surveys.{IsSurveyOf};
 ghost use Rattle.text_access.specs.Names.{names_of};
 ghost use Rattle.found_logs.specs.Found.{AreFound, IsFoundIn};
 ghost use Rattle.found_logs.specs.inner.Finding.{GetsFile, IsReadAs, TakesFile, Under};
@@ -11,11 +11,10 @@ ghost use Rattle.found_logs.specs.inner.Finding.{GetsFile, IsReadAs, TakesFile, 
 use crate::faults::{Surveying, file_stop};
 use crate::found::{FoundFile, FoundFiles, FoundLog, FoundLogs, joined, none};
 use migration_types::LogName;
-use recorded_files::{FileReader, Party};
+use recorder_files::{FileReader, NAME_FILE, Onlooker, Party, Surveyed, survey};
 use session_words::{Piece, Stop, add, line_of, open_text, sentence};
 use std::alloc::{AllocError, Global};
 use std::io::ErrorKind;
-use surveyed_logs::{NAME_FILE, Onlooker, Surveyed, survey};
 use text_access::TextSource;
 
 /// The name of the recording, and the last file that had it.

@@ -7,9 +7,8 @@ ghost use Rattle.found_logs.specs.Logs.{log_in, HasAll, IsLaneAsTold};
 
 use crate::found::{FoundLog, FoundLogs};
 use crate::lacks::{Hole, count_of, find_hole, tell_lacks, tell_missing};
-use machine_logs::Description;
 use migration_types::LogName;
-use recorded_files::{Front, Party};
+use recorder_files::{Description, Front, Party};
 use session_words::{Piece, Stop, line_on, push_message, push_sentence};
 use std::alloc::{AllocError, Global};
 use text_access::TextSource;

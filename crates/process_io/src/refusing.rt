@@ -3,6 +3,7 @@
 use crate::saving::{Destination, destination_of, is_one_file, is_one_name};
 use command_texts::{Fault, USAGE, tell};
 use command_words::{Intent, Job, Reading, Request, Targets};
+use recorder_files::{NAME_FILE, read_file_name};
 use refusal_words::{RECORDERS_FILE, text_begun};
 use std::alloc::Global;
 use std::fs;
@@ -10,7 +11,6 @@ use std::io::{self, ErrorKind, Read, Write};
 use std::os::unix::fs::MetadataExt;
 use std::path::PathBuf;
 use std::rt::Files;
-use surveyed_logs::{NAME_FILE, read_file_name};
 
 /// The name of standard input in words.
 const DASH: &str = "-";

@@ -25,15 +25,15 @@ use Rattle.recordings.specs.declared.wide.WideLane.{WideLane}
 use Rattle.recordings.specs.declared.wide.WideLane.TheVariants.{Down as LaneDown}
 use Rattle.recordings.specs.declared.wide.WideSource.TheVariants.{Halted, State, Send, Again, Ask, Done, Back}
 use Rattle.recordings.specs.declared.wide.WidePager.TheVariants.{Got, Pull, Ready, Fault, Join, Want, Place, Zero, Skip, All}
-use Rattle.recorded_files.specs.Fronts.{cursors_of, cut_to}
-use Rattle.recorded_files.specs.Raw.{IsRawPagerOf, IsRawSourceOf}
-use Rattle.recorded_files.specs.Told.{numbered_pager, numbered_source}
-use Rattle.recorded_files.specs.declared.fronts.Front.{Front}
-use Rattle.recorded_files.specs.declared.lines.Party.{Party}
-use Rattle.recorded_files.specs.declared.raw.RawPager.{RawPager}
-use Rattle.recorded_files.specs.declared.raw.RawPager.TheVariants.{Own as OwnPager, GotSent, PullSent}
-use Rattle.recorded_files.specs.declared.raw.RawSource.{RawSource}
-use Rattle.recorded_files.specs.declared.raw.RawSource.TheVariants.{Own as OwnSource, AskSent}
+use Rattle.recorder_files.specs.Fronts.{cursors_of, cut_to}
+use Rattle.recorder_files.specs.Raw.{IsRawPagerOf, IsRawSourceOf}
+use Rattle.recorder_files.specs.Told.{numbered_pager, numbered_source}
+use Rattle.recorder_files.specs.declared.fronts.Front.{Front}
+use Rattle.recorder_files.specs.declared.lines.Party.{Party}
+use Rattle.recorder_files.specs.declared.raw.RawPager.{RawPager}
+use Rattle.recorder_files.specs.declared.raw.RawPager.TheVariants.{Own as OwnPager, GotSent, PullSent}
+use Rattle.recorder_files.specs.declared.raw.RawSource.{RawSource}
+use Rattle.recorder_files.specs.declared.raw.RawSource.TheVariants.{Own as OwnSource, AskSent}
 use Rattle.walked_logs.specs.Walks.{AreNumbered, Bytes, IsRecordingOf, TellLog}
 use Rattle.found_logs.specs.declared.found.FoundLogs.{FoundLogs}
 use Rattle.held_sessions.specs.Made.{session_of, sized}

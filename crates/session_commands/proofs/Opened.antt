@@ -3,13 +3,13 @@ use Rattle.std.proofs.Common.{◌≡◌, ◌∙◌, ◌<◌, ℕ, get_or, option
 use Rattle.std.specs.Prelude.{IfSome}
 use Rattle.std.specs.List.{slice_get}
 use Rattle.std.proofs.lemmas.Option.{slice_get-map, slice_get_read}
-use Rattle.recorded_files.specs.declared.lines.Party.{Party}
-use Rattle.recorded_files.specs.declared.files.FileFault.{FileFault}
-use Rattle.recorded_files.specs.declared.files.FileFault.TheVariants.{Line, Order, File, Memory}
-use Rattle.recorded_files.specs.Said.{CameTo, IsFault, Standing}
-use Rattle.gathered_logs.specs.declared.gatherers.GatherFault.{GatherFault}
-use Rattle.gathered_logs.specs.declared.gatherers.GatherFault.TheVariants.{File as AtFile}
-use Rattle.gathered_logs.specs.Logs.{AreBegun}
+use Rattle.recorder_files.specs.declared.lines.Party.{Party}
+use Rattle.recorder_files.specs.declared.files.FileFault.{FileFault}
+use Rattle.recorder_files.specs.declared.files.FileFault.TheVariants.{Line, Order, File, Memory}
+use Rattle.recorder_files.specs.Said.{CameTo, IsFault, Standing}
+use Rattle.recorder_files.specs.declared.gatherers.GatherFault.{GatherFault}
+use Rattle.recorder_files.specs.declared.gatherers.GatherFault.TheVariants.{File as AtFile}
+use Rattle.recorder_files.specs.Logs.{AreBegun}
 use Rattle.walked_logs.specs.Faults.{IsOpenFault}
 use Rattle.found_logs.proofs.Firsts.{AreFirst}
 

@@ -11,10 +11,10 @@ use Rattle.command_words.specs.declared.requests.Lacking.{Lacking}
 use Rattle.command_words.specs.declared.requests.Lacking.TheVariants.{Refused}
 use Rattle.recordings.specs.declared.machine.WideMachine.{WideMachine}
 use Rattle.recordings.specs.declared.wide.WideInit.{WideInit}
-use Rattle.recorded_files.specs.Fronts.{cursors_of}
-use Rattle.recorded_files.specs.declared.fronts.Front.{Front}
-use Rattle.recorded_files.specs.declared.lines.Party.{Party}
-use Rattle.machine_logs.specs.declared.describing.Description.{Description}
+use Rattle.recorder_files.specs.Fronts.{cursors_of}
+use Rattle.recorder_files.specs.declared.fronts.Front.{Front}
+use Rattle.recorder_files.specs.declared.lines.Party.{Party}
+use Rattle.recorder_files.specs.declared.describing.Description.{Description}
 use Rattle.walked_logs.specs.Walks.{Bytes, HasNoHole, IsRecordingOf}
 use Rattle.written_recordings.specs.Written.{text_of}
 use Rattle.found_logs.specs.Logs.{known_in, log_in, log_of, Describe, HasAll, IsLaneAsTold}

@@ -1,13 +1,12 @@
 //! The files of the logs, which each pass opens anew.
 
 ghost use Rattle.std.specs.Prelude.{◌≡◌, [], IfErr, IfOk};
-ghost use Rattle.recorded_files.specs.declared.files.FileFault.{FileFault as Why};
-ghost use Rattle.recorded_files.specs.Said.{CameTo, IsFault};
+ghost use Rattle.recorder_files.specs.declared.files.FileFault.{FileFault as Why};
+ghost use Rattle.recorder_files.specs.Said.{CameTo, IsFault};
 
 use found_logs::FoundLogs;
-use gathered_logs::GatherFault;
 use migration_types::LogName;
-use recorded_files::{FileFault, FileReader, Party};
+use recorder_files::{FileFault, FileReader, GatherFault, Party};
 use std::alloc::Global;
 use std::io::Read;
 use text_access::TextSource;

@@ -11,10 +11,10 @@ use command_texts::{Console, Fault, write_shown};
 use command_words::Lacking;
 use either::Either;
 use migration_types::Session;
+use recorder_files::read_file_name;
 use std::alloc::Global;
 use std::io;
 use std::io::{Cursor, ErrorKind, Write};
-use surveyed_logs::read_file_name;
 use text_access::{TextSource, write_whole};
 
 /// Where it is said why the files in a folder make no session.

@@ -7,7 +7,7 @@ ghost use Rattle.session_commands.specs.Files.{HasLane, IsFormOf, NeedsTwo};
 
 use found_logs::FoundLog;
 use migration_types::{Size, Version};
-use recorded_files::Front;
+use recorder_files::Front;
 use recordings::WideMachine;
 use session_facts::Facts;
 

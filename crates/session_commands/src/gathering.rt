@@ -18,7 +18,7 @@ use command_words::Lacking;
 use found_logs::{FoundFiles, FoundLogs, find_files, find_logs};
 use held_sessions::{HeldRecording, Room};
 use migration_types::Session;
-use recorded_files::Front;
+use recorder_files::Front;
 use session_facts::FactFinder;
 use session_words::Stop;
 use std::alloc::{AllocError, Global};

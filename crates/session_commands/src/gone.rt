@@ -1,9 +1,9 @@
 //! Recorders' folders from which the file with the recording's name is gone.
 
 use command_texts::write_line_on;
+use recorder_files::NAME_FILE;
 use std::alloc::{AllocError, Global};
 use std::io::{ErrorKind, Write};
-use surveyed_logs::NAME_FILE;
 use text_access::TextSource;
 
 /// What is told of such a folder.

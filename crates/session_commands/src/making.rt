@@ -5,7 +5,7 @@ ghost use Rattle.command_words.specs.declared.requests.Lacking.TheVariants.{Refu
 ghost use Rattle.migration_types.specs.Sessions.{Recorded, log_length};
 ghost use Rattle.recordings.specs.Recordings.{IsMachine};
 ghost use Rattle.recordings.specs.Wide.{extent_of};
-ghost use Rattle.recorded_files.specs.Named.{IsNaming};
+ghost use Rattle.recorder_files.specs.Named.{IsNaming};
 ghost use Rattle.walked_logs.specs.Walks.{HasNoHole, WalksFiles};
 ghost use Rattle.text_access.specs.Written.{BothGain, Gains};
 ghost use Rattle.session_commands.specs.Files.{bytes_in, WritesText};
@@ -23,7 +23,7 @@ use command_texts::{ACCEPTED, REFUSED};
 use command_words::Lacking;
 use found_logs::{FoundLogs, check_logs, describe, tell_lane, tell_logs, tell_machine};
 use migration_types::{LogName, Size, Version};
-use recorded_files::Front;
+use recorder_files::Front;
 use recordings::{Visitor, WideInit, WideMachine};
 use session_facts::{Ends, FactFinder, Facts, Nobody, tell_cut, tell_empty, tell_unresumed};
 use session_words::{Stop, push_message};

@@ -14,10 +14,10 @@ use crate::making::{know_facts, refuse, settle};
 use command_texts::{Console, Fault, REFUSED, STANDARD_OUTPUT, given, tell};
 use command_words::Lacking;
 use found_logs::{FoundFiles, find_files, find_logs, tell_compressed};
+use recorder_files::NoOnlooker;
 use session_words::{Stop, push_message};
 use std::alloc::{AllocError, Global};
 use std::io::Write;
-use surveyed_logs::NoOnlooker;
 use text_access::{TextSource, write_whole};
 
 /// Says which recorders' files are only there compressed. They are left out, if that is asked for. Returns whether the others are to be

@@ -5,9 +5,8 @@ ghost use Rattle.session_commands.specs.inner.Seen.{IsUnfit};
 
 use crate::files::OpenedLogs;
 use found_logs::{FoundLogs, find_hole};
-use gathered_logs::{GatherFault, LogFault};
 use migration_types::{LOGS, LogName};
-use recorded_files::{FileFault, Front, Party};
+use recorder_files::{FileFault, Front, GatherFault, LogFault, Party};
 use recordings::WideMachine;
 use session_facts::Facts;
 use session_words::{

@@ -3,8 +3,8 @@ use Rattle.std.proofs.Common.{◌≡◌, ◌<◌, ◌≤◌, ℕ, Bool, true, fa
 use Rattle.migration_types.specs.declared.records.LogName.{LogName}
 use Rattle.migration_types.specs.declared.records.LogName.TheVariants.{Guest, Source, Link, Lane, Pager}
 use Rattle.migration_types.specs.Sessions.{Recorded, log_length}
-use Rattle.recorded_files.specs.Fronts.{cursors_of}
-use Rattle.recorded_files.specs.declared.fronts.Front.{Front}
+use Rattle.recorder_files.specs.Fronts.{cursors_of}
+use Rattle.recorder_files.specs.declared.fronts.Front.{Front}
 use Rattle.session_facts.specs.Facts.{SomeIn}
 use Rattle.session_facts.specs.Written.{has_lone_halted, IsWrittenFront}
 

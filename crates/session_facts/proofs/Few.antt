@@ -2,8 +2,8 @@
 use Rattle.std.proofs.Common.{ℕ, ◌≤◌, ◌⊎◌, inl, inr}
 use Rattle.migration_types.specs.declared.records.LogName.{LogName}
 use Rattle.migration_types.specs.declared.records.LogName.TheVariants.{Guest, Source, Link, Lane, Pager}
-use Rattle.recorded_files.specs.Fronts.{cursors_of}
-use Rattle.recorded_files.specs.declared.fronts.Front.{Front}
+use Rattle.recorder_files.specs.Fronts.{cursors_of}
+use Rattle.recorder_files.specs.declared.fronts.Front.{Front}
 
 pub few_each : (f : Front) (most : ℕ) → f.guest ≤ most → f.source ≤ most → f.link ≤ most → f.lane ≤ most → f.pager ≤ most → (log : LogName) → cursors_of f log ≤ most
 few_each f most guest source link lane pager Guest = guest

@@ -5,9 +5,9 @@ use Rattle.migration_types.specs.declared.records.GuestRec.{GuestRec}
 use Rattle.migration_types.specs.declared.records.LogName.{LogName}
 use Rattle.migration_types.specs.declared.records.LogName.TheVariants.{Lane}
 use Rattle.migration_types.specs.Sessions.{Recorded, log_length}
-use Rattle.recorded_files.specs.Fronts.{cursors_of}
-use Rattle.recorded_files.specs.Named.{IsBlank, IsNaming}
-use Rattle.recorded_files.specs.declared.fronts.Front.{Front}
+use Rattle.recorder_files.specs.Fronts.{cursors_of}
+use Rattle.recorder_files.specs.Named.{IsBlank, IsNaming}
+use Rattle.recorder_files.specs.declared.fronts.Front.{Front}
 use Rattle.session_facts.specs.Unresumed.{ends_halted, IsHaltOf}
 use Rattle.session_facts.specs.Written.{begins_halted, is_back, is_pull, IsLateRelease}
 use Rattle.audit_model.specs.Shape.{is_resume}

@@ -11,8 +11,8 @@ use Rattle.migration_types.specs.Limits.{limits}
 use Rattle.migration_types.specs.declared.size.Size.TheVariants.{Small}
 use Rattle.migration_types.specs.Sessions.{Recorded}
 use Rattle.audit_model.specs.Shape.{is_release, is_resume}
-use Rattle.recorded_files.specs.Fronts.{cursors_of, IsGreatestFront, IsGreatestFrontWithin}
-use Rattle.recorded_files.specs.declared.fronts.Front.{Front}
+use Rattle.recorder_files.specs.Fronts.{cursors_of, IsGreatestFront, IsGreatestFrontWithin}
+use Rattle.recorder_files.specs.declared.fronts.Front.{Front}
 
 -- ---- the records that are written
 

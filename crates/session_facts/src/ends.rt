@@ -2,8 +2,8 @@
 
 ghost use Rattle.std.specs.Prelude.{◌≤◌, ⊤, OnOk};
 ghost use Rattle.migration_types.specs.Sessions.{Recorded, log_length};
-ghost use Rattle.recorded_files.specs.Fronts.{cursors_of};
-ghost use Rattle.recorded_files.specs.Named.{IsNaming};
+ghost use Rattle.recorder_files.specs.Fronts.{cursors_of};
+ghost use Rattle.recorder_files.specs.Named.{IsNaming};
 ghost use Rattle.session_words.specs.Telling.{SaysUnless};
 
 use crate::facts::{Facts, left_out};
@@ -11,7 +11,7 @@ use crate::names::{
     LOST, named_by_guest, named_by_lane, named_by_link, named_by_pager, named_by_source,
 };
 use migration_types::LogName;
-use recorded_files::{Front, Party};
+use recorder_files::{Front, Party};
 use recordings::{
     Visitor, WideGuest, WideInit, WideLane, WideLink, WideMachine, WidePager, WideSource,
 };

@@ -6,13 +6,13 @@ ghost use Rattle.migration_types.specs.declared.records.GuestRec.{GuestRec};
 ghost use Rattle.migration_types.specs.declared.records.PagerRec.{PagerRec};
 ghost use Rattle.migration_types.specs.declared.records.SourceRec.{SourceRec};
 ghost use Rattle.migration_types.specs.declared.records.LogName.{LogName as Log};
-ghost use Rattle.recorded_files.specs.Fronts.{cursors_of};
+ghost use Rattle.recorder_files.specs.Fronts.{cursors_of};
 ghost use Rattle.migration_types.specs.Sessions.{Recorded};
 ghost use Rattle.recordings.specs.Recordings.{IsMachine};
 ghost use Rattle.recordings.specs.Seen.{nothing_of, with_guest, with_source, with_link, with_lane, with_pager, BeforeSource, BeforeLink, BeforeLane, BeforePager};
 ghost use Rattle.recordings.specs.Wide.{extent_of, guest_of, lane_of, link_of, pager_of, source_of};
 ghost use Rattle.migration_types.specs.Rows.{pager_row, source_row};
-ghost use Rattle.recorded_files.specs.Reaches.{named_first};
+ghost use Rattle.recorder_files.specs.Reaches.{named_first};
 ghost use Rattle.session_facts.specs.Written.{begins_halted, has_lone_halted, is_back, is_halted, is_pull, IsLateRelease, IsSmall, IsWrittenFront, NeedsLarge};
 ghost use Rattle.audit_model.specs.Shape.{is_release, is_resume};
 ghost use Rattle.session_facts.specs.Unresumed.{ends_halted, GoesUnresumed, IsHaltOf};
@@ -23,7 +23,7 @@ use crate::names::{
     LOST, named_by_guest, named_by_lane, named_by_link, named_by_pager, named_by_source,
 };
 use migration_types::{LogName, Size};
-use recorded_files::{Front, Naming};
+use recorder_files::{Front, Naming};
 use recordings::{Visitor, WideGuest, WideLane, WideLink, WideMachine, WidePager, WideSource};
 use std::alloc::{AllocError, Global};
 

@@ -4,7 +4,7 @@ ghost use Rattle.std.specs.Prelude.{◌≡◌, ⊤};
 ghost use Rattle.session_facts.specs.Facts.{HasNone};
 
 use crate::facts::Facts;
-use recorded_files::Front;
+use recorder_files::Front;
 use recordings::{
     Visitor, WideGuest, WideInit, WideLane, WideLink, WideMachine, WidePager, WideSource,
 };

@@ -2,14 +2,14 @@
 
 ghost use Rattle.std.specs.Prelude.{◌≡◌, ◌<◌, ⊤, OnOk};
 ghost use Rattle.migration_types.specs.Sessions.{Recorded};
-ghost use Rattle.recorded_files.specs.Fronts.{cursors_of};
+ghost use Rattle.recorder_files.specs.Fronts.{cursors_of};
 ghost use Rattle.session_facts.specs.Facts.{IsFacts, SomeIn};
 ghost use Rattle.session_facts.specs.Unresumed.{NeverUnresumed};
 ghost use Rattle.session_words.specs.Telling.{SaysUnless};
 
 use crate::facts::Facts;
 use migration_types::LogName;
-use recorded_files::{Front, Party};
+use recorder_files::{Front, Party};
 use session_words::{Stop, line_on, push, push_message, push_place};
 use std::alloc::{AllocError, Global};
 use text_access::TextSource;

@@ -1,8 +1,8 @@
 -- A file that was opened.
 use Rattle.std.proofs.Common.{◌≡◌, ℕ, List, [], Option, Some, None, subst}
 use Rattle.std.specs.Prelude.{IfSome}
-use Rattle.recorded_files.specs.declared.lines.Party.{Party}
-use Rattle.recorded_files.specs.Said.{CameTo, Standing}
+use Rattle.recorder_files.specs.declared.lines.Party.{Party}
+use Rattle.recorder_files.specs.Said.{CameTo, Standing}
 
 -- what came of a file whose bytes are these, if they are known
 pub came_known : (party : Party) (known read : Option (List ℕ)) (s : Standing) → IfSome known (λ xs. read ≡ Some xs) → CameTo party read s [] → CameTo party known s []

@@ -3,7 +3,7 @@
 use crate::places::line_of;
 use crate::stops::Stop;
 use crate::words::{Piece, sentence};
-use recorded_files::{Last, Party, read_numbered};
+use recorder_files::{Last, Party, read_numbered};
 use std::alloc::{AllocError, Global};
 use text_access::TextSource;
 

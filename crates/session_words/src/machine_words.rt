@@ -4,7 +4,7 @@ use crate::places::{FoundRecord, find_record, push_place, push_placed};
 use crate::stops::Stop;
 use crate::words::{Piece, push, push_sentence, word_at};
 use migration_types::MOST_CELLS;
-use recorded_files::Party;
+use recorder_files::Party;
 use session_grammar::PAGES_KEY;
 use std::alloc::{AllocError, Global};
 use text_access::TextSource;

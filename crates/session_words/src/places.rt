@@ -1,12 +1,12 @@
 //! The lines of files, found again where words need them.
 
 ghost use Rattle.std.specs.Prelude.{◌≡◌, Some, IfOk, IfSome, []};
-ghost use Rattle.recorded_files.specs.Said.{CameTo};
+ghost use Rattle.recorder_files.specs.Said.{CameTo};
 
 use crate::lines::FIRST_RECORD;
 use crate::stops::{NOT_READ, NOT_THE_SAME, Stop, add, unread};
 use crate::words::{Piece, push_sentence};
-use recorded_files::{FileFault, FileReader, Party};
+use recorder_files::{FileFault, FileReader, Party};
 use std::alloc::{AllocError, Global};
 use std::io::{ErrorKind, Read};
 use text_access::TextSource;

@@ -4,7 +4,7 @@ ghost use Rattle.std.specs.Prelude.{◌≢◌, [], OnOk};
 ghost use Rattle.session_words.specs.Telling.{Extends};
 
 use crate::stops::add;
-use recorded_files::Party;
+use recorder_files::Party;
 use refusal_words::{Escape, escape_of, is_hidden};
 use std::alloc::{AllocError, Global};
 use text_lines::push_number;

@@ -9,18 +9,18 @@ use Rattle.migration_types.specs.Sessions.{Recorded}
 use Rattle.recordings.specs.Recordings.{IsMachine}
 use Rattle.recordings.specs.Wide.{extent_of}
 use Rattle.recordings.specs.declared.machine.WideMachine.{WideMachine}
-use Rattle.deliveries.specs.declared.messages.Message.{Message}
-use Rattle.recorded_files.specs.declared.lines.Party.{Party}
-use Rattle.recorded_files.specs.declared.lines.Party.TheVariants.{Of}
-use Rattle.recorded_files.specs.declared.messages.Delivered.{Delivered}
-use Rattle.recorded_files.specs.declared.raw.RawPager.{RawPager}
-use Rattle.recorded_files.specs.declared.raw.RawSource.{RawSource}
-use Rattle.recorded_files.specs.Raw.{raw_source_line, raw_pager_line, IsRawSourceOf, IsRawPagerOf}
-use Rattle.recorded_files.specs.Told.{lane_packet, link_packet, request, told_from}
-use Rattle.recorded_files.proofs.Noted.{kept}
-use Rattle.gathered_logs.specs.Logs.{Came, Gathering}
-use Rattle.gathered_logs.proofs.Noting.{all_and_one}
-use Rattle.gathered_logs.proofs.OneLog.{came_is_front, one_log}
+use Rattle.recorder_files.specs.declared.delivering.Message.{Message}
+use Rattle.recorder_files.specs.declared.lines.Party.{Party}
+use Rattle.recorder_files.specs.declared.lines.Party.TheVariants.{Of}
+use Rattle.recorder_files.specs.declared.noting.Delivered.{Delivered}
+use Rattle.recorder_files.specs.declared.raw.RawPager.{RawPager}
+use Rattle.recorder_files.specs.declared.raw.RawSource.{RawSource}
+use Rattle.recorder_files.specs.Raw.{raw_source_line, raw_pager_line, IsRawSourceOf, IsRawPagerOf}
+use Rattle.recorder_files.specs.Told.{lane_packet, link_packet, request, told_from}
+use Rattle.recorder_files.proofs.Noted.{kept}
+use Rattle.recorder_files.specs.Logs.{Came, Gathering}
+use Rattle.recorder_files.proofs.TakenRecords.{all_and_one}
+use Rattle.recorder_files.proofs.OneLog.{came_is_front, one_log}
 use Rattle.walked_logs.specs.declared.cursors.Cursor.{Cursor}
 use Rattle.walked_logs.specs.declared.files.WalkFault.{WalkFault}
 use Rattle.walked_logs.specs.declared.files.WalkFault.TheVariants.{Changed}

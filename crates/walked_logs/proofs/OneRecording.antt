@@ -25,18 +25,18 @@ use Rattle.recordings.specs.Wide.{extent_of, guest_of, lane_of, link_of}
 use Rattle.recordings.specs.declared.machine.WideMachine.{WideMachine}
 use Rattle.recordings.specs.declared.wide.WideInit.{WideInit}
 use Rattle.recordings.proofs.Tells.{guest_tell, lane_tell, link_tell}
-use Rattle.deliveries.specs.declared.messages.Message.{Message}
-use Rattle.deliveries.specs.declared.messages.Message.TheVariants.{Down, Up}
-use Rattle.deliveries.specs.Deliveries.{delivered, is_of_first, of_pager}
-use Rattle.deliveries.proofs.Timely.{delivered_once}
-use Rattle.recorded_files.specs.declared.lines.Party.TheVariants.{Of}
-use Rattle.recorded_files.specs.declared.raw.RawPager.{RawPager}
-use Rattle.recorded_files.specs.declared.raw.RawPager.TheVariants.{Own as OwnPager, GotSent, PullSent}
-use Rattle.recorded_files.specs.declared.raw.RawSource.{RawSource}
-use Rattle.recorded_files.specs.declared.raw.RawSource.TheVariants.{Own as OwnSource, AskSent}
-use Rattle.recorded_files.specs.Raw.{raw_source_line, raw_pager_line, IsRawSourceOf, IsRawPagerOf}
-use Rattle.recorded_files.specs.Told.{lane_messages, lane_packet, link_messages, link_packet, numbered_pager, numbered_source, request, told_from}
-use Rattle.gathered_logs.proofs.Gathering.{element}
+use Rattle.recorder_files.specs.declared.delivering.Message.{Message}
+use Rattle.recorder_files.specs.declared.delivering.Message.TheVariants.{Down, Up}
+use Rattle.recorder_files.specs.Deliveries.{delivered, is_of_first, of_pager}
+use Rattle.recorder_files.proofs.Timely.{delivered_once}
+use Rattle.recorder_files.specs.declared.lines.Party.TheVariants.{Of}
+use Rattle.recorder_files.specs.declared.raw.RawPager.{RawPager}
+use Rattle.recorder_files.specs.declared.raw.RawPager.TheVariants.{Own as OwnPager, GotSent, PullSent}
+use Rattle.recorder_files.specs.declared.raw.RawSource.{RawSource}
+use Rattle.recorder_files.specs.declared.raw.RawSource.TheVariants.{Own as OwnSource, AskSent}
+use Rattle.recorder_files.specs.Raw.{raw_source_line, raw_pager_line, IsRawSourceOf, IsRawPagerOf}
+use Rattle.recorder_files.specs.Told.{lane_messages, lane_packet, link_messages, link_packet, numbered_pager, numbered_source, request, told_from}
+use Rattle.recorder_files.proofs.Gathering.{element}
 use Rattle.walked_logs.specs.Walks.{AreNumbered, Bytes, IsDown, IsNumberOf, IsRecordingOf, IsUp, lane_delivery, link_delivery}
 use Rattle.walked_logs.proofs.Changing.{one_form, told_same}
 use Rattle.walked_logs.proofs.Raws.{pager_form, same_lane_packet, same_link_packet, same_numbered_pager, same_numbered_source, same_pager, same_request, same_source, source_form}

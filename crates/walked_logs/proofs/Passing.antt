@@ -4,8 +4,8 @@ use Rattle.std.specs.Prelude.{slice_get}
 use Rattle.std.specs.Option.{option_to_list}
 use Rattle.std.proofs.Math.Seq.{take-suc}
 use Rattle.std.proofs.lemmas.Option.{slice_get-get_or, slice_get_within, get_or_from_slice_get}
-use Rattle.deliveries.specs.declared.messages.Message.{Message}
-use Rattle.deliveries.specs.Deliveries.{AreNumbers}
+use Rattle.recorder_files.specs.declared.delivering.Message.{Message}
+use Rattle.recorder_files.specs.Deliveries.{AreNumbers}
 use Rattle.walked_logs.specs.declared.cursors.Cursor.{Cursor}
 use Rattle.walked_logs.specs.Walks.{IsNumberOf}
 use Rattle.walked_logs.specs.inner.Passing.{HasPassed, Passes, number_or_lost}

@@ -13,15 +13,15 @@ use Rattle.session_grammar.specs.Records.{source_line, pager_line}
 use Rattle.recordings.specs.Recordings.{IsMachine}
 use Rattle.recordings.specs.Wide.{source_of, pager_of}
 use Rattle.recordings.proofs.Tells.{source_tell, pager_tell}
-use Rattle.deliveries.specs.declared.messages.Message.{Message}
-use Rattle.deliveries.specs.declared.messages.Message.TheVariants.{Down, Up}
-use Rattle.recorded_files.specs.declared.raw.RawSource.{RawSource}
-use Rattle.recorded_files.specs.declared.raw.RawSource.TheVariants.{Own as OwnSource, AskSent}
-use Rattle.recorded_files.specs.declared.raw.RawPager.{RawPager}
-use Rattle.recorded_files.specs.declared.raw.RawPager.TheVariants.{Own as OwnPager, GotSent, PullSent}
-use Rattle.recorded_files.specs.Raw.{lost_number, raw_source_line, raw_pager_line, IsRawSourceOf, IsRawPagerOf}
-use Rattle.recorded_files.proofs.Refusing.{cancel}
-use Rattle.recorded_files.specs.Told.{lane_packet, link_packet, numbered_pager, numbered_source, request}
+use Rattle.recorder_files.specs.declared.delivering.Message.{Message}
+use Rattle.recorder_files.specs.declared.delivering.Message.TheVariants.{Down, Up}
+use Rattle.recorder_files.specs.declared.raw.RawSource.{RawSource}
+use Rattle.recorder_files.specs.declared.raw.RawSource.TheVariants.{Own as OwnSource, AskSent}
+use Rattle.recorder_files.specs.declared.raw.RawPager.{RawPager}
+use Rattle.recorder_files.specs.declared.raw.RawPager.TheVariants.{Own as OwnPager, GotSent, PullSent}
+use Rattle.recorder_files.specs.Raw.{lost_number, raw_source_line, raw_pager_line, IsRawSourceOf, IsRawPagerOf}
+use Rattle.recorder_files.proofs.Refusing.{cancel}
+use Rattle.recorder_files.specs.Told.{lane_packet, link_packet, numbered_pager, numbered_source, request}
 
 -- ---- the source
 

@@ -9,20 +9,20 @@ use Rattle.recordings.specs.Recordings.{IsGuestRecOf, IsLaneRecOf, IsLinkRecOf}
 use Rattle.recordings.specs.Wide.{extent_of, guest_of, lane_of, link_of}
 use Rattle.recordings.specs.declared.machine.WideMachine.{WideMachine}
 use Rattle.recordings.specs.declared.wide.WideGuest.{WideGuest}
-use Rattle.recorded_files.specs.declared.lines.Party.{Party}
-use Rattle.recorded_files.specs.declared.lines.Party.TheVariants.{Of}
-use Rattle.recorded_files.specs.declared.messages.Delivered.{Delivered}
-use Rattle.recorded_files.specs.declared.raw.RawPager.{RawPager}
-use Rattle.recorded_files.specs.declared.raw.RawSource.{RawSource}
-use Rattle.recorded_files.specs.Raw.{raw_source_line, raw_pager_line, IsRawSourceOf, IsRawPagerOf}
-use Rattle.gathered_logs.specs.declared.gatherers.GatherFault.{GatherFault}
-use Rattle.gathered_logs.specs.declared.gatherers.GatherFault.TheVariants.{File, Twice, Missing, Memory as NoMemory}
-use Rattle.gathered_logs.specs.declared.taking.LogFault.{LogFault}
-use Rattle.gathered_logs.specs.declared.taking.LogFault.TheVariants.{Files}
-use Rattle.gathered_logs.specs.declared.taking.TakingFault.{TakingFault}
-use Rattle.gathered_logs.specs.declared.taking.TakingFault.TheVariants.{Log as Taking, Unfit}
-use Rattle.gathered_logs.specs.Logs.{Gathering, IsGatherFault}
-use Rattle.gathered_logs.specs.Records.{IsLogFault, IsTakingFault}
+use Rattle.recorder_files.specs.declared.lines.Party.{Party}
+use Rattle.recorder_files.specs.declared.lines.Party.TheVariants.{Of}
+use Rattle.recorder_files.specs.declared.noting.Delivered.{Delivered}
+use Rattle.recorder_files.specs.declared.raw.RawPager.{RawPager}
+use Rattle.recorder_files.specs.declared.raw.RawSource.{RawSource}
+use Rattle.recorder_files.specs.Raw.{raw_source_line, raw_pager_line, IsRawSourceOf, IsRawPagerOf}
+use Rattle.recorder_files.specs.declared.gatherers.GatherFault.{GatherFault}
+use Rattle.recorder_files.specs.declared.gatherers.GatherFault.TheVariants.{File, Twice, Missing, Memory as NoMemory}
+use Rattle.recorder_files.specs.declared.taking.LogFault.{LogFault}
+use Rattle.recorder_files.specs.declared.taking.LogFault.TheVariants.{Files}
+use Rattle.recorder_files.specs.declared.taking.TakingFault.{TakingFault}
+use Rattle.recorder_files.specs.declared.taking.TakingFault.TheVariants.{Log as Taking, Unfit}
+use Rattle.recorder_files.specs.Logs.{Gathering, IsGatherFault}
+use Rattle.recorder_files.specs.Records.{IsLogFault, IsTakingFault}
 use Rattle.walked_logs.specs.declared.files.WalkFault.{WalkFault}
 use Rattle.walked_logs.specs.declared.files.WalkFault.TheVariants.{Log, OwnLog, Changed, Memory}
 use Rattle.walked_logs.specs.declared.takers.LinkTaker.{LinkTaker}

@@ -9,12 +9,12 @@ use Rattle.recordings.specs.declared.machine.WideMachine.{WideMachine}
 use Rattle.recordings.specs.declared.wide.WideInit.{WideInit}
 use Rattle.recordings.specs.declared.wide.WideLink.{WideLink}
 use Rattle.recordings.specs.declared.wide.WideLane.{WideLane}
-use Rattle.deliveries.specs.declared.messages.Message.{Message}
-use Rattle.deliveries.specs.Deliveries.{AreNumbers, delivered}
-use Rattle.recorded_files.specs.declared.messages.Delivered.{Delivered}
-use Rattle.recorded_files.specs.declared.raw.RawSource.{RawSource}
-use Rattle.recorded_files.specs.declared.raw.RawPager.{RawPager}
-use Rattle.recorded_files.specs.Told.{Follow, lane_messages, lane_packet, link_messages, link_packet, numbered_pager, numbered_source, request, told_from}
+use Rattle.recorder_files.specs.declared.delivering.Message.{Message}
+use Rattle.recorder_files.specs.Deliveries.{AreNumbers, delivered}
+use Rattle.recorder_files.specs.declared.noting.Delivered.{Delivered}
+use Rattle.recorder_files.specs.declared.raw.RawSource.{RawSource}
+use Rattle.recorder_files.specs.declared.raw.RawPager.{RawPager}
+use Rattle.recorder_files.specs.Told.{Follow, lane_messages, lane_packet, link_messages, link_packet, numbered_pager, numbered_source, request, told_from}
 use Rattle.walked_logs.specs.declared.takers.LinkTaker.{LinkTaker}
 use Rattle.walked_logs.specs.declared.takers.LaneTaker.{LaneTaker}
 use Rattle.walked_logs.specs.declared.takers.SourceTaker.{SourceTaker}

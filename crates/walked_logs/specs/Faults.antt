@@ -6,18 +6,18 @@ use Rattle.session_grammar.specs.Records.{guest_line, lane_line, link_line}
 use Rattle.recordings.specs.Recordings.{IsGuestRecOf, IsLaneRecOf, IsLinkRecOf}
 use Rattle.recordings.specs.Wide.{extent_of, guest_of, lane_of, link_of}
 use Rattle.recordings.specs.declared.machine.WideMachine.{WideMachine}
-use Rattle.recorded_files.specs.declared.files.FileFault.TheVariants.{Memory as FileMemory}
-use Rattle.recorded_files.specs.declared.lines.Party.{Party}
-use Rattle.recorded_files.specs.declared.lines.Party.TheVariants.{Of}
-use Rattle.recorded_files.specs.declared.messages.Delivered.{Delivered}
-use Rattle.recorded_files.specs.Raw.{raw_source_line, raw_pager_line, IsRawSourceOf, IsRawPagerOf}
-use Rattle.recorded_files.specs.Said.{IsFault}
-use Rattle.gathered_logs.specs.declared.gatherers.GatherFault.{GatherFault}
-use Rattle.gathered_logs.specs.declared.gatherers.GatherFault.TheVariants.{File, Twice, Missing, Memory as NoMemory}
-use Rattle.gathered_logs.specs.declared.taking.LogFault.{LogFault}
-use Rattle.gathered_logs.specs.declared.taking.LogFault.TheVariants.{Files, Record, Memory as LogMemory}
-use Rattle.gathered_logs.specs.Logs.{Gathering}
-use Rattle.gathered_logs.specs.Records.{IsLogFault}
+use Rattle.recorder_files.specs.declared.files.FileFault.TheVariants.{Memory as FileMemory}
+use Rattle.recorder_files.specs.declared.lines.Party.{Party}
+use Rattle.recorder_files.specs.declared.lines.Party.TheVariants.{Of}
+use Rattle.recorder_files.specs.declared.noting.Delivered.{Delivered}
+use Rattle.recorder_files.specs.Raw.{raw_source_line, raw_pager_line, IsRawSourceOf, IsRawPagerOf}
+use Rattle.recorder_files.specs.Said.{IsFault}
+use Rattle.recorder_files.specs.declared.gatherers.GatherFault.{GatherFault}
+use Rattle.recorder_files.specs.declared.gatherers.GatherFault.TheVariants.{File, Twice, Missing, Memory as NoMemory}
+use Rattle.recorder_files.specs.declared.taking.LogFault.{LogFault}
+use Rattle.recorder_files.specs.declared.taking.LogFault.TheVariants.{Files, Record, Memory as LogMemory}
+use Rattle.recorder_files.specs.Logs.{Gathering}
+use Rattle.recorder_files.specs.Records.{IsLogFault}
 use Rattle.walked_logs.specs.declared.files.WalkFault.{WalkFault}
 use Rattle.walked_logs.specs.declared.files.WalkFault.TheVariants.{Log, OwnLog, Changed, Memory}
 use Rattle.walked_logs.specs.Walks.{AreKnown, AreMessagesOf, Bytes, IsOwnLog}

@@ -16,18 +16,18 @@ use Rattle.recordings.specs.declared.wide.WideInit.{WideInit}
 use Rattle.recordings.specs.declared.wide.WideGuest.{WideGuest}
 use Rattle.recordings.specs.declared.wide.WideLink.{WideLink}
 use Rattle.recordings.specs.declared.wide.WideLane.{WideLane}
-use Rattle.deliveries.specs.declared.messages.Message.{Message}
-use Rattle.deliveries.specs.declared.messages.Message.TheVariants.{Down, Up}
-use Rattle.deliveries.specs.Deliveries.{delivered, of_pager}
-use Rattle.recorded_files.specs.declared.lines.Party.{Party}
-use Rattle.recorded_files.specs.declared.lines.Party.TheVariants.{Of}
-use Rattle.recorded_files.specs.declared.messages.Delivered.{Delivered}
-use Rattle.recorded_files.specs.declared.raw.RawSource.{RawSource}
-use Rattle.recorded_files.specs.declared.raw.RawPager.{RawPager}
-use Rattle.recorded_files.specs.Raw.{lost_number, raw_source_line, raw_pager_line, IsRawSourceOf, IsRawPagerOf}
-use Rattle.recorded_files.specs.Told.{HasMessages, lane_messages, lane_packet, link_messages, link_packet, numbered_pager, numbered_source, request}
-use Rattle.gathered_logs.specs.Logs.{Came, Gathering}
-use Rattle.gathered_logs.specs.Records.{SayUpTo}
+use Rattle.recorder_files.specs.declared.delivering.Message.{Message}
+use Rattle.recorder_files.specs.declared.delivering.Message.TheVariants.{Down, Up}
+use Rattle.recorder_files.specs.Deliveries.{delivered, of_pager}
+use Rattle.recorder_files.specs.declared.lines.Party.{Party}
+use Rattle.recorder_files.specs.declared.lines.Party.TheVariants.{Of}
+use Rattle.recorder_files.specs.declared.noting.Delivered.{Delivered}
+use Rattle.recorder_files.specs.declared.raw.RawSource.{RawSource}
+use Rattle.recorder_files.specs.declared.raw.RawPager.{RawPager}
+use Rattle.recorder_files.specs.Raw.{lost_number, raw_source_line, raw_pager_line, IsRawSourceOf, IsRawPagerOf}
+use Rattle.recorder_files.specs.Told.{HasMessages, lane_messages, lane_packet, link_messages, link_packet, numbered_pager, numbered_source, request}
+use Rattle.recorder_files.specs.Logs.{Came, Gathering}
+use Rattle.recorder_files.specs.Records.{SayUpTo}
 
 -- ---- what the files of a log tell
 

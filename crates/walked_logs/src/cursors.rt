@@ -3,8 +3,7 @@
 ghost use Rattle.std.specs.Prelude.{◌≡◌, ◌↔◌, IfErr, IfOk, IsTrue, length, slice_get};
 ghost use Rattle.walked_logs.specs.inner.Passing.{IsNotNext, Passes, number_or_lost};
 
-use deliveries::{Deliveries, Message};
-use gathered_logs::TakeRefusal;
+use recorder_files::{Deliveries, Message, TakeRefusal};
 
 /// The number of a message whose sender's record is none of the pager's. No record has it.
 const LOST: u64 = 4_294_967_295;

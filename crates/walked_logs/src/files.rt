@@ -4,17 +4,17 @@ ghost use Rattle.std.specs.Prelude.{◌≡◌, ◌↔◌, ℕ, List, [], Option,
 ghost use Rattle.recordings.specs.Recordings.{IsMachine};
 ghost use Rattle.recordings.specs.Wide.{extent_of};
 ghost use Rattle.migration_types.specs.declared.records.LogName.{LogName as Log};
-ghost use Rattle.recorded_files.specs.declared.lines.Party.{Party as Writer};
-ghost use Rattle.gathered_logs.specs.Logs.{AreBegun};
+ghost use Rattle.recorder_files.specs.declared.lines.Party.{Party as Writer};
+ghost use Rattle.recorder_files.specs.Logs.{AreBegun};
 ghost use Rattle.walked_logs.specs.Faults.{IsOpenFault};
 ghost use Rattle.walked_logs.specs.Walks.{IsWhole, TellLog};
 ghost use Rattle.walked_logs.specs.inner.Refusing.{IsFaultOf, IsTakeFault};
 
-use gathered_logs::{
-    GatherFault, Gatherer, LogFault, LogRecord, RecordTaker, TakingFault, take_records,
-};
 use migration_types::LogName;
-use recorded_files::{FileFault, FileReader};
+use recorder_files::{
+    FileFault, FileReader, GatherFault, Gatherer, LogFault, LogRecord, RecordTaker, TakingFault,
+    take_records,
+};
 use recordings::WideMachine;
 use std::alloc::{AllocError, Global};
 use std::io::Read;

@@ -8,10 +8,8 @@ ghost use Rattle.walked_logs.specs.Walks.{AreMessagesOf};
 
 use crate::files::{LogFiles, WalkFault, take_log};
 use crate::senders::{Senders, in_order};
-use deliveries::deliver;
-use gathered_logs::Noter;
 use migration_types::LogName;
-use recorded_files::{Delivered, RawPager, RawSource, Told};
+use recorder_files::{Delivered, Noter, RawPager, RawSource, Told, deliver};
 use recordings::WideMachine;
 use std::alloc::{AllocError, Global};
 use std::marker::Model;
@@ -23,8 +21,8 @@ pub struct Messages {
 }
 
 impl Model for Messages {
-    ghost use Rattle.recorded_files.specs.declared.messages.Delivered.{Delivered};
-    ghost use Rattle.recorded_files.specs.Told.{Follow};
+    ghost use Rattle.recorder_files.specs.declared.noting.Delivered.{Delivered};
+    ghost use Rattle.recorder_files.specs.Told.{Follow};
 
     ghost Value = { Delivered };
 

@@ -1,10 +1,8 @@
 //! The records of the pager and of the source that name the senders of the messages that they take.
 
-use deliveries::Message;
 use migration_types::LogName;
-use recorded_files::Party;
+use recorder_files::{Message, Onlooker, Party};
 use std::alloc::{AllocError, Global};
-use surveyed_logs::Onlooker;
 use text_lines::read_keyed;
 
 /// The messages that records of the pager and of the source take by naming their senders, as they were seen. Other records are

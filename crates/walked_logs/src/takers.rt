@@ -1,13 +1,12 @@
 //! The takers of the logs' records, which a visitor meets.
 
 ghost use Rattle.std.specs.Prelude.{◌≡◌, ◌⊎◌, true, IfErr, IfOk};
-ghost use Rattle.recorded_files.specs.Told.{lane_packet, link_packet, request};
+ghost use Rattle.recorder_files.specs.Told.{lane_packet, link_packet, request};
 ghost use Rattle.walked_logs.specs.inner.Meeting.{MeetsGuest, MeetsSource, MeetsLink, MeetsLane, MeetsPager};
 ghost use Rattle.walked_logs.specs.inner.Passing.{IsNotNext, Passes};
 
 use crate::cursors::Cursor;
-use gathered_logs::{RecordTaker, TakeRefusal};
-use recorded_files::{RawPager, RawSource};
+use recorder_files::{RawPager, RawSource, RecordTaker, TakeRefusal};
 use recordings::{Visitor, WideGuest, WideLane, WideLink};
 
 /// The guest's records.

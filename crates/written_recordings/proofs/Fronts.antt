@@ -19,8 +19,8 @@ use Rattle.session_grammar.proofs.Laws.{pager_lines, lane_lines, link_lines, sou
 use Rattle.session_grammar.proofs.Sections.{onto_whole}
 use Rattle.recordings.specs.Seen.{with_guest, with_source, with_link, with_lane as and_lane_rec, with_pager}
 use Rattle.recordings.specs.inner.Held.{SessionDraft, Part, IsWhole}
-use Rattle.recorded_files.specs.declared.fronts.Front.{Front}
-use Rattle.recorded_files.specs.Fronts.{cursors_of, cut_to}
+use Rattle.recorder_files.specs.declared.fronts.Front.{Front}
+use Rattle.recorder_files.specs.Fronts.{cursors_of, cut_to}
 use Rattle.written_recordings.specs.declared.text.Text.{Text}
 use Rattle.written_recordings.specs.Written.{text_of, HasRecords}
 use Rattle.written_recordings.specs.inner.Made.{cut_part, lane_part, draft_of, with_item, and_guest, and_source, and_link, and_lane, and_pager, IsEnded}

@@ -13,8 +13,8 @@ use Rattle.recordings.specs.declared.machine.WideMachine.{WideMachine}
 use Rattle.recordings.specs.Seen.{nothing_of}
 use Rattle.recordings.specs.Wide.{extent_of}
 use Rattle.recordings.specs.inner.Held.{SessionDraft, came_at}
-use Rattle.recorded_files.specs.declared.fronts.Front.{Front}
-use Rattle.recorded_files.specs.Fronts.{cursors_of}
+use Rattle.recorder_files.specs.declared.fronts.Front.{Front}
+use Rattle.recorder_files.specs.Fronts.{cursors_of}
 use Rattle.written_recordings.specs.declared.faults.PushFault.{PushFault}
 use Rattle.written_recordings.specs.declared.text.ListKind.TheVariants as section
 use Rattle.written_recordings.specs.declared.text.Text.{Text}

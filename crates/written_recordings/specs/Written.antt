@@ -5,8 +5,8 @@ use Rattle.migration_types.specs.declared.version.Version.TheVariants.{Two}
 use Rattle.migration_types.specs.Sessions.{Recorded}
 use Rattle.text_lines.specs.Text.{ended}
 use Rattle.session_grammar.specs.Grammar.{session_lines}
-use Rattle.recorded_files.specs.declared.fronts.Front.{Front}
-use Rattle.recorded_files.specs.Fronts.{cursors_of, cut_to}
+use Rattle.recorder_files.specs.declared.fronts.Front.{Front}
+use Rattle.recorder_files.specs.Fronts.{cursors_of, cut_to}
 
 -- the text of such a recording, cut to a front
 abbrev pub text_of : Front → Recorded → List ℕ

@@ -8,7 +8,7 @@ ghost use Rattle.recordings.specs.inner.Held.{SessionDraft};
 
 use crate::faults::PushFault;
 use migration_types::Version;
-use recorded_files::Front;
+use recorder_files::Front;
 use recordings::{WideGuest, WideInit, WideLane, WideLink, WideMachine, WidePager, WideSource};
 use session_grammar::{
     CELLS_KEY, GUEST_KEY, INIT_KEY, LANE_KEY, LINK_KEY, PAGER_KEY, PAGES_KEY, SOURCE_KEY,

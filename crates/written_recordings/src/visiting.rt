@@ -24,7 +24,7 @@ use std::marker::{Brand, PhantomData};
 pub(crate) trait Begun {
     ghost use Rattle.std.specs.Prelude.{List, ℕ, Option};
     ghost use Rattle.std.specs.Borrow.{GName};
-    ghost use Rattle.recorded_files.specs.declared.fronts.Front.{Front};
+    ghost use Rattle.recorder_files.specs.declared.fronts.Front.{Front};
 
     ghost name: { GName };
 

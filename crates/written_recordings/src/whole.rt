@@ -9,7 +9,7 @@ use crate::faults::{PushFault, WriteFault};
 use crate::text::Text;
 use crate::visited::Visited;
 use crate::visiting::{Begun, Opened, TextWriter};
-use recorded_files::Front;
+use recorder_files::Front;
 use std::alloc::Global;
 use std::io::Write;
 use std::marker::Brand;

@@ -1,7 +1,7 @@
 //! Which field of a record's line is wrong, in words.
 
 use migration_types::{LogName, MOST_CELLS};
-use recorded_files::Party;
+use recorder_files::Party;
 use recordings::{BEYOND, WideMachine};
 use session_words::{
     FoundRecord, Piece, Stop, find_record, no_record_words, push, push_no_page, push_other_cells,

@@ -1,7 +1,7 @@
 //! How far the logs of recordings go, beside a search of all fronts of small ones made at random.
 
 use crate::numbers::Numbers;
-use recorded_files::{Front, Naming};
+use recorder_files::{Front, Naming};
 use recordings::walk;
 use std::alloc::{AllocError, Global};
 use text_lines::{push_keyed, push_line, push_number};

@@ -1,11 +1,11 @@
 -- The files of recorders, as they are found, folder by folder, and as each is surveyed.
 use Rattle.std.specs.Prelude.{◌≡◌, ◌⊎◌, ◌↔◌, ℕ, List, [], ◌∷◌, ◌++◌, Option, Some, None, MatchOption, map, string_bytes}
 use Rattle.std.specs.List.{Contains}
-use Rattle.recorded_files.specs.Said.{Says}
-use Rattle.recorded_files.specs.declared.lines.Party.{Party}
-use Rattle.surveyed_logs.specs.Names.{IsNameOf}
-use Rattle.surveyed_logs.specs.Surveys.{IsSurveyOf}
-use Rattle.surveyed_logs.specs.declared.surveying.Surveyed.{Surveyed}
+use Rattle.recorder_files.specs.Said.{Says}
+use Rattle.recorder_files.specs.declared.lines.Party.{Party}
+use Rattle.recorder_files.specs.Names.{IsNameOf}
+use Rattle.recorder_files.specs.Surveys.{IsSurveyOf}
+use Rattle.recorder_files.specs.declared.surveying.Surveyed.{Surveyed}
 use Rattle.found_logs.specs.Logs.{log_of}
 use Rattle.found_logs.specs.Found.{IsSurveyed, path_in, told_of}
 use Rattle.found_logs.specs.declared.found.FoundFile.{FoundFile}

@@ -8,11 +8,11 @@ use Rattle.recordings.specs.Wide.{guest_of, lane_of, link_of}
 use Rattle.recordings.specs.declared.wide.WideGuest.{WideGuest}
 use Rattle.recordings.specs.declared.wide.WideLink.{WideLink}
 use Rattle.recordings.specs.declared.wide.WideLane.{WideLane}
-use Rattle.deliveries.specs.declared.messages.Message.{Message}
-use Rattle.deliveries.specs.Deliveries.{AreNumbers}
-use Rattle.recorded_files.specs.declared.raw.RawSource.{RawSource}
-use Rattle.recorded_files.specs.declared.raw.RawPager.{RawPager}
-use Rattle.recorded_files.specs.Told.{lane_packet, link_packet, numbered_pager, numbered_source, request, told_from}
+use Rattle.recorder_files.specs.declared.delivering.Message.{Message}
+use Rattle.recorder_files.specs.Deliveries.{AreNumbers}
+use Rattle.recorder_files.specs.declared.raw.RawSource.{RawSource}
+use Rattle.recorder_files.specs.declared.raw.RawPager.{RawPager}
+use Rattle.recorder_files.specs.Told.{lane_packet, link_packet, numbered_pager, numbered_source, request, told_from}
 use Rattle.walked_logs.specs.declared.takers.LinkTaker.{LinkTaker}
 use Rattle.walked_logs.specs.declared.takers.LaneTaker.{LaneTaker}
 use Rattle.walked_logs.specs.declared.takers.SourceTaker.{SourceTaker}

@@ -1,9 +1,9 @@
 -- Messages, as records take them.
 use Rattle.std.specs.Prelude.{◌≡◌, ◌≢◌, ◌≤◌, ℕ, List, ◌++◌, Option, Some, None, IfSome, length, slice_get, take}
 use Rattle.std.specs.Option.{option_to_list}
-use Rattle.deliveries.specs.declared.messages.Message.{Message}
-use Rattle.deliveries.specs.Deliveries.{AreNumbers}
-use Rattle.recorded_files.specs.Raw.{lost_number}
+use Rattle.recorder_files.specs.declared.delivering.Message.{Message}
+use Rattle.recorder_files.specs.Deliveries.{AreNumbers}
+use Rattle.recorder_files.specs.Raw.{lost_number}
 use Rattle.walked_logs.specs.declared.cursors.Cursor.{Cursor}
 use Rattle.walked_logs.specs.Walks.{IsNumberOf}
 

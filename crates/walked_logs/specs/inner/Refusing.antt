@@ -1,11 +1,11 @@
 -- Why a log is not gone through.
 use Rattle.std.specs.Prelude.{◌≡◌, ◌⊎◌, ℕ, List, Option, Some, slice_get}
 use Rattle.migration_types.specs.declared.records.LogName.{LogName}
-use Rattle.deliveries.specs.declared.messages.Message.{Message}
-use Rattle.recorded_files.specs.declared.lines.Party.{Party}
-use Rattle.gathered_logs.specs.declared.taking.LogFault.{LogFault}
-use Rattle.gathered_logs.specs.Logs.{Gathering}
-use Rattle.gathered_logs.specs.Records.{IsUnfitAt}
+use Rattle.recorder_files.specs.declared.delivering.Message.{Message}
+use Rattle.recorder_files.specs.declared.lines.Party.{Party}
+use Rattle.recorder_files.specs.declared.taking.LogFault.{LogFault}
+use Rattle.recorder_files.specs.Logs.{Gathering}
+use Rattle.recorder_files.specs.Records.{IsUnfitAt}
 use Rattle.walked_logs.specs.declared.files.WalkFault.{WalkFault}
 use Rattle.walked_logs.specs.declared.files.WalkFault.TheVariants.{Log, OwnLog, Changed, Memory}
 use Rattle.walked_logs.specs.Faults.{HasLogFault, IsMemory}

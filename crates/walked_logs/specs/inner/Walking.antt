@@ -12,12 +12,12 @@ use Rattle.recordings.specs.declared.wide.WideInit.{WideInit}
 use Rattle.recordings.specs.declared.wide.WideGuest.{WideGuest}
 use Rattle.recordings.specs.declared.wide.WideLink.{WideLink}
 use Rattle.recordings.specs.declared.wide.WideLane.{WideLane}
-use Rattle.deliveries.specs.declared.messages.Message.{Message}
-use Rattle.deliveries.specs.Deliveries.{AreNumbers}
-use Rattle.recorded_files.specs.declared.messages.Delivered.{Delivered}
-use Rattle.recorded_files.specs.declared.raw.RawSource.{RawSource}
-use Rattle.recorded_files.specs.declared.raw.RawPager.{RawPager}
-use Rattle.recorded_files.specs.Told.{lane_packet, link_packet, numbered_pager, numbered_source, request, told_from}
+use Rattle.recorder_files.specs.declared.delivering.Message.{Message}
+use Rattle.recorder_files.specs.Deliveries.{AreNumbers}
+use Rattle.recorder_files.specs.declared.noting.Delivered.{Delivered}
+use Rattle.recorder_files.specs.declared.raw.RawSource.{RawSource}
+use Rattle.recorder_files.specs.declared.raw.RawPager.{RawPager}
+use Rattle.recorder_files.specs.Told.{lane_packet, link_packet, numbered_pager, numbered_source, request, told_from}
 use Rattle.walked_logs.specs.Walks.{AreNumbered, Bytes, IsDown, IsUp, IsWhole, TellGuest, TellLane, TellLink, TellPager, TellSource, lane_delivery, link_delivery}
 use Rattle.walked_logs.specs.inner.Meeting.{MeetsGuest, with_pagers, with_sources}
 

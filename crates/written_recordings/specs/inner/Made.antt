@@ -21,8 +21,8 @@ use Rattle.session_grammar.specs.declared.stage.Stage.TheVariants as stage
 use Rattle.recordings.specs.inner.Held.{SessionDraft, Part, IsWhole, held_onto, NoGuest, NoSource, NoLink, NoLane, NoPager, came_at, announced_at}
 use Rattle.recordings.specs.declared.machine.WideMachine.{WideMachine}
 use Rattle.recordings.specs.Wide.{extent_of}
-use Rattle.recorded_files.specs.declared.fronts.Front.{Front}
-use Rattle.recorded_files.specs.Fronts.{cursors_of}
+use Rattle.recorder_files.specs.declared.fronts.Front.{Front}
+use Rattle.recorder_files.specs.Fronts.{cursors_of}
 use Rattle.written_recordings.specs.declared.faults.PushFault.{PushFault}
 use Rattle.written_recordings.specs.declared.text.ListKind.{ListKind}
 use Rattle.written_recordings.specs.declared.text.ListKind.TheVariants as section

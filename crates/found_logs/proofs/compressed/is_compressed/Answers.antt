@@ -1,5 +1,5 @@
 use Rattle.std.proofs.Common.{subst, sym}
-use Rattle.surveyed_logs.specs.Names.{IsCompressedName}
+use Rattle.recorder_files.specs.Names.{IsCompressedName}
 use Rattle.found_logs.proofs.Compressing.{compressed_if}
 use Rattle.found_logs.proofs.compressed.is_compressed.Goals as goal
 

@@ -1,6 +1,6 @@
 use Rattle.std.proofs.lemmas.Result.{on_ok_weaker}
 use Rattle.std.proofs.Common.{◌∙◌, sym, subst}
-use Rattle.surveyed_logs.specs.Names.{IsNameOf}
+use Rattle.recorder_files.specs.Names.{IsNameOf}
 use Rattle.found_logs.proofs.Finding.{adds_none, adds_one, named_by}
 use Rattle.found_logs.proofs.found.push_file.Goals as goal
 

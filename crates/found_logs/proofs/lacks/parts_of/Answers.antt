@@ -1,5 +1,5 @@
 use Rattle.std.proofs.Common.{subst}
-use Rattle.surveyed_logs.specs.Parts.{AllFit}
+use Rattle.recorder_files.specs.Parts.{AllFit}
 use Rattle.found_logs.proofs.lacks.parts_of.Goals as goal
 
 pub returns-in-Ok-clause-fit : goal.returns-in-Ok-clause-fit

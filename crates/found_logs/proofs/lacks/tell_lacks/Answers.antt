@@ -1,5 +1,5 @@
 use Rattle.std.proofs.Common.{◌∙◌, ap, sym}
-use Rattle.surveyed_logs.specs.Lacks.{lacks, record_count}
+use Rattle.recorder_files.specs.Lacks.{lacks, record_count}
 use Rattle.found_logs.proofs.lacks.tell_lacks.Goals as goal
 
 pub returns : goal.returns

@@ -1,7 +1,7 @@
 use Rattle.std.proofs.Common.{◌∙◌, ap}
 use Rattle.std.proofs.lemmas.Result.{on_ok_weaker}
 use Rattle.migration_types.specs.declared.records.LogName.TheVariants.{Guest, Source, Link, Lane, Pager}
-use Rattle.recorded_files.specs.declared.lines.Party.TheVariants.{Of}
+use Rattle.recorder_files.specs.declared.lines.Party.TheVariants.{Of}
 use Rattle.found_logs.proofs.Surveying.{taken}
 use Rattle.found_logs.proofs.surveys.push_log.Goals as goal
 

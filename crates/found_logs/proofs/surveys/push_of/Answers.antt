@@ -1,5 +1,5 @@
 use Rattle.std.proofs.lemmas.Result.{on_ok_weaker}
-use Rattle.recorded_files.specs.declared.lines.Party.TheVariants.{Machine}
+use Rattle.recorder_files.specs.declared.lines.Party.TheVariants.{Machine}
 use Rattle.found_logs.proofs.Surveying.{taken}
 use Rattle.found_logs.proofs.surveys.push_of.Goals as goal
 

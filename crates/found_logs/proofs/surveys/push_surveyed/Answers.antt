@@ -1,8 +1,8 @@
 use Rattle.std.proofs.Common.{◌∙◌, None, refl}
 use Rattle.std.proofs.lemmas.Option.{MatchOption-at_none, MatchOption-at_some}
 use Rattle.std.proofs.lemmas.Result.{on_ok_weaker}
-use Rattle.recorded_files.specs.Said.{Says}
-use Rattle.surveyed_logs.specs.Surveys.{IsSurveyOf}
+use Rattle.recorder_files.specs.Said.{Says}
+use Rattle.recorder_files.specs.Surveys.{IsSurveyOf}
 use Rattle.found_logs.proofs.Surveying.{gets_headless, gets_surveyed}
 use Rattle.found_logs.proofs.surveys.push_surveyed.Goals as goal
 

@@ -1,6 +1,6 @@
 use Rattle.std.proofs.Common.{None, subst, sym, ◌∙◌}
 use Rattle.std.proofs.lemmas.Option.{MatchOption-at_none, MatchOption-at_some}
-use Rattle.surveyed_logs.specs.Surveys.{IsSurveyOf}
+use Rattle.recorder_files.specs.Surveys.{IsSurveyOf}
 use Rattle.session_words.proofs.Opened.{came_known}
 use Rattle.found_logs.proofs.Surveying.{says_known}
 use Rattle.found_logs.proofs.surveys.survey_text.Goals as goal

@@ -1,4 +1,4 @@
-use Rattle.recorded_files.specs.Fronts.{cursors_of}
+use Rattle.recorder_files.specs.Fronts.{cursors_of}
 use Rattle.session_facts.proofs.Counts.{some_in}
 use Rattle.session_facts.proofs.telling.tell_empty.Goals as goal
 

@@ -1,6 +1,6 @@
 use Rattle.std.proofs.Common.{◌≡◌, Bool, true, false, not, Option, Some, None, inl, inr, refl}
 use Rattle.std.specs.Prelude.{◌↔◌, is_some, IsTrue}
-use Rattle.recorded_files.specs.declared.lines.Party.TheVariants.{Of}
+use Rattle.recorder_files.specs.declared.lines.Party.TheVariants.{Of}
 use Rattle.walked_logs.proofs.Refusing.{plain_begun, plain_open, plain_taking, unfits}
 use Rattle.walked_logs.proofs.files.take_log.Goals as goal
 

@@ -1,12 +1,12 @@
 use Rattle.std.proofs.Common.{[], List}
 use Rattle.std.proofs.lemmas.Result.{err_from_is_err_and}
-use Rattle.recorded_files.specs.declared.messages.Told.{Told}
-use Rattle.recorded_files.specs.declared.raw.RawPager.{RawPager}
-use Rattle.recorded_files.specs.declared.raw.RawSource.{RawSource}
-use Rattle.gathered_logs.specs.declared.telling.Noter.{Noter}
+use Rattle.recorder_files.specs.declared.noting.Told.{Told}
+use Rattle.recorder_files.specs.declared.raw.RawPager.{RawPager}
+use Rattle.recorder_files.specs.declared.raw.RawSource.{RawSource}
+use Rattle.recorder_files.specs.declared.noting.Noter.{Noter}
 use Rattle.walked_logs.specs.declared.files.WalkFault.TheVariants.{Changed}
 use Rattle.walked_logs.proofs.Refusing.{note_pager_fault, note_source_fault}
-use Rattle.recorded_files.specs.Told.{Tells}
+use Rattle.recorder_files.specs.Told.{Tells}
 use Rattle.walked_logs.proofs.noting.note_messages.Goals as goal
 
 pub returns-in-Ok-clause-noted : goal.returns-in-Ok-clause-noted

@@ -3,7 +3,7 @@ use Rattle.std.proofs.lemmas.Result.{err_from_is_err_and}
 use Rattle.migration_types.specs.declared.records.LogName.TheVariants.{Link}
 use Rattle.migration_types.specs.Sessions.{Recorded}
 use Rattle.recordings.specs.Seen.{BeforeLane}
-use Rattle.deliveries.specs.declared.messages.Message.{Message}
+use Rattle.recorder_files.specs.declared.delivering.Message.{Message}
 use Rattle.walked_logs.specs.declared.takers.LinkTaker.{LinkTaker}
 use Rattle.walked_logs.specs.Walks.{link_delivery}
 use Rattle.walked_logs.specs.inner.Refusing.{IsTakingOne}

@@ -1,8 +1,8 @@
 use Rattle.std.proofs.Common.{◌≡◌, ◌∙◌, ℕ, [], List, Option, ◌+◌, arith, sym, subst, length, ap, string_bytes}
 use Rattle.std.proofs.lemmas.List.{length-map}
 use Rattle.std.proofs.lemmas.Result.{err_from_is_err_and}
-use Rattle.recorded_files.specs.Said.{CameTo, Standing}
-use Rattle.recorded_files.specs.declared.lines.Party.TheVariants.{Of}
+use Rattle.recorder_files.specs.Said.{CameTo, Standing}
+use Rattle.recorder_files.specs.declared.lines.Party.TheVariants.{Of}
 use Rattle.found_logs.specs.Logs.{log_in}
 use Rattle.found_logs.specs.declared.found.FoundLog.{FoundLog}
 use Rattle.session_commands.specs.Files.{bytes_in}

@@ -1,6 +1,6 @@
 use Rattle.std.proofs.Common.{◌≡◌, ◌+◌, Option, Some, refl, sym, ap, subst, ◌∙◌}
 use Rattle.std.specs.Prelude.{slice_get}
-use Rattle.deliveries.specs.declared.messages.Message.{Message}
+use Rattle.recorder_files.specs.declared.delivering.Message.{Message}
 use Rattle.walked_logs.specs.declared.cursors.Cursor.{Cursor}
 use Rattle.walked_logs.specs.inner.Passing.{Passes}
 use Rattle.walked_logs.proofs.Passing.{passes_one}

@@ -1,7 +1,7 @@
 use Rattle.std.proofs.Common.{refl}
 use Rattle.recordings.specs.Seen.{with_init}
 use Rattle.recordings.specs.Wide.{init_of}
-use Rattle.recorded_files.specs.Fronts.{cursors_of}
+use Rattle.recorder_files.specs.Fronts.{cursors_of}
 use Rattle.written_recordings.specs.inner.Made.{draft_of, and_init}
 use Rattle.written_recordings.proofs.Pieces.{any_ok, meets_more, none_of}
 use Rattle.written_recordings.proofs.visiting.TextWriterVisitor.init.Goals as goal

@@ -1,7 +1,7 @@
 use Rattle.std.proofs.Common.{ap, length}
 use Rattle.recordings.specs.Seen.{with_link}
 use Rattle.recordings.specs.Wide.{link_of}
-use Rattle.recorded_files.specs.Fronts.{cursors_of}
+use Rattle.recorder_files.specs.Fronts.{cursors_of}
 use Rattle.written_recordings.specs.inner.Made.{draft_of, and_link}
 use Rattle.written_recordings.proofs.Fronts.{more_link}
 use Rattle.written_recordings.proofs.Pieces.{any_ok, below, meets_more, none_of}

@@ -1,7 +1,7 @@
 use Rattle.std.proofs.Common.{ap, length}
 use Rattle.recordings.specs.Seen.{with_pager}
 use Rattle.recordings.specs.Wide.{pager_of}
-use Rattle.recorded_files.specs.Fronts.{cursors_of}
+use Rattle.recorder_files.specs.Fronts.{cursors_of}
 use Rattle.written_recordings.specs.inner.Made.{draft_of, and_pager}
 use Rattle.written_recordings.proofs.Fronts.{more_pager}
 use Rattle.written_recordings.proofs.Pieces.{any_ok, below, meets_more, none_of}

@@ -1,3 +1,0 @@
-pub mod Deliveries
-pub mod Orders
-pub mod inner

@@ -1,3 +1,0 @@
--- Definitions that only proofs use.
-pub mod Noting
-pub mod Turns

@@ -1,5 +1,0 @@
-use Rattle.recorded_files.specs.inner.Heads.{IsLeastOf}
-use Rattle.recorded_files.proofs.gathering.least.Given as goal
-
-abbrev pub invariant-loop-i : goal.invariant-loop-i
-invariant-loop-i l = IsLeastOf l.heads l.i l.least

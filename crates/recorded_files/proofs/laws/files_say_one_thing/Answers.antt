@@ -1,5 +1,0 @@
-use Rattle.recorded_files.proofs.Saying.{one_thing}
-use Rattle.recorded_files.proofs.laws.files_say_one_thing.Goals as goal
-
-pub returns : goal.returns
-returns c = one_thing

@@ -1,4 +1,0 @@
--- Definitions that only proofs use.
-pub mod Finding
-pub mod Heads
-pub mod Reaches

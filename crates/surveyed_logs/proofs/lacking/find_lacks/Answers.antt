@@ -1,6 +1,0 @@
-use Rattle.surveyed_logs.specs.Lacks.{lacks}
-use Rattle.surveyed_logs.proofs.Gaps.{lacks_more}
-use Rattle.surveyed_logs.proofs.lacking.find_lacks.Goals as goal
-
-pub loop-at-preserved : goal.loop-at-preserved
-loop-at-preserved c = lacks_more c.args.parts.now c.loop-at.lacks.items c.push_lacks.new.lacks.items (lacks c.args.parts.now) c.loop-at.at c.loop-at-test.true c.in_ok-push_lacks.ensures c.loop-at.invariant

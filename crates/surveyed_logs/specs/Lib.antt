@@ -1,4 +1,0 @@
-pub mod Lacks
-pub mod Names
-pub mod Parts
-pub mod Surveys
