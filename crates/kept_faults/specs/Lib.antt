@@ -1,0 +1,5 @@
+pub mod FrontLaws
+pub mod Left
+pub mod Thinned
+pub mod ThinLaws
+pub mod Repeats

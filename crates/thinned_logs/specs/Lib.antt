@@ -1,3 +1,0 @@
-pub mod Thinned
-pub mod ThinLaws
-pub mod Repeats
