@@ -10,7 +10,7 @@ use Rattle.recorder_files.specs.Said.{CameTo, IsFault, Standing}
 use Rattle.recorder_files.specs.declared.gatherers.GatherFault.{GatherFault}
 use Rattle.recorder_files.specs.declared.gatherers.GatherFault.TheVariants.{File as AtFile}
 use Rattle.recorder_files.specs.Logs.{AreBegun}
-use Rattle.walked_logs.specs.Faults.{IsOpenFault}
+use Rattle.walked_sessions.specs.Faults.{IsOpenFault}
 use Rattle.found_logs.proofs.Firsts.{AreFirst}
 
 -- what is wrong with a file whose bytes are these, if they are known

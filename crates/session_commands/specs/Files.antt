@@ -15,8 +15,8 @@ use Rattle.recorder_files.specs.Fronts.{cursors_of}
 use Rattle.recorder_files.specs.declared.fronts.Front.{Front}
 use Rattle.recorder_files.specs.declared.lines.Party.{Party}
 use Rattle.recorder_files.specs.declared.describing.Description.{Description}
-use Rattle.walked_logs.specs.Walks.{Bytes, HasNoHole, IsRecordingOf}
-use Rattle.written_recordings.specs.Written.{text_of}
+use Rattle.walked_sessions.specs.Walks.{Bytes, HasNoHole, IsRecordingOf}
+use Rattle.walked_sessions.specs.Written.{text_of}
 use Rattle.found_logs.specs.Logs.{known_in, log_in, log_of, Describe, HasAll, IsLaneAsTold}
 use Rattle.found_logs.specs.declared.found.FoundLog.{FoundLog}
 use Rattle.found_logs.specs.declared.found.FoundLogs.{FoundLogs}

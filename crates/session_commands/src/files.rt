@@ -10,7 +10,7 @@ use recorder_files::{FileFault, FileReader, GatherFault, Party};
 use std::alloc::Global;
 use std::io::Read;
 use text_access::TextSource;
-use walked_logs::LogFiles;
+use walked_sessions::LogFiles;
 
 /// The files of the logs, which each pass opens anew.
 #[derive(Clone, Copy)]

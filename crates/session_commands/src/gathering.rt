@@ -7,7 +7,7 @@ ghost use Rattle.text_lines.specs.Text.{IsSpelling};
 ghost use Rattle.text_access.specs.Names.{names_of};
 ghost use Rattle.found_logs.specs.Found.{AreCompressed, AreFound};
 ghost use Rattle.found_logs.specs.declared.found.FoundLogs.{FoundLogs as Found};
-ghost use Rattle.held_sessions.specs.Held.{HasMet, IsHeld};
+ghost use Rattle.walked_sessions.specs.Held.{HasMet, IsHeld};
 ghost use Rattle.session_commands.specs.Files.{IsTextOf};
 ghost use Rattle.session_commands.specs.Texts.{IsSessionText};
 ghost use Rattle.session_commands.specs.inner.Seen.{IsKnownAndMet};
@@ -16,7 +16,6 @@ use crate::making::{Known, counts_of, know, refuse};
 use crate::performing::{leave_out, tell_stop};
 use command_words::Lacking;
 use found_logs::{FoundFiles, FoundLogs, find_files, find_logs};
-use held_sessions::{HeldRecording, Room};
 use migration_types::Session;
 use recorder_files::Front;
 use session_facts::FactFinder;
@@ -25,7 +24,7 @@ use std::alloc::{AllocError, Global};
 use std::io;
 use std::io::{ErrorKind, Write};
 use text_access::TextSource;
-use walked_logs::Senders;
+use walked_sessions::{HeldRecording, Room, Senders};
 
 /// Why files give no session.
 #[derive(Drop)]

@@ -6,7 +6,7 @@ ghost use Rattle.migration_types.specs.Sessions.{Recorded, log_length};
 ghost use Rattle.recordings.specs.Recordings.{IsMachine};
 ghost use Rattle.recordings.specs.Wide.{extent_of};
 ghost use Rattle.recorder_files.specs.Named.{IsNaming};
-ghost use Rattle.walked_logs.specs.Walks.{HasNoHole, WalksFiles};
+ghost use Rattle.walked_sessions.specs.Walks.{HasNoHole, WalksFiles};
 ghost use Rattle.text_access.specs.Written.{BothGain, Gains};
 ghost use Rattle.session_commands.specs.Files.{bytes_in, WritesText};
 ghost use Rattle.std.specs.Io.KnownBytes.{Keeps};
@@ -30,8 +30,7 @@ use session_words::{Stop, push_message};
 use std::alloc::{AllocError, Global};
 use std::io::Write;
 use text_access::{TextSource, write_whole};
-use walked_logs::{Messages, Senders, note_messages, walk_logs};
-use written_recordings::write_recording;
+use walked_sessions::{Messages, Senders, note_messages, walk_logs, write_recording};
 
 /// What is said last where something is lacking, and is not to be left out.
 const NOTHING_WRITTEN: &str =

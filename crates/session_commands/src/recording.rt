@@ -9,8 +9,7 @@ use migration_types::MOST_CELLS;
 use recordings::{BEYOND, Visitor, WideInit, WideMachine};
 use std::alloc::Global;
 use text_access::TextSource;
-use walked_logs::{Messages, WalkFault, walk_logs};
-use written_recordings::Visited;
+use walked_sessions::{Messages, Visited, WalkFault, walk_logs};
 
 /// The recording that files make: the machine, its initial pages, the files, and the messages in them.
 #[derive(Drop)]

@@ -14,8 +14,7 @@ use session_words::{
 };
 use std::alloc::{AllocError, Global};
 use text_access::TextSource;
-use walked_logs::WalkFault;
-use written_recordings::WriteFault;
+use walked_sessions::{WalkFault, WriteFault};
 use wrong_records::record_words;
 
 /// Returns why a log was not gone through as it was surveyed: two of its records have one number, or its files have

@@ -2,7 +2,7 @@
 use Rattle.std.specs.Prelude.{◌≡◌, ℕ, List, [], Option, ⊤}
 use Rattle.migration_types.specs.Sessions.{Recorded}
 use Rattle.recordings.specs.declared.machine.WideMachine.{WideMachine}
-use Rattle.walked_logs.specs.Walks.{Bytes, IsRecordingOf}
+use Rattle.walked_sessions.specs.Walks.{Bytes, IsRecordingOf}
 use Rattle.session_facts.specs.Written.{IsWrittenFront}
 use Rattle.session_commands.specs.Files.{IsChosen, IsFormOf, LeavesNothing, LosesNothing}
 use Rattle.session_words.specs.Telling.{SaysUnless}

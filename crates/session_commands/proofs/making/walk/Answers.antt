@@ -1,7 +1,7 @@
 use Rattle.std.proofs.Common.{List, subst}
 use Rattle.std.specs.Prelude.{◌↔◌, IsTrue}
 use Rattle.recordings.specs.declared.wide.WideInit.{WideInit}
-use Rattle.walked_logs.specs.Walks.{HasNoHole, WalksFiles}
+use Rattle.walked_sessions.specs.Walks.{HasNoHole, WalksFiles}
 use Rattle.session_commands.specs.Files.{bytes_in}
 use Rattle.session_commands.proofs.making.walk.Goals as goal
 

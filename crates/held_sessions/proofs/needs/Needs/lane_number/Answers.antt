@@ -1,5 +1,0 @@
-use Rattle.held_sessions.proofs.Needing.{needs_lane}
-use Rattle.held_sessions.proofs.needs.Needs.lane_number.Goals as goal
-
-pub returns : goal.returns
-returns c = needs_lane c.args.number

@@ -1,5 +1,0 @@
-use Rattle.held_sessions.proofs.Needing.{needs_number}
-use Rattle.held_sessions.proofs.needs.Needs.number.Goals as goal
-
-pub returns : goal.returns
-returns c = needs_number c.args.number

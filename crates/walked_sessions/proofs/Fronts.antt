@@ -1,0 +1,130 @@
+-- What was met of a recording, cut to a front.
+use Rattle.std.proofs.Common.{◌≡◌, ℕ, ◌<◌, ◌≤◌, List, [], ◌∷◌, ◌++◌, length, take, refl, sym, ap, ◌∙◌, length-append, arith}
+use Rattle.std.proofs.lemmas.List.{length-take, take-append-le, take_all}
+use Rattle.migration_types.specs.declared.records.GuestRec.{GuestRec}
+use Rattle.migration_types.specs.declared.records.SourceRec.{SourceRec}
+use Rattle.migration_types.specs.declared.records.LinkRec.{LinkRec}
+use Rattle.migration_types.specs.declared.records.LaneRec.{LaneRec}
+use Rattle.migration_types.specs.declared.records.PagerRec.{PagerRec}
+use Rattle.migration_types.specs.declared.records.LogName.TheVariants.{Guest, Source, Link, Lane, Pager}
+use Rattle.migration_types.specs.declared.version.Version.{Version}
+use Rattle.migration_types.specs.declared.version.Version.TheVariants.{One, Two}
+use Rattle.migration_types.specs.Sessions.{Recorded}
+use Rattle.audit_model.specs.Mergings.{Cursors}
+use Rattle.text_lines.specs.Text.{ended, closing}
+use Rattle.session_grammar.specs.Grammar.{page_line, init_key, with_lane}
+use Rattle.session_grammar.specs.Records.{guest_key, source_key, link_key, lane_key, pager_key, guest_line, source_line, link_line, lane_line, pager_line}
+use Rattle.session_grammar.specs.inner.Held.{part_onto, geometry_onto, lane_part_onto}
+use Rattle.session_grammar.proofs.Laws.{pager_lines, lane_lines, link_lines, source_lines, guest_lines}
+use Rattle.session_grammar.proofs.Sections.{onto_whole}
+use Rattle.recordings.specs.Seen.{with_guest, with_source, with_link, with_lane as and_lane_rec, with_pager}
+use Rattle.recordings.specs.inner.Held.{SessionDraft, Part, IsWhole}
+use Rattle.recorder_files.specs.declared.fronts.Front.{Front}
+use Rattle.recorder_files.specs.Fronts.{cursors_of, cut_to}
+use Rattle.walked_sessions.specs.declared.text.Text.{Text}
+use Rattle.walked_sessions.specs.Written.{text_of, HasRecords}
+use Rattle.walked_sessions.specs.inner.Made.{cut_part, lane_part, draft_of, with_item, and_guest, and_source, and_link, and_lane, and_pager, IsEnded}
+
+-- ---- one more record
+
+-- it is beyond the front
+past : {X : Type 0} (n : ℕ) (log : List X) (x : X) → n ≤ length log → cut_part n (log ++ x ∷ []) ≡ cut_part n log
+past {X} n log x le = ap (λ (xs : List X). record { count = n; items = xs }) (take-append-le n log (x ∷ []) le)
+
+-- it is in the front
+within : {X : Type 0} (n : ℕ) (log : List X) (x : X) → length log < n → cut_part n (log ++ x ∷ []) ≡ with_item (cut_part n log) x
+within {X} n log x lt =
+    let more : length (log ++ x ∷ []) ≤ n = omega (arith, length-append log (x ∷ [])) in
+    let few : length log ≤ n = omega arith in
+    ap (λ (xs : List X). record { count = n; items = xs }) (take_all n (log ++ x ∷ []) more ∙ ap (λ (xs : List X). xs ++ x ∷ []) (sym (take_all n log few)))
+
+module _ (init : ℕ) (c : Cursors) (s : Recorded) where
+  abbrev d : SessionDraft
+  d = draft_of init c s
+
+  pub past_guest : (x : GuestRec) → c Guest ≤ length s.guest → draft_of init c (with_guest s x) ≡ d
+  past_guest x le = ap (λ (part : Part GuestRec). record d { guest = part }) (past (c Guest) s.guest x le)
+
+  pub more_guest : (x : GuestRec) → length s.guest < c Guest → draft_of init c (with_guest s x) ≡ and_guest d x
+  more_guest x lt = ap (λ (part : Part GuestRec). record d { guest = part }) (within (c Guest) s.guest x lt)
+
+  pub past_source : (x : SourceRec) → c Source ≤ length s.source → draft_of init c (with_source s x) ≡ d
+  past_source x le = ap (λ (part : Part SourceRec). record d { source = part }) (past (c Source) s.source x le)
+
+  pub more_source : (x : SourceRec) → length s.source < c Source → draft_of init c (with_source s x) ≡ and_source d x
+  more_source x lt = ap (λ (part : Part SourceRec). record d { source = part }) (within (c Source) s.source x lt)
+
+  pub past_link : (x : LinkRec) → c Link ≤ length s.link → draft_of init c (with_link s x) ≡ d
+  past_link x le = ap (λ (part : Part LinkRec). record d { link = part }) (past (c Link) s.link x le)
+
+  pub more_link : (x : LinkRec) → length s.link < c Link → draft_of init c (with_link s x) ≡ and_link d x
+  more_link x lt = ap (λ (part : Part LinkRec). record d { link = part }) (within (c Link) s.link x lt)
+
+  pub past_pager : (x : PagerRec) → c Pager ≤ length s.pager → draft_of init c (with_pager s x) ≡ d
+  past_pager x le = ap (λ (part : Part PagerRec). record d { pager = part }) (past (c Pager) s.pager x le)
+
+  pub more_pager : (x : PagerRec) → length s.pager < c Pager → draft_of init c (with_pager s x) ≡ and_pager d x
+  more_pager x lt = ap (λ (part : Part PagerRec). record d { pager = part }) (within (c Pager) s.pager x lt)
+
+  past_part : (version : Version) (n : ℕ) (log : List LaneRec) (x : LaneRec) → n ≤ length log → lane_part version n (log ++ x ∷ []) ≡ lane_part version n log
+  past_part One n log x le = refl
+  past_part Two n log x le = past n log x le
+
+  pub past_lane : (x : LaneRec) → c Lane ≤ length s.lane → draft_of init c (and_lane_rec s x) ≡ d
+  past_lane x le = ap (λ (part : Part LaneRec). record d { lane = part }) (past_part s.version (c Lane) s.lane x le)
+
+  no_part : (version : Version) (n : ℕ) (log : List LaneRec) (x : LaneRec) → version ≡ One → lane_part version n (log ++ x ∷ []) ≡ lane_part version n log
+  no_part One n log x is = refl
+  no_part Two n log x is = absurd (cc)
+
+  pub no_lane : (x : LaneRec) → s.version ≡ One → draft_of init c (and_lane_rec s x) ≡ d
+  no_lane x is = ap (λ (part : Part LaneRec). record d { lane = part }) (no_part s.version (c Lane) s.lane x is)
+
+  more_part : (version : Version) (n : ℕ) (log : List LaneRec) (x : LaneRec) → version ≡ Two → length log < n → lane_part version n (log ++ x ∷ []) ≡ with_item (lane_part version n log) x
+  more_part One n log x is lt = absurd (cc)
+  more_part Two n log x is lt = within n log x lt
+
+  pub more_lane : (x : LaneRec) → s.version ≡ Two → length s.lane < c Lane → draft_of init c (and_lane_rec s x) ≡ and_lane d x
+  more_lane x is lt = ap (λ (part : Part LaneRec). record d { lane = part }) (more_part s.version (c Lane) s.lane x is lt)
+
+-- ---- the whole text
+
+lane_end : (version : Version) (n : ℕ) (log : List LaneRec) (more rest : List (List ℕ)) → IsWhole (lane_part version n log) → more ≡ rest → lane_part_onto version (lane_part version n log) more ≡ with_lane version (take n log) rest
+lane_end One n log more rest whole e = e
+lane_end Two n log more rest whole e = onto_whole lane_key lane_line (cut_part n log) more rest whole e
+
+pub whole_text : (before : List ℕ) (t : Text) (init : ℕ) (front : Front) (s : Recorded) → IsEnded before t (draft_of init (cursors_of front) s) → before ++ t.bytes.items ≡ text_of front s
+whole_text before t init front s e =
+    let c = cursors_of front in
+    let d = draft_of init c s in
+    let v = cut_to c s in
+    let lines = closing ∷ [] in
+    let pager = onto_whole pager_key pager_line d.pager lines lines e.pager refl in
+    let lane = lane_end s.version (c Lane) s.lane (part_onto pager_key pager_line d.pager lines) (pager_lines v) e.lane pager in
+    let held_lane = lane_part_onto d.version d.lane (part_onto pager_key pager_line d.pager lines) in
+    let link = onto_whole link_key link_line d.link held_lane (lane_lines v) e.link lane in
+    let held_link = part_onto link_key link_line d.link held_lane in
+    let source = onto_whole source_key source_line d.source held_link (link_lines v) e.source link in
+    let held_source = part_onto source_key source_line d.source held_link in
+    let guest = onto_whole guest_key guest_line d.guest held_source (source_lines v) e.guest source in
+    let held_guest = part_onto guest_key guest_line d.guest held_source in
+    let all = onto_whole init_key page_line d.init held_guest (guest_lines v) e.init guest in
+    e.text ∙ ap (λ (xs : List (List ℕ)). ended (geometry_onto d xs)) all
+
+-- ---- the records of the front
+
+enough : {X : Type 0} (n : ℕ) (log : List X) → IsWhole (cut_part n log) → n ≤ length log
+enough n log whole = let e = length-take n log in omega (arith, e, whole)
+
+enough_lane : (version : Version) (n : ℕ) (log : List LaneRec) → IsWhole (lane_part version n log) → version ≡ Two → n ≤ length log
+enough_lane One n log whole is = absurd (cc)
+enough_lane Two n log whole is = enough n log whole
+
+pub has_records : (before : List ℕ) (t : Text) (init : ℕ) (front : Front) (s : Recorded) → IsEnded before t (draft_of init (cursors_of front) s) → HasRecords s front
+has_records before t init front s e = record {
+  guest = enough front.guest s.guest e.guest;
+  source = enough front.source s.source e.source;
+  link = enough front.link s.link e.link;
+  lane = enough_lane s.version front.lane s.lane e.lane;
+  pager = enough front.pager s.pager e.pager;
+}

@@ -1,0 +1,13 @@
+use Rattle.std.proofs.Common.{[], ◌∷◌, ◌++◌, Option, subst}
+use Rattle.recordings.specs.Wide.{source_of}
+use Rattle.walked_sessions.specs.Held.{IsKeptIn}
+use Rattle.walked_sessions.specs.declared.kept.Kept.{Kept}
+use Rattle.walked_sessions.specs.Fitting.{SourceFits}
+use Rattle.walked_sessions.proofs.Logging.{no_log}
+use Rattle.walked_sessions.proofs.Recorded.{refused}
+use Rattle.walked_sessions.proofs.held.HeldRecordingVisitor.source.Goals as goal
+
+pub returns-then-not-branch : goal.returns-then-not-branch
+returns-then-not-branch c = λ d before at h version size fits.
+    let kept = subst (λ (k : Option Kept). IsKeptIn k d) c.in-Some.is h in
+    no_log SourceFits c.in-Some.kept.machine d.geometry (d.source ++ source_of c.args.rec ∷ []) kept.machine (refused _ _ c.in_ok-take.field-0 c.if-not-branch.true (c.in_ok-take.ensures d.source kept.source)) version size fits.source

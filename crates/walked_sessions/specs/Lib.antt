@@ -1,0 +1,9 @@
+pub mod Faults
+pub mod Walks
+pub mod Made
+pub mod Needs
+pub mod Fitting
+pub mod Kept
+pub mod Held
+pub mod Written
+pub mod inner

@@ -1,4 +1,0 @@
-pub mod Lines
-pub mod Sections
-pub mod Fronts
-pub mod Pieces

@@ -1,2 +1,0 @@
--- Definitions that only proofs use.
-pub mod Made
