@@ -35,7 +35,7 @@ use Rattle.recorder_files.specs.declared.raw.RawPager.TheVariants.{Own as OwnPag
 use Rattle.recorder_files.specs.declared.raw.RawSource.{RawSource}
 use Rattle.recorder_files.specs.declared.raw.RawSource.TheVariants.{Own as OwnSource, AskSent}
 use Rattle.walked_sessions.specs.Walks.{AreNumbered, Bytes, IsRecordingOf, TellLog}
-use Rattle.found_logs.specs.declared.found.FoundLogs.{FoundLogs}
+use Rattle.session_commands.specs.declared.found.FoundLogs.{FoundLogs}
 use Rattle.walked_sessions.specs.Made.{session_of, sized}
 use Rattle.session_commands.specs.Files.{IsTextOf, any_machine, bytes_in}
 use Rattle.command_words.specs.declared.requests.Lacking.TheVariants.{Refused}

@@ -3,3 +3,16 @@ pub mod Held
 pub mod Opened
 pub mod Spelled
 pub mod Settled
+pub mod Compressing
+pub mod Finding
+pub mod Firsts
+pub mod Surveying
+pub mod Told
+pub mod Unsaid
+pub mod Extended
+pub mod OpenedFile
+pub mod Pushed
+pub mod Counts
+pub mod Few
+pub mod Late
+pub mod Seen

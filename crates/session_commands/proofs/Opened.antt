@@ -11,7 +11,7 @@ use Rattle.recorder_files.specs.declared.gatherers.GatherFault.{GatherFault}
 use Rattle.recorder_files.specs.declared.gatherers.GatherFault.TheVariants.{File as AtFile}
 use Rattle.recorder_files.specs.Logs.{AreBegun}
 use Rattle.walked_sessions.specs.Faults.{IsOpenFault}
-use Rattle.found_logs.proofs.Firsts.{AreFirst}
+use Rattle.session_commands.proofs.Firsts.{AreFirst}
 
 -- what is wrong with a file whose bytes are these, if they are known
 pub fault_known : (party : Party) (known read : Option (List ℕ)) (fault : FileFault) → IfSome known (λ xs. read ≡ Some xs) → IsFault party read fault → IsFault party known fault

@@ -1,7 +1,7 @@
 -- What is settled of a recording by what was done: its text was written, or it was refused.
 use Rattle.std.proofs.Common.{◌≡◌, ◌<◌, ℕ, Result, Ok, Err, arith}
 use Rattle.std.specs.Prelude.{IfOk, IfErr, OnOk}
-use Rattle.session_words.specs.declared.stops.Stop.{Stop}
+use Rattle.session_commands.specs.declared.stops.Stop.{Stop}
 use Rattle.session_commands.specs.inner.Seen.{IsUnfit}
 
 -- ---- written

@@ -4,7 +4,7 @@ use Rattle.command_words.specs.declared.requests.Lacking.{Lacking}
 use Rattle.command_words.specs.declared.requests.Lacking.TheVariants.{Refused}
 use Rattle.walked_sessions.specs.Walks.{IsRecordingOf}
 use Rattle.walked_sessions.specs.Written.{text_of, Writes}
-use Rattle.found_logs.specs.declared.found.FoundLogs.{FoundLogs}
+use Rattle.session_commands.specs.declared.found.FoundLogs.{FoundLogs}
 use Rattle.session_commands.specs.declared.making.Known.{Known}
 use Rattle.session_commands.specs.Files.{WritesText, bytes_in}
 use Rattle.session_commands.specs.inner.Seen.{IsKnown}

@@ -17,10 +17,10 @@ use Rattle.recorder_files.specs.declared.lines.Party.{Party}
 use Rattle.recorder_files.specs.declared.describing.Description.{Description}
 use Rattle.walked_sessions.specs.Walks.{Bytes, HasNoHole, IsRecordingOf}
 use Rattle.walked_sessions.specs.Written.{text_of}
-use Rattle.found_logs.specs.Logs.{known_in, log_in, log_of, Describe, HasAll, IsLaneAsTold}
-use Rattle.found_logs.specs.declared.found.FoundLog.{FoundLog}
-use Rattle.found_logs.specs.declared.found.FoundLogs.{FoundLogs}
-use Rattle.session_facts.specs.Written.{is_pull, IsLateRelease, IsWrittenFront, NeedsLarge}
+use Rattle.session_commands.specs.Logs.{known_in, log_in, log_of, Describe, HasAll, IsLaneAsTold}
+use Rattle.session_commands.specs.declared.found.FoundLog.{FoundLog}
+use Rattle.session_commands.specs.declared.found.FoundLogs.{FoundLogs}
+use Rattle.session_commands.specs.Written.{is_pull, IsLateRelease, IsWrittenFront, NeedsLarge}
 use Rattle.session_commands.specs.declared.recording.FileRecording.{FileRecording}
 
 -- ---- the files of the logs

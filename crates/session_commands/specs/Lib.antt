@@ -1,3 +1,9 @@
 pub mod Files
 pub mod Texts
+pub mod Found
+pub mod Logs
+pub mod Telling
+pub mod Facts
+pub mod Written
+pub mod Unresumed
 pub mod inner

@@ -4,8 +4,8 @@ use Rattle.std.specs.Io.KnownBytes.{Appends}
 use Rattle.command_words.specs.declared.requests.Lacking.{Lacking}
 use Rattle.command_words.specs.declared.requests.Lacking.TheVariants.{Refused}
 use Rattle.session_commands.specs.Files.{IsTextOf}
-use Rattle.found_logs.specs.Found.{AreCompressed, IsFoundIn}
-use Rattle.found_logs.specs.declared.found.FoundLogs.{FoundLogs}
+use Rattle.session_commands.specs.Found.{AreCompressed, IsFoundIn}
+use Rattle.session_commands.specs.declared.found.FoundLogs.{FoundLogs}
 
 -- This is the text of the recording that the files of recorders in these folders make. No file is left out because it is only there
 -- compressed, unless that may be.

@@ -4,7 +4,7 @@ ghost use Rattle.std.specs.Prelude.{◌≡◌, [], IfErr, IfOk};
 ghost use Rattle.recorder_files.specs.declared.files.FileFault.{FileFault as Why};
 ghost use Rattle.recorder_files.specs.Said.{CameTo, IsFault};
 
-use found_logs::FoundLogs;
+use crate::found::FoundLogs;
 use migration_types::LogName;
 use recorder_files::{FileFault, FileReader, GatherFault, Party};
 use std::alloc::Global;

@@ -2,14 +2,14 @@
 
 ghost use Rattle.std.specs.Prelude.{◌↔◌, IsTrue};
 ghost use Rattle.migration_types.specs.Sessions.{Recorded};
-ghost use Rattle.session_facts.specs.Facts.{IsFacts};
+ghost use Rattle.session_commands.specs.Facts.{IsFacts};
 ghost use Rattle.session_commands.specs.Files.{HasLane, IsFormOf, NeedsTwo};
 
-use found_logs::FoundLog;
+use crate::facts::Facts;
+use crate::found::FoundLog;
 use migration_types::{Size, Version};
 use recorder_files::Front;
 use recordings::WideMachine;
-use session_facts::Facts;
 
 /// Returns whether there is something of the lane: a file, a record, or a packet that the pager took of it.
 fn has_lane(facts: &Facts, front: Front, lane: &FoundLog) -> bool

@@ -5,21 +5,22 @@ ghost use Rattle.command_words.specs.declared.requests.Lacking.TheVariants.{Refu
 ghost use Rattle.session_grammar.specs.Grammar.{SpellsSession};
 ghost use Rattle.text_lines.specs.Text.{IsSpelling};
 ghost use Rattle.text_access.specs.Names.{names_of};
-ghost use Rattle.found_logs.specs.Found.{AreCompressed, AreFound};
-ghost use Rattle.found_logs.specs.declared.found.FoundLogs.{FoundLogs as Found};
+ghost use Rattle.session_commands.specs.Found.{AreCompressed, AreFound};
+ghost use Rattle.session_commands.specs.declared.found.FoundLogs.{FoundLogs as Found};
 ghost use Rattle.walked_sessions.specs.Held.{HasMet, IsHeld};
 ghost use Rattle.session_commands.specs.Files.{IsTextOf};
 ghost use Rattle.session_commands.specs.Texts.{IsSessionText};
 ghost use Rattle.session_commands.specs.inner.Seen.{IsKnownAndMet};
 
+use crate::finder::FactFinder;
+use crate::found::{FoundFiles, FoundLogs, find_files};
 use crate::making::{Known, counts_of, know, refuse};
 use crate::performing::{leave_out, tell_stop};
+use crate::stops::Stop;
+use crate::surveys::find_logs;
 use command_words::Lacking;
-use found_logs::{FoundFiles, FoundLogs, find_files, find_logs};
 use migration_types::Session;
 use recorder_files::Front;
-use session_facts::FactFinder;
-use session_words::Stop;
 use std::alloc::{AllocError, Global};
 use std::io;
 use std::io::{ErrorKind, Write};

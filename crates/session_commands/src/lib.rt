@@ -1,16 +1,34 @@
-//! The session of the files that recorders left in folders: the command `session`, which writes its text as the files are read, and
-//! the session itself, without a text. With that, a folder stands in the place of a session.
+//! The recorders' files in folders: they are found, and what they lack is told in words. The command `session` writes the text of their
+//! session as they are read; without a text the session is held. With that, a folder stands in the place of a session.
 #![tactic(auto)]
 
+mod compressed;
+mod ends;
+mod facts;
+mod faults;
 mod files;
+mod finder;
 mod folders;
 mod forms;
+mod found;
 mod gathering;
 mod gone;
+mod lacks;
+mod lines;
+mod machine_words;
+mod machines;
 mod making;
+mod names;
 mod performing;
+mod places;
 mod recording;
+mod stops;
+mod surveys;
+mod system_errors;
+mod telling;
 mod walk_stops;
+mod words;
+mod wrong_records;
 
 pub use folders::{ErrorSink, WithFolders};
 pub use gathering::gather_session;

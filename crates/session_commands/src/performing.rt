@@ -4,18 +4,21 @@ ghost use Rattle.std.specs.Prelude.{◌≡◌, ◌<◌, ◌⊎◌, [], Ok, IfErr
 ghost use Rattle.std.specs.Io.KnownBytes.{Keeps};
 ghost use Rattle.command_words.specs.declared.requests.Lacking.TheVariants.{Refused};
 ghost use Rattle.command_texts.specs.Several.{IsListStatus, TellsOneUnread};
-ghost use Rattle.found_logs.specs.Found.{AreCompressed, AreFound};
+ghost use Rattle.session_commands.specs.Found.{AreCompressed, AreFound};
 ghost use Rattle.text_access.specs.Names.{names_of};
 ghost use Rattle.text_access.specs.Written.{BothGain, Gains};
 ghost use Rattle.session_commands.specs.Texts.{WritesSession};
 ghost use Rattle.session_commands.specs.inner.Seen.{IsUnfit};
 
+use crate::compressed::tell_compressed;
+use crate::found::{FoundFiles, find_files};
 use crate::making::{know_facts, refuse, settle};
+use crate::stops::Stop;
+use crate::surveys::find_logs;
+use crate::words::push_message;
 use command_texts::{Console, Fault, REFUSED, STANDARD_OUTPUT, given, tell};
 use command_words::Lacking;
-use found_logs::{FoundFiles, find_files, find_logs, tell_compressed};
 use recorder_files::NoOnlooker;
-use session_words::{Stop, push_message};
 use std::alloc::{AllocError, Global};
 use std::io::Write;
 use text_access::{TextSource, write_whole};

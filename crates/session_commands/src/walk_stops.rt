@@ -3,19 +3,20 @@
 ghost use Rattle.std.specs.Prelude.{◌≡◌, [], IsTrue, OnOk};
 ghost use Rattle.session_commands.specs.inner.Seen.{IsUnfit};
 
+use crate::facts::Facts;
 use crate::files::OpenedLogs;
-use found_logs::{FoundLogs, find_hole};
+use crate::found::FoundLogs;
+use crate::lacks::find_hole;
+use crate::places::{FoundRecord, find_record, push_placed, unopened_file, unread_file};
+use crate::stops::Stop;
+use crate::words::{Piece, push_sentence};
+use crate::wrong_records::record_words;
 use migration_types::{LOGS, LogName};
 use recorder_files::{FileFault, Front, GatherFault, LogFault, Party};
 use recordings::WideMachine;
-use session_facts::Facts;
-use session_words::{
-    FoundRecord, Piece, Stop, find_record, push_placed, push_sentence, unopened_file, unread_file,
-};
 use std::alloc::{AllocError, Global};
 use text_access::TextSource;
 use walked_sessions::{WalkFault, WriteFault};
-use wrong_records::record_words;
 
 /// Returns why a log was not gone through as it was surveyed: two of its records have one number, or its files have
 /// changed.

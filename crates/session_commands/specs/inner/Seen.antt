@@ -3,13 +3,13 @@ use Rattle.std.specs.Prelude.{◌≡◌, ℕ, List, [], Option, ⊤}
 use Rattle.migration_types.specs.Sessions.{Recorded}
 use Rattle.recordings.specs.declared.machine.WideMachine.{WideMachine}
 use Rattle.walked_sessions.specs.Walks.{Bytes, IsRecordingOf}
-use Rattle.session_facts.specs.Written.{IsWrittenFront}
+use Rattle.session_commands.specs.Written.{IsWrittenFront}
 use Rattle.session_commands.specs.Files.{IsChosen, IsFormOf, LeavesNothing, LosesNothing}
-use Rattle.session_words.specs.Telling.{SaysUnless}
-use Rattle.session_words.specs.declared.stops.Stop.{Stop}
-use Rattle.session_words.specs.declared.stops.Stop.TheVariants.{Unfit}
-use Rattle.found_logs.specs.declared.found.FoundLog.{FoundLog}
-use Rattle.found_logs.specs.declared.found.FoundLogs.{FoundLogs}
+use Rattle.session_commands.specs.Telling.{SaysUnless}
+use Rattle.session_commands.specs.declared.stops.Stop.{Stop}
+use Rattle.session_commands.specs.declared.stops.Stop.TheVariants.{Unfit}
+use Rattle.session_commands.specs.declared.found.FoundLog.{FoundLog}
+use Rattle.session_commands.specs.declared.found.FoundLogs.{FoundLogs}
 use Rattle.session_commands.specs.declared.making.Known.{Known}
 use Rattle.session_commands.specs.declared.making.Form.{Form}
 

@@ -1,5 +1,5 @@
 use Rattle.std.proofs.Common.{inl, inr, refl}
-use Rattle.session_facts.proofs.Few.{right_of}
+use Rattle.session_commands.proofs.Few.{right_of}
 use Rattle.session_commands.proofs.forms.form_of.Goals as goal
 
 pub returns-then-needs_large : goal.returns-then-needs_large

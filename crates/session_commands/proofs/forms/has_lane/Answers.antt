@@ -1,5 +1,5 @@
 use Rattle.std.proofs.Common.{inr}
-use Rattle.session_facts.proofs.Few.{right_of}
+use Rattle.session_commands.proofs.Few.{right_of}
 use Rattle.session_commands.proofs.forms.has_lane.Goals as goal
 
 pub returns : goal.returns

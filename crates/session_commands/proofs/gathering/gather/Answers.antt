@@ -1,6 +1,6 @@
 use Rattle.std.proofs.Common.{sym, ◌∙◌}
 use Rattle.std.specs.Prelude.{string_bytes}
-use Rattle.found_logs.proofs.Compressing.{none_in_folders}
+use Rattle.session_commands.proofs.Compressing.{none_in_folders}
 use Rattle.session_commands.proofs.Held.{found_in_words}
 use Rattle.session_commands.proofs.gathering.gather.Goals as goal
 

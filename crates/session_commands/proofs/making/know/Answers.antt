@@ -1,6 +1,6 @@
 use Rattle.std.proofs.Common.{arith, refl, rules}
 use Rattle.migration_types.specs.declared.size.Size.TheVariants.{Large}
-use Rattle.found_logs.proofs.Unsaid.{each_party}
+use Rattle.session_commands.proofs.Unsaid.{each_party}
 use Rattle.session_commands.proofs.making.know.Goals as goal
 
 pub see-requires-clause-machine : goal.see-requires-clause-machine

@@ -1,5 +1,5 @@
 use Rattle.std.proofs.Common.{arith}
-use Rattle.session_facts.proofs.Counts.{within}
+use Rattle.session_commands.proofs.Counts.{within}
 use Rattle.session_commands.proofs.making.see_records.Goals as goal
 
 pub returns : goal.returns

@@ -2,7 +2,7 @@ use Rattle.std.proofs.Common.{◌≤◌}
 use Rattle.migration_types.specs.declared.records.LogName.{LogName}
 use Rattle.migration_types.specs.Sessions.{log_length}
 use Rattle.recorder_files.specs.Fronts.{cursors_of}
-use Rattle.found_logs.proofs.Unsaid.{each_log}
+use Rattle.session_commands.proofs.Unsaid.{each_log}
 use Rattle.session_commands.proofs.making.tell_cuts.Goals as goal
 
 pub returns : goal.returns

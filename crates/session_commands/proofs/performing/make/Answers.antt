@@ -1,7 +1,7 @@
 use Rattle.std.proofs.Common.{sym, ◌∙◌}
 use Rattle.std.specs.Prelude.{string_bytes}
 use Rattle.text_access.proofs.Fronts.{both_gain}
-use Rattle.found_logs.proofs.Compressing.{none_in_folders}
+use Rattle.session_commands.proofs.Compressing.{none_in_folders}
 use Rattle.session_commands.proofs.performing.make.Goals as goal
 
 pub make_of-requires-clause-asked : goal.make_of-requires-clause-asked

@@ -3,11 +3,11 @@ use Rattle.std.proofs.lemmas.List.{length-map}
 use Rattle.std.proofs.lemmas.Result.{err_from_is_err_and}
 use Rattle.recorder_files.specs.Said.{CameTo, Standing}
 use Rattle.recorder_files.specs.declared.lines.Party.TheVariants.{Of}
-use Rattle.found_logs.specs.Logs.{log_in}
-use Rattle.found_logs.specs.declared.found.FoundLog.{FoundLog}
+use Rattle.session_commands.specs.Logs.{log_in}
+use Rattle.session_commands.specs.declared.found.FoundLog.{FoundLog}
 use Rattle.session_commands.specs.Files.{bytes_in}
-use Rattle.session_words.proofs.Opened.{came_known}
-use Rattle.found_logs.proofs.Firsts.{AreFirst, next_first}
+use Rattle.session_commands.proofs.OpenedFile.{came_known}
+use Rattle.session_commands.proofs.Firsts.{AreFirst, next_first}
 use Rattle.session_commands.proofs.Opened.{all_opened, fault_at, unread_at}
 use Rattle.session_commands.proofs.files.OpenedLogsLogFiles.open.Goals as goal
 

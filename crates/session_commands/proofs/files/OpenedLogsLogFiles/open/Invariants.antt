@@ -2,7 +2,7 @@ use Rattle.std.proofs.Common.{[]}
 use Rattle.recorder_files.specs.declared.lines.Party.TheVariants.{Of}
 use Rattle.recorder_files.specs.Said.{CameTo}
 use Rattle.session_commands.specs.Files.{bytes_in}
-use Rattle.found_logs.proofs.Firsts.{AreFirst}
+use Rattle.session_commands.proofs.Firsts.{AreFirst}
 use Rattle.session_commands.proofs.files.OpenedLogsLogFiles.open.Given as goal
 
 abbrev pub invariant-loop-place : goal.invariant-loop-place

@@ -1,8 +1,0 @@
-use Rattle.std.proofs.Common.{map, take}
-use Rattle.std.specs.Prelude.{string_bytes}
-use Rattle.std.specs.List.{Contains}
-use Rattle.found_logs.specs.inner.Compressing.{AddsCompressed}
-use Rattle.found_logs.proofs.compressed.push_compressed.Given as goal
-
-abbrev pub invariant-loop-name : goal.invariant-loop-name
-invariant-loop-name l = AddsCompressed (map string_bytes l.names) (Contains (map string_bytes (take l.name-index l.names))) l.folder (map string_bytes l.fn.paths.items) (map string_bytes l.paths.items)

@@ -1,8 +1,0 @@
-use Rattle.std.proofs.Common.{map, take}
-use Rattle.std.specs.Prelude.{string_bytes}
-use Rattle.text_access.specs.Names.{names_of}
-use Rattle.found_logs.specs.Found.{AreCompressed, AreFound}
-use Rattle.found_logs.proofs.found.find_files.Given as goal
-
-abbrev pub invariant-loop-place : goal.invariant-loop-place
-invariant-loop-place g l = AreFound (g.S.TextSource.names_in l.texts) (names_of (take l.place l.folders)) l.files.items × AreCompressed (g.S.TextSource.names_in l.texts) (names_of (take l.place l.folders)) (map string_bytes l.compressed.items)

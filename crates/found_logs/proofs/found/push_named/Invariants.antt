@@ -1,8 +1,0 @@
-use Rattle.std.proofs.Common.{map, take}
-use Rattle.std.specs.Prelude.{string_bytes}
-use Rattle.std.specs.List.{Contains}
-use Rattle.found_logs.specs.inner.Finding.{AddsNames}
-use Rattle.found_logs.proofs.found.push_named.Given as goal
-
-abbrev pub invariant-loop-name : goal.invariant-loop-name
-invariant-loop-name l = AddsNames (Contains (map string_bytes (take l.name-index l.names))) l.folder l.fn.files.items l.files.items

@@ -1,6 +1,0 @@
-use Rattle.std.specs.Prelude.{◌≡◌}
-use Rattle.session_words.specs.Telling.{SaysUnless}
-use Rattle.found_logs.proofs.lacks.tell_headless.Given as goal
-
-abbrev pub invariant-loop-place : goal.invariant-loop-place
-invariant-loop-place l = SaysUnless l.fn.said.items l.said.items (l.place ≡ 0)

@@ -1,6 +1,0 @@
-use Rattle.std.proofs.Common.{take, List, ℕ}
-use Rattle.found_logs.specs.inner.Finding.{AreLogsOf, HasName}
-use Rattle.found_logs.proofs.surveys.survey_files.Given as goal
-
-abbrev pub invariant-loop-file : goal.invariant-loop-file
-invariant-loop-file g l = (name : List ℕ) → HasName l.recording name → AreLogsOf (g.S.TextSource.bytes_of l.texts) name (take l.file-index l.files) l.logs

@@ -1,3 +1,0 @@
--- Definitions that only proofs use.
-pub mod Compressing
-pub mod Finding

@@ -1,0 +1,14 @@
+use Rattle.std.proofs.Common.{ap, arith, length, refl}
+use Rattle.session_commands.proofs.Unsaid.{none_in}
+use Rattle.session_commands.proofs.lacks.tell_headless.Goals as goal
+
+pub loop-place-init : goal.loop-place-init
+loop-place-init c = λ none. (none, refl)
+
+pub loop-place-preserved : goal.loop-place-preserved
+loop-place-preserved c = λ none. absurd (c.in_ok-tell_file.ensures none)
+
+pub returns : goal.returns
+returns c = λ none.
+    let h = c.loop-place.invariant none in
+    (h.0, none_in _ (omega (arith, ap length c.as_slice-paths.ensures.value, h.1, c.loop-place-test.false)))

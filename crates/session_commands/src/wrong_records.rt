@@ -1,0 +1,454 @@
+//! Which field of a record's line is wrong, in words.
+
+use crate::lines::no_record_words;
+use crate::machine_words::{push_no_page, push_other_cells};
+use crate::places::{FoundRecord, find_record, push_placed};
+use crate::stops::Stop;
+use crate::words::{Piece, push, push_sentence, sentence, word_at};
+use migration_types::{LogName, MOST_CELLS};
+use recorder_files::Party;
+use recordings::{BEYOND, WideMachine};
+use std::alloc::{AllocError, Global};
+use text_access::TextSource;
+
+/// A field of a record, by what it has.
+#[derive(Clone, Copy)]
+enum RawField {
+    Vcpu,
+    Page,
+    Cell,
+    Value,
+    Contents,
+    /// The number of a record, with the field's name.
+    Record(&'static str),
+}
+
+const NO_FIELD: &[RawField] = &[];
+
+const ACCESS: &[RawField] = &[
+    RawField::Vcpu,
+    RawField::Page,
+    RawField::Cell,
+    RawField::Value,
+];
+
+const VCPU_PAGE: &[RawField] = &[RawField::Vcpu, RawField::Page];
+
+const PAGE: &[RawField] = &[RawField::Page];
+
+const PAGE_CONTENTS: &[RawField] = &[RawField::Page, RawField::Contents];
+
+const PLACED: &[RawField] = &[RawField::Page, RawField::Record("got"), RawField::Contents];
+
+const SENT: &[RawField] = &[RawField::Record("sent")];
+
+const READY: &[RawField] = &[RawField::Record("ready")];
+
+const PLACEMENT: &[RawField] = &[RawField::Record("placement")];
+
+const HALT: &[RawField] = &[RawField::Record("halt")];
+
+const UP: &[RawField] = &[RawField::Record("up")];
+
+const DOWN: &[RawField] = &[RawField::Record("down")];
+
+const MISS: &[RawField] = &[RawField::Record("miss")];
+
+const WANT: &[RawField] = &[RawField::Record("want")];
+
+const GOT: &[RawField] = &[RawField::Record("got")];
+
+/// The fields of a log's record that has this word.
+struct RawForm {
+    log: LogName,
+    word: &'static str,
+    fields: &'static [RawField],
+}
+
+static FORMS: [RawForm; 30] = [
+    RawForm {
+        log: LogName::Guest,
+        word: "r",
+        fields: ACCESS,
+    },
+    RawForm {
+        log: LogName::Guest,
+        word: "w",
+        fields: ACCESS,
+    },
+    RawForm {
+        log: LogName::Guest,
+        word: "z",
+        fields: VCPU_PAGE,
+    },
+    RawForm {
+        log: LogName::Guest,
+        word: "miss",
+        fields: VCPU_PAGE,
+    },
+    RawForm {
+        log: LogName::Guest,
+        word: "halt",
+        fields: NO_FIELD,
+    },
+    RawForm {
+        log: LogName::Guest,
+        word: "resume",
+        fields: READY,
+    },
+    RawForm {
+        log: LogName::Guest,
+        word: "see",
+        fields: PLACEMENT,
+    },
+    RawForm {
+        log: LogName::Source,
+        word: "halted",
+        fields: HALT,
+    },
+    RawForm {
+        log: LogName::Source,
+        word: "state",
+        fields: NO_FIELD,
+    },
+    RawForm {
+        log: LogName::Source,
+        word: "done",
+        fields: NO_FIELD,
+    },
+    RawForm {
+        log: LogName::Source,
+        word: "back",
+        fields: NO_FIELD,
+    },
+    RawForm {
+        log: LogName::Source,
+        word: "send",
+        fields: PAGE_CONTENTS,
+    },
+    RawForm {
+        log: LogName::Source,
+        word: "again",
+        fields: SENT,
+    },
+    RawForm {
+        log: LogName::Source,
+        word: "ask-sent",
+        fields: SENT,
+    },
+    RawForm {
+        log: LogName::Source,
+        word: "ask",
+        fields: UP,
+    },
+    RawForm {
+        log: LogName::Link,
+        word: "down",
+        fields: SENT,
+    },
+    RawForm {
+        log: LogName::Link,
+        word: "up",
+        fields: SENT,
+    },
+    RawForm {
+        log: LogName::Lane,
+        word: "down",
+        fields: SENT,
+    },
+    RawForm {
+        log: LogName::Pager,
+        word: "got",
+        fields: DOWN,
+    },
+    RawForm {
+        log: LogName::Pager,
+        word: "pull",
+        fields: DOWN,
+    },
+    RawForm {
+        log: LogName::Pager,
+        word: "got-sent",
+        fields: SENT,
+    },
+    RawForm {
+        log: LogName::Pager,
+        word: "pull-sent",
+        fields: SENT,
+    },
+    RawForm {
+        log: LogName::Pager,
+        word: "ready",
+        fields: NO_FIELD,
+    },
+    RawForm {
+        log: LogName::Pager,
+        word: "all",
+        fields: NO_FIELD,
+    },
+    RawForm {
+        log: LogName::Pager,
+        word: "fault",
+        fields: MISS,
+    },
+    RawForm {
+        log: LogName::Pager,
+        word: "join",
+        fields: WANT,
+    },
+    RawForm {
+        log: LogName::Pager,
+        word: "want",
+        fields: PAGE,
+    },
+    RawForm {
+        log: LogName::Pager,
+        word: "zero",
+        fields: PAGE,
+    },
+    RawForm {
+        log: LogName::Pager,
+        word: "place",
+        fields: PLACED,
+    },
+    RawForm {
+        log: LogName::Pager,
+        word: "skip",
+        fields: GOT,
+    },
+];
+
+/// Returns the fields of the record of a log that has this word.
+fn fields_of(log: LogName, word: &[u8]) -> Option<&'static [RawField]> {
+    for i in 0..FORMS.len() {
+        if FORMS[i].log == log && FORMS[i].word.as_bytes() == word {
+            return Some(FORMS[i].fields);
+        }
+    }
+    None
+}
+
+impl RawField {
+    /// Returns its name.
+    fn name(self) -> &'static str {
+        match self {
+            RawField::Vcpu => "vcpu",
+            RawField::Page => "page",
+            RawField::Cell => "cell",
+            RawField::Value => "value",
+            RawField::Contents => "contents",
+            RawField::Record(name) => name,
+        }
+    }
+
+    /// Returns its greatest number.
+    fn most(self) -> u64 {
+        match self {
+            RawField::Vcpu => 63,
+            RawField::Cell => 511,
+            RawField::Page => BEYOND - 1,
+            RawField::Value => u64::MAX,
+            _ => u64::from(u32::MAX),
+        }
+    }
+}
+
+/// Returns the number that a text gives in decimal digits, without a zero in front of others.
+fn number_of(text: &[u8]) -> Option<u64> {
+    if text.is_empty() || text.len() > 20 || (text.len() > 1 && text[0] == b'0') {
+        return None;
+    }
+    let mut number: u64 = 0;
+    for byte in text {
+        if !byte.is_ascii_digit() {
+            return None;
+        }
+        let digit = u64::from(byte.saturating_sub(b'0'));
+        number = number.checked_mul(10)?.checked_add(digit)?;
+    }
+    Some(number)
+}
+
+/// Returns whether a text is contents: 16 digits for each cell.
+fn are_contents(text: &[u8]) -> bool {
+    !text.is_empty()
+        && text.len() % 16 == 0
+        && text.iter().all(|byte| byte.is_ascii_digit() || (b'a' <= *byte && *byte <= b'f'))
+}
+
+/// Returns whether a text is one of a field.
+fn is_of(field: RawField, text: &[u8]) -> bool {
+    match field {
+        RawField::Contents => are_contents(text),
+        _ => match number_of(text) {
+            Some(number) => number <= field.most(),
+            None => false,
+        },
+    }
+}
+
+/// Appends that a text is none of a field.
+fn push_no_field(
+    out: &mut Vec<u8>,
+    alloc: Global,
+    field: RawField,
+    text: &[u8],
+) -> Result<(), AllocError> {
+    let form = match field {
+        RawField::Contents => "{} is no {}: 16 digits of 0 to 9 and a to f for each cell",
+        _ => "{} is no {}: a number from 0 to {}",
+    };
+    push_sentence(
+        out,
+        alloc,
+        form,
+        &[
+            Piece::Word(text),
+            Piece::Text(field.name()),
+            Piece::Count(field.most()),
+        ],
+    )
+}
+
+/// Returns whether the text of a field fits the machine.
+fn fits(machine: &WideMachine, field: RawField, text: &[u8]) -> bool {
+    let number = number_of(text).unwrap_or(0);
+    match field {
+        RawField::Page => number < machine.pages,
+        RawField::Cell => number < u64::from(machine.cells),
+        RawField::Contents => { text.len() as u64 == u64::from(machine.cells.min(MOST_CELLS)) * 16 }
+        _ => true,
+    }
+}
+
+/// Appends why the text of a field does not fit the machine.
+fn push_unfit(
+    out: &mut Vec<u8>,
+    alloc: Global,
+    machine: &WideMachine,
+    field: RawField,
+    text: &[u8],
+) -> Result<(), AllocError> {
+    let number = number_of(text).unwrap_or(0);
+    match field {
+        RawField::Page => push_no_page(out, alloc, number, machine.pages),
+        RawField::Cell => push_sentence(
+            out,
+            alloc,
+            "there is no cell {}: a page has {} cells, from 0 on",
+            &[Piece::Count(number), Piece::Count(u64::from(machine.cells))],
+        ),
+        _ => push_other_cells(out, alloc, (text.len() / 16) as u64, machine.cells),
+    }
+}
+
+/// Appends what is wrong with the fields of a record.
+fn push_wrong_fields(
+    out: &mut Vec<u8>,
+    alloc: Global,
+    machine: &WideMachine,
+    fields: &[RawField],
+    text: &[u8],
+) -> Result<(), AllocError> {
+    for i in 0..fields.len() {
+        let word = word_at(text, i + 1);
+        if !is_of(fields[i], word) {
+            return push_no_field(out, alloc, fields[i], word);
+        }
+    }
+    for i in 0..fields.len() {
+        let word = word_at(text, i + 1);
+        if !fits(machine, fields[i], word) {
+            return push_unfit(out, alloc, machine, fields[i], word);
+        }
+    }
+    push(out, "this is none of its records")
+}
+
+/// Returns how many fields a record's text has.
+fn count_fields(text: &[u8]) -> u64 {
+    let mut count: u64 = 0;
+    for byte in text {
+        if *byte == b' ' {
+            count = count.saturating_add(1);
+        }
+    }
+    count
+}
+
+/// Appends why a text is no record of a log.
+fn push_no_record(
+    out: &mut Vec<u8>,
+    alloc: Global,
+    machine: &WideMachine,
+    log: LogName,
+    text: &[u8],
+) -> Result<(), AllocError> {
+    let word = word_at(text, 0);
+    let Some(fields) = fields_of(log, word) else {
+        return push_sentence(
+            out,
+            alloc,
+            "the {}'s log has no record {}",
+            &[Piece::Text(log.word()), Piece::Word(word)],
+        );
+    };
+    let count = count_fields(text);
+    if count == fields.len() as u64 {
+        return push_wrong_fields(out, alloc, machine, fields, text);
+    }
+    push_sentence(
+        out,
+        alloc,
+        "'{}' has {} fields and not {}",
+        &[
+            Piece::Bytes(word),
+            Piece::Count(fields.len() as u64),
+            Piece::Count(count),
+        ],
+    )
+}
+
+/// Returns the words on a record that has nothing behind its number.
+fn empty_words(alloc: Global, path: &str, line: u64, number: u64) -> Result<Vec<u8>, AllocError> {
+    let text = sentence(alloc, "{} ", &[Piece::Count(number)])?;
+    no_record_words(alloc, path, line, text.as_slice())
+}
+
+/// Returns the words on a record of a log that is none of its records, given where it stands.
+fn placed_words(
+    alloc: Global,
+    machine: &WideMachine,
+    log: LogName,
+    paths: &[String],
+    number: u64,
+    placed: &Option<FoundRecord>,
+) -> Result<Vec<u8>, AllocError> {
+    let mut words = Vec::new(alloc);
+    push_placed(&mut words, alloc, Party::Of(log), paths, number, placed)?;
+    if let Some(placed) = placed {
+        let text = placed.text.as_slice();
+        push_sentence(&mut words, alloc, ", {}: ", &[Piece::Quoted(text)])?;
+        push_no_record(&mut words, alloc, machine, log, text)?;
+    }
+    Ok(words)
+}
+
+/// Returns the words on the record of a log that is none of its records.
+pub(crate) fn record_words<S: TextSource>(
+    alloc: Global,
+    texts: &S,
+    machine: &WideMachine,
+    log: LogName,
+    paths: &[String],
+    number: u64,
+) -> Result<Vec<u8>, Stop> {
+    let placed = find_record(alloc, texts, Party::Of(log), paths, number)?;
+    if let Some(placed) = &placed {
+        if placed.text.is_empty() && placed.file < paths.len() {
+            let path = paths[placed.file].as_str();
+            return Ok(empty_words(alloc, path, placed.line, number)?);
+        }
+    }
+    Ok(placed_words(alloc, machine, log, paths, number, &placed)?)
+}

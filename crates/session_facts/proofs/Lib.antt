@@ -1,4 +1,0 @@
-pub mod Counts
-pub mod Few
-pub mod Late
-pub mod Seen

@@ -1,3 +1,0 @@
-pub mod Extended
-pub mod Opened
-pub mod Pushed

@@ -1,5 +1,0 @@
-use Rattle.session_words.specs.Telling.{Extends}
-use Rattle.session_words.proofs.words.push_text.Given as goal
-
-abbrev pub invariant-loop-character : goal.invariant-loop-character
-invariant-loop-character l = Extends l.fn.out.items l.out.items
