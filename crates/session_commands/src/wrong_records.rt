@@ -23,41 +23,6 @@ enum RawField {
     Record(&'static str),
 }
 
-const NO_FIELD: &[RawField] = &[];
-
-const ACCESS: &[RawField] = &[
-    RawField::Vcpu,
-    RawField::Page,
-    RawField::Cell,
-    RawField::Value,
-];
-
-const VCPU_PAGE: &[RawField] = &[RawField::Vcpu, RawField::Page];
-
-const PAGE: &[RawField] = &[RawField::Page];
-
-const PAGE_CONTENTS: &[RawField] = &[RawField::Page, RawField::Contents];
-
-const PLACED: &[RawField] = &[RawField::Page, RawField::Record("got"), RawField::Contents];
-
-const SENT: &[RawField] = &[RawField::Record("sent")];
-
-const READY: &[RawField] = &[RawField::Record("ready")];
-
-const PLACEMENT: &[RawField] = &[RawField::Record("placement")];
-
-const HALT: &[RawField] = &[RawField::Record("halt")];
-
-const UP: &[RawField] = &[RawField::Record("up")];
-
-const DOWN: &[RawField] = &[RawField::Record("down")];
-
-const MISS: &[RawField] = &[RawField::Record("miss")];
-
-const WANT: &[RawField] = &[RawField::Record("want")];
-
-const GOT: &[RawField] = &[RawField::Record("got")];
-
 /// The fields of a log's record that has this word.
 struct RawForm {
     log: LogName,
@@ -65,157 +30,48 @@ struct RawForm {
     fields: &'static [RawField],
 }
 
+/// The form of a log's record, by its word and its fields.
+macro_rules! form {
+    ($log:ident, $word:literal $(, $field:ident $(($name:literal))?)*) => {
+        RawForm {
+            log: LogName::$log,
+            word: $word,
+            fields: &[$(RawField::$field $(($name))?),*],
+        }
+    };
+}
+
 static FORMS: [RawForm; 30] = [
-    RawForm {
-        log: LogName::Guest,
-        word: "r",
-        fields: ACCESS,
-    },
-    RawForm {
-        log: LogName::Guest,
-        word: "w",
-        fields: ACCESS,
-    },
-    RawForm {
-        log: LogName::Guest,
-        word: "z",
-        fields: VCPU_PAGE,
-    },
-    RawForm {
-        log: LogName::Guest,
-        word: "miss",
-        fields: VCPU_PAGE,
-    },
-    RawForm {
-        log: LogName::Guest,
-        word: "halt",
-        fields: NO_FIELD,
-    },
-    RawForm {
-        log: LogName::Guest,
-        word: "resume",
-        fields: READY,
-    },
-    RawForm {
-        log: LogName::Guest,
-        word: "see",
-        fields: PLACEMENT,
-    },
-    RawForm {
-        log: LogName::Source,
-        word: "halted",
-        fields: HALT,
-    },
-    RawForm {
-        log: LogName::Source,
-        word: "state",
-        fields: NO_FIELD,
-    },
-    RawForm {
-        log: LogName::Source,
-        word: "done",
-        fields: NO_FIELD,
-    },
-    RawForm {
-        log: LogName::Source,
-        word: "back",
-        fields: NO_FIELD,
-    },
-    RawForm {
-        log: LogName::Source,
-        word: "send",
-        fields: PAGE_CONTENTS,
-    },
-    RawForm {
-        log: LogName::Source,
-        word: "again",
-        fields: SENT,
-    },
-    RawForm {
-        log: LogName::Source,
-        word: "ask-sent",
-        fields: SENT,
-    },
-    RawForm {
-        log: LogName::Source,
-        word: "ask",
-        fields: UP,
-    },
-    RawForm {
-        log: LogName::Link,
-        word: "down",
-        fields: SENT,
-    },
-    RawForm {
-        log: LogName::Link,
-        word: "up",
-        fields: SENT,
-    },
-    RawForm {
-        log: LogName::Lane,
-        word: "down",
-        fields: SENT,
-    },
-    RawForm {
-        log: LogName::Pager,
-        word: "got",
-        fields: DOWN,
-    },
-    RawForm {
-        log: LogName::Pager,
-        word: "pull",
-        fields: DOWN,
-    },
-    RawForm {
-        log: LogName::Pager,
-        word: "got-sent",
-        fields: SENT,
-    },
-    RawForm {
-        log: LogName::Pager,
-        word: "pull-sent",
-        fields: SENT,
-    },
-    RawForm {
-        log: LogName::Pager,
-        word: "ready",
-        fields: NO_FIELD,
-    },
-    RawForm {
-        log: LogName::Pager,
-        word: "all",
-        fields: NO_FIELD,
-    },
-    RawForm {
-        log: LogName::Pager,
-        word: "fault",
-        fields: MISS,
-    },
-    RawForm {
-        log: LogName::Pager,
-        word: "join",
-        fields: WANT,
-    },
-    RawForm {
-        log: LogName::Pager,
-        word: "want",
-        fields: PAGE,
-    },
-    RawForm {
-        log: LogName::Pager,
-        word: "zero",
-        fields: PAGE,
-    },
-    RawForm {
-        log: LogName::Pager,
-        word: "place",
-        fields: PLACED,
-    },
-    RawForm {
-        log: LogName::Pager,
-        word: "skip",
-        fields: GOT,
-    },
+    form!(Guest, "r", Vcpu, Page, Cell, Value),
+    form!(Guest, "w", Vcpu, Page, Cell, Value),
+    form!(Guest, "z", Vcpu, Page),
+    form!(Guest, "miss", Vcpu, Page),
+    form!(Guest, "halt"),
+    form!(Guest, "resume", Record("ready")),
+    form!(Guest, "see", Record("placement")),
+    form!(Source, "halted", Record("halt")),
+    form!(Source, "state"),
+    form!(Source, "done"),
+    form!(Source, "back"),
+    form!(Source, "send", Page, Contents),
+    form!(Source, "again", Record("sent")),
+    form!(Source, "ask-sent", Record("sent")),
+    form!(Source, "ask", Record("up")),
+    form!(Link, "down", Record("sent")),
+    form!(Link, "up", Record("sent")),
+    form!(Lane, "down", Record("sent")),
+    form!(Pager, "got", Record("down")),
+    form!(Pager, "pull", Record("down")),
+    form!(Pager, "got-sent", Record("sent")),
+    form!(Pager, "pull-sent", Record("sent")),
+    form!(Pager, "ready"),
+    form!(Pager, "all"),
+    form!(Pager, "fault", Record("miss")),
+    form!(Pager, "join", Record("want")),
+    form!(Pager, "want", Page),
+    form!(Pager, "zero", Page),
+    form!(Pager, "place", Page, Record("got"), Contents),
+    form!(Pager, "skip", Record("got")),
 ];
 
 /// Returns the fields of the record of a log that has this word.
