@@ -9,6 +9,7 @@ ghost use Rattle.session_commands.specs.inner.Compressing.{AddsCompressedOf};
 ghost use Rattle.session_commands.specs.inner.Finding.{AddsFolder, AddsNames, AreLogsOf, IsNothing};
 
 use crate::compressed::push_compressed;
+use crate::places::copied;
 use crate::stops::{Stop, add, unread};
 use crate::words::{Piece, push, sentence};
 use migration_types::LogName;
@@ -165,13 +166,6 @@ fn process_of(files: &[FoundFile], folder: usize, digits: &[u8]) -> usize {
         }
     }
     files.len()
-}
-
-/// Returns a copy of bytes.
-fn copied(alloc: Global, bytes: &[u8]) -> Result<Vec<u8>, AllocError> {
-    let mut copy = Vec::new(alloc);
-    copy.extend_from_slice(bytes)?;
-    Ok(copy)
 }
 
 /// Returns the file of a party that has this name in a folder, whose place among the folders this is.

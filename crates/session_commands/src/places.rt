@@ -76,7 +76,9 @@ pub(crate) fn open_file<S: TextSource>(
 }
 
 /// Returns a copy of bytes.
-fn copied(alloc: Global, bytes: &[u8]) -> Result<Vec<u8>, AllocError> {
+pub(crate) fn copied(alloc: Global, bytes: &[u8]) -> Result<Vec<u8>, AllocError>
+    ensures { IfOk result (λ copy. copy.items ≡ bytes.now) }
+{
     let mut copy = Vec::new(alloc);
     copy.extend_from_slice(bytes)?;
     Ok(copy)

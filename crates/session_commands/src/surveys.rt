@@ -10,7 +10,7 @@ ghost use Rattle.session_commands.specs.inner.Finding.{GetsFile, IsReadAs, Takes
 
 use crate::faults::{Surveying, file_stop};
 use crate::found::{FoundFile, FoundFiles, FoundLog, FoundLogs, joined, none};
-use crate::places::{line_of, open_text};
+use crate::places::{copied, line_of, open_text};
 use crate::stops::{Stop, add};
 use crate::words::{Piece, sentence};
 use migration_types::LogName;
@@ -62,10 +62,8 @@ fn take_name(
         recording.path = String::from_str(alloc, path)?;
         return Ok(());
     }
-    let mut copy = Vec::new(alloc);
-    copy.extend_from_slice(name)?;
     *recording = Some(Recording {
-        name: copy,
+        name: copied(alloc, name)?,
         path: String::from_str(alloc, path)?,
     });
     Ok(())
