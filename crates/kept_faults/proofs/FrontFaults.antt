@@ -28,10 +28,10 @@ use Rattle.recorder_files.specs.Fronts.{IsFront, cut_to}
 use Rattle.kept_faults.proofs.Taken.{taken_at, taken_is, before_taken, halt_taken, fault_taken, faulty_is}
 use Rattle.kept_faults.proofs.Named.{guest_there}
 
-by_same : {A : Type 0} (P : A → Type 0) {x y : A} → x ≡ y → P y ↔ P x
+pub by_same : {A : Type 0} (P : A → Type 0) {x y : A} → x ≡ y → P y ↔ P x
 by_same P e = (subst P (sym e), subst P e)
 
-both_ways : {A B C D : Type 0} → A ↔ B → C ↔ D → (A × C) ↔ (B × D)
+pub both_ways : {A B C D : Type 0} → A ↔ B → C ↔ D → (A × C) ↔ (B × D)
 both_ways f g = (λ h. (f.0 h.0, g.0 h.1), λ h. (f.1 h.0, g.1 h.1))
 
 module _ (s : Recorded) (c : Cursors) (front : IsFront s c) where

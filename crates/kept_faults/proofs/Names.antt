@@ -1,5 +1,5 @@
 -- Names with thinned logs: their logs, their order and their pages.
-use Rattle.std.proofs.Common.{◌≡◌, ℕ, ◌<◌, ◌≤◌, ◌⊎◌, inl, inr, Bool, true, false, List, map, Option, Some, None, refl, sym, ap, ◌∙◌, subst, arith, eq-eqb}
+use Rattle.std.proofs.Common.{◌≡◌, ℕ, ◌<◌, ◌≤◌, ◌⊎◌, inl, inr, Bool, true, false, List, map, Option, Some, None, refl, sym, ap, ◌∙◌, subst, arith}
 use Rattle.std.specs.Prelude.{slice_get}
 use Rattle.std.specs.Option.{option_map}
 use Rattle.std.proofs.lemmas.Bool.{cases_lt}
@@ -16,11 +16,11 @@ use Rattle.migration_types.specs.Receipts.{Name, log_index}
 use Rattle.migration_types.specs.Sessions.{Recorded}
 use Rattle.audit_model.specs.Names.{if_there}
 use Rattle.audit_model.specs.Windows.{rank}
-use Rattle.audit_model.proofs.Cuts.{same_from_test}
 use Rattle.audit_model.proofs.Ranks.{kept_at, rank_up, rank_less}
 use Rattle.audit_model.proofs.WindowFaults.{is_there}
 use Rattle.page_facts.specs.PageFaults.{page_at, Precedes}
 use Rattle.kept_faults.specs.Thinned.{thin_source, thin_pager, thinned, thin_name, IsKept, IsThinning}
+use Rattle.kept_faults.proofs.FrontFirst.{same_log_by}
 use Rattle.kept_faults.proofs.Kept.{aligned, kept_from, kept_or_gone}
 
 -- a name stays in its log
@@ -60,16 +60,13 @@ order_from marks Pager m n lt = lt
 same_index : (marks : List Bool) (name : Name) → log_index (thin_name marks name).0 ≡ log_index name.0
 same_index marks name = ap (λ (l : LogName). log_index l) (same_log marks name)
 
-same_by_index : (l m : LogName) → log_index l ≡ log_index m → l ≡ m
-same_by_index l m e = same_from_test l m (eq-eqb (log_index l) (log_index m) e)
-
 pub precedes_to : (marks : List Bool) (a b : Name) → IsKept marks a → Precedes a b → Precedes (thin_name marks a) (thin_name marks b)
 precedes_to marks a b kept (inl lt) = let e = same_index marks a in let f = same_index marks b in inl (omega (arith, lt, e, f))
 precedes_to marks (l, m) (k, n) kept (inr both) =
     let e = same_index marks (l, m) in
     let f = same_index marks (k, n) in
     let g = both.0 in
-    inr (omega (arith, e, f, g), subst (λ h. (thin_name marks (l, m)).1 < (thin_name marks (h, n)).1) (same_by_index l k g) (order_to marks l m n kept both.1))
+    inr (omega (arith, e, f, g), subst (λ h. (thin_name marks (l, m)).1 < (thin_name marks (h, n)).1) (same_log_by l k g) (order_to marks l m n kept both.1))
 
 pub precedes_from : (marks : List Bool) (a b : Name) → Precedes (thin_name marks a) (thin_name marks b) → Precedes a b
 precedes_from marks a b (inl lt) = let e = same_index marks a in let f = same_index marks b in inl (omega (arith, lt, e, f))
@@ -78,7 +75,7 @@ precedes_from marks (l, m) (k, n) (inr both) =
     let f = same_index marks (k, n) in
     let g = both.0 in
     let h : log_index l ≡ log_index k = omega (arith, e, f, g) in
-    inr (h, order_from marks l m n (subst (λ i. (thin_name marks (l, m)).1 < (thin_name marks (i, n)).1) (sym (same_by_index l k h)) both.1))
+    inr (h, order_from marks l m n (subst (λ i. (thin_name marks (l, m)).1 < (thin_name marks (i, n)).1) (sym (same_log_by l k h)) both.1))
 
 pub same_mapped : {A B : Type 0} (f : A → A) (say say' : A → Option B) → ((x : A) → say' (f x) ≡ say x) → (log : List A) (n : ℕ) → if_there say' (slice_get (map f log) n) ≡ if_there say (slice_get log n)
 same_mapped {A} f say say' same log n = ap (if_there say') (slice_get-map f log n) ∙ go (slice_get log n)

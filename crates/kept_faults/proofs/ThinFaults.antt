@@ -27,16 +27,11 @@ use Rattle.audit_model.proofs.Touched.{touched_access}
 use Rattle.audit_model.proofs.FirstTouch.{IsFirstTouch, first_touch_at}
 use Rattle.audit_model.proofs.Ranks.{kept_at, rank_up, rank_down}
 use Rattle.audit_model.proofs.WindowFaults.{is_there}
+use Rattle.kept_faults.proofs.FrontFaults.{both_ways, by_same}
 use Rattle.kept_faults.specs.Thinned.{thin_source, thin_pager, thinned, HasUsed, IsMisread, MayGo, IsThinning}
 use Rattle.kept_faults.specs.ThinLaws.{KeepsFaults}
 use Rattle.kept_faults.proofs.Kept.{aligned, kept_from, must_stay}
 use Rattle.kept_faults.proofs.Machine.{same_home, same_freed, same_placed, same_looked, same_at_read, same_page_at_halt, same_ledger_at_halt}
-
-by_same : {A : Type 0} (P : A → Type 0) {x y : A} → x ≡ y → P y ↔ P x
-by_same P e = (subst P (sym e), subst P e)
-
-both_ways : {A B C D : Type 0} → A ↔ B → C ↔ D → (A × C) ↔ (B × D)
-both_ways f g = (λ h. (f.0 h.0, g.0 h.1), λ h. (f.1 h.0, g.1 h.1))
 
 pub false_unless : (b : Bool) → (b ≡ true → ⊥) → b ≡ false
 false_unless true never = absurd (never refl)

@@ -4,7 +4,7 @@ use Rattle.std.proofs.lemmas.Option.{get_or_from_slice_get}
 use Rattle.recorder_files.specs.Lacks.{lacks_at, lacks_behind, record_count}
 use Rattle.recorder_files.specs.declared.log_parts.LogPart.{LogPart}
 use Rattle.recorder_files.specs.declared.lacking.LogLack.{LogLack}
-use Rattle.recorder_files.proofs.Parting.{there_at}
+use Rattle.recorder_files.proofs.Elements.{element}
 
 count_push : (xs : List LogPart) (p : LogPart) → record_count (xs ++ p ∷ []) ≡ max p.count (record_count xs)
 count_push [] p = refl
@@ -15,7 +15,7 @@ count_more parts i count new d lt e before = rw (take_more parts i d lt) (e ∙ 
 
 pub lacks_more : (parts : List LogPart) (lacks new whole : List LogLack) (at : ℕ) → at < length parts → ((p : LogPart) → slice_get parts at ≡ Some p → new ≡ lacks ++ lacks_at (take at parts) p (drop (at + 1) parts)) → lacks ++ lacks_behind (take at parts) (drop at parts) ≡ whole → new ++ lacks_behind (take (at + 1) parts) (drop (at + 1) parts) ≡ whole
 lacks_more parts lacks new whole at lt is before =
-    let here = there_at parts at lt in
+    let here = element parts at lt in
     let p = here.0 in
     let e : get_or parts at p ≡ p = get_or_from_slice_get parts at p p here.1 in
     let front : take (at + 1) parts ≡ take at parts ++ p ∷ [] = take_more parts at p lt ∙ ap (λ (x : LogPart). take at parts ++ x ∷ []) e in

@@ -13,6 +13,7 @@ use Rattle.recorder_files.specs.declared.turns.Turn.TheVariants.{Of, Missing, En
 use Rattle.recorder_files.specs.Gathered.{Numbered, numbered_from, all_of, IsGathered, IsTurn}
 use Rattle.recorder_files.specs.Said.{CameTo, Goes, RiseTo, Says, Standing}
 use Rattle.recorder_files.specs.Logs.{AreAt, AreBegun, Came, Gathering, IsAt, SayLog, Stops, is_given, nothing_of, text_in}
+use Rattle.recorder_files.proofs.Elements.{element}
 
 -- ---- an element that is set
 
@@ -200,11 +201,6 @@ all_said party knowns files heads takens log at ended gathered = record {
     go k known s taken (Some n) ek ef et eh = absurd (ended k n eh)
 
 -- ---- the steps of a gatherer
-
-pub element : {X : Type 0} (xs : List X) (i : ℕ) → i < length xs → (x : X) × (slice_get xs i ≡ Some x)
-element [] i lt = absurd (omega arith)
-element (x ∷ xs) zero lt = (x, refl)
-element (x ∷ xs) (suc i) lt = element xs i (omega arith)
 
 -- nothing came yet
 pub begins : (party : Party) (knowns : List (Option (List ℕ))) (was files : List Standing) (heads : List (Option ℕ)) → AreAt party knowns files heads (nothing_of was) 0 (λ _. false) → Came party knowns (record { files = files; heads = heads; given = None; number = 0 }) []

@@ -1,3 +1,4 @@
+pub mod Elements
 pub mod Needs
 pub mod Cuts
 pub mod Narrowing

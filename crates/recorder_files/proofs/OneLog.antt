@@ -4,7 +4,7 @@ use Rattle.std.specs.Prelude.{slice_get, IfSome, IsSome}
 use Rattle.std.specs.List.{AllByRecursion, Contains}
 use Rattle.std.proofs.lemmas.List.Elements.{Contains-append_left, Contains-append_right, Contains-append_cases}
 use Rattle.std.proofs.lemmas.List.Sorted.{Contains-permutation, IsPermutation-sym}
-use Rattle.std.proofs.lemmas.Option.{slice_get-get_or, slice_get_within, get_or_from_slice_get, same_Some}
+use Rattle.std.proofs.lemmas.Option.{slice_get-get_or, slice_get_within, same_Some}
 use Rattle.std.proofs.lemmas.Bool.{cases_lt}
 use Rattle.recorder_files.specs.declared.lines.Party.{Party}
 use Rattle.recorder_files.specs.declared.turns.Turn.TheVariants.{Missing}
@@ -13,15 +13,12 @@ use Rattle.recorder_files.specs.Said.{Standing}
 use Rattle.recorder_files.proofs.Saying.{IsFrontOf, HasAllBelow, all_before, came_front, said_all, said_front, shorter_front}
 use Rattle.recorder_files.specs.Logs.{Came, Gathering, IsAt, SayLog, Stops, is_given}
 use Rattle.recorder_files.specs.Records.{EndsAt}
-use Rattle.recorder_files.proofs.Gathering.{element}
+use Rattle.recorder_files.proofs.Elements.{contains_at, element}
 
 -- ---- elements
 
 at_place : {X : Type 0} (xs : List X) (x : X) → Contains xs x → (k : ℕ) × (slice_get xs k ≡ Some x)
 at_place {X} xs x there = (there.0, slice_get-get_or xs there.0 x there.1 ∙ ap (λ (y : X). Some y) there.2)
-
-of_place : {X : Type 0} (xs : List X) (k : ℕ) (x : X) → slice_get xs k ≡ Some x → Contains xs x
-of_place xs k x e = (k, slice_get_within xs k x e, get_or_from_slice_get xs k x x e)
 
 numbered_at : {X : Type 0} (m n : ℕ) (log : List X) (x : X) → slice_get log n ≡ Some x → slice_get (numbered_from m log) n ≡ Some (m + n, x)
 numbered_at m n [] x e = absurd cc
@@ -162,7 +159,7 @@ ends_told party knowns g log (Some n) ends = (ends.1.takens, stops_told party kn
 has_too : (knowns : List (Option (List ℕ))) (some all : List (Numbered (List ℕ))) (log whole : List (List ℕ)) → AllByRecursion IsSome knowns → AreFronts knowns some log → AreTold knowns all whole → (n : ℕ) (text : List ℕ) → slice_get log n ≡ Some text → n < length whole + 1 → slice_get whole n ≡ Some text
 has_too knowns some all log whole are_known fronts told n text e lt =
     let r : ℕ × List ℕ = (n, text) in
-    let numbered : Contains (numbered_from 0 log) r = of_place (numbered_from 0 log) n r (numbered_at 0 n log text e ∙ ap (λ (k : ℕ). Some (k, text)) (omega arith)) in
+    let numbered : Contains (numbered_from 0 log) r = contains_at (numbered_from 0 log) n r (numbered_at 0 n log text e ∙ ap (λ (k : ℕ). Some (k, text)) (omega arith)) in
     let held : Holds some r = of_all some r (Contains-permutation (numbered_from 0 log) (all_of some) r (IsPermutation-sym (all_of some) (numbered_from 0 log) fronts.gathered) numbered) in
     let i = held.i in
     let within = slice_get_within some i held.file held.found in

@@ -1,7 +1,6 @@
 -- A gathered log, as its records are taken.
 use Rattle.std.proofs.Common.{◌≡◌, ℕ, List, [], ◌∷◌, ◌++◌, length, Option, Some, None, sym, ap, subst, ◌∙◌}
 use Rattle.std.specs.Prelude.{◌≢◌, MatchOption, map}
-use Rattle.std.specs.List.{AllByRecursion}
 use Rattle.std.proofs.lemmas.List.{length-map, map-append}
 use Rattle.recorder_files.specs.declared.lines.Party.{Party}
 use Rattle.recorder_files.specs.declared.gatherers.GatherFault.{GatherFault}
@@ -12,10 +11,7 @@ use Rattle.recorder_files.specs.declared.taking.TakingFault.TheVariants.{Log, Un
 use Rattle.recorder_files.specs.Logs.{Came, Gathering, IsGatherFault, SayLog, text_in}
 use Rattle.recorder_files.specs.Records.{IsTakingFault, SayUpTo}
 use Rattle.recorder_files.specs.inner.Noting.{Adds, IsTextFault, Notes, TakesText}
-
-pub all_and_one : {X : Type 0} (P : X → Type 0) (xs : List X) (x : X) → AllByRecursion P xs → P x → AllByRecursion P (xs ++ x ∷ [])
-all_and_one P [] x all one = (one, tt)
-all_and_one P (y ∷ xs) x all one = (all.0, all_and_one P xs x all.1 one)
+use Rattle.recorder_files.proofs.Elements.{all_push}
 
 -- the next record's number and text
 pub comes_next : (party : Party) (knowns : List (Option (List ℕ))) (now : Gathering) (log : List (List ℕ)) (found : Option ℕ) (number : ℕ) (text : List ℕ) → found ≡ Some number → text ≡ text_in now.files now.given → MatchOption found (SayLog party knowns now.files log) (λ n. (n ≡ length log) × Came party knowns now (log ++ text_in now.files now.given ∷ [])) → (number ≡ length log) × Came party knowns now (log ++ text ∷ [])
@@ -28,7 +24,7 @@ pub notes_more : {X T S : Type 0} (line : X → List ℕ) (IsOf : X → Type 0) 
 notes_more line IsOf Takes party knowns g now before mid after onto half new text number n counted came taken = record {
   records = n.records ++ taken.rec ∷ [];
   came = subst (Came party knowns now) (ap (λ t. map line n.records ++ t ∷ []) taken.is_line ∙ sym (map-append line n.records (taken.rec ∷ []))) came;
-  each = all_and_one IsOf n.records taken.rec n.each taken.is_of;
+  each = all_push IsOf n.records taken.rec n.each taken.is_of;
   took = λ first from takes. taken.took first from n.records (counted ∙ length-map n.records line) (n.took first from takes);
 }
 

@@ -15,9 +15,6 @@ use Rattle.session_commands.proofs.Finding.{contains_none, contains_pushed, map_
 
 -- ---- whether a name is among others
 
-pub among_none : {X : Type 0} (f : X → List ℕ) (items : List X) (name : List ℕ) → Contains (map f (take 0 items)) name → ⊥
-among_none {X} f items name c = contains_none name c
-
 -- the first items and the next one
 pub more_taken : {X : Type 0} (f : X → List ℕ) (items : List X) (i : ℕ) (x : X) → i < length items → x ≡ get_or items i x → map f (take (i + 1) items) ≡ map f (take i items) ++ f x ∷ []
 more_taken {X} f items i x lt is = ap (map f) (take_more items i x lt) ∙ (map_pushed f (take i items) (get_or items i x) ∙ ap (λ (n : List ℕ). map f (take i items) ++ n ∷ []) (sym (ap f is)))
@@ -63,13 +60,6 @@ compressed_one names folder name old new path pushed is at = record {
     split : (p : List ℕ) → Contains old p ⊎ (p ≡ path) → Contains old p ⊎ ((n : List ℕ) × (n ≡ name) × IsCompressed names n × (p ≡ path_in folder n))
     split p (inl c) = inl c
     split p (inr e) = inr (name, refl, is, e ∙ at)
-
-pub compressed_none : (names : List (List ℕ)) (folder name : List ℕ) (paths : List (List ℕ)) → (IsCompressed names name → ⊥) → AddsCompressed names (λ n. n ≡ name) folder paths paths
-compressed_none names folder name paths none = record {
-  kept = λ p c. c;
-  more = λ p c. inl c;
-  all = λ n same one. absurd (none (subst (IsCompressed names) same one));
-}
 
 -- ---- names
 

@@ -12,7 +12,3 @@ extends_same xs = ([], sym (append-nil xs))
 
 pub extends_more : (xs ys zs : List ℕ) → Extends xs ys → Extends ys zs → Extends xs zs
 extends_more xs ys zs (more, e) (yet, f) = (more ++ yet, f ∙ ap (λ (l : List ℕ). l ++ yet) e ∙ append_assoc xs more yet)
-
-pub ok_extends_more : {V E : Type 0} (r : Result V E) (xs ys zs : List ℕ) → Extends xs ys → OnOk r (Extends ys zs) → OnOk r (Extends xs zs)
-ok_extends_more (Ok v) xs ys zs h more = extends_more xs ys zs h more
-ok_extends_more (Err fault) xs ys zs h more = tt

@@ -1,5 +1,5 @@
 -- A session that was held, and the text that it has.
-use Rattle.std.proofs.Common.{◌≡◌, ◌∙◌, ◌++◌, ℕ, suc, List, [], ◌∷◌, Some, ap, arith, length, map, refl, subst, sym}
+use Rattle.std.proofs.Common.{◌≡◌, ◌∙◌, ◌++◌, ℕ, suc, List, [], ◌∷◌, Some, ap, arith, map, refl, subst, sym}
 use Rattle.std.specs.Prelude.{IfOk, IfSome, MatchOption, None, Option, Result, Ok, Err}
 use Rattle.std.specs.List.{AllByRecursion}
 use Rattle.std.proofs.lemmas.List.{take_all}
@@ -179,8 +179,3 @@ found_in_words (Err fault) P Q same h = tt
 -- what is found is what it is said to be
 pub found_is : (found : Option Recorded) (session s : Recorded) (N : Type 0) → found ≡ Some session → MatchOption found N (λ x. x ≡ s) → session ≡ s
 found_is found session s N there is = subst (λ (o : Option Recorded). MatchOption o N (λ x. x ≡ s)) there is
-
--- nothing is said
-pub none_said : (said : List ℕ) → length said ≡ 0 → said ≡ []
-none_said [] none = refl
-none_said (byte ∷ said) none = absurd (omega (arith, none))

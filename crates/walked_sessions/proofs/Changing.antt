@@ -19,7 +19,7 @@ use Rattle.recorder_files.specs.Raw.{raw_source_line, raw_pager_line, IsRawSourc
 use Rattle.recorder_files.specs.Told.{lane_packet, link_packet, request, told_from}
 use Rattle.recorder_files.proofs.Noted.{kept}
 use Rattle.recorder_files.specs.Logs.{Came, Gathering}
-use Rattle.recorder_files.proofs.TakenRecords.{all_and_one}
+use Rattle.recorder_files.proofs.Elements.{all_push}
 use Rattle.recorder_files.proofs.OneLog.{came_is_front, one_log}
 use Rattle.walked_sessions.specs.declared.cursors.Cursor.{Cursor}
 use Rattle.walked_sessions.specs.declared.files.WalkFault.{WalkFault}
@@ -90,7 +90,7 @@ next_told {X} line IsOf form tell same tells party knowns g records ys rec messa
     let up_to : List X = records ++ rec ∷ [] in
     let front = came_is_front party knowns g told.gathering (map line records ++ line rec ∷ []) (map line ys) told.hole known came told.say.log in
     let lines : map line ys ≡ map line up_to ++ front.0 = front.1 ∙ ap (λ (ls : List (List ℕ)). ls ++ front.0) (sym (map-append line records (rec ∷ []))) in
-    let forms = forms_front line IsOf form same up_to ys front.0 (all_and_one IsOf records rec each is_of) told.say.each lines in
+    let forms = forms_front line IsOf form same up_to ys front.0 (all_push IsOf records rec each is_of) told.say.each lines in
     let all = told_front form tell tells 0 up_to ys forms.0 forms.1 in
     let push = kept tell n records rec (told_from tell 0 records) (told_from tell 0 records ++ message ∷ []) (Some message) counted refl (sym is) refl in
     (all.0, all.1 ∙ (ap (λ (ms : List Message). ms ++ all.0) (sym push) ∙ append_assoc (told_from tell 0 records) (message ∷ []) all.0))

@@ -13,7 +13,8 @@ use Rattle.walked_sessions.specs.Kept.{IsLog}
 use Rattle.walked_sessions.specs.inner.Kept.{IsNoLog}
 use Rattle.walked_sessions.specs.Needs.{Allows, AreNeeds}
 use Rattle.walked_sessions.specs.inner.Needs.{AreBoth}
-use Rattle.walked_sessions.proofs.Pushed.{all_front, all_last, all_push, length_push}
+use Rattle.walked_sessions.proofs.Pushed.{all_front, all_last, length_push}
+use Rattle.recorder_files.proofs.Elements.{all_push}
 
 -- one more record is held
 pub log_push : {X : Type 0} (Fits : Version → Extent → X → Type 0) (machine : Extent) (log new : HeldLog X) (records : List X) (rec x : X) (needs : Needs) → IsLog Fits machine log records → length log.items.items < longest_log → rec ≡ x → new.items.items ≡ log.items.items ++ rec ∷ [] → AreNeeds (λ version size. Fits version (sized size machine) x) needs → AreBoth log.needs needs new.needs → IsLog Fits machine new (records ++ x ∷ [])

@@ -12,7 +12,8 @@ use Rattle.walked_sessions.specs.Made.{sized}
 use Rattle.walked_sessions.specs.declared.init.HeldInit.{HeldInit}
 use Rattle.walked_sessions.specs.Kept.{IsInit, next_after}
 use Rattle.walked_sessions.specs.inner.Kept.{IsNoInit}
-use Rattle.walked_sessions.proofs.Pushed.{all_front, all_last, all_push}
+use Rattle.walked_sessions.proofs.Pushed.{all_front, all_last}
+use Rattle.recorder_files.proofs.Elements.{all_push}
 
 rise_push : (a low : ℕ) (ps : List InitPage) (p : InitPage) → Rise a ps low → low ≤ p.page → Rise a (ps ++ p ∷ []) (p.page + 1)
 rise_push a low [] p rise le = (omega (arith, rise, le), refl)

@@ -32,15 +32,6 @@ passes_one old new message n same_messages same_numbers next found is = record {
     go deliveries count are None e = inr (are.each old.place message None found e, is ∙ ap number_or_lost e)
     go deliveries count are (Some k) e = inl (subst (λ j. slice_get deliveries j ≡ Some message) (sym (is ∙ ap number_or_lost e)) (are.each old.place message (Some k) found e))
 
-pub passes_none : (old : Cursor) (n : ℕ) → Passes old old None n
-passes_none old n = record {
-  messages = refl;
-  numbers = refl;
-  passed = λ le. sym (append-nil (take old.place old.messages.now));
-  within = λ le. le;
-  numbered = λ deliveries count are. tt;
-}
-
 pub has_passed_none : (c : Cursor) → HasPassed c c []
 has_passed_none c = record { messages = refl; numbers = refl; within = λ le. le; passed = λ le. sym (append-nil (take c.place c.messages.now)) }
 

@@ -6,10 +6,6 @@ pub length_push : {A : Type 0} (xs : List A) (x : A) → length (xs ++ x ∷ [])
 length_push [] x = refl
 length_push (y ∷ xs) x = ap suc (length_push xs x)
 
-pub all_push : {A : Type 0} (P : A → Type 0) (xs : List A) (x : A) → AllByRecursion P xs → P x → AllByRecursion P (xs ++ x ∷ [])
-all_push P [] x all h = (h, tt)
-all_push P (y ∷ xs) x all h = (all.0, all_push P xs x all.1 h)
-
 pub all_last : {A : Type 0} (P : A → Type 0) (xs : List A) (x : A) → AllByRecursion P (xs ++ x ∷ []) → P x
 all_last P [] x all = all.0
 all_last P (y ∷ xs) x all = all_last P xs x all.1
