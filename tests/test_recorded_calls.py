@@ -85,6 +85,27 @@ for thread in range(threads):
 """
 
 
+# The calls of a migration of two of three pages, at whose end a write does not reach the memory.
+LOST_WRITE = """machine machine 3 2
+machine initial 0 =00000000000000050000000000000006
+machine initial 2 =00000000000000070000000000000008
+guest halt
+source halted 0
+source state
+source send 0 =00000000000000050000000000000006
+source send 2 =00000000000000070000000000000008
+pager got_sent 1
+pager ready
+guest resume 1
+pager got_sent 2
+pager place 0 2 =00000000000000050000000000000006
+pager got_sent 3
+pager place 2 4 =00000000000000070000000000000008
+guest see 5
+guest write 0 0 1 9
+"""
+
+
 class Tests:
     same, left_out = staticmethod(same), staticmethod(leave_out)
 
@@ -158,6 +179,7 @@ class Recorders:
         self.of_limits()
         self.of_full_disks()
         self.of_refused_calls()
+        self.of_all_memory()
         self.of_hashes()
 
     def of_calls(self, known):
@@ -194,6 +216,24 @@ class Recorders:
     @staticmethod
     def of_python(field):
         return [int(field[at : at + 16], 16) for at in range(0, len(field), 16)] if len(field) % 16 == 0 else int(field)
+
+    def of_all_memory(self):
+        """A write that is lost, in a page that nobody reads again: found if all memory is read at the end. A page that has not come is not read."""
+        for reads, verdict in (([], "clean"), (["see 5", "r 0 0 0 5", "r 0 0 1 6", "r 0 2 0 7", "r 0 2 1 8"], "faulty line 14 read")):
+            by_c, by_python = self.folder(), self.folder()
+            self.run_c("calls", by_c, given=(LOST_WRITE + "guest read_all 0 5 3 =%016x%016x%016x%016x%016x%016x\n" % (5, 6, 2**64 - 1, 0, 7, 8) * bool(reads)).encode())
+            logs = {party: Log(by_python, party) for party in ("machine", "guest", "source", "pager")}
+            for party, call, *fields in map(str.split, LOST_WRITE.splitlines()):
+                getattr(logs[party], call)(*(self.of_python(field.lstrip("=")) for field in fields))
+            if reads:
+                self.tests.same("the number of the last read", logs["guest"].read_all(0, 5, {0: (5, 6), 2: (7, 8)}.items()), 8)
+            for log in logs.values():
+                log.close()
+            for folder in (by_c, by_python):
+                ran = subprocess.run([self.tests.program, "session", folder], capture_output=True, encoding="ascii")
+                guest = ran.stdout.partition("\nguest ")[2].partition("\nsource ")[0].split("\n")
+                self.tests.same("what is recorded of it", guest[1:], ["halt", "resume 1", "see 5", "w 0 0 1 9", *reads])
+                self.tests.same("its verdict", self.tests.audit(ran.stdout), verdict)
 
     def of_threads(self):
         for env in (None, WRITTEN):

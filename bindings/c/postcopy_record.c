@@ -736,6 +736,18 @@ uint32_t postcopy_record_place(postcopy_log *pager, uint32_t page, uint32_t got,
     return append(pager, OF(PAGER), (struct record){"place", 2, {page, got}, 1, contents, cells});
 }
 
+uint32_t postcopy_record_read_all(postcopy_log *guest, uint32_t vcpu, uint32_t placement, uint32_t pages, size_t cells,
+                                  int (*contents)(void *context, uint32_t page, uint64_t *values), void *context)
+{
+    uint64_t values[CELLS_MAX];
+    uint32_t last = cells && cells <= CELLS_MAX ? postcopy_record_see(guest, placement) : append(guest, 0, (struct record){0});
+    for (uint32_t page = 0; page < pages && last != POSTCOPY_LOST; page++)
+        if (contents(context, page, values))
+            for (uint32_t cell = 0; cell < cells; cell++)
+                last = postcopy_record_read(guest, vcpu, page, cell, values[cell]);
+    return last;
+}
+
 static inline uint64_t mix(uint64_t hash, uint64_t word)
 {
     hash = (hash ^ word) * UINT64_C(0x9e3779b97f4a7c15);

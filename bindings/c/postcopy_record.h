@@ -82,6 +82,12 @@ uint32_t postcopy_record_halt(postcopy_log *guest);
 uint32_t postcopy_record_resume(postcopy_log *guest, uint32_t ready);
 uint32_t postcopy_record_see(postcopy_log *guest, uint32_t placement);
 
+/* The guest looks at the newest placement, and reads each cell of each page that has come. For each page, `contents` puts its cells
+   into `values` and returns 1, or returns 0 if the page has not come. Call it once, at the end, while the guest stands still: so a lost
+   write that nobody else reads is found. Returns the number of the last record. */
+uint32_t postcopy_record_read_all(postcopy_log *guest, uint32_t vcpu, uint32_t placement, uint32_t pages, size_t cells,
+                                  int (*contents)(void *context, uint32_t page, uint64_t *values), void *context);
+
 /* The source. `halt` is a number from the guest's log, `up` from the link's, and `sent` that of its own earlier state or send.
    With `back` it starts its guest again; this must be the last record of the log. */
 uint32_t postcopy_record_halted(postcopy_log *source, uint32_t halt);

@@ -91,6 +91,19 @@ static const struct {
     {"all", postcopy_record_all, NULL, NULL},
 };
 
+/* Contents of pages, one page behind the other, of which those have not come that begin with the greatest number. */
+struct memory {
+    const uint64_t *contents;
+    size_t cells;
+};
+
+static int contents_of(void *context, uint32_t page, uint64_t *values)
+{
+    const struct memory *memory = context;
+    memcpy(values, memory->contents + page * memory->cells, memory->cells * sizeof *values);
+    return *values != UINT64_MAX;
+}
+
 static uint32_t make_call(postcopy_log *log, const char *name, const uint64_t *numbers, const uint64_t *contents, size_t cells)
 {
     if (!strcmp(name, "read"))
@@ -101,6 +114,10 @@ static uint32_t make_call(postcopy_log *log, const char *name, const uint64_t *n
         return postcopy_record_initial(log, numbers[0], contents, cells);
     if (!strcmp(name, "send"))
         return postcopy_record_send(log, numbers[0], contents, cells);
+    if (!strcmp(name, "read_all")) {
+        struct memory memory = {contents, cells / numbers[2]};
+        return postcopy_record_read_all(log, numbers[0], numbers[1], numbers[2], memory.cells, contents_of, &memory);
+    }
     if (!strcmp(name, "place"))
         return postcopy_record_place(log, numbers[0], numbers[1], contents, cells);
     for (size_t n = 0; n < sizeof calls / sizeof *calls; n++)
@@ -279,6 +296,12 @@ static void refuse(const char *folder)
     log = postcopy_log_open(folder, "source", POSTCOPY_LOST - 2);
     want(postcopy_record_send(log, 0, contents, 512) == POSTCOPY_LOST - 2, "the longest record");
     want(postcopy_log_hand_over(log) == POSTCOPY_LOST - 1, "the greatest number");
+    for (size_t cells = 0; cells <= 513; cells += 513) {
+        struct memory memory = {contents, cells};
+        log = postcopy_log_open(folder, "guest", 0);
+        want(postcopy_record_read_all(log, 0, 1, 1, cells, contents_of, &memory) == POSTCOPY_LOST && postcopy_log_error(log) == EINVAL, "pages of no cells, or of too many");
+        postcopy_log_close(log);
+    }
     log = postcopy_log_open(folder, "source", POSTCOPY_LOST - 1);
     want(postcopy_record_state(log) == POSTCOPY_LOST && postcopy_log_error(log) == EOVERFLOW, "no number left");
     postcopy_log_close(log);

@@ -34,7 +34,7 @@ import secrets
 import stat
 import threading
 import warnings
-from typing import Any, Iterable, Optional, Union
+from typing import Any, Iterable, Optional, Tuple, Union
 
 from .records import LOGS, LOST
 
@@ -315,6 +315,15 @@ class Log:
 
     def see(self, placement: int) -> int:
         return self._append("guest", "see", placement)
+
+    def read_all(self, vcpu: int, placement: int, pages: Iterable[Tuple[int, Iterable[int]]]) -> int:
+        """The guest looks at the newest placement and reads each cell of these pages: all that have come, each with its contents. Call it
+        once, at the end, while the guest stands still: so a lost write that nobody else reads is found. Returns the last record's number."""
+        last = self.see(placement)
+        for page, contents in pages:
+            for cell, value in enumerate(contents):
+                last = self.read(vcpu, page, cell, value)
+        return last
 
     # The source. `halt` is a number from the guest's log, `up` from the link's, and `sent` that of its own earlier state or send.
 
