@@ -74,7 +74,7 @@ def run_commands(page, program):
 pytestmark = pytest.mark.quick
 
 
-@pytest.mark.cases(50)
+@pytest.mark.cases(45)
 def test_commands(program):
     for name in names_of_pages():
         for wrong in run_commands(name, program):
