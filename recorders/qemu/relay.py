@@ -80,17 +80,22 @@ class Connection:
             end.close()
 
 
-class Relay:
-    """Listens on a socket of its own in `room`, `path`, and connects to the socket `target`.
+def socket_for(address):
+    """Returns a socket for an address: a path, or a host and a port."""
+    return socket.socket(socket.AF_UNIX if isinstance(address, str) else socket.AF_INET)
 
-    `recover` names the socket for the next connections. A connection that opens between a cut and `recover` was on its way before: it is
+
+class Relay:
+    """Listens at the address `path`, a socket in `room` if none is named, and connects to the address `target`.
+
+    `recover` names the address for the next connections. A connection that opens between a cut and `recover` was on its way before: it is
     handed on unread, and `recover` closes it.
 
     `lock` is held while an item is recorded and handed over, so its holder may wait for a peer. `books` guards the log and the
     connections. It is held only for a moment, also by the holder of `lock`, and its holder waits for nobody.
     """
 
-    def __init__(self, folder, room, window, target, fault=None, skip=0, cuts=(), has_multifd=False, before_package=lambda: None, has_deltas=False):
+    def __init__(self, folder, room, window, target, fault=None, skip=0, cuts=(), has_multifd=False, before_package=lambda: None, has_deltas=False, path=None):
         self.log = open(f"{folder}/relay.log", "w")
         self.contents = open(f"{folder}/relay.pages", "wb")
         self.window, self.target, self.cuts = window, target, list(cuts)
@@ -103,8 +108,8 @@ class Relay:
         self.last = {} if has_deltas else None  # by offset, the contents that came and that were handed on last, of each page of the window
         self.was_cut, self.is_cut_off = threading.Event(), False
         self.sent_before = self.sent_after = 0
-        self.path = room.name("relay")
-        self.listener = socket.socket(socket.AF_UNIX)
+        self.path = path or room.name("relay")
+        self.listener = socket_for(self.path)
         self.listener.bind(self.path)
         self.listener.listen()
         self.listener.setblocking(False)
@@ -172,7 +177,7 @@ class Relay:
                 continue  # `recover` has closed it
             except (OSError, ValueError):
                 return  # the listener is closed
-            target = socket.socket(socket.AF_UNIX)
+            target = socket_for(address)
             try:
                 target.connect(address)
             except OSError:
@@ -199,7 +204,7 @@ class Relay:
         self.start(self.up, connection)
 
     def recover(self, target):
-        """Sends the next connections to this socket. Closes those that opened since the cut, because they belong to the migration before it."""
+        """Sends the next connections to this address. Closes those that opened since the cut, because they belong to the migration before it."""
         with self.books:
             while select.select([self.listener], [], [], 0)[0]:
                 self.listener.accept()[0].close()
