@@ -454,18 +454,16 @@ def qemu(pytestconfig):
 
 
 def migrated(qemu, room, program, *words):
-    done = subprocess.run([COMMAND, "migrate", f"{room}/run", "--qemu", qemu, *words], stdout=subprocess.PIPE, text=True,
+    done = subprocess.run([COMMAND, "migrate", f"{room}/run", "--qemu", qemu, *words], capture_output=True, text=True,
                           env={**os.environ, "POSTCOPY": program})
     if done.returncode == 3:
-        pytest.skip("the migration did not come to a post-copy")
+        pytest.skip(done.stderr.strip())
     return done.stdout.split("QEMU says: ")[1].splitlines(), done.returncode
 
 
 @pytest.mark.qemu
-@pytest.mark.parametrize("words", [[], ["--track"], ["--kvm"]], ids=["tcg", "tracked", "kvm"])
+@pytest.mark.parametrize("words", [[], ["--track"], ["--kvm"], ["--tls"], ["--cut", "50", "--cut", "50"], ["--memory", "numa"], ["--huge"]], ids=" ".join)
 def test_clean_migration(qemu, tmp_path, program, words):
-    if "--kvm" in words and not os.access("/dev/kvm", os.R_OK | os.W_OK):
-        pytest.skip("there is no /dev/kvm that this user may open")
     said, status = migrated(qemu, tmp_path, program, *words)
     same("said", (said[:2], status), (["source completed, target completed", "clean"], 0))
     if "--track" in words:

@@ -8,36 +8,36 @@ from dataclasses import dataclass
 import build
 import debian
 import folders
+from files import write
 from kinds import Plan
-from linux_run import BOOTED, WORDS
+from linux_run import BOOTED, PANIC, WORDS
+from machine import memory
 from page_source import Lost, Monitor, Observer, words_of_qmp
 from page_target import BLOCKS, new_key, prepare
 from plain import Running, wait_until, words_of_test_guest
-from relay import Relay, Window
+from relay import CutPlan, Relay, Window
 
 PAGE = 4096
 SECONDS = 300  # for each part
+SECONDS_FOR_LAST = 20  # once nothing moves: a target that lacks pages may wait for ever
 BYTES_OF_ACCESS = 20  # that the test guest tells, and more
 ENDED = ("completed", "failed", "cancelled", "ended", "hangs")
 FAULTS = ("flip", "stale", "swap", "drop", "preflip", "keep-drop")
+PAUSED = "postcopy-paused"
 SIDES = ("target", "source")
 
 
 @dataclass
-class Settings:
-    """How to migrate. Rates are in bytes a second."""
-    ram: int = 64  # MiB of the guest
+class Settings(Plan):
+    """A plan, with what this recorder has besides. Of the plan it takes the guest, its memory, the rates, the fault and the cuts."""
+    ram: int = 64
     pages: int = 1024  # in which the test guest is busy
-    is_linux: bool = False
-    append: str = ""  # to the words of Linux
-    accelerator: str = "tcg"
-    warm: float = 1.0  # seconds before the migration
-    pre: float = 0.5   # seconds of pre-copy
     bandwidth: int = 2 << 20
+    seconds: float = 1.0  # before the migration
+    is_linux: bool = False
     is_tracking: bool = False
-    fault: str = ""
-    capabilities: tuple = ()  # besides that of post-copy
-    words: tuple = ()  # that start the QEMU of another guest
+    has_tls: bool = False
+    command: tuple = ()  # the words that start the QEMU of another guest
 
 
 class Migration:
@@ -50,6 +50,8 @@ class Migration:
         if os.path.lexists(self.folder):
             raise build.Missing(f"{self.folder} is there: name a new folder")
         build.require_tools()
+        if not self.settings.command:
+            self.emulator.require(self.settings, build.build()[1])
         os.makedirs(self.folder)
         self.make_guest()
         self.room = folders.Room()
@@ -69,18 +71,19 @@ class Migration:
         if self.settings.is_linux:
             self.guest = debian.get(self.say)
             debian.build_initramfs(f"{self.guest}/busybox", f"{self.folder}/initrd")
-        elif not self.settings.words:
+        elif not self.settings.command:
             self.guest = f"{self.folder}/guest.bin"
-            build.rom_for(Plan(pages=self.settings.pages), build.build()[0], self.guest)
+            build.rom_for(self.settings, build.build()[0], self.guest)
 
     def words(self, side):
         """Returns the words that start the QEMU of a side."""
         settings, told = self.settings, f"{self.folder}/{side}.console"
+        accelerator = "kvm" if settings.kvm else "tcg"
         if settings.is_linux:
-            return [self.emulator.path, "-machine", f"pc,accel={settings.accelerator}", "-m", f"{settings.ram}M", "-smp", "2", "-nodefaults",
+            return [self.emulator.path, "-machine", f"pc,accel={accelerator}", *memory(settings), "-smp", "2", "-nodefaults",
                     "-no-user-config", "-display", "none", "-device", "VGA", "-device", "virtio-balloon-pci", "-device", "virtio-rng-pci",
-                    "-serial", f"file:{told}", "-kernel", f"{self.guest}/vmlinuz", "-initrd", f"{self.folder}/initrd", "-append", f"{WORDS} {settings.append}"]
-        return settings.words or [*words_of_test_guest(self.emulator, self.guest, settings.accelerator, told), "-m", f"{settings.ram}M"]
+                    "-serial", f"file:{told}", "-kernel", f"{self.guest}/vmlinuz", "-initrd", f"{self.folder}/initrd", "-append", f"{WORDS} {settings.workload}"]
+        return settings.command or [*words_of_test_guest(self.emulator, self.guest, accelerator, told), *memory(settings)]
 
     def start(self, side, *extra, **environment):
         self.machines[side] = Running(side, self.room, [*self.words(side), *extra], **environment)
@@ -88,8 +91,8 @@ class Migration:
 
     def migrate(self, key):
         settings, room = self.settings, self.room
-        target = self.start("target", "-incoming", "defer", **prepare(f"{self.folder}/target", key, settings.is_tracking))
-        source = self.start("source", "-qmp", f"unix:{room.name('watch')},server=on,wait=off")
+        target = self.start("target", "-incoming", "defer", *self.credentials("server"), **prepare(f"{self.folder}/target", key, settings.is_tracking))
+        source = self.start("source", "-qmp", f"unix:{room.name('watch')},server=on,wait=off", *self.credentials("client"))
         observer = Observer(f"{self.folder}/source", key, self.machines["source"].process.pid)
         monitor = Monitor(room.name("watch"), lambda: True)
         observer.name_blocks(monitor.names())
@@ -99,7 +102,9 @@ class Migration:
         watching.start()
         try:
             for qmp in (target, source):
-                qmp("migrate-set-capabilities", capabilities=[{"capability": name, "state": True} for name in ("postcopy-ram", *settings.capabilities)])
+                qmp("migrate-set-capabilities", capabilities=[{"capability": name, "state": True} for name in ("postcopy-ram", *settings.further)])
+                if settings.has_tls:
+                    qmp("migrate-set-parameters", **{"tls-creds": "tls"})
             source("migrate-set-parameters", **{"max-bandwidth": settings.bandwidth, "downtime-limit": 1})
             target("migrate-incoming", uri=f"unix:{room.name('migration')}")
             self.warm_up()
@@ -118,10 +123,17 @@ class Migration:
             raise build.Missing(f"{outcome}: pre-copy came to its end before the switch, and there was no post-copy")
         return outcome
 
+    def credentials(self, end):
+        """Returns the words for a QEMU's end of TLS, by a key that both have."""
+        if not self.settings.has_tls:
+            return ()
+        write(self.room.name("keys.psk"), f"qemu:{new_key()}\n")
+        return "-object", f"tls-creds-psk,id=tls,endpoint={end},dir={self.room.path}"
+
     def warm_up(self):
         """Lets the guest run: the test guest until it has filled its pages, and Linux until it has booted."""
-        time.sleep(self.settings.warm)
-        if not self.settings.words and not wait_until(self.is_warm, pause=0.2, seconds=SECONDS):
+        time.sleep(self.settings.seconds)
+        if not self.settings.command and not wait_until(self.is_warm, pause=0.2, seconds=SECONDS):
             raise build.Missing("the guest does not come to its work")
 
     def is_warm(self):
@@ -129,14 +141,36 @@ class Migration:
         if not self.settings.is_linux:
             return os.path.getsize(path) > self.settings.pages * BYTES_OF_ACCESS
         with open(path, encoding="utf-8", errors="replace") as console:
-            return BOOTED in console.read()
+            told = console.read()
+        if PANIC in told:
+            raise build.Missing(f"the guest has ended in a panic, as {path} tells")
+        return BOOTED in told
 
     def way(self):
-        """Returns the socket to which the source connects: the target's, or a relay's that puts a fault in."""
-        if not self.settings.fault:
+        """Returns the socket to which the source connects: the target's, or a relay's that puts a fault in, or cuts."""
+        settings = self.settings
+        if not settings.fault and not settings.cuts:
             return self.room.name("migration")
-        self.relay = Relay(self.folder, self.room, Window(0, self.settings.ram << 20 >> 12), self.room.name("migration"), self.settings.fault, 3)
+        self.relay = Relay(self.folder, self.room, Window(0, settings.ram << 20 >> 12), self.room.name("migration"), settings.fault, 3,
+                           [CutPlan(pages) for pages in settings.cuts])
         return self.relay.path
+
+    def are_paused(self):
+        return all(self.stands(side) == PAUSED for side in SIDES)
+
+    def recover(self):
+        """Has the migration go on over another way if both sides are paused, each of itself or because it is told."""
+        for side in SIDES:
+            if not wait_until(lambda side=side: self.stands(side) not in ("active", "postcopy-active"), seconds=2):
+                self.machines[side]("migrate-pause")
+        self.relay.was_cut.clear()
+        if not wait_until(self.are_paused, seconds=SECONDS_FOR_LAST):
+            return
+        again = self.room.name(f"target-{len(self.relay.connections)}")
+        self.machines["target"]("migrate-recover", uri=f"unix:{again}")
+        self.relay.recover(again)
+        self.machines["source"]("migrate", uri=f"unix:{self.relay.path}", resume=True)
+        self.say("the way was cut, and the migration goes on over another")
 
     def put_in(self):
         """Returns the pages of the fault that the relay has put in."""
@@ -153,11 +187,13 @@ class Migration:
         """Waits until the migration is at its end, and says how far it is. Returns what the QEMUs say."""
         until, said = time.monotonic() + SECONDS, 0.0
         while not (self.is_over() and self.stands("target") in ENDED) and time.monotonic() < until:
+            if self.relay and self.relay.was_cut.is_set():
+                self.recover()
             if time.monotonic() > said + 1:
                 said = time.monotonic()
                 self.say(f"source {self.stands('source')}, target {self.stands('target')}{self.left()}")
-            if self.is_over() and time.monotonic() > said + 0.5:
-                until = min(until, time.monotonic() + 20)  # a target that lacks pages may wait for ever
+            if (self.is_over() or all(self.stands(side) in (*ENDED, PAUSED) for side in SIDES)) and time.monotonic() > said + 0.5:
+                until = min(until, time.monotonic() + SECONDS_FOR_LAST)
             time.sleep(0.02)
         return ", ".join(f"{side} {self.stands(side)}" for side in ("source", "target"))
 
