@@ -9,6 +9,7 @@ import shutil
 import signal
 import subprocess
 import sys
+import tempfile
 import time
 
 import pytest
@@ -16,7 +17,9 @@ from cases import same
 
 TOP = os.path.dirname(os.path.dirname(os.path.abspath(__file__)))
 sys.path[:0] = [f"{TOP}/recorders/pages", f"{TOP}/recorders/qemu", f"{TOP}/recorders"]
+import axes
 import build
+import page_campaign
 import page_source
 import page_target
 import page_verdict
@@ -410,14 +413,36 @@ def test_command(sides):
          f"Nothing is said of accesses, of devices, or of what was written since: {sides.target}/README"], 0))
 
 
-def test_command_with_xml(sides):
-    page_target.write(f"{sides.room}/key", KEY)
-    done = run("target", sides.target, "--key", f"{sides.room}/key", "--track", "--xml", input="<domain type='kvm'><memory>1024</memory></domain>")
-    if "chmod o+x" in done.stderr:
-        pytest.skip("the emulator's user of this machine does not come to the folder of the tests")
-    found = dict(re.findall(r"<qemu:env name=\"(\w+)\" value=\"([^\"]*)\"", done.stdout))
-    same("XML", (done.returncode, found), (0, {"LD_PRELOAD": f"{sides.target}/pages.so", "POSTCOPY_PAGES": sides.target, "POSTCOPY_PAGES_KEY": KEY,
-                                              "POSTCOPY_PAGES_TRACK": "1"}))
+def test_command_with_xml():
+    """The XML of the target; or what the emulator's user lacks, where libvirt is installed and its user may not use userfaultfd."""
+    user = page_target.user_of_libvirt()
+    if user and os.geteuid() != 0:
+        pytest.skip("a folder can be given to the emulator's user by root alone")
+    with open("/proc/sys/vm/unprivileged_userfaultfd", encoding="ascii") as file:
+        is_refused = user and file.read() == "0\n"
+    with tempfile.TemporaryDirectory(dir="/var/tmp") as room:
+        os.chmod(room, 0o755)
+        page_target.write(f"{room}/key", KEY)
+        done = run("target", f"{room}/target", "--key", f"{room}/key", "--track", "--xml", input="<domain type='kvm'><memory>1024</memory></domain>")
+        if is_refused:
+            same("refused", (done.returncode, done.stdout, "sysctl vm.unprivileged_userfaultfd=1" in done.stderr), (3, "", True))
+            return
+        found = dict(re.findall(r"<qemu:env name=\"(\w+)\" value=\"([^\"]*)\"", done.stdout))
+        same("XML", (done.returncode, found), (0, {"LD_PRELOAD": f"{room}/target/pages.so", "POSTCOPY_PAGES": f"{room}/target", "POSTCOPY_PAGES_KEY": KEY,
+                                                  "POSTCOPY_PAGES_TRACK": "1"}))
+
+
+def test_campaign():
+    """The migrations without a fault have each pair of values, a fault is put in where the relay can read, and the table counts what came of each."""
+    drawn = list(page_campaign.drawn(200, 1, page_campaign.AXES))
+    without = [axes.pairs_of(row, page_campaign.AXES) for row, fault in drawn if not fault]
+    same("pairs that are not there", axes.all_pairs(page_campaign.AXES).difference(*without), set())
+    same("faults", {fault: {row["way"] for row, its in drawn if its == fault} for fault in page_campaign.FAULTS}, dict.fromkeys(page_campaign.FAULTS, {"plain", "preempt"}))
+    row = {axis: values[0] for axis, values in page_campaign.AXES.items()}
+    table = page_campaign.table([(row, "", page_campaign.CLEAN), (row, "", "faulty, 1 pages, 0 put in; completed"), (row, "flip", page_campaign.TOLD),
+                                 (row, "flip", "clean, 0 pages, 1 put in; completed"), (row, "flip", page_campaign.NOT_PUT_IN)])
+    same("table", [line for line in table.splitlines() if "TCG" in line or "flip" in line],
+         ["| guest test, TCG | 1 of 2 clean |", "| flip | 1 of 2 told by its pages, and no other |"])
 
 
 @pytest.mark.parametrize("words, status, says", [
@@ -462,7 +487,7 @@ def migrated(qemu, room, program, *words):
 
 
 @pytest.mark.qemu
-@pytest.mark.parametrize("words", [[], ["--track"], ["--kvm"], ["--tls"], ["--cut", "50", "--cut", "50"], ["--memory", "numa"], ["--huge"]], ids=" ".join)
+@pytest.mark.parametrize("words", [[], ["--track"], ["--kvm"], ["--tls"], ["--cut", "500", "--cut", "500"], ["--memory", "numa"], ["--huge"]], ids=" ".join)
 def test_clean_migration(qemu, tmp_path, program, words):
     said, status = migrated(qemu, tmp_path, program, *words)
     same("said", (said[:2], status), (["source completed, target completed", "clean"], 0))

@@ -22,27 +22,26 @@ AXES = {
 GOOD = ("clean", "cut not reached", "nothing lost in pre-copy")  # words of results that are no fault
 
 
-def pairs_of(row):
+def pairs_of(row, values=AXES):
     """Returns the pairs of a row, each as ((axis, value), (axis, value))."""
-    return set(itertools.combinations(((axis, row[axis]) for axis in AXES), 2))
+    return set(itertools.combinations(((axis, row[axis]) for axis in values), 2))
 
 
-def all_pairs(values=None):
-    values = values or AXES
+def all_pairs(values=AXES):
     return {((one, a), (other, b)) for one, other in itertools.combinations(values, 2) for a in values[one] for b in values[other]}
 
 
-def possible(requires):
+def possible(requires, every=AXES):
     """Returns the axes with the values that a QEMU can have, each beside the first of all others, and why it cannot have the rest, as
-    {(axis, value): why}. `requires` raises Missing for the fields of a plan that it cannot make."""
-    first, refused = {axis: values[0] for axis, values in AXES.items()}, {}
-    for axis, values in AXES.items():
+    {(axis, value): why}. `requires` raises Missing for a row that it cannot make."""
+    first, refused = {axis: values[0] for axis, values in every.items()}, {}
+    for axis, values in every.items():
         for value in values[1:]:
             try:
-                requires(fields_of({**first, axis: value}))
+                requires({**first, axis: value})
             except Missing as fault:
                 refused[axis, value] = str(fault)
-    return {axis: tuple(value for value in values if (axis, value) not in refused) for axis, values in AXES.items()}, refused
+    return {axis: tuple(value for value in values if (axis, value) not in refused) for axis, values in every.items()}, refused
 
 
 def rows(drawn, values):
@@ -52,15 +51,14 @@ def rows(drawn, values):
         row = dict(drawn.choice(sorted(left, key=str)))
         for axis in drawn.sample(list(values), len(values)):
             if axis not in row:
-                row[axis] = max(drawn.sample(values[axis], len(values[axis])), key=lambda value: len(left & new_pairs(row, axis, value)))
+                row[axis] = max(drawn.sample(values[axis], len(values[axis])), key=lambda value: len(left & new_pairs(row, axis, value, list(values))))
         found.append(row)
-        left -= pairs_of(row)
+        left -= pairs_of(row, values)
     return found
 
 
-def new_pairs(row, axis, value):
-    """Returns the pairs that a value of a further axis makes with those of a row."""
-    places = list(AXES)
+def new_pairs(row, axis, value, places):
+    """Returns the pairs that a value of a further axis makes with those of a row. `places` has all axes, in order."""
     return {tuple(sorted([(axis, value), other], key=lambda one: places.index(one[0]))) for other in row.items()}
 
 

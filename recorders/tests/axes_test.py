@@ -70,14 +70,14 @@ def of_campaigns(tests):
     for emulator in emulators:
         rows = [axes.row_of(plan) for plan, its in made[1::2] if its == emulator]
         tests.wants("each QEMU gets each pair of the values that it can have", set().union(*map(axes.pairs_of, rows)), axes.all_pairs(values[emulator.path]))
-    def requires(fields):
-        if fields["multifd"] or fields["machine"] == "q35":
+    def requires(row):
+        if row["capability"] == "multifd" or row["machine"] == "q35":
             raise build.Missing("it cannot")
 
     found, refused = axes.possible(requires)
     tests.wants("the values that a QEMU can have", (found["capability"], found["machine"], found["memory"], refused),
                 (("none", "auto-converge", "xbzrle"), ("pc",), tuple(kinds.MEMORIES), {("capability", "multifd"): "it cannot", ("machine", "q35"): "it cannot"}))
-    lacking = SimpleNamespace(path="one", require=lambda plan, library: requires({"multifd": plan.multifd, "machine": ""}), machine_for=lambda emulator, name: name)
+    lacking = SimpleNamespace(path="one", require=lambda plan, library: requires(axes.row_of(plan) | {"machine": ""}), machine_for=lambda emulator, name: name)
     with contextlib.redirect_stdout(io.StringIO()) as said:
         tests.wants("of each", campaign.possible([lacking], "library")["one"]["capability"], ("none", "auto-converge", "xbzrle"))
     tests.wants("what is left out is told", said.getvalue(), "left out, capability multifd: it cannot\n")
