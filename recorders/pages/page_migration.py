@@ -37,6 +37,7 @@ class Settings(Plan):
     is_linux: bool = False
     is_tracking: bool = False
     has_tls: bool = False
+    is_bare: bool = False  # neither observer is there, and nothing is recorded
     command: tuple = ()  # the words that start the QEMU of another guest
 
 
@@ -90,29 +91,16 @@ class Migration:
         return self.machines[side].qmp
 
     def migrate(self, key):
-        settings, room = self.settings, self.room
-        target = self.start("target", "-incoming", "defer", *self.credentials("server"), **prepare(f"{self.folder}/target", key, settings.is_tracking))
-        source = self.start("source", "-qmp", f"unix:{room.name('watch')},server=on,wait=off", *self.credentials("client"))
-        observer = Observer(f"{self.folder}/source", key, self.machines["source"].process.pid)
-        monitor = Monitor(room.name("watch"), lambda: True)
-        observer.name_blocks(monitor.names())
-        self.say(f"the source has {observer.pages} pages of {observer.blocks} blocks")
+        settings = self.settings
+        self.start("target", "-incoming", "defer", *self.credentials("server"),
+                   **({} if settings.is_bare else prepare(f"{self.folder}/target", key, settings.is_tracking)))
+        self.start("source", "-qmp", f"unix:{self.room.name('watch')},server=on,wait=off", *self.credentials("client"))
+        if settings.is_bare:
+            return self.move()
         faults = []
-        watching = threading.Thread(target=watch, args=(observer, words_of_qmp(monitor), self.say, faults))
-        watching.start()
+        watching = self.begin_to_watch(key, faults)
         try:
-            for qmp in (target, source):
-                qmp("migrate-set-capabilities", capabilities=[{"capability": name, "state": True} for name in ("postcopy-ram", *settings.further)])
-                if settings.has_tls:
-                    qmp("migrate-set-parameters", **{"tls-creds": "tls"})
-            source("migrate-set-parameters", **{"max-bandwidth": settings.bandwidth, "downtime-limit": 1})
-            target("migrate-incoming", uri=f"unix:{room.name('migration')}")
-            self.warm_up()
-            source("migrate", uri=f"unix:{self.way()}")
-            wait_until(lambda: self.stands("source") not in ("none", "setup"))
-            time.sleep(settings.pre)
-            source("migrate-start-postcopy")
-            outcome = self.follow()
+            outcome = self.move()
         finally:
             if not self.is_over():
                 self.machines["source"].process.kill()  # nobody waits for a migration that came to no end
@@ -122,6 +110,30 @@ class Migration:
         if not os.path.exists(f"{self.folder}/target/{BLOCKS}"):
             raise build.Missing(f"{outcome}: pre-copy came to its end before the switch, and there was no post-copy")
         return outcome
+
+    def begin_to_watch(self, key, faults):
+        observer = Observer(f"{self.folder}/source", key, self.machines["source"].process.pid)
+        monitor = Monitor(self.room.name("watch"), lambda: True)
+        observer.name_blocks(monitor.names())
+        self.say(f"the source has {observer.pages} pages of {observer.blocks} blocks")
+        watching = threading.Thread(target=watch, args=(observer, words_of_qmp(monitor), self.say, faults))
+        watching.start()
+        return watching
+
+    def move(self):
+        settings, (source, target) = self.settings, (self.machines[side].qmp for side in ("source", "target"))
+        for qmp in (target, source):
+            qmp("migrate-set-capabilities", capabilities=[{"capability": name, "state": True} for name in ("postcopy-ram", *settings.further)])
+            if settings.has_tls:
+                qmp("migrate-set-parameters", **{"tls-creds": "tls"})
+        source("migrate-set-parameters", **{"max-bandwidth": settings.bandwidth, "downtime-limit": 1})
+        target("migrate-incoming", uri=f"unix:{self.room.name('migration')}")
+        self.warm_up()
+        source("migrate", uri=f"unix:{self.way()}")
+        wait_until(lambda: self.stands("source") not in ("none", "setup"))
+        time.sleep(settings.pre)
+        source("migrate-start-postcopy")
+        return self.follow()
 
     def credentials(self, end):
         """Returns the words for a QEMU's end of TLS, by a key that both have."""

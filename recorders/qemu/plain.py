@@ -26,7 +26,7 @@ class Running:
     """A QEMU that was started by these words, with a monitor."""
 
     def __init__(self, name, room, words, **environment):
-        self.name, self.room, self.hangs, self.events = name, room, False, []
+        self.name, self.room, self.hangs, self.events, self.times = name, room, False, [], {}
         self.errors = room.name(f"{name}.errors")
         monitor = room.name(f"{name}.qmp")
         with open(self.errors, "w", encoding="utf-8") as errors:
@@ -40,7 +40,8 @@ class Running:
             raise Missing(f"{name}: {fault}: {last_words(self.process.returncode, self.errors)}") from None
 
     def hear(self, event):
-        """Takes an event: the state of the migration if it has one, or its name."""
+        """Takes an event: the state of the migration if it has one, or its name; and the time of the last one of each name."""
+        self.times[event["event"]] = event["timestamp"]["seconds"] + event["timestamp"]["microseconds"] / 1e6
         self.events.append(event.get("data", {}).get("status", event["event"]))
 
     def __call__(self, command, **arguments):
