@@ -52,6 +52,11 @@ AXES = [
     ("numa", ["live", "--flush", "--memory", "numa"], CLEAN, DONE),
     ("dimm", ["recovery", "--flush", "--memory", "dimm"], CLEAN, DONE),
     ("numa-lost-write", ["lost-write", "--memory", "numa"], f"faulty line [0-9]+ read|{LOST_IN_PRECOPY}", DONE),
+    ("hot-pages", ["hot-pages"], "faulty line [0-9]+ (read|altered)", DONE),
+    ("hot-pages-flush", ["hot-pages", "--flush"], CLEAN, DONE),
+    ("virtio-mem", ["live", "--flush", "--memory", "virtio-mem"], CLEAN, DONE),
+    ("tcp", ["preempt", "--flush", "--transport", "tcp"], CLEAN, DONE),
+    ("fd", ["recovery", "--flush", "--transport", "fd"], CLEAN, DONE),
     ("uneven-lost-write", ["lost-write", "--memory", "uneven"], "faulty line [0-9]+ read", DONE),
     ("q35", ["live", "--flush", "--machine", "q35"], CLEAN, DONE),
     ("xbzrle", ["left", "--flush", "--capability", "xbzrle"], CLEAN, DONE),
@@ -82,6 +87,7 @@ LINUX = [("clean", [], CLEAN, 0), *((fault, ["--fault", fault], "faulty line [0-
 AGAIN = "shape line [0-9]+ both|incomplete returned"
 NEWER = {
     "lost-write": [((10, 0), CLEAN, DONE)],
+    "hot-pages": [((10, 0), CLEAN, DONE), ((11, 0), "faulty line [0-9]+ read", DONE)],
     "uneven-lost-write": [((10, 0), "not judged: there was no post-copy: .*", "source ENDED, target ENDED")],
     "cut-behind-last-page": [((10, 0), AGAIN, "source failed, target postcopy-paused")],
     "cut-behind-package": [((11, 1), AGAIN, "source failed, target (HANGS|ENDED|failed|postcopy-paused)")],

@@ -3,18 +3,20 @@ import collections
 import itertools
 
 from build import Missing
-from kinds import MEMORIES
+from kinds import MEMORIES, TRANSPORTS
 from results import markdown, versions_of
+
+DROPS, KEEPS, HOT, PAUSED = "drops translations", "keeps translations", "writes hot pages", "is paused"  # the guest, in pre-copy
 
 # The values of each axis, by its name. The first is what a plan has that is drawn without axes.
 AXES = {
     "memory": tuple(MEMORIES),
     "machine": ("pc", "q35"),
     "capability": ("none", "auto-converge", "xbzrle", "multifd"),
-    "translations": ("flushed", "kept"),  # whether the guest drops that of a page before each access
+    "transport": tuple(TRANSPORTS),
+    "guest": (DROPS, KEEPS, HOT, PAUSED),
     "preempt": ("no", "yes"),
     "recovery": ("no", "yes"),
-    "guest": ("runs", "paused"),
     "processors": (1, 2, 4),
 }
 
@@ -65,15 +67,15 @@ def new_pairs(row, axis, value, places):
 def fields_of(row):
     """Returns what a row sets in a plan, but for its cuts."""
     return {"memory": row["memory"], "machine": row["machine"], "further": [row["capability"]] if row["capability"] not in ("none", "multifd") else [],
-            "multifd": 2 if row["capability"] == "multifd" else 0, "flush": row["translations"] == "flushed", "preempt": row["preempt"] == "yes",
-            "paused": row["guest"] == "paused", "cpus": row["processors"]}
+            "multifd": 2 if row["capability"] == "multifd" else 0, "transport": row["transport"], "flush": row["guest"] in (DROPS, PAUSED),
+            "hot": 32 if row["guest"] == HOT else 0, "paused": row["guest"] == PAUSED, "preempt": row["preempt"] == "yes", "cpus": row["processors"]}
 
 
 def row_of(plan):
     """Returns the row of a plan that was drawn by axes."""
     return {"memory": plan.memory, "machine": plan.machine, "capability": "multifd" if plan.multifd else plan.further[0] if plan.further else "none",
-            "translations": "flushed" if plan.flush else "kept", "preempt": "yes" if plan.preempt else "no", "recovery": "yes" if plan.cuts else "no",
-            "guest": "paused" if plan.paused else "runs", "processors": plan.cpus}
+            "transport": plan.transport, "guest": PAUSED if plan.paused else HOT if plan.hot else DROPS if plan.flush else KEEPS,
+            "preempt": "yes" if plan.preempt else "no", "recovery": "yes" if plan.cuts else "no", "processors": plan.cpus}
 
 
 def in_words(part):

@@ -10,6 +10,12 @@ MEMORIES = {
     "numa": "two NUMA nodes: the window is in the second RAM block, and the first is longer",
     "uneven": "two NUMA nodes: the window is in the second RAM block, and the first is shorter",
     "dimm": "a DIMM: the window is in the second RAM block, and the DIMM is the first",
+    "virtio-mem": "a device virtio-mem without memory: the window is in the second RAM block, and the device's is the first",
+}
+TRANSPORTS = {
+    "unix": "UNIX sockets",
+    "tcp": "TCP, over the loopback address",
+    "fd": "sockets that QEMU is handed: one connection, so neither preempt nor multifd",
 }
 # Capabilities that a recorded migration cannot have, and why.
 UNFIT = {
@@ -32,6 +38,7 @@ class Plan:
     writes: int = 4           # of 16 accesses
     pace: int = 0             # how long the guest waits after each access
     flush: bool = True        # whether the guest drops a page's translation before each access
+    hot: int = 0              # pages, the first of the window's last quarter, that it alone writes from the bitmap's second synchronization on
     bandwidth: int = 1 << 20  # of pre-copy
     post_bandwidth: int = 500_000
     warm: int = 2000          # before the migration starts
@@ -55,6 +62,7 @@ class Plan:
     run_on: float = 0.0       # and goes on at the target, behind the end
     memory: str = "one"       # the guest's memory, one of MEMORIES
     machine: str = "pc"
+    transport: str = "unix"   # one of TRANSPORTS
     further: list = field(default_factory=list)      # capabilities besides those that the plan itself needs
     parameters: dict = field(default_factory=dict)   # of the migration, by name
     base: int = BASE
@@ -101,6 +109,8 @@ KINDS = {
              {"pages": 1024, "huge": True, "post_bandwidth": 4_000_000}),
     "lost-write": ("64 pages, which fit the emulator's TLB: QEMU 5.2 and 7.2 lose writes here",
                    {"pages": 64, "words": 8, "flush": False, "pre_pages": 72, "pre": 0.0, "post_bandwidth": 300_000}),
+    "hot-pages": ("the guest goes over to writing 32 pages that are not sent yet: QEMU 11.1 loses writes here",
+                  {"pages": 512, "words": 8, "flush": False, "hot": 32, "pre_pages": 448, "pre": 0.0}),
 }
 
 

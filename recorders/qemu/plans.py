@@ -17,6 +17,7 @@ COMPARED = {
     "multifd": ("none, with multifd", "multifd", {"pages": 256, "warm": 200, "after": 500}),
     "kvm": ("none, by KVM", "kvm", {}),
     "lost-write": ("64 pages without `--flush`: lost writes", "lost-write", {}),
+    "hot-pages": ("the guest goes over to writing pages that are not sent yet", "hot-pages", {}),
     "second-block": ("the same in the second RAM block", "lost-write", {"memory": "numa"}),
     "shorter-block": ("the same, and the first block is shorter", "lost-write", {"memory": "uneven"}),
     "cut-behind-last-page": ("a cut after the last page", "recovery", {"pages": 64, "warm": 200, "cuts": [55]}),
@@ -71,8 +72,15 @@ def plan_by_axes(drawn, row):
     plan = plan_of("live", ram=16, pages=drawn.choice((64, 64, 128, 256)), words=drawn.choice((1, 8, 32)), writes=drawn.choice((4, 8, 15)),
                    bandwidth=drawn.choice((500_000, 1_000_000, 2_000_000)), post_bandwidth=drawn.choice((300_000, 1_000_000)),
                    warm=drawn.choice((0, 200, 2000)), pre=0.0, after=drawn.choice((200, 2000)), limit=30.0, **axes.fields_of(row))
-    plan.pre_pages = plan.pages // 2 if plan.paused else drawn.choice((plan.pages // 2, plan.pages * 9 // 8))  # (a guest that is stopped dirties no page again)
-    plan.cuts = [drawn.randrange(plan.pages // 8, plan.pages // 4)] if row["recovery"] == "yes" else []  # (earlier ones end the targets of old versions)
+    # A guest that is stopped dirties no page again.
+    plan.pre_pages = plan.pages // 2 if plan.paused else drawn.choice((plan.pages // 2, plan.pages * 9 // 8))
+    if plan.hot and row["capability"] == "auto-converge":
+        # From the second round on it synchronizes the bitmap each 5 s. So a round takes 26 s, and sends the hot pages after 19 s.
+        plan.pages, plan.ram, plan.words, plan.writes, plan.bandwidth, plan.pre_pages, plan.limit = 8192, 64, 1, 15, 1_300_000, 15360, 150.0
+    elif plan.hot:
+        plan.pages, plan.bandwidth, plan.pre_pages = 512, 1_000_000, 448
+    after = plan.hot or plan.pages
+    plan.cuts = [drawn.randrange(after // 8, after // 4)] if row["recovery"] == "yes" else []  # (earlier ones end the targets of old versions)
     return plan
 
 

@@ -61,9 +61,14 @@ class Qmp:
                 raise Gone(str(fault)) from None
         raise Hangs(f"it has not answered for {self.seconds} s") from None
 
-    def __call__(self, command, **arguments):
+    def __call__(self, command, descriptor=None, **arguments):
+        """Returns QEMU's answer to a command, which may hand a descriptor over."""
+        asked = json.dumps({"execute": command, "arguments": arguments}).encode()
         with contextlib.suppress(OSError):  # if it has ended, what it said before that can still be read
-            self.socket.sendall(json.dumps({"execute": command, "arguments": arguments}).encode())
+            if descriptor is None:
+                self.socket.sendall(asked)
+            else:
+                socket.send_fds(self.socket, [asked], [descriptor])
         while True:
             answer = self.line()
             if "event" in answer:

@@ -80,15 +80,32 @@ class Connection:
             end.close()
 
 
+# The address of any free port of this machine.
+ANY_PORT = ("127.0.0.1", 0)
+
+
 def socket_for(address):
     """Returns a socket for an address: a path, or a host and a port."""
     return socket.socket(socket.AF_UNIX if isinstance(address, str) else socket.AF_INET)
 
 
+def connected_to(address):
+    """Returns a socket that is connected to an address, or that socket if it is one that is connected already."""
+    if isinstance(address, socket.socket):
+        return address
+    end = socket_for(address)
+    try:
+        end.connect(address)
+    except OSError:
+        end.close()
+        raise
+    return end
+
+
 class Relay:
     """Listens at the address `path`, a socket in `room` if none is named, and connects to the address `target`.
 
-    `recover` names the address for the next connections. A connection that opens between a cut and `recover` was on its way before: it is
+    `recover` has the address for the next connections. A connection that opens between a cut and `recover` was on its way before: it is
     handed on unread, and `recover` closes it.
 
     `lock` is held while an item is recorded and handed over, so its holder may wait for a peer. `books` guards the log and the
@@ -177,12 +194,10 @@ class Relay:
                 continue  # `recover` has closed it
             except (OSError, ValueError):
                 return  # the listener is closed
-            target = socket_for(address)
             try:
-                target.connect(address)
+                target = connected_to(address)
             except OSError:
                 source.close()
-                target.close()
                 continue
             try:
                 self.connected(source, target, address)

@@ -1,5 +1,6 @@
 """Records one migration: both QEMUs, the relay between them, and what they record, in a folder."""
 import json
+import socket
 import time
 from dataclasses import asdict, dataclass, field, replace
 
@@ -8,7 +9,7 @@ import folders
 from dialect import ENDS, IN_POSTCOPY
 from machine import DEAD, Machine
 from qmp import Gone, Refused
-from relay import PRECOPY_ENDED, CutPlan, Relay, Window
+from relay import ANY_PORT, PRECOPY_ENDED, CutPlan, Relay, Window, connected_to
 
 GAVE_UP = "gave up: "
 TOO_LONG = ("it took more than", f"{GAVE_UP}the guest does not walk")  # the beginnings of messages about a time limit
@@ -125,9 +126,9 @@ class Migration:
 
     def record(self, library, machine, traces):
         cuts = [CutPlan(behind) for behind in self.plan.cuts]
-        self.relay = Relay(self.folder, self.room, Window(self.plan.base, self.plan.pages), self.room.name("target"),
+        self.relay = Relay(self.folder, self.room, Window(self.plan.base, self.plan.pages), None,
                            self.plan.fault, self.plan.skip, cuts, bool(self.plan.multifd), self.save_memory,
-                           "xbzrle" in self.plan.capabilities())
+                           "xbzrle" in self.plan.capabilities(), ANY_PORT if self.plan.transport == "tcp" else None)
 
         def start(name, emulator, *extra):
             self.machines.append(self.machine_class(name, self.folder, self.room, self.plan, library, emulator.path, machine, traces[name], extra))
@@ -175,18 +176,45 @@ class Migration:
     def migrate(self):
         plan = self.plan
         self.set_up()
-        self.target("migrate-incoming", uri=f"unix:{self.relay.target}")
+        self.relay.target = self.incoming("migrate-incoming", "target")
         versions = " to ".join(dict.fromkeys([plan.source_version, plan.target_version]))
         self.say(f"QEMU {versions}, {'KVM' if plan.kvm else 'TCG'}")
         self.say(self.guest_line())
         self.warm_up()
         if plan.paused:
             self.source("stop")
-        self.source("migrate", uri=f"unix:{self.relay.path}")
+        self.source("migrate", uri=self.outgoing())
         if not plan.is_precopy:
             self.switch()
         self.follow()
         self.finish()
+
+    def incoming(self, command, name):
+        """Has the target wait for a connection, and returns the address for the relay."""
+        if self.plan.transport == "tcp":
+            self.target(command, uri="tcp:127.0.0.1:0")
+            address = self.target("query-migrate")["socket-address"][0]
+            return address["host"], int(address["port"])
+        if self.plan.transport == "fd":
+            ours, theirs = socket.socketpair()
+            self.target(command, uri=self.handed_over(self.target, theirs))
+            return ours
+        path = self.room.name(name)
+        self.target(command, uri=f"unix:{path}")
+        return path
+
+    def outgoing(self):
+        """Returns where the source connects to the relay."""
+        if self.plan.transport == "tcp":
+            return "tcp:{}:{}".format(*self.relay.listener.getsockname())
+        return self.handed_over(self.source, connected_to(self.relay.path)) if self.plan.transport == "fd" else f"unix:{self.relay.path}"
+
+    @staticmethod
+    def handed_over(machine, end):
+        """Hands a socket over to a QEMU, and returns where it connects then."""
+        with end:
+            machine("getfd", descriptor=end.fileno(), fdname="migration")
+        return "fd:migration"
 
     def switch(self):
         """Waits for pre-copy, and asks for post-copy, unless pre-copy comes to its end first. The guest goes on at the target then too, and may
@@ -234,7 +262,11 @@ class Migration:
         until = time.monotonic() + self.plan.limit
         status = self.source.wait_for(("active", *ENDS), self.plan.limit)
         pages = 0 if self.plan.multifd else self.plan.pre_pages  # multifd's are not read
-        while status == "active" and self.relay.sent_before < pages and time.monotonic() < until:
+        waits = self.plan.hot and not self.plan.paused
+        while status == "active" and (self.relay.sent_before < pages or waits) and time.monotonic() < until:
+            if waits and self.source("query-migrate").get("ram", {}).get("dirty-sync-count", 0) > 1:
+                self.source("send-key", keys=[{"type": "qcode", "data": "spc"}])
+                waits = False
             time.sleep(0.005)
             status = self.source.migration()
         if status != "active":
@@ -298,11 +330,9 @@ class Migration:
         if stands["target"] != "postcopy-paused" or stands["source"] not in ("postcopy-paused", "postcopy-active"):
             self.remark("no recovery: " + ", ".join(f"{name} {status}" for name, status in stands.items()))
             return False
-        again = self.room.name(f"target-{self.outcome.recoveries + 1}")
         try:
-            self.target("migrate-recover", uri=f"unix:{again}")
-            self.relay.recover(again)
-            self.source("migrate", uri=f"unix:{self.relay.path}", resume=True)
+            self.relay.recover(self.incoming("migrate-recover", f"target-{self.outcome.recoveries + 1}"))
+            self.source("migrate", uri=self.outgoing(), resume=True)
         except (Refused, Gone) as fault:
             self.remark(f"no recovery: {fault}")
             return False

@@ -1,7 +1,10 @@
 """The axes of plans: rows with each pair, the plans of rows, what each pair gave, and how a QEMU and the words of `migrate` have them."""
 import contextlib
 import io
+import json
+import os
 import random
+import socket
 import subprocess
 import sys
 import tempfile
@@ -13,13 +16,18 @@ import build
 import kinds
 import machine
 import plans
+import qmp
 import results
 import witness
 from emulator import Emulator
+from folders import Room
 from kinds import plan_from_text, plan_of
 from records import Hole
+from relay import ANY_PORT, Relay, Window, connected_to
+from relay_test import BASE, BEFORE, PAGES
 from results import Result
 from run import Migration, Outcome, PrecopyEnded
+from shows_test import received
 from versions_test import QEMU, command, program, qemu_like, read
 
 
@@ -42,19 +50,19 @@ def of_results(tests):
     def result(verdict, version="10.0.13", **values):
         return Result(plans.plan_by_axes(random.Random(1), {**first, **values}), verdict, "completed", version=version)
 
-    made = [result("clean, yes"), result("clean, yes", memory="numa"), *[result("faulty line 7 read", memory="numa", translations="kept")] * 2,
-            *[result("faulty line 7 read", "7.2.22", translations="kept")] * 2, result("faulty line 9 read", memory="dimm")]
+    made = [result("clean, yes"), result("clean, yes", memory="numa"), *[result("faulty line 7 read", memory="numa", guest=axes.KEEPS)] * 2,
+            *[result("faulty line 7 read", "7.2.22", guest=axes.KEEPS)] * 2, result("faulty line 9 read", memory="dimm")]
     tests.wants("what all have in common of which it became", list(axes.in_common(made)), [
-        "10.0.13: 3 `read`; 3 of 5 with machine pc, capability none, preempt no, recovery no, guest runs, processors 1",
-        "7.2.22: 2 `read`; 2 of 2 with memory one, machine pc, capability none, translations kept, preempt no, recovery no, guest runs, processors 1"])
+        "10.0.13: 3 `read`; 3 of 5 with machine pc, capability none, transport unix, preempt no, recovery no, processors 1",
+        "7.2.22: 2 `read`; 2 of 2 with memory one, machine pc, capability none, transport unix, guest keeps translations, preempt no, recovery no, processors 1"])
     apart = [result("faulty line 1 read", **{axis: values[-1] for axis, values in axes.AXES.items()}), result("faulty line 1 read")]
     tests.wants("where that is nothing", list(axes.in_common(apart)), ["10.0.13: 2 `read`; 2 of 2 with nothing in common"])
     tests.wants("of one alone, and of what is no fault, nothing is said", list(axes.in_common(made[:2] + made[-1:])), [])
     lines = axes.table(made).splitlines()
-    tests.wants("the table", [line for line in lines if line.startswith(("| Of", "| memory numa, translations kept |"))],
-                ["| Of the migrations with | 7.2.22 | 10.0.13 |", "| memory numa, translations kept | | 2 `read` |"])
+    tests.wants("the table", [line for line in lines if line.startswith(("| Of", "| memory numa, guest keeps translations |"))],
+                ["| Of the migrations with | 7.2.22 | 10.0.13 |", "| memory numa, guest keeps translations | | 2 `read` |"])
     tests.wants("pairs that were not made", (("memory", "uneven"), ("machine", "pc")) in axes.not_made(made), True)
-    tests.wants("and one that was", (("memory", "numa"), ("translations", "kept")) in axes.not_made(made), False)
+    tests.wants("and one that was", (("memory", "numa"), ("guest", axes.KEEPS)) in axes.not_made(made), False)
     tests.wants("a line", result("clean, yes", memory="numa", machine="q35", capability="xbzrle", preempt="yes").line().split(":")[0].split(", ")[3:],
                 ["memory numa", "machine q35", "xbzrle", "preempt"])
 
@@ -100,9 +108,11 @@ def of_machines(tests, room):
                            ("uneven", ["-m", "48M", "-object", "memory-backend-ram,id=front,size=16M", "-object", "memory-backend-ram,id=pc.ram,size=32M",
                                        "-numa", "node,nodeid=0,memdev=pc.ram", "-numa", "node,nodeid=1,memdev=front"]),
                            ("dimm", ["-m", "32M,slots=1,maxmem=128M", "-object", "memory-backend-ram,id=front,size=48M", "-object", "memory-backend-ram,id=pc.ram,size=32M",
-                                     "-machine", "memory-backend=pc.ram", "-device", "pc-dimm,memdev=front"])):
+                                     "-machine", "memory-backend=pc.ram", "-device", "pc-dimm,memdev=front"]),
+                           ("virtio-mem", ["-m", "32M,maxmem=128M", "-object", "memory-backend-ram,id=front,size=48M", "-object", "memory-backend-ram,id=pc.ram,size=32M",
+                                           "-machine", "memory-backend=pc.ram", "-device", "virtio-mem-pci,memdev=front"])):
         tests.wants(f"the options of {memory}", machine.memory(plan_of("live", memory=memory)), wanted)
-    tests.wants("each memory has its options", set(kinds.MEMORIES), {"one", "numa", "uneven", "dimm"})
+    tests.wants("each memory has its options", set(kinds.MEMORIES), {"one", "numa", "uneven", "dimm", "virtio-mem"})
     named = ["-object", "memory-backend-ram,id=pc.ram,size=32M", "-machine", "memory-backend=pc.ram"]
     tests.wants("those of another machine", machine.memory(plan_of("live", machine="q35")), ["-m", "32M", *named])
     tests.wants("of huge pages", machine.memory(plan_of("huge"))[3], "memory-backend-memfd,hugetlb=on,hugetlbsize=2M,id=pc.ram,size=32M")
@@ -122,13 +132,86 @@ def of_machines(tests, room):
 def of_words(tests):
     migrate = command("migrate")
     parser = migrate.words()
-    asked = parser.parse_intermixed_args(["live", "x", "--memory", "numa", "--machine", "q35", "--capability", "xbzrle", "--capability", "auto-converge",
+    asked = parser.parse_intermixed_args(["live", "x", "--memory", "numa", "--machine", "q35", "--transport", "tcp", "--hot", "64", "--capability", "xbzrle", "--capability", "auto-converge",
                                           "--parameter", "a=5", "--parameter", "b=zlib", "--parameter", "c=true"])
     plan = migrate.plan_of_words(parser, asked)
-    tests.wants("the plan", (plan.memory, plan.machine, plan.further, plan.parameters), ("numa", "q35", ["xbzrle", "auto-converge"], {"a": 5, "b": "zlib", "c": True}))
-    for words, said in ((["--capability", "release-ram"], "'release-ram' cannot be recorded: "), (["--parameter", "a"], "'a' is not NAME=VALUE"), (["--memory", "two"], "invalid choice")):
+    tests.wants("the plan", (plan.memory, plan.machine, plan.transport, plan.hot, plan.further, plan.parameters), ("numa", "q35", "tcp", 64, ["xbzrle", "auto-converge"], {"a": 5, "b": "zlib", "c": True}))
+    for words, said in ((["--capability", "release-ram"], "'release-ram' cannot be recorded: "), (["--parameter", "a"], "'a' is not NAME=VALUE"), (["--memory", "two"], "invalid choice"), (["--transport", "rdma"], "invalid choice"),
+                        (["--hot", "65"], "at most a quarter of --pages")):
         done = subprocess.run([sys.executable, "-B", f"{QEMU}/migrate", "x", *words], capture_output=True, text=True)
         tests.wants(f"the words {' '.join(words)}", (done.returncode, said in done.stderr), (2, True))
+
+
+class Listening:
+    """A target that stands in for QEMU: it listens where it is told to."""
+
+    def __init__(self):
+        self.listener = None
+
+    def __call__(self, command, descriptor=None, **words):
+        if command == "getfd":
+            self.handed = socket.socket(fileno=os.dup(descriptor))
+        elif command == "query-migrate":
+            host, port = self.listener.getsockname()
+            return {"socket-address": [{"host": host, "port": str(port)}]}
+        else:
+            kind, _, address = words["uri"].partition(":")
+            if kind != "fd":
+                self.listener = socket.create_server(("127.0.0.1", 0)) if kind == "tcp" else socket.socket(socket.AF_UNIX)
+            if kind == "unix":
+                self.listener.bind(address)
+                self.listener.listen()
+        return {}
+
+    def accepted(self):
+        return self.listener.accept()[0] if self.listener else self.handed
+
+
+def of_transports(tests, room):
+    """Both QEMUs are connected over each transport, and once more after a cut; a source and a target that are written here stand in for them."""
+    for transport in kinds.TRANSPORTS:
+        one = Migration.__new__(Migration)
+        os.mkdir(f"{room}/{transport}")
+        one.plan, one.room, one.source, one.target = plan_of("live", transport=transport), Room(), Listening(), Listening()
+        one.relay = Relay(f"{room}/{transport}", one.room, Window(BASE, PAGES), None, path=ANY_PORT if transport == "tcp" else None)
+        for time, asks in enumerate(("migrate-incoming", "migrate-recover")):
+            one.relay.recover(one.incoming(asks, f"target-{time}"))
+            kind, _, address = one.outgoing().partition(":")
+            tests.wants("the source's transport", kind, transport)
+            source = one.source.handed if kind == "fd" else connected_to((address.split(":")[0], int(address.split(":")[1])) if kind == "tcp" else address)
+            with source, one.target.accepted() as target:
+                target.settimeout(10)
+                source.sendall(BEFORE)
+                source.shutdown(socket.SHUT_WR)
+                tests.wants(f"what comes over {transport}", received(target), BEFORE)
+            one.relay.cut()
+        one.relay.end()
+        one.room.end()
+    monitor, theirs = socket.socketpair()
+    one = qmp.Qmp.__new__(qmp.Qmp)
+    one.socket, one.begun = monitor, b'{"return": 7}\n'
+    with monitor, theirs, open(f"{room}/handed", "w+b") as file:
+        tests.wants("the answer to a command that hands a descriptor over", one("getfd", descriptor=file.fileno(), fdname="it"), 7)
+        asked, handed, *_ = socket.recv_fds(theirs, 1 << 16, 2)
+        tests.wants("the command", json.loads(asked), {"execute": "getfd", "arguments": {"fdname": "it"}})
+        tests.wants("the descriptor", [os.path.sameopenfile(descriptor, file.fileno()) for descriptor in handed], [True])
+        os.close(handed[0])
+
+
+def of_hot_pages(tests):
+    """The source's guest is told when the bitmap was synchronized twice, and the switch waits for that."""
+    for paused, counts, wanted in ((False, [1, 1, 2, 2], 3), (True, [1], 0)):
+        one, told = Migration.__new__(Migration), []
+        one.plan, one.relay = plan_of("hot-pages", paused=paused, pre_pages=0), SimpleNamespace(sent_before=0)
+        left = iter(counts)
+
+        def source(asks, **words):
+            told.append(asks)
+            return {"ram": {"dirty-sync-count": next(left)}} if asks == "query-migrate" else {}
+
+        one.source = mock.Mock(side_effect=source, wait_for=lambda states, seconds: "active", migration=lambda: "active")
+        one.wait_for_precopy()
+        tests.wants(f"a guest that is told, paused {paused}", told, ["query-migrate"] * wanted + ["send-key"] * bool(wanted))
 
 
 def of_owners(tests):
@@ -183,7 +266,8 @@ def run(tests):
     of_results(tests)
     of_campaigns(tests)
     of_words(tests)
+    of_hot_pages(tests)
     of_owners(tests)
-    for of_them in (of_machines, of_the_end_of_precopy):
+    for of_them in (of_machines, of_transports, of_the_end_of_precopy):
         with tempfile.TemporaryDirectory() as room:
             of_them(tests, room)

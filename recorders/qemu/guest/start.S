@@ -43,7 +43,7 @@ gdtr:
     .long gdt
 
     .text
-    .global trampoline, read_word, write_word
+    .global trampoline, read_word, write_word, write_hot_pages
 
 /* What another processor begins with, once it is copied to 0x8000: a jump to start16. */
 trampoline:
@@ -51,64 +51,129 @@ trampoline:
     .word 0xff00, 0xf000
 
 /*
- * Both touch the word, which waits if the page is absent, tell the bytes, which begin with a look, and do the access, which is
- * one instruction of 64 bits (MMX's move, which KVM can emulate too). From the touch on it is one run of instructions without a
- * jump and within one page of code. Older QEMUs (5.2, 7.2) translate it as one block, and TCG stops a processor only between
- * blocks: all of it is on one side of the halt. Newer ones (10.0, 11.1) end a block behind each `out`, and KVM stops a processor
- * anywhere: there the halt may come into an access. What was told of it by then says on which side a read is: it stands right
- * before the value's first byte. A write stands right before the last byte.
+ * An access is to the word at ecx, which is cell edi of page esi, and its value is in mm0. It tells a look, touches the word, which waits
+ * if the page is absent, tells the other look and what it does, and is one instruction of 64 bits (MMX's move, which KVM can emulate
+ * too). From the touch on it is one run of instructions without a jump and within one page of code. Older QEMUs (5.2, 7.2)
+ * translate it as one block, and TCG stops a processor only between blocks: all of it is on one side of the halt. Newer ones (10.0,
+ * 11.1) end a block behind each `out`, and KVM stops a processor anywhere: there the halt may come into an access. What was told of it
+ * by then says on which side a read is: it stands right before the value's first byte. A write stands right before the last byte.
+ * Nothing else in memory is written.
  */
+    .macro tell byte
+    movb \byte, %al
+    outb %al, PORT
+    .endm
 
-/* read_word(word, bytes): tells 10 bytes, and then 11 of what was read */
-    .balign 512
-read_word:
-    pushl %ebx
-    pushl %esi
-    movl 12(%esp), %ecx
-    movl 16(%esp), %esi
-    subl $8, %esp
-    jmp 1f
-    .balign 256
-1:  movl (%ecx), %eax
-    .rept 10
-    lodsb
-    outb %al, PORT
-    .endr
-    movq (%ecx), %mm0
-    movq %mm0, (%esp)
-    movl (%esp), %ebx
-    movl 4(%esp), %edx
-    .rept 11
+    .macro tell_bits
     movl %ebx, %eax
-    andl $63, %eax
-    orl $128, %eax
+    andb $63, %al
+    orb $128, %al
     outb %al, PORT
+    .endm
+
+    .macro tell_number value, count
+    movl \value, %ebx
+    .rept \count
+    tell_bits
+    shrl $6, %ebx
+    .endr
+    .endm
+
+    .macro tell_value
+    movd %mm0, %ebx
+    movq %mm0, %mm1
+    psrlq $32, %mm1
+    movd %mm1, %edx
+    .rept 11
+    tell_bits
     shrdl $6, %edx, %ebx
     shrl $6, %edx
     .endr
-    addl $8, %esp
+    .endm
+
+    .macro tell_look
+    tell $0xc1
+    tell_number %esi, 3
+    .endm
+
+    .macro begin_access what
+    tell_look
+    jmp 1f
+    .balign 512
+1:  movl (%ecx), %eax
+    tell_look
+    tell \what
+    tell_number %esi, 3
+    tell_number %edi, 2
+    .endm
+
+    .macro read_here
+    begin_access $0xc2
+    movq (%ecx), %mm0
+    tell_value
+    .endm
+
+    .macro write_here
+    begin_access $0xc3
+    tell_value
+    movq %mm0, (%ecx)
+    tell $0xc4
+    .endm
+
+    .macro enter_access
+    pushl %ebx
+    pushl %esi
+    pushl %edi
+    movl 16(%esp), %ecx
+    movl 20(%esp), %esi
+    movl 24(%esp), %edi
+    .endm
+
+    .macro leave_access
+    popl %edi
     popl %esi
     popl %ebx
     ret
+    .endm
 
-/* write_word(word, bytes, low, high): tells 21 bytes, writes, and tells a last one */
-    .balign 512
+/* read_word(word, page, cell) */
+read_word:
+    enter_access
+    read_here
+    leave_access
+
+/* write_word(word, page, cell, low, high) */
 write_word:
-    pushl %esi
-    movl 8(%esp), %ecx
-    movl 12(%esp), %esi
-    movq 16(%esp), %mm0
-    jmp 1f
-    .balign 256
-1:  movl (%ecx), %eax
-    .rept 21
-    lodsb
-    outb %al, PORT
+    enter_access
+    movq 28(%esp), %mm0
+    write_here
+    leave_access
+
+/*
+ * write_hot_pages(word, page, end, cpu, flush): adds 1 to the first word of each page from `page` to `end`, over and over, and writes
+ * nothing else: no stack, no lock. `word` is the first word of `page`.
+ */
+write_hot_pages:
+    movl $1, %eax
+    movd %eax, %mm2
+    xorl %edi, %edi
+first_page:
+    movl 4(%esp), %ecx
+    movl 8(%esp), %esi
+next_page:
+    cmpl $0, 20(%esp)
+    je 1f
+    invlpg (%ecx)
+1:  .irp what, read_here, write_here
+    tell $0xc0
+    tell_number 16(%esp), 1
+    \what
+    paddd %mm2, %mm0
     .endr
-    movq %mm0, (%ecx)
-    movb $0xc4, %al
-    outb %al, PORT
-    popl %esi
-    ret
+    addl $4096, %ecx
+    incl %esi
+    cmpl 12(%esp), %esi
+    jb next_page
+    jmp first_page
 
     .section .note.GNU-stack, "", @progbits

@@ -13,10 +13,14 @@
  *
  * With `flush` a page's translation is dropped before each access, so that the emulator takes its slow path, which marks the
  * page as dirty. The stack's and the lock's are always dropped: what is lost of them would be the guest's own state.
+ *
+ * With `hot`, once a key is pressed, the processor that sees it writes that many pages alone, the first of the window's last quarter, and
+ * the others stand still.
  */
 #include <stdint.h>
 
 #define BASE 0x400000u
+#define KEYBOARD 0x64 /* whose bit 0 says that a key was pressed */
 
 /* What `migrate` writes over the first bytes of the ROM. */
 struct settings {
@@ -26,11 +30,13 @@ struct settings {
     uint32_t pace;   /* how long it waits behind each access */
     uint32_t flush;
     uint32_t cpus;
+    uint32_t hot;
 };
-__attribute__((section(".settings"))) const volatile struct settings settings = {256, 16, 4, 0, 0, 1};
+__attribute__((section(".settings"))) const volatile struct settings settings = {256, 16, 4, 0, 0, 1, 0};
 
-void read_word(volatile uint32_t *word, const uint8_t *bytes);
-void write_word(volatile uint32_t *word, const uint8_t *bytes, uint32_t low, uint32_t high);
+void read_word(volatile uint32_t *word, uint32_t page, uint32_t cell);
+void write_word(volatile uint32_t *word, uint32_t page, uint32_t cell, uint32_t low, uint32_t high);
+__attribute__((noreturn)) void write_hot_pages(volatile uint32_t *word, uint32_t page, uint32_t end, uint32_t cpu, uint32_t flush);
 extern const uint8_t trampoline[5];
 
 static volatile uint32_t *const lock = (volatile uint32_t *)0x104;
@@ -45,45 +51,38 @@ static inline void drop_translation(volatile void *at)
     asm volatile("invlpg (%0)" : : "r"(at) : "memory");
 }
 
-static uint8_t *number(uint8_t *bytes, uint64_t value, int count)
+static inline int is_key_pressed(void)
 {
-    for (; count > 0; count--, value >>= 6)
-        *bytes++ = 0x80 | (value & 63);
-    return bytes;
+    uint8_t status;
+    asm volatile("inb %1, %0" : "=a"(status) : "i"(KEYBOARD));
+    return status & 1;
 }
 
-/* One access: a look, which tells whether the page is missed, and then all that has to be on one side of the halt. */
-static void visit(uint32_t page, uint32_t word, int is_write, uint64_t value)
+static inline volatile uint32_t *word_at(uint32_t page, uint32_t cell)
 {
-    volatile uint32_t *at = (volatile uint32_t *)(BASE + page * 4096u + word * 8u);
-    uint8_t bytes[21], *end = bytes;
+    return (volatile uint32_t *)(BASE + page * 4096u + cell * 8u);
+}
+
+static void visit(uint32_t page, uint32_t cell, int is_write, uint64_t value)
+{
     if (settings.flush)
-        drop_translation(at);
-    drop_translation(bytes);
+        drop_translation(word_at(page, cell));
+    drop_translation(&value);
     drop_translation(lock);
-    *end++ = 0xc1;
-    end = number(end, page, 3);
-    for (int i = 0; i < 4; i++)
-        tell(bytes[i]);
-    *end++ = is_write ? 0xc3 : 0xc2;
-    end = number(end, page, 3);
-    end = number(end, word, 2);
-    if (is_write) {
-        number(end, value, 11);
-        write_word(at, bytes, value, value >> 32);
-    } else {
-        read_word(at, bytes);
-    }
+    if (is_write)
+        write_word(word_at(page, cell), page, cell, value, value >> 32);
+    else
+        read_word(word_at(page, cell), page, cell);
 }
 
 static void acquire(void)
 {
     uint32_t old;
     do {
+        while (*lock) /* without a write */
+            asm volatile("pause");
         old = 1;
         asm volatile("xchgl %0, %1" : "+r"(old), "+m"(*lock) : : "memory");
-        if (old)
-            asm volatile("pause");
     } while (old);
 }
 
@@ -132,6 +131,10 @@ void walk(uint32_t cpu)
         x ^= x >> 7;
         x ^= x << 17;
         acquire();
+        if (settings.hot && is_key_pressed()) {
+            uint32_t first = settings.pages / 4 * 3;
+            write_hot_pages(word_at(first, 0), first, first + settings.hot, cpu, settings.flush);
+        }
         if (settings.cpus > 1) {
             tell(0xc0);
             tell(0x80 | cpu);
