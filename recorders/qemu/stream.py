@@ -17,6 +17,7 @@ DELTA = 1  # the only kind of delta that there is
 EOF, SECTION_START, SECTION_PART, SECTION_END, SECTION_FULL = 0x00, 0x01, 0x02, 0x03, 0x04
 CONFIGURATION, COMMAND, FOOTER = 0x07, 0x08, 0x7E
 MAGIC = b"QEVM\0\0\0\3"
+EARLY = "/virtio-mem-device-early"  # what the name ends with of the only device whose state comes before all pages
 MULTIFD_MAGIC = b"\x11\x22\x33\x44"  # the beginning of a connection of multifd
 SHUT, PONG, REQUEST_WITH_BLOCK, REQUEST, BITMAP = 1, 2, 3, 4, 5  # kinds of answers
 
@@ -146,6 +147,10 @@ def items(tap, is_resumed=False):
             if kind in (SECTION_START, SECTION_FULL):
                 name = tap.name()
                 tap.take(8)
+                if name.endswith(EARLY):
+                    early_state(tap)
+                    yield Item(tap.end())
+                    continue
                 if name != "ram":
                     raise DeviceOutside(f"a section of {name} outside of the package")
             yield Item(tap.end())
@@ -159,6 +164,13 @@ def items(tap, is_resumed=False):
         elif kind != EOF:
             raise Strange(f"a section of kind {kind:#x}")
         yield Item(tap.end())
+
+
+def early_state(tap):
+    """Takes the state of a device virtio-mem, which has a bit for each block of its memory."""
+    tap.take(8)
+    length, block = tap.number("Q"), tap.number("Q")
+    tap.take(12 + (length // block + 63) // 64 * 8)
 
 
 def pages(tap):

@@ -58,9 +58,20 @@ def of_deltas(tests):
     tests.refuses("a delta of another kind", stream.Strange, lambda: down(HEADER + section_part() + struct.pack(">Q", 0x5040) + name("pc.ram") + b"\2"))
 
 
+def of_an_early_state(tests):
+    """The state of a device virtio-mem comes before all pages: QEMU 11.1 writes it first, with 64 bits for each 64 blocks of 2 MiB or part of it."""
+    for blocks, words in ((12, 1), (64, 1), (65, 2)):
+        state = (b"\x04" + struct.pack(">I", 0x26) + name("0000:00:02.0/virtio-mem-device-early") + struct.pack(">II", 0, 1) +
+                 struct.pack(">QQQIQ", 1 << 32, blocks << 21, 2 << 20, 0, 0) + bytes(8 * words) + footer(0x26))
+        items = down(HEADER + CONFIGURATION + state + section_part() + page(0x5000, A, "pc.ram") + EOS)
+        tests.wants(f"pages behind the state of {blocks} blocks", [item.offset for item in items if isinstance(item, stream.Page)], [0x5000])
+        tests.wants("no byte of it is lost", state in b"".join(item.raw for item in items), True)
+
+
 def run(tests):
     of_cells(tests)
     of_deltas(tests)
+    of_an_early_state(tests)
     items = down(WHOLE)
     tests.wants("no byte is lost", b"".join(item.raw for item in items), WHOLE)
     pages = [(item.block, item.offset, item.is_zero, item.names_block) for item in items if isinstance(item, stream.Page)]
