@@ -4,6 +4,7 @@ import json
 import os
 import re
 from dataclasses import asdict, dataclass
+from xml.etree import ElementTree
 
 from dialect import version_of
 from kinds import plan_from_text
@@ -207,3 +208,24 @@ def table(results, seconds):
     of_all = [f"{sum(result.is_clean for result in results)} clean", *(f"{count} {name}" for name, count in sorted(ran.items()))]
     return "\n".join([f"{len(results)} migrations in {seconds:.0f} s, {', '.join(of_all)}", "",
                       *rows(("version", "kind", "fault", "verdict", "QEMU"), counts)])
+
+
+def junit(found, count):
+    """Returns a report of a campaign of so many migrations, in JUnit's form. What was not clean is a failure; what was not judged, or not made,
+    is an error."""
+    suite, counts = ElementTree.Element("testsuite", name="campaign", tests=str(count)), collections.Counter()
+    for number, result in enumerate([*found, *[None] * (count - len(found))]):
+        case = ElementTree.SubElement(suite, "testcase", classname=result.version if result else "", name=f"{number:05}")
+        if result and result.is_clean:
+            continue
+        what = "failure" if result and not result.verdict.startswith("not judged") else "error"
+        counts[what] += 1
+        words = (result.in_a_word, result.line()) if result else ("not made", "it was not made")
+        ElementTree.SubElement(case, what, dict(zip(("type", "message"), map(printable, words))))
+    suite.attrib.update(failures=str(counts["failure"]), errors=str(counts["error"]))
+    return ElementTree.tostring(suite, encoding="unicode") + "\n"
+
+
+def printable(text):
+    """Returns a text without what XML cannot have."""
+    return "".join(character if character.isprintable() else "?" for character in text)

@@ -11,6 +11,7 @@ import time
 from dataclasses import asdict, replace
 from types import SimpleNamespace
 from unittest import mock
+from xml.etree import ElementTree
 
 import folders
 import results
@@ -21,6 +22,7 @@ from plans import DRAWN, random_plan
 from qmp import Refused
 from results import Result, outcome_in_words, result_from_text
 from run import Migration, Outcome
+from versions_test import command, made_up
 
 RECORDERS = os.path.dirname(os.path.dirname(os.path.abspath(__file__)))
 
@@ -98,6 +100,31 @@ def of_results(tests):
     busy = "gave up: the guest does not walk; the machine was busy: QEMU had no processor for 31 of 41 s"
     tests.wants("in a word: what the machine was too busy for, and a fault all the same", [
         Result(plan, verdict, busy).in_a_word for verdict in ("not judged: there was no post-copy", "faulty line 7 read")], [results.BUSY, "`read`"])
+
+
+def of_reports(tests, room):
+    """The report for a CI: of each migration that was asked for, what was not clean, and what was not judged or not made."""
+    plan = plan_of("live")
+    made = [Result(plan, "clean, yes", "completed", version="7.2.22"), Result(plan, "faulty line 7 read", "completed", version="10.0.13"),
+            Result(plan, "not judged: the recorder ended with <\x1b&>", ""), Result(plan, "clean, yes", "completed", restart="both ran: it")]
+    suite = ElementTree.fromstring(results.junit(made, 5))
+    tests.wants("its counts", {name: suite.get(name) for name in ("tests", "failures", "errors")}, {"tests": "5", "failures": "2", "errors": "2"})
+    tests.wants("each migration", [(case.get("name"), case.get("classname"), [(it.tag, it.get("type")) for it in case]) for case in suite],
+                [("00000", "7.2.22", []), ("00001", "10.0.13", [("failure", "`read`")]), ("00002", "", [("error", "not judged")]),
+                 ("00003", "", [("failure", "both ran")]), ("00004", "", [("error", "not made")])])
+    tests.wants("what XML cannot have", "ended with <?&>" in suite[2][0].get("message"), True)
+    campaign, kept = command("campaign"), []
+
+    def make_all(todo, *_):
+        with open(f"{room}/report", encoding="utf-8") as file:
+            kept.append(file.read())
+        return made[:2]
+
+    words = ["campaign", "3", "--no-axes", "--minutes", "7", "--qemu", "one", "--junit", f"{room}/report", "--folder", f"{room}/campaign"]
+    with made_up(campaign, words, make_all):
+        tests.wants("the status", campaign.main(), 1)
+    with open(f"{room}/report", encoding="utf-8") as file:
+        tests.wants("the file before and after", [*kept, file.read()], [results.junit([], 3), results.junit(made[:2], 3)])
 
 
 def of_deaths(tests):
@@ -273,3 +300,5 @@ def run(tests):
     of_the_limit(tests)
     of_the_end_of_a_series(tests)
     of_a_refusal(tests)
+    with tempfile.TemporaryDirectory() as room:
+        of_reports(tests, room)

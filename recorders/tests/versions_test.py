@@ -221,6 +221,18 @@ def of_one_that_hangs(tests, room):
     tests.wants("one that does not answer, as it is about to end", one.end_of(late, "completed"), "ENDED")
 
 
+@contextlib.contextmanager
+def made_up(series, words, make_all, **changes):
+    """A command of many migrations that gets these words, with QEMUs and migrations that are made up. Yields what it says."""
+    with contextlib.ExitStack() as patches:
+        said = SimpleNamespace(out=patches.enter_context(contextlib.redirect_stdout(io.TextIOWrapper(io.BytesIO(), write_through=True))),
+                               err=patches.enter_context(contextlib.redirect_stderr(io.StringIO())))
+        for where, its in ((series, {"Emulator": lambda name: SimpleNamespace(path=f"/{name}", version_text="10.0.13"), **changes}), (sys, {"argv": words}),
+                           (series.build, {"require_tools": lambda: None, "build": lambda: ("rom", "library")}), (series.series, {"make_all": make_all})):
+            patches.enter_context(mock.patch.multiple(where, **its))
+        yield said
+
+
 def of_the_table(tests):
     compare = command("compare")
     plan = plan_of("live")
@@ -250,24 +262,44 @@ def of_comparisons(tests, room):
         made.extend(os.path.basename(folder) for _, folder, _ in todo)
         return [Result(plan, "clean, yes", "completed") for plan, _, _ in todo]
 
-    def emulator_of(name):
-        return SimpleNamespace(path=f"/{name}", version_text="10.0.13")
-
     words = ["compare", "one", "other", "one", "--case", "live", "--runs", "2", "--folder", f"{room}/compared"]
     for lacks, wanted in (("", (0, ["live-10.0.13-0", "live-10.0.13-1", "live-10.0.13-by-1-0", "live-10.0.13-by-1-1"])), ("no userfaultfd", (3, []))):
         made.clear()
-        with contextlib.ExitStack() as patches, contextlib.redirect_stdout(io.StringIO()):
-            for where, changes in ((compare, {"Emulator": emulator_of, "lacks": lambda *_, lacks=lacks: lacks}), (sys, {"argv": words}),
-                                   (compare.build, {"require_tools": lambda: None, "build": lambda: ("rom", "library")}), (compare.series, {"make_all": make_all})):
-                patches.enter_context(mock.patch.multiple(where, **changes))
+        with made_up(compare, words, make_all, lacks=lambda *_, lacks=lacks: lacks):
             tests.wants(f"the status and the folders where QEMU lacks '{lacks}'", (compare.main(), made), wanted)
+
+
+def of_builds(tests, room):
+    """Where a case changes in a list of builds, and how few of them are asked."""
+    compare = command("compare")
+    for clean in ([True] * 5 + [False] * 12, [False] * 16 + [True], [True, False]):
+        asked = []
+        found = compare.change(list(range(len(clean))), lambda one, clean=clean, asked=asked: asked.append(one) or clean[one])
+        at = clean.index(not clean[0])
+        tests.wants(f"the change at {at} of {len(clean)}", found, (at - 1, at))
+        tests.wants("each is asked once, and few are", (len(set(asked)), len(asked) <= 2 + (len(clean) - 2).bit_length()), (len(asked), True))
+    tests.wants("where the ends are alike", compare.change([1, 2, 3], lambda one: one != 2), None)
+    with open(f"{room}/builds", "w", encoding="ascii") as out:
+        out.write("one\ntwo\n\nthree\nfour\n")
+
+    def make_all(todo, jobs):
+        return [Result(plan, "clean, yes" if path in first else "faulty line 7 read", "completed") for plan, _, (path, _) in todo]
+
+    words = ["compare", "--builds", f"{room}/builds", "--case", "live", "--runs", "1", "--folder", f"{room}/bisected"]
+    for first, lacks, wanted in ((("/one", "/two"), "", (1, "live changes between /two, clean, and /three, not clean")),
+                                 (("/four",), "", (1, "live changes between /three, not clean, and /four, clean")),
+                                 (("/one", "/two", "/three", "/four"), "", (0, "live is clean with the first and with the last")),
+                                 ((), "", (1, "live is not clean with the first and with the last")), ((), "no userfaultfd", (3, "compare: no userfaultfd"))):
+        with made_up(compare, words, make_all, lacks=lambda *_, lacks=lacks: lacks) as said:
+            status = compare.main()
+        tests.wants(f"what is told where {first} are clean", (status, (said.out.buffer.getvalue().decode() + said.err.getvalue()).splitlines()[-1]), wanted)
+    for words, said in (([], "there are QEMUs, or --builds"), (["one", "--builds", "x"], "there are QEMUs, or --builds"), (["--builds", "x"], "and one --case")):
+        done = subprocess.run([sys.executable, "-B", f"{QEMU}/compare", *words], capture_output=True, text=True)
+        tests.wants(f"the words {words}", (done.returncode, said in done.stderr), (2, True))
 
 
 def of_a_full_disk(tests, room):
     """A series that cannot write its results or its table names that file."""
-    def emulator_of(name):
-        return SimpleNamespace(path=f"/{name}", version_text="10.0.13")
-
     for name, words, file in (("campaign", ["1", "--no-axes", "--qemu", "one"], "results"), ("campaign", ["1", "--no-axes", "--qemu", "one"], "table"), ("compare", ["one", "--case", "live", "--runs", "1"], "table")):
         series, folder = command(name), f"{room}/{name}-{file}"
 
@@ -277,14 +309,9 @@ def of_a_full_disk(tests, room):
             os.symlink("/dev/full", path)
             return [Result(plan, "clean, yes", "completed") for plan in [plan_of("live")]]
 
-        with contextlib.ExitStack() as patches, contextlib.redirect_stdout(io.StringIO()), contextlib.redirect_stderr(io.StringIO()) as said:
-            for where, changes in ((series, {"Emulator": emulator_of}), (sys, {"argv": [name, *words, "--folder", folder], "stdout": io.TextIOWrapper(io.BytesIO())}),
-                                   (series.build, {"require_tools": lambda: None, "build": lambda: ("rom", "library")}), (series.series, {"make_all": make_all})):
-                patches.enter_context(mock.patch.multiple(where, **changes))
-            if name == "compare":
-                patches.enter_context(mock.patch.object(series, "lacks", lambda *_: ""))
+        with made_up(series, [name, *words, "--folder", folder], make_all, **({"lacks": lambda *_: ""} if name == "compare" else {})) as said:
             status = series.folders.status_of(name, series.main)
-        tests.wants(f"{name} without room for the {file}", (status, said.getvalue()), (3, f"{name}: {folder}/{file}: No space left on device\n"))
+        tests.wants(f"{name} without room for the {file}", (status, said.err.getvalue()), (3, f"{name}: {folder}/{file}: No space left on device\n"))
 
 
 def of_what_was_found(tests, room):
@@ -323,7 +350,7 @@ def of_what_was_found(tests, room):
 
 
 def run(tests):
-    for of_them in (of_what_is_lacking, of_roots, of_no_roots, of_one_that_hangs, of_comparisons, of_a_full_disk, of_what_was_found):
+    for of_them in (of_what_is_lacking, of_roots, of_no_roots, of_one_that_hangs, of_comparisons, of_builds, of_a_full_disk, of_what_was_found):
         with tempfile.TemporaryDirectory() as room:
             of_them(tests, room)
     of_the_table(tests)
