@@ -31,7 +31,7 @@ CLEAN, DONE = "clean, yes", "source completed, target completed"
 
 # A name, the words of `migrate`, and patterns of what the audit and what QEMU have to say.
 KINDS = [(kind, [kind, "--flush"], CLEAN, DONE) for kind in
-         ("live", "left", "cells", "wide", "paused", "processors", "preempt", "recovery", "preempt-recovery")]
+         ("live", "left", "cells", "wide", "paused", "processors", "preempt", "recovery", "preempt-recovery", "reconnect")]
 FAULTS = [
     ("lost-write", ["lost-write"], "faulty line [0-9]+ read", DONE),
     ("lost-write-flush", ["lost-write", "--flush"], CLEAN, DONE),

@@ -3,7 +3,7 @@ import collections
 import itertools
 
 from build import Missing
-from kinds import MEMORIES, TRANSPORTS
+from kinds import MEMORIES
 from results import markdown, versions_of
 
 DROPS, KEEPS, HOT, PAUSED = "drops translations", "keeps translations", "writes hot pages", "is paused"  # the guest, in pre-copy
@@ -13,7 +13,7 @@ AXES = {
     "memory": tuple(MEMORIES),
     "machine": ("pc", "q35"),
     "capability": ("none", "auto-converge", "xbzrle", "multifd"),
-    "transport": tuple(TRANSPORTS),
+    "transport": ("unix", "tcp"),  # (fd has neither preempt nor multifd)
     "guest": (DROPS, KEEPS, HOT, PAUSED),
     "preempt": ("no", "yes"),
     "recovery": ("no", "yes"),

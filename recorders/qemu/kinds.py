@@ -53,6 +53,7 @@ class Plan:
     huge: bool = False        # the guest's memory has pages of 2 MiB
     paused: bool = False      # the guest is stopped first, and resumes at the target after the end
     cuts: list = field(default_factory=list)  # the connection is cut after this many pages; -1: after the package
+    fails: int = 0            # how many times each recovery fails first, since nobody listens at the new connection
     fault: str = ""
     skip: int = 3             # of the pages that the fault could take
     linger: int = 0           # milliseconds by which a QEMU that ends with an error is delayed
@@ -102,6 +103,8 @@ KINDS = {
                  {"pages": 512, "post_bandwidth": 1_000_000, "cuts": [200]}),
     "preempt-recovery": ("both connections are cut, and the migration goes on over two others",
                          {"pages": 512, "preempt": True, "post_bandwidth": 1_000_000, "cuts": [200]}),
+    "reconnect": ("the connection is cut, and the first two recoveries find nobody who listens",
+                  {"pages": 512, "post_bandwidth": 1_000_000, "cuts": [200], "fails": 2}),
     "kvm": ("the guest runs on the processor, where /dev/kvm is",
             {"pages": 64, "kvm": True, "warm": 50, "after": 100, "bandwidth": 200_000, "post_bandwidth": 200_000}),
     "multifd": ("pre-copy goes over two more connections", {"pages": 1024, "multifd": 2, "post_bandwidth": 1_000_000}),

@@ -69,15 +69,17 @@ class Connection:
         self.is_cut = self.is_losing = False
 
     def shut(self):
-        for end in (self.source, self.target):
-            try:
-                end.shutdown(socket.SHUT_RDWR)
-            except OSError:
-                pass
+        shut(self.source, self.target)
 
     def close(self):
         for end in (self.source, self.target):
             end.close()
+
+
+def shut(*ends):
+    for end in ends:
+        with contextlib.suppress(OSError):
+            end.shutdown(socket.SHUT_RDWR)
 
 
 # The address of any free port of this machine.
@@ -146,7 +148,7 @@ class Relay:
                 for connection in self.connections:
                     connection.is_cut = True
                     connection.shut()
-                self.shut_unread()
+                shut(*self.unread)
                 raise Cut from None
 
     def tell(self, *fields):
@@ -163,12 +165,12 @@ class Relay:
         return self.stored - 1
 
     def end(self):
-        self.listener.shutdown(socket.SHUT_RDWR)  # which wakes whoever waits for the next one
+        shut(self.listener)  # which wakes whoever waits for the next one
         self.listener.close()
         self.accepting.join(5)  # so no connection opens that would not be closed
         for connection in self.connections:
             connection.shut()
-        self.shut_unread()
+        shut(*self.unread)
         for thread in self.threads:
             thread.join(5)
         for connection in self.connections:
@@ -223,7 +225,7 @@ class Relay:
         with self.books:
             while select.select([self.listener], [], [], 0)[0]:
                 self.listener.accept()[0].close()
-            self.shut_unread()
+            shut(*self.unread)
             self.target, self.is_cut_off = target, False
 
     def start(self, work, *words):
@@ -280,15 +282,8 @@ class Relay:
                     connection.is_cut = True
                     self.tell("cut", connection.number)
                     connection.shut()
-            self.shut_unread()
+            shut(*self.unread)
         self.was_cut.set()
-
-    def shut_unread(self):
-        for end in self.unread:
-            try:
-                end.shutdown(socket.SHUT_RDWR)
-            except OSError:
-                pass
 
     def cut_losing(self):
         """Cuts connections that lose pages: there may be fewer pages than the plan loses."""
@@ -321,10 +316,8 @@ class Relay:
             self.copy_rest(connection, tap)
         finally:
             self.cut_losing()  # the stream may have ended before all was lost
-            try:
+            with contextlib.suppress(OSError):
                 connection.target.shutdown(socket.SHUT_WR)
-            except OSError:
-                pass
 
     def copy_rest(self, connection, tap):
         """Hands on the rest, which is not understood."""

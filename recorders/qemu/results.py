@@ -121,9 +121,9 @@ class Result:
         parts = [plan.kind, f"{plan.pages} pages of {plan.words}", f"{plan.cpus} processors"]
         parts += [f"cut at {' '.join(map(str, plan.cuts))}"] if plan.cuts else []
         parts += [] if self.fault == "-" else [self.fault]
-        parts += [f"{what} {value}" for what, value in (("memory", plan.memory), ("machine", plan.machine)) if value not in ("one", "pc")]
+        parts += [f"{what} {value}" for what, value in (("memory", plan.memory), ("machine", plan.machine), ("transport", plan.transport)) if value not in ("one", "pc", "unix")]
         parts += [*plan.further, *(f"{name} {value}" for name, value in plan.parameters.items())]
-        parts += [what for what in ("paused", "preempt", "multifd") if getattr(plan, what) and what not in plan.kind]
+        parts += [what for what in ("hot", "paused", "preempt", "multifd") if getattr(plan, what) and what not in plan.kind]
         return "; ".join([f"{', '.join(parts)}: {self.verdict}", *([self.restart] if self.restart else []), self.outcome])
 
 

@@ -1,4 +1,5 @@
 """Records one migration: both QEMUs, the relay between them, and what they record, in a folder."""
+import contextlib
 import json
 import socket
 import time
@@ -330,6 +331,8 @@ class Migration:
         if stands["target"] != "postcopy-paused" or stands["source"] not in ("postcopy-paused", "postcopy-active"):
             self.remark("no recovery: " + ", ".join(f"{name} {status}" for name, status in stands.items()))
             return False
+        for _ in range(self.plan.fails):
+            self.fail_to_connect()
         try:
             self.relay.recover(self.incoming("migrate-recover", f"target-{self.outcome.recoveries + 1}"))
             self.source("migrate", uri=self.outgoing(), resume=True)
@@ -343,6 +346,13 @@ class Migration:
         self.outcome.recoveries += 1
         self.say("recovered")
         return True
+
+    def fail_to_connect(self):
+        """Has the source resume over a connection that nobody listens at. It is paused afterwards, as it was before."""
+        with contextlib.suppress(Refused):  # (older QEMUs do not refuse it, and say so in their errors)
+            self.source("migrate", uri=f"unix:{self.room.name('nobody')}", resume=True)
+        status = self.source.wait_for(("postcopy-paused", *ENDS), self.plan.limit)
+        self.say(f"a recovery found nobody who listens: source {status}")
 
     def ask_both(self):
         """Asks both QEMUs where the migration stands."""

@@ -63,8 +63,8 @@ def of_results(tests):
                 ["| Of the migrations with | 7.2.22 | 10.0.13 |", "| memory numa, guest keeps translations | | 2 `read` |"])
     tests.wants("pairs that were not made", (("memory", "uneven"), ("machine", "pc")) in axes.not_made(made), True)
     tests.wants("and one that was", (("memory", "numa"), ("guest", axes.KEEPS)) in axes.not_made(made), False)
-    tests.wants("a line", result("clean, yes", memory="numa", machine="q35", capability="xbzrle", preempt="yes").line().split(":")[0].split(", ")[3:],
-                ["memory numa", "machine q35", "xbzrle", "preempt"])
+    tests.wants("a line", result("clean, yes", memory="numa", machine="q35", transport="tcp", guest=axes.HOT, capability="xbzrle", preempt="yes").line().split(":")[0].split(", ")[3:],
+                ["no flush", "memory numa", "machine q35", "transport tcp", "xbzrle", "hot", "preempt"])
 
 
 def of_campaigns(tests):
@@ -214,6 +214,17 @@ def of_hot_pages(tests):
         tests.wants(f"a guest that is told, paused {paused}", told, ["query-migrate"] * wanted + ["send-key"] * bool(wanted))
 
 
+def of_failed_recoveries(tests):
+    """A recovery that nobody listens for is refused by some QEMUs, and leaves the source paused."""
+    for refuses in (False, True):
+        one, told = Migration.__new__(Migration), []
+        one.plan, one.room, one.say = plan_of("reconnect"), SimpleNamespace(name=lambda name: f"/{name}"), told.append
+        one.source = mock.Mock(side_effect=qmp.Refused("it cannot") if refuses else None, wait_for=lambda states, seconds: states[0])
+        one.fail_to_connect()
+        tests.wants("what the source is asked", one.source.call_args, mock.call("migrate", uri="unix:/nobody", resume=True))
+        tests.wants("what is told", told, ["a recovery found nobody who listens: source postcopy-paused"])
+
+
 def of_owners(tests):
     """Each end has whose it is, in QEMU's words."""
     plan, unjudged = plan_of("live"), "not judged: there was no post-copy: the state was never handed over in a package"
@@ -267,6 +278,7 @@ def run(tests):
     of_campaigns(tests)
     of_words(tests)
     of_hot_pages(tests)
+    of_failed_recoveries(tests)
     of_owners(tests)
     for of_them in (of_machines, of_transports, of_the_end_of_precopy):
         with tempfile.TemporaryDirectory() as room:
