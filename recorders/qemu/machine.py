@@ -81,12 +81,10 @@ def memory(plan):
     block = ["-object", f"{kind},id={PC_RAM},size={plan.ram}M"]
     length = plan.ram // 2 if plan.memory == "uneven" else plan.ram + plan.ram // 2
     front = ["-object", f"memory-backend-ram,id={FRONT},size={length}M"]
-    if plan.memory == "dimm":
+    device = {"dimm": "pc-dimm", "virtio-mem": "virtio-mem-pci"}.get(plan.memory)
+    if device:
         return ["-m", f"{plan.ram}M,slots=1,maxmem={plan.ram + 2 * length}M", *front, *block, "-machine", f"memory-backend={PC_RAM}",
-                "-device", f"pc-dimm,memdev={FRONT}"]
-    if plan.memory == "virtio-mem":
-        return ["-m", f"{plan.ram}M,maxmem={plan.ram + 2 * length}M", *front, *block, "-machine", f"memory-backend={PC_RAM}",
-                "-device", f"virtio-mem-pci,memdev={FRONT}"]
+                "-device", f"{device},memdev={FRONT}"]
     if plan.memory != "one":
         return ["-m", f"{plan.ram + length}M", *front, *block, "-numa", f"node,nodeid=0,memdev={PC_RAM}", "-numa", f"node,nodeid=1,memdev={FRONT}"]
     is_named_here = plan.huge or plan.machine != "pc"  # (another machine has another name for its block)

@@ -109,7 +109,7 @@ def of_machines(tests, room):
                                        "-numa", "node,nodeid=0,memdev=pc.ram", "-numa", "node,nodeid=1,memdev=front"]),
                            ("dimm", ["-m", "32M,slots=1,maxmem=128M", "-object", "memory-backend-ram,id=front,size=48M", "-object", "memory-backend-ram,id=pc.ram,size=32M",
                                      "-machine", "memory-backend=pc.ram", "-device", "pc-dimm,memdev=front"]),
-                           ("virtio-mem", ["-m", "32M,maxmem=128M", "-object", "memory-backend-ram,id=front,size=48M", "-object", "memory-backend-ram,id=pc.ram,size=32M",
+                           ("virtio-mem", ["-m", "32M,slots=1,maxmem=128M", "-object", "memory-backend-ram,id=front,size=48M", "-object", "memory-backend-ram,id=pc.ram,size=32M",
                                            "-machine", "memory-backend=pc.ram", "-device", "virtio-mem-pci,memdev=front"])):
         tests.wants(f"the options of {memory}", machine.memory(plan_of("live", memory=memory)), wanted)
     tests.wants("each memory has its options", set(kinds.MEMORIES), {"one", "numa", "uneven", "dimm", "virtio-mem"})
