@@ -52,7 +52,7 @@ AXES = [
     ("numa", ["live", "--flush", "--memory", "numa"], CLEAN, DONE),
     ("dimm", ["recovery", "--flush", "--memory", "dimm"], CLEAN, DONE),
     ("numa-lost-write", ["lost-write", "--memory", "numa"], f"faulty line [0-9]+ read|{LOST_IN_PRECOPY}", DONE),
-    ("hot-pages", ["hot-pages"], "faulty line [0-9]+ (read|altered)", DONE),
+    ("hot-pages", ["hot-pages"], f"{CLEAN}|faulty line [0-9]+ read", DONE),
     ("hot-pages-flush", ["hot-pages", "--flush"], CLEAN, DONE),
     ("virtio-mem", ["live", "--flush", "--memory", "virtio-mem"], CLEAN, DONE),
     ("tcp", ["preempt", "--flush", "--transport", "tcp"], CLEAN, DONE),
