@@ -12,7 +12,7 @@ PLACEHOLDER = re.compile(r"[A-Z]{4,}|[*<>$]|\.\.|^[/~-]|^https?:")
 ENDING = re.compile(r"^[\w.-]+\.(?:rt|antt|py|c|h|md|svg|toml|trace|edit|in)$")
 IDENTIFIER = re.compile(r"^(?=.*[a-z])(?=.*_|.*[a-z][A-Z]|[A-Z][a-z])[A-Za-z_]\w*$")
 # Files that need not be there: what cargo writes, a trace that a migration with a lane has, and a program that a page shows.
-FOREIGN = {"Cargo.lock", "lane.trace", "smallest.c", "smallest.py"}
+FOREIGN = {"Cargo.lock", "lane.trace", "smallest.c", "smallest.py", "test_migration.py"}
 
 looked_up = 0
 

@@ -22,7 +22,7 @@ import zipfile
 
 import pytest
 from cases import count, leave_out, same
-from library_assertions import by_pipe, tests_of_assertions
+from library_assertions import by_pipe, fails, said as raised, tests_of_assertions
 from library_claims import tests_of_claims
 from session_topics import topics_of
 
@@ -382,7 +382,7 @@ def compare_texts(postcopy):
     for text in (b"", bytearray(), memoryview(b""), os.devnull):
         same(f"an empty text as {text!r}", str(postcopy.check(text, text)), "session-text line 1")
     for text, error, words in ((7, TypeError, "bytes or a path"), (f"{TOP}/no-such-file", FileNotFoundError, "no-such-file"),
-                               (session.decode(), TypeError, "give the text as bytes"), (TOP, IsADirectoryError, "'postcopy session' makes the session")):
+                               (session.decode(), TypeError, "give the text as bytes"), (TOP, IsADirectoryError, "only a session may be one")):
         try:
             postcopy.check(session, text)
             count(False, f"{text!r} is taken for a text")
@@ -395,6 +395,34 @@ def compare_texts(postcopy):
     same("the certificate of the greatest machine", postcopy.certify(GREATEST).text == wanted, True)
     said = run(sys.executable, "-B", "-c", SHORT_OF_MEMORY, env={**os.environ, "PYTHONPATH": f"{TOP}/bindings/python"}, input=GREATEST)
     same("a call short of memory, and the next", said, b"OutOfMemory\nclean\n")
+
+
+def compare_folders(postcopy, program, folder):
+    """A recorder's folder is taken for the session that the program makes of it, by each function; and what makes none says why."""
+    from postcopy.recorder import Log
+    from postcopy.testing import assert_clean
+    guest, source, pager, machine = logs = [Log(folder, party) for party in ("guest", "source", "pager", "machine")]
+    machine.machine(pages=1, cells=1)
+    source.halted(guest.halt())
+    pager.got_sent(source.state())
+    guest.resume(pager.ready())
+    why = subprocess.run([program, "session", folder], stdout=subprocess.PIPE, stderr=subprocess.STDOUT, text=True).stdout
+    with pytest.raises(OSError, match="has no end") as fault:
+        postcopy.audit(folder)
+    same("logs that are not closed", (fault.value.strerror, fault.value.filename), (why.rstrip("\n"), folder))
+    for log in logs:
+        log.close()
+    session = run(program, "session", folder)
+    same("a folder, and what one answers of it", (postcopy.session(folder), postcopy.audit(folder).session), (session, session))
+    for name in ("audit", "audit_all", "certify", "draw", "explain", "missing", "missing_pages", "why"):
+        same(f"{name} of a folder", getattr(postcopy, name)(folder), getattr(postcopy, name)(session))
+    for name, kind in (("check", postcopy.Kind.YES), ("replay", postcopy.Kind.SAFE)):
+        same(f"{name} of a folder", getattr(postcopy, name)(folder, postcopy.audit(session).certificate).kind, kind)
+    asks = postcopy.Asks.AUDIT, postcopy.Asks.MISSING
+    same("questions about a folder", postcopy.answers(folder, *asks), postcopy.answers(session, *asks))
+    fails(same, "a folder in which a page never came", raised(lambda: assert_clean(folder)), "incomplete page 0\n")
+    with pytest.raises(OSError, match="none: no such file"):
+        postcopy.session(folder, f"{folder}/none")
 
 
 def of_reads(count):
@@ -609,20 +637,31 @@ int main(void) {
     # (it ends with status 1 where anything but what is shown comes)
     ran = subprocess.run([sys.executable, "-B", "-m", "doctest", "-o", "ELLIPSIS", f"{room}/session.txt"], cwd=TOP, env=env)
     same("the session of Python in docs/EMBEDDING.md", (ran.returncode, session.count(">>>") > 4), (0, True))
-    tests_of_pytest(room, shown["python"][1], shown["text"][0], env)
+    tests_of_pytest(room, TOP, shown["python"][1], " 1 failed, 1 passed ", shown["text"][0])
 
 
-def tests_of_pytest(room, test, failure, env):
-    """A test of sessions by pytest, and how it fails."""
-    with open(f"{room}/test_sessions.py", "w") as file:
+def tests_of_pytest(room, folder, test, sums, failure):
+    """A test that a page shows, by pytest in a folder: how it ends, and what the page shows of its failure."""
+    with open(f"{room}/test_shown.py", "w") as file:
         file.write(test)
-    words = [sys.executable, "-m", "pytest", "-p", "no:cacheprovider", "--color=no", f"--rootdir={room}", f"{room}/test_sessions.py"]
-    ran = subprocess.run(words, stdout=subprocess.PIPE, cwd=TOP, env={**env, "PYTHONDONTWRITEBYTECODE": "1"})
+    words = [sys.executable, "-m", "pytest", "-p", "no:cacheprovider", "--color=no", f"--rootdir={room}", f"{room}/test_shown.py"]
+    ran = subprocess.run(words, stdout=subprocess.PIPE, cwd=folder, env={**os.environ, "PYTHONPATH": f"{TOP}/bindings/python", "PYTHONDONTWRITEBYTECODE": "1"})
     said = ran.stdout.decode()
-    same(f"a test by pytest ends with a failure: {said}", (ran.returncode, " 1 failed, 1 passed " in said), (1, True))
-    lines = failure.replace("...\n", "").splitlines()
-    same("what docs/EMBEDDING.md shows of it", [it for it in lines if it not in said.splitlines()], [])
+    same(f"a test by pytest: {said}", (ran.returncode, sums in said), (int(bool(failure)), True))
+    same("what the page shows of it", [it for it in failure.replace("...\n", "").splitlines() if it not in said.splitlines()], [])
     count("testing.py" not in said, "pytest shows more than the test")
+
+
+def tests_of_fixture(room):
+    """The fixture of docs/RECORDING.md, over the script above it, as that stands there and without its fault."""
+    page = read("docs/RECORDING.md")
+    script, fixture = re.findall(r"^```python\n(.*?)^```$", page, re.M | re.S)
+    fault = re.search(r"    if page == 2:\n.*\n", script)[0]
+    for recording, sums, failure in ((script, " 1 passed, 1 error ", re.search(r"^```text\n(.*?)^```$", page, re.M | re.S)[1]),
+                                     (script.replace(fault, ""), " 1 passed, 1 warning ", "")):
+        with open(f"{room}/smallest.py", "w") as file:
+            file.write(recording)
+        tests_of_pytest(room, room, fixture, sums, failure)
 
 
 def tests_of_wheel(room):
@@ -650,10 +689,11 @@ def tests_of_wheel(room):
 
 
 @pytest.fixture(scope="module")
-def postcopy(library):
-    """The package for Python, over the library that was built here, by whichever toolchain."""
+def postcopy(library, program):
+    """The package for Python, over the library that was built here, by whichever toolchain, and the program."""
     with pytest.MonkeyPatch.context() as patch:
         patch.setenv("POSTCOPY_LIBRARY", f"{library}/libpostcopy.so")
+        patch.setenv("POSTCOPY", program)
         import postcopy as package
         yield package
 
@@ -700,6 +740,11 @@ def test_texts(postcopy):
     compare_texts(postcopy)
 
 
+@pytest.mark.cases(14)
+def test_folders(postcopy, program, room):
+    compare_folders(postcopy, program, f"{room}/recording")
+
+
 @pytest.mark.cases(6)
 def test_questions(postcopy):
     compare_questions(postcopy)
@@ -744,7 +789,7 @@ def test_example_for_python(postcopy, monkeypatch, capsys, room):
     """The example for Python goes by what the check answers, and not by the report alone. Where there is no answer it says why."""
     session = f"{TOP}/examples/handover/session"
     for words, output, status, why in (([session], os.devnull, 0, ""), ([f"{room}/none"], os.devnull, 3, f"check.py: {room}/none: No such file or directory\n"),
-                                       ([room], os.devnull, 3, f"check.py: {room}: it is a folder"), ([session], "/dev/full", 3, "check.py: standard output: No space left on device\n"),
+                                       ([room], os.devnull, 3, f"check.py: {room}: session: {room}: there is no file of a recorder"), ([session], "/dev/full", 3, "check.py: standard output: No space left on device\n"),
                                        ([], os.devnull, 2, "Audits a session"), ([session, session], os.devnull, 2, "Audits a session")):
         with open(output, "w", encoding="utf-8") as out:
             ran = subprocess.run([sys.executable, "-B", f"{TOP}/bindings/python/examples/check.py", *words], stdout=out, stderr=subprocess.PIPE, text=True,
@@ -756,9 +801,10 @@ def test_example_for_python(postcopy, monkeypatch, capsys, room):
         same(f"where the check says {answer}", (main(f"{TOP}/examples/handover/session"), capsys.readouterr().out), (status, f"clean\n{answer}\n"))
 
 
-@pytest.mark.cases(6)
-def test_page(postcopy, room):
+@pytest.mark.cases(12)
+def test_pages(postcopy, room):
     tests_of_page(room)
+    tests_of_fixture(room)
 
 
 @pytest.mark.cases(7)

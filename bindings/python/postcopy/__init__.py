@@ -7,8 +7,8 @@
     >>> print(report)
     clean
 
-Each function takes a text as bytes, or as the path of a file, which is mapped and not copied. Bytes and files must not change
-while a call runs. Other threads run during a call. `help(postcopy.Kind)` and `help(postcopy.Reason)` say what the answers mean.
+Each function takes a text as bytes, or as the path of a file, which is mapped and not copied; a session also as the path of a
+recorder's folder, of which `session` makes it. Bytes and files must not change while a call runs. Other threads run during a call. `help(postcopy.Kind)` and `help(postcopy.Reason)` say what the answers mean.
 
 It is proved that a session with the answer YES or CLEAN is safe: in every merging of its logs, each read or write after the
 handover finds its page resident, and each read gives what one machine that never moved gives. It is assumed that the logs say
@@ -27,6 +27,7 @@ import itertools
 import mmap
 import operator
 import os
+import shutil
 import stat
 import subprocess
 import warnings
@@ -37,11 +38,11 @@ from typing import BinaryIO, Callable, List, NamedTuple, Optional, Tuple, TypeVa
 from .records import page_in
 
 __all__ = ["Answer", "Asks", "Fault", "Kind", "OutOfMemory", "Question", "Reason", "Refused", "Report", "Text", "answers", "audit",
-           "audit_all", "certify", "check", "draw", "explain", "missing", "missing_pages", "replay", "version", "why"]
+           "audit_all", "certify", "check", "draw", "explain", "missing", "missing_pages", "replay", "session", "version", "why"]
 
 __version__ = "1.0.0"
 
-#: Bytes, or the path of a file with them.
+#: Bytes, or the path of a file with them. For a session also the path of a folder of recorders' files.
 Text = Union[bytes, bytearray, memoryview, str, "os.PathLike[str]"]
 
 
@@ -226,13 +227,13 @@ class Answer:
 
 @dataclass(frozen=True)
 class Report(Answer):
-    """The answer of `audit`: the report on a session, and the session as it was given.
+    """The answer of `audit`: the report on a session, and the session as it was given, or as it was made of a folder.
 
     `page`, `faults`, `explain` and `draw` read the session again at each call, so its file must still be there, unchanged.
     A notebook shows a report as the picture of its session.
     """
 
-    session: Text = field(default=b"", repr=False, compare=False)  # (the bytes, where it came by a pipe)
+    session: Text = field(default=b"", repr=False, compare=False)  # (the bytes, where it came by a pipe or of a folder)
 
     @property
     def certificate(self) -> Optional[bytes]:
@@ -325,7 +326,7 @@ class _Bytes:
         if isinstance(name, str) and name.startswith("postcopy-") and "\n" in name:
             raise TypeError("a str is the path of a file, and not a text: give the text as bytes, such as text.encode()")
         if os.path.isdir(name):
-            raise IsADirectoryError(errno.EISDIR, "it is a folder; 'postcopy session' makes the session of a folder of recorders' files", os.fspath(name))
+            raise IsADirectoryError(errno.EISDIR, "it is a folder, and only a session may be one", os.fspath(name))
         with open(name, "rb") as file:
             if os.fstat(file.fileno()).st_size == 0:
                 return file.read()
@@ -424,7 +425,7 @@ def _in_room(length: int, call: "Callable[[object, int], _Numbers]") -> "tuple[_
 
 def _with_text(call: "ctypes._FuncPointer", session: Text, *topic: int) -> Answer:
     """The answer of a call that writes a text about a session. Some calls also take a page or a line."""
-    with _Bytes(session) as given:
+    with _Bytes(_kept(session)) as given:
         numbers, text = _in_room(given.length + mmap.PAGESIZE, lambda room, length: call(given.at, given.length, *topic, room, length))
         return _told(numbers, text, given)
 
@@ -444,17 +445,21 @@ def _faults(text: bytes) -> List[Fault]:
 
 
 def _on_two(call: "ctypes._FuncPointer", session: Text, other: Text) -> Answer:
-    with _Bytes(session) as first, _Bytes(other) as second:
+    with _Bytes(_kept(session)) as first, _Bytes(other) as second:
         return _told(call(first.at, first.length, second.at, second.length), b"", first, second)
 
 
 def _kept(text: Text) -> Text:
-    """The bytes of a file that can be read only once, such as a pipe. Any other text as it is."""
+    """The session of a folder, and the bytes of a file that can be read only once, such as a pipe. Any other text as it is."""
+    mode = 0
     if isinstance(text, (str, os.PathLike)):
         with contextlib.suppress(OSError, ValueError):
-            if stat.S_ISFIFO(os.stat(text).st_mode):
-                with open(text, "rb") as file:
-                    return file.read()
+            mode = os.stat(text).st_mode
+        if stat.S_ISDIR(mode):
+            return session(text)
+        if stat.S_ISFIFO(mode):
+            with open(text, "rb") as file:
+                return file.read()
     return text
 
 
@@ -463,6 +468,28 @@ def _why(given: _Bytes, kind: Kind) -> Optional[Refused]:
     call = _library().postcopy_why
     numbers, words = _in_room(mmap.PAGESIZE, lambda room, length: call(given.at, given.length, kind, room, length))
     return None if _kind(numbers) is Kind.READ else Refused(kind, numbers.line, numbers.column, words.decode("utf-8", "replace"))
+
+
+def _program() -> str:
+    """The program: the one that POSTCOPY names, that of a checkout, or the one in PATH."""
+    top = Path(__file__).resolve().parent.parent.parent.parent
+    here = str(top / "postcopy") if (top / "shipped").is_dir() else shutil.which("postcopy")
+    name = os.environ.get("POSTCOPY") or here
+    if name is None:
+        raise FileNotFoundError(errno.ENOENT, "it makes the session of a folder, and is not in PATH: tools/install installs it", "postcopy")
+    return name
+
+
+def session(*folders: Union[str, "os.PathLike[str]"]) -> bytes:
+    """Returns the session that the program makes of a recording in these folders, as the command `session` does. Raises OSError, with
+    the program's words, if something of it is missing, the files make no session, or one is not read; and OutOfMemory if memory
+    runs out."""
+    ran = subprocess.run([_program(), "session", "--", *folders], stdin=subprocess.DEVNULL, stdout=subprocess.PIPE, stderr=subprocess.PIPE)
+    if ran.returncode == 4:
+        raise OutOfMemory("memory was refused")
+    if ran.returncode:
+        raise OSError(errno.EBADMSG, ran.stderr.decode("utf-8", "replace").rstrip("\n"), *map(os.fspath, folders[:1]))
+    return ran.stdout
 
 
 def check(session: Text, certificate: Text) -> Answer:
@@ -564,7 +591,7 @@ def why(text: Text, kind: Kind = Kind.SESSION_TEXT) -> Optional[Refused]:
     takes; or None if it is not refused. Raises OutOfMemory if memory runs out."""
     if kind not in _REFUSED:
         raise ValueError(f"no text is of the kind {kind!r}")
-    with _Bytes(text) as given:
+    with _Bytes(_kept(text) if kind is Kind.SESSION_TEXT else text) as given:
         return _why(given, Kind(kind))
 
 
