@@ -4,8 +4,9 @@
     tests/case_table.py FOLDER     lays out all of them below a new folder, where each can be run by hand: cd FOLDER/CASE; postcopy $(cat args)
 
 A case begins with a line 'case NAME' and ends with an empty one. 'what' says in a line what it shows, 'args' has the program's words, quoted
-as a shell wants them, and 'status' the status that is wanted. 'file NAME TEXT' is a file of the case: one of tests/cases/texts, or of
-examples/. Below 'stdout', 'stderr', 'stdin' and 'checked' their lines follow, each behind a bar and a space. tests/test_examples.py says what these are.
+as a shell wants them, and 'status' the status that is wanted. Below 'file NAME' the lines of a file of the case follow, each behind a bar and a
+space. 'file NAME CASE/FILE' is the file of a case above, 'file NAME examples/..' one of examples/, and 'file NAME TEXT' one of tests/cases/texts, whose
+bytes are no lines of ASCII, or too many. 'stdout', 'stderr', 'stdin' and 'checked' are such files; tests/test_examples.py says what these are.
 A folder in tests/cases/ is a case too, and is copied.
 """
 import atexit
@@ -27,11 +28,16 @@ def write(name, text):
         file.write(text)
 
 
+def place_of(text, folder):
+    """The folder of a text that a case has too."""
+    return TOP if text.startswith("examples/") else folder if "/" in text else f"{TABLES}/texts"
+
+
 def lay_out_case(folder, lines):
     """Makes the folder of a case of these lines."""
     open_text = None
     for line in lines:
-        word, _, rest = line.partition(" ")
+        word, _, rest = (f"file {line}" if line in LINES else line).partition(" ")
         if word == "|":
             open_text.write(f"{rest}\n")
             continue
@@ -47,11 +53,11 @@ def lay_out_case(folder, lines):
             write(f"{at}/{word}", f"{rest}\n")
         elif word == "file":
             name, _, text = rest.partition(" ")
-            source = f"{TOP}/{text}" if text.startswith("examples/") else f"{TABLES}/texts/{text}"
             os.makedirs(os.path.dirname(f"{at}/{name}"), exist_ok=True)
-            shutil.copyfile(source, f"{at}/{name}")
-        elif line in LINES:
-            open_text = open(f"{at}/{word}", "x", encoding="utf-8")
+            if text:
+                shutil.copyfile(f"{place_of(text, folder)}/{text}", f"{at}/{name}")
+            else:
+                open_text = open(f"{at}/{name}", "x", encoding="utf-8")
         else:
             raise ValueError(f"this is no line of a case: {line}")
     if open_text:

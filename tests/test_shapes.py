@@ -12,6 +12,7 @@ import subprocess
 import xml.etree.ElementTree as ElementTree
 
 import pytest
+from case_table import case_file
 from cases import count, right, same
 from picture_lines import lines_of
 from picture_shapes import Drawing, looks_wrongly
@@ -69,7 +70,7 @@ def variants(file, name):
 
 def drawn(program, words):
     """The lines of the picture that the program draws."""
-    ran = subprocess.run([program, *words], cwd=TOP, stdin=subprocess.DEVNULL, capture_output=True, text=True)
+    ran = subprocess.run([program, *(case_file(it) if "/" in it else it for it in words)], stdin=subprocess.DEVNULL, capture_output=True, text=True)
     same(f"the status of {' '.join(words)}", ran.returncode, 0)
     if not ran.stdout:
         return []
