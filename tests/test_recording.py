@@ -304,15 +304,23 @@ def test_recording(program, room):
     tests.of_limits()
 
 
-def test_skeleton(program, cc, room):
-    """The skeleton in C of docs/RECORDING.md: it compiles without a warning, and what it records is judged as the
-    page shows; and with the change that the page names, too."""
+def skeleton_in(room, program, name):
+    """Puts the skeleton in C of docs/RECORDING.md into a folder in which the page's commands run, and answers the page and the skeleton."""
     page = read("docs/RECORDING.md")
     skeleton = re.search(r"```c\n(/\* smallest\.c: .*?)```", page, re.S)[1]
-    assert skeleton.count("\n") <= 40
     for folder in ("bindings", "recorders"):
         os.symlink(f"{TOP}/{folder}", f"{room}/{folder}")
     os.symlink(program, f"{room}/postcopy")
+    with open(f"{room}/{name}", "w", encoding="ascii") as file:
+        file.write(skeleton)
+    return page, skeleton
+
+
+def test_skeleton(program, cc, room):
+    """The skeleton in C of docs/RECORDING.md: it compiles without a warning, and what it records is judged as the
+    page shows; and with the change that the page names, too."""
+    page, skeleton = skeleton_in(room, program, "smallest.c")
+    assert skeleton.count("\n") <= 40
     (compiling, nothing, _), (judging, shown, _) = commands_of(page)[:2]
     assert (compiling.startswith(f"{cc} -pthread "), nothing, shown) == (True, [], ["clean"])
     strict = compiling.replace(f"{cc} ", f"{cc} -std=c11 -Wall -Wextra -Werror ", 1)
@@ -338,12 +346,7 @@ def no_folder(room):
 
 def test_skeletons_of_other_languages(program, room, cc):
     """The skeleton is C++ too, and the one in Rust, bindings/rust/smallest.rs, records what is judged as the page shows."""
-    page = read("docs/RECORDING.md")
-    for folder in ("bindings", "recorders"):
-        os.symlink(f"{TOP}/{folder}", f"{room}/{folder}")
-    os.symlink(program, f"{room}/postcopy")
-    with open(f"{room}/smallest.cpp", "w", encoding="ascii") as file:
-        file.write(re.search(r"```c\n(/\* smallest\.c: .*?)```", page, re.S)[1])
+    page, _ = skeleton_in(room, program, "smallest.cpp")
     for compiler in ("c++", "rustc"):
         if not shutil.which(compiler):
             leave_out(f"the skeleton by {compiler}, which is not there")
@@ -364,12 +367,7 @@ def test_skeletons_of_other_languages(program, room, cc):
 def test_lines_in_their_order(program, room, cc):
     """The lines of the page that record by a program in C, by userfaultfd and by a program in Rust, each once in the page's order and in one
     folder, as they are copied: none of them finds the recording of another in its own folder."""
-    page = read("docs/RECORDING.md")
-    for folder in ("bindings", "recorders"):
-        os.symlink(f"{TOP}/{folder}", f"{room}/{folder}")
-    os.symlink(program, f"{room}/postcopy")
-    with open(f"{room}/smallest.c", "w", encoding="ascii") as file:
-        file.write(re.search(r"```c\n(/\* smallest\.c: .*?)```", page, re.S)[1])
+    page, _ = skeleton_in(room, program, "smallest.c")
 
     def wrote(*lines):
         ran = subprocess.run(["bash", "-e", "-c", "\n".join(lines)], cwd=room, stdin=subprocess.DEVNULL, capture_output=True, encoding="utf-8")

@@ -22,6 +22,7 @@ import recorded_model
 from cases import leave_out, same
 from made_folders import DAMAGES, File, damaged, made_folders, recording_of_text, small_known_texts
 from made_sessions import called, files_of
+from recorded_faults import MOVED
 from recorded_model import COMPRESSED, PREFIX, answer_of, model_of, told
 from session_text import LOGS, SessionText
 from text_judge import refusal_line
@@ -357,19 +358,10 @@ def test_form(tests):
 
 # Files that nobody should have.
 
-BASE = {
-    "machine": ["pages 2 1", "page 1 0000000000000007"],
-    "guest": ["w 0 0 0 5", "halt", "resume 1", "see 3", "r 0 0 0 5"],
-    "source": ["halted 1", "state", "send 0 0000000000000005"],
-    "link": ["down 1", "down 2"],
-    "pager": ["got 0", "ready", "got 1", "place 0 2 0000000000000005"],
-}
-
-
 def base(folder, **changed):
     """A folder with a right recording, but for these logs: records, or the bytes behind the head."""
     os.makedirs(folder)
-    for log, records in {**BASE, **changed}.items():
+    for log, records in {**MOVED, **changed}.items():
         body = records if isinstance(records, bytes) else "".join(f"{it} {record}\n" for it, record in enumerate(records)).encode() + f"end {len(records)}\n".encode()
         with open(f"{folder}/{log}.1.0", "wb") as file:
             file.write(f"postcopy-records 1\nrecording made\nlog {log} 0 0\n".encode() + body)
@@ -378,7 +370,7 @@ def base(folder, **changed):
 
 def body(log, more=b"", last=True):
     """The records of a log, as they stand in a file."""
-    return "".join(f"{it} {record}\n" for it, record in enumerate(BASE[log])).encode() + more + (f"end {len(BASE[log])}\n".encode() if last else b"")
+    return "".join(f"{it} {record}\n" for it, record in enumerate(MOVED[log])).encode() + more + (f"end {len(MOVED[log])}\n".encode() if last else b"")
 
 
 def little():
@@ -421,9 +413,9 @@ def great_numbers(tests):
         for what, changed in (
             ("a record's number", {"guest": body("guest", f"{number} r 0 0 0 5\n".encode(), last=False)}),
             ("an end", {"guest": body("guest", f"end {number}\n".encode(), last=False)}),
-            ("a record that is named", {"guest": [*BASE["guest"], f"see {number}"]}),
-            ("a page", {"guest": [*BASE["guest"], f"z 0 {number}"]}),
-            ("a value", {"guest": [*BASE["guest"], f"w 0 0 0 {number}"]}),
+            ("a record that is named", {"guest": [*MOVED["guest"], f"see {number}"]}),
+            ("a page", {"guest": [*MOVED["guest"], f"z 0 {number}"]}),
+            ("a value", {"guest": [*MOVED["guest"], f"w 0 0 0 {number}"]}),
             ("the pages", {"machine": [f"pages {number} 1"]}),
             ("the cells", {"machine": [f"pages 2 {number}"]}),
             ("a first page", {"machine": ["pages 2 1", f"page {number} 0000000000000007"]}),
@@ -453,9 +445,9 @@ def edges(tests):
         ("machine", ("pages 2 1", f"page 0 {page}", f"page 1 {page}", f"page 2 {page}", f"page 00 {page}", f"page 0 {page[:-1]}A", f"page 0 {page}{page}", "page 0 0000000000000000", "page 0", "pages 3 1")),
     ):
         for number, text in enumerate(texts):
-            compared(tests, f"a last record {text!r} of the {log}", [base(f"edge-{log}-{number}", **{log: [*BASE[log], text]})], with_sentences=False)
-        count = len(BASE[log])
-        compared(tests, f"a record of the {log} with no text", [base(f"empty-{log}", **{log: [*BASE[log], ""]})])
+            compared(tests, f"a last record {text!r} of the {log}", [base(f"edge-{log}-{number}", **{log: [*MOVED[log], text]})], with_sentences=False)
+        count = len(MOVED[log])
+        compared(tests, f"a record of the {log} with no text", [base(f"empty-{log}", **{log: [*MOVED[log], ""]})])
         compared(tests, f"such a record behind a hole of the {log}", [base(f"behind-{log}", **{log: body(log, f"{count + 1} \nend {count + 2}\n".encode(), last=False)})])
 
 
@@ -474,7 +466,7 @@ def parts(tests):
             records = [it for it in range(first, end) if it not in taken]
             taken |= {*records}
             left = "" if last is None else "lost 28\n" if last == "lost" else f"{last} {end}\n"
-            tests.put(f"{folder}/guest.{process}.0", f"postcopy-records 1\nrecording made\nlog guest {first} 0\n" + "".join(f"{it} {BASE['guest'][it]}\n" for it in records) + left)
+            tests.put(f"{folder}/guest.{process}.0", f"postcopy-records 1\nrecording made\nlog guest {first} 0\n" + "".join(f"{it} {MOVED['guest'][it]}\n" for it in records) + left)
         compared(tests, f"the parts {chosen}", [folder])
 
 
@@ -511,7 +503,7 @@ def growing(tests):
     is_over = threading.Event()
 
     def append():
-        number = len(BASE["guest"])
+        number = len(MOVED["guest"])
         with open("growing/guest.1.0", "ab", buffering=0) as file:
             while not is_over.wait(0.0005):
                 file.write("".join(f"{it} r 0 0 0 5\n" for it in range(number, number + 300)).encode())

@@ -393,6 +393,16 @@ def copied_page(room):
     return f"file://{shutil.copy(PAGE, f'{room}/postcopy.html')}"
 
 
+def tests_of_viewing(browser, room, program, url):
+    tests_of_verdicts(browser, room)
+    tests_of_lacks(browser, room)
+    web_files.run_all(browser, room, program, url)
+    tests_of_showing(browser, program)
+    tests_of_topics(browser, program)
+    tests_of_tour(browser, room, program)
+    web_viewing.run_all(browser, room, program, url, lambda scheme: browser.has_look(prefers_color_scheme=scheme))
+
+
 def tests_of_chromium(room, program):
     binary = shutil.which("chromium") or shutil.which("chromium-browser") or shutil.which("google-chrome")
     if not (binary and shutil.which("chromedriver")) and can_have("chromium:chromium", "chromedriver:chromium-driver"):
@@ -404,13 +414,7 @@ def tests_of_chromium(room, program):
     url = copied_page(room)
     with Chromium(shutil.which("chromedriver"), binary, port) as browser:
         browser.open(url)
-        tests_of_verdicts(browser, room)
-        tests_of_lacks(browser, room)
-        web_files.run_all(browser, room, program, url)
-        tests_of_showing(browser, program)
-        tests_of_topics(browser, program)
-        tests_of_tour(browser, room, program)
-        web_viewing.run_all(browser, room, program, url, lambda scheme: browser.has_look(prefers_color_scheme=scheme))
+        tests_of_viewing(browser, room, program, url)
         web_viewing.tests_of_progress(browser)
         web_viewing.tests_of_forced_colours(browser)
         web_viewing.tests_of_tree(browser)
@@ -434,13 +438,7 @@ def tests_of_firefox(room, program):
     with Firefox("firefox-esr", f"{room}/profile") as browser:
         url = copied_page(room)
         browser.open(url)
-        tests_of_verdicts(browser, room)
-        tests_of_lacks(browser, room)
-        web_files.run_all(browser, room, program, url)
-        tests_of_showing(browser, program)
-        tests_of_topics(browser, program)
-        tests_of_tour(browser, room, program)
-        web_viewing.run_all(browser, room, program, url, lambda scheme: browser.has_look(prefers_color_scheme=scheme))
+        tests_of_viewing(browser, room, program, url)
         count(rows_of(browser.screenshot()) > 200, "the screenshot of Firefox is empty")
         web_reports.tests_of_reports(browser, room, program)
         web_reports.tests_of_saving(browser, room, url)
