@@ -4,3 +4,4 @@ pub mod Looking
 pub mod Reaching
 pub mod Setting
 pub mod Absent
+pub mod Givers

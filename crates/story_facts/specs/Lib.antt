@@ -4,6 +4,7 @@ pub mod Named
 pub mod Pages
 pub mod Values
 pub mod Looks
+pub mod Giving
 pub mod Counted
 pub mod Subjects
 pub mod inner

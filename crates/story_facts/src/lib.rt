@@ -4,6 +4,7 @@
 
 mod asking;
 mod counting;
+mod giving;
 mod lines;
 mod looks;
 mod names;
@@ -14,8 +15,9 @@ mod subjects;
 mod values;
 
 pub use counting::{Counts, counts_of};
+pub use giving::giver_of;
 pub use lines::{line_at, record_on};
-pub use looks::{Look, greatest_look};
+pub use looks::{Look, greatest_look, is_unseen};
 pub use names::{Name, named_by, named_in};
 pub use pages::{Handover, PageStory, first_access, handover_of, sent_before, story_of};
 pub use scans::{RecordQuestion, first_of, last_of};

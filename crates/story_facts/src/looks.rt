@@ -2,6 +2,7 @@
 
 ghost use Rattle.std.specs.Prelude.{◌≡◌, ◌≤◌, MatchOption, length};
 ghost use Rattle.migration_types.specs.Sessions.{IsSession};
+ghost use Rattle.story_facts.specs.Giving.{is_unseen};
 ghost use Rattle.story_facts.specs.Looks.{HasNoLook, IsGreatestLook};
 ghost use Rattle.story_facts.specs.inner.Questions.{looked};
 
@@ -52,4 +53,14 @@ pub fn greatest_look(session: &Session, to: usize) -> Option<Look>
         best = looked(&guest[n], n as u32, best);
     }
     best
+}
+
+/// Returns whether this record of the pager is behind all that a look reaches, if there is one.
+pub fn is_unseen(look: Option<Look>, place: u32) -> bool
+    ensures { result ≡ is_unseen look place }
+{
+    match look {
+        Some(look) => look.placement < place,
+        None => true,
+    }
 }

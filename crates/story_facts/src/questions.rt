@@ -2,11 +2,13 @@
 
 ghost use Rattle.std.specs.Prelude.{◌≡◌};
 ghost use Rattle.story_facts.specs.Values.{sets};
+ghost use Rattle.story_facts.specs.Giving.{puts};
 ghost use Rattle.story_facts.specs.Pages.{changes, carries, lane_carries, is_access_after};
-ghost use Rattle.story_facts.specs.inner.Questions.{asks_guest, asks_source, asks_link, asks_lane, asks_pager, asks_entry};
+ghost use Rattle.story_facts.specs.inner.Questions.{asks_guest, asks_source, asks_link, asks_lane, asks_pager, asks_entry, knows_behind};
 
+use crate::looks::{Look, is_unseen};
 use crate::scans::RecordQuestion;
-use audit_model::{delivers_send, is_halt, is_miss, is_resume, is_send_of, sends};
+use audit_model::{delivers_send, is_halt, is_miss, is_placement_of, is_resume, is_send_of, sends};
 use migration_types::{Entry, GuestRec, LaneRec, LinkRec, PageNo, PagerRec, Session, SourceRec};
 
 /// A question about a record of the guest.
@@ -54,6 +56,19 @@ pub(crate) enum PagerQuestion {
     Gets(PageNo),
     Join,
     Skip,
+    /// Whether it places the page, and comes no later than this record.
+    PlacesUpTo(PageNo, u32),
+    /// Whether it places the page with a value in a cell, behind what a look reaches, if there is one, and from a record
+    /// on.
+    Puts {
+        page: PageNo,
+        cell: u16,
+        value: u64,
+        behind: Option<Look>,
+        from: u32,
+    },
+    /// Whether it learns of a miss behind the guest's record of this number.
+    KnowsBehind(u32),
 }
 
 /// A question about an entry of a certificate.
@@ -117,6 +132,37 @@ fn lane_carries(session: &Session, rec: &LaneRec, page: PageNo) -> bool
 {
     match *rec {
         LaneRec::Down { sending } => sends(session, page, sending),
+    }
+}
+
+/// Returns whether a record places the page with this value in the cell.
+fn puts(rec: &PagerRec, page: PageNo, cell: u16, value: u64) -> bool
+    ensures { result ≡ puts page cell value rec.now }
+{
+    match rec {
+        PagerRec::Place {
+            page: placed,
+            contents,
+            ..
+        } => {
+            placed.number() == page.number()
+                && match contents.as_slice().get(cell as usize) {
+                    Some(there) => *there == value,
+                    None => false,
+                }
+        }
+        PagerRec::Zero { page: placed } => placed.number() == page.number() && value == 0,
+        _ => false,
+    }
+}
+
+/// Returns whether a record learns of a miss behind the guest's record of this number.
+fn knows_behind(rec: &PagerRec, n: u32) -> bool
+    ensures { result ≡ knows_behind n rec.now }
+{
+    match *rec {
+        PagerRec::Fault { miss } => n < miss,
+        _ => false,
     }
 }
 
@@ -186,6 +232,18 @@ impl RecordQuestion for PagerQuestion {
             PagerQuestion::Gets(page) => delivers_send(session, page, n as u32),
             PagerQuestion::Join => matches!(rec, PagerRec::Join { .. }),
             PagerQuestion::Skip => matches!(rec, PagerRec::Skip { .. }),
+            PagerQuestion::PlacesUpTo(page, last) => {
+                is_placement_of(rec, page) && n <= last as usize
+            }
+            PagerQuestion::Puts {
+                page,
+                cell,
+                value,
+                behind,
+                from,
+            } => puts(rec, page, cell, value)
+                && (is_unseen(behind, n as u32) && from as usize <= n),
+            PagerQuestion::KnowsBehind(place) => knows_behind(rec, place),
         }
     }
 }

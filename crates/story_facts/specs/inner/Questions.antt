@@ -1,5 +1,5 @@
 -- The questions about records, as tests.
-use Rattle.std.specs.Prelude.{ℕ, Bool, nat_lt, Option, Some, None, if◌then◌else◌}
+use Rattle.std.specs.Prelude.{ℕ, Bool, false, ◌&&◌, nat_le, nat_lt, Option, Some, None, if◌then◌else◌}
 use Rattle.migration_types.specs.declared.cert.Entry.{Entry}
 use Rattle.migration_types.specs.declared.records.GuestRec.{GuestRec}
 use Rattle.migration_types.specs.declared.records.GuestRec.TheVariants.{See}
@@ -7,11 +7,13 @@ use Rattle.migration_types.specs.declared.records.SourceRec.{SourceRec}
 use Rattle.migration_types.specs.declared.records.LinkRec.{LinkRec}
 use Rattle.migration_types.specs.declared.records.LaneRec.{LaneRec}
 use Rattle.migration_types.specs.declared.records.PagerRec.{PagerRec}
+use Rattle.migration_types.specs.declared.records.PagerRec.TheVariants.{Fault}
 use Rattle.migration_types.specs.Sessions.{Recorded}
 use Rattle.audit_model.specs.Certificates.{is_fresh}
-use Rattle.audit_model.specs.Shape.{is_halt, is_resume, is_miss, is_send_of, delivers}
+use Rattle.audit_model.specs.Shape.{is_halt, is_resume, is_miss, is_send_of, is_placement_of, delivers}
 use Rattle.story_facts.specs.Pages.{changes, carries, lane_carries, is_access_after}
 use Rattle.story_facts.specs.Values.{sets}
+use Rattle.story_facts.specs.Giving.{is_unseen, puts}
 use Rattle.story_facts.specs.Counted.{is_unmoved, is_sent, is_zeroed, is_send, is_again, is_join, is_skip}
 use Rattle.story_facts.specs.declared.looks.Look.{Look}
 use Rattle.story_facts.specs.declared.questions.GuestQuestion.{GuestQuestion}
@@ -46,10 +48,18 @@ asks_link (link.Carries page) s n = carries s page
 abbrev pub asks_lane : LaneQuestion → Recorded → ℕ → LaneRec → Bool
 asks_lane (lane.Carries page) s n = lane_carries s page
 
+-- whether a record knows of a miss behind guest record n
+abbrev pub knows_behind : ℕ → PagerRec → Bool
+knows_behind n (Fault miss) = nat_lt n miss
+knows_behind n _ = false
+
 abbrev pub asks_pager : PagerQuestion → Recorded → ℕ → PagerRec → Bool
 asks_pager (pager.Gets page) s n = λ r. delivers s (is_send_of page) n
 asks_pager pager.Join s n = is_join
 asks_pager pager.Skip s n = is_skip
+asks_pager (pager.PlacesUpTo page last) s n = λ r. is_placement_of page r && nat_le n last
+asks_pager (pager.Puts page cell value behind from) s n = λ r. puts page cell value r && (is_unseen behind n && nat_le from n)
+asks_pager (pager.KnowsBehind m) s n = knows_behind m
 
 abbrev pub asks_entry : EntryQuestion → Recorded → ℕ → Entry → Bool
 asks_entry entry.Unmoved s n = is_unmoved
