@@ -282,9 +282,9 @@ def test_back_for_the_state(program, room):
 
 
 # Sessions of one page that comes to the target, each with what else is told of it, and of which page.
-def of_one_page(version, source, link, lane, pager):
-    """A session of a page with 6 in its one cell, of which the guest is halted and resumed."""
-    logs = (("guest", ["halt", "resume 1"]), ("source", ["halted 0", "state", *source]), ("link", ["down 1", *link]), ("lane", lane), ("pager", ["got 0", "ready", *pager]))
+def of_one_page(version, source, link, lane, pager, uses=()):
+    """A session of a page with 6 in its one cell, of which the guest is halted and resumed, and uses the page."""
+    logs = (("guest", ["halt", "resume 1", *uses]), ("source", ["halted 0", "state", *source]), ("link", ["down 1", *link]), ("lane", lane), ("pager", ["got 0", "ready", *pager]))
     told = "".join(f"{log} {len(records)}\n" + "".join(f"{it}\n" for it in records) for log, records in logs if log != "lane" or version > 1)
     return f"postcopy-session {version}\npages 1\ncells 1\ninit 1\npage 0 {SIX}\n{told}end\n"
 
@@ -305,6 +305,25 @@ STORIES = (
         "Line 21 (pager 3) is wrong: the pager places page 0, which came with pager 2.",
         f"The page is placed with 7, {SEVEN}, in cell 0, where it has 6, {SIX}, at the halt, as at the start.",
         f"What came with pager 2 was sent with 6, {SIX}, there: line 12 (source 2): the source sends page 0."]),
+    ("zeros in the place of a page that is not released", of_one_page(1, [], [], [], ["zero 0"], ["see 2", "r 0 0 0 0"]), (), [
+        "The page first went wrong at line 19 (pager 2): the pager places page 0 as zeros.",
+        "The page is not released at the halt, so it must not be placed as zeros.", "The guest neither writes nor releases it before the halt.",
+        "Line 10 (guest 3) is wrong: virtual processor 0 reads 0 in cell 0 of page 0."]),
+    ("a second placement over a write", of_one_page(1, [SENT], ["down 2"], [], ["got 1", f"place 0 2 {SIX}", f"place 0 2 {SIX}"], ["see 3", "w 0 0 0 9", "r 0 0 0 6"]), (), [
+        "The page first went wrong at line 24 (pager 4): the pager places page 0, which came with pager 2.",
+        "A page is placed once, and this one was placed before: line 23 (pager 3): the pager places page 0, which came with pager 2.",
+        "Line 11 (guest 4) is wrong: virtual processor 0 reads 6 in cell 0 of page 0."]),
+    ("a second placement that the write was told of, so that it is no cause",
+     of_one_page(1, [SENT], ["down 2"], [], ["got 1", f"place 0 2 {SIX}", f"place 0 2 {SIX}"], ["see 4", "w 0 0 0 9", "r 0 0 0 6"]), (), [
+         "faulty line 11 read", "Line 11 (guest 4) is wrong: virtual processor 0 reads 6 in cell 0 of page 0."]),
+    ("a placement over a release, which a read gives", of_one_page(2, [SENT], ["down 2"], [], ["got 1", f"place 0 2 {SIX}"], ["z 0 0", "r 0 0 0 6"]), (), [
+        "The page first went wrong at line 23 (pager 3): the pager places page 0, which came with pager 2.",
+        "The first use of the page at the target is a release, which makes it zeros there: line 9 (guest 2): virtual processor 0 releases page 0."]),
+    ("a read before the page has come", of_one_page(1, [SENT], ["down 2"], [], ["got 1", f"place 0 2 {SIX}"], ["r 0 0 0 0"]), (), [
+        "The page first went wrong at line 9 (guest 2): virtual processor 0 reads 0 in cell 0 of page 0.",
+        "The guest is at the target by then, and no look before this use reaches the placement of the page, line 21 (pager 3).",
+        "The guest looks at no placement before it.", "No look reaches it at all.",
+        "Line 9 (guest 2) is wrong: virtual processor 0 reads 0 in cell 0 of page 0."]),
     ("a pager that says twice that all is there", of_one_page(1, [SENT], ["down 2"], [], ["got 1", f"place 0 2 {SIX}", "all", "all"]), ("--complete",), [
         "The source never learned that every owed page had come: its log has no `done` behind the `ask` of that.", "The pager said so at line 22 (pager 5)."]),
     ("a release between the halt and the resume, where a release at the target is no fault",

@@ -2,7 +2,7 @@
 use Rattle.std.specs.Prelude.{ℕ, Bool, true, false, not, ◌==◌, ◌+◌, ◌&&◌, ◌||◌, nat_lt, is_some, List, [], ◌∷◌, ◌++◌, Option, Some, None, length, slice_get, if◌then◌else◌}
 use Rattle.std.specs.Option.{option_map}
 use Rattle.migration_types.specs.declared.records.LogName.{LogName}
-use Rattle.migration_types.specs.declared.records.LogName.TheVariants.{Link, Lane, Source, Pager}
+use Rattle.migration_types.specs.declared.records.LogName.TheVariants.{Guest, Link, Lane, Source, Pager}
 use Rattle.migration_types.specs.declared.records.SourceRec.{SourceRec}
 use Rattle.migration_types.specs.declared.records.SourceRec.TheVariants.{Again}
 use Rattle.migration_types.specs.declared.records.PagerRec.{PagerRec}
@@ -29,7 +29,7 @@ use Rattle.story_facts.specs.declared.counting.Counts.{Counts}
 use Rattle.story_types.specs.declared.explaining.Explanation.{Explanation}
 use Rattle.story_types.specs.declared.explaining.Explanation.TheVariants as explained
 use Rattle.story_types.specs.declared.faults.PageCause.{PageCause}
-use Rattle.story_types.specs.declared.faults.PageCause.TheVariants.{Sent, Placed, Unplaced}
+use Rattle.story_types.specs.declared.faults.PageCause.TheVariants.{Sent, Placed, Zeroed, Again as PlacedAgain, Over as PlacedOver, Early as UsedEarly, Unplaced}
 use Rattle.story_types.specs.declared.faults.Detail.{Detail}
 use Rattle.story_types.specs.declared.faults.Detail.TheVariants.{Instead, Seen, Other, Plain}
 use Rattle.story_types.specs.declared.faults.FaultStory.{FaultStory}
@@ -124,14 +124,18 @@ faulty_told s f = say.Wrong (f.fault.log, f.fault.place) ∷ [] ++ wrong_told s 
 unfoldable pub first_told : Recorded → Name → CellValue → List Sentence
 first_told s name at_halt = say.WrongFirst name ∷ [] ++ contents_told s name at_halt
 
-unfoldable pub cause_told : Recorded → Option PageCause → List Sentence
-cause_told s None = []
-cause_told s (Some (Sent wrong)) = first_told s (Source, wrong.place) wrong.held
-cause_told s (Some (Placed wrong)) = first_told s (Pager, wrong.place) wrong.held
-cause_told s (Some Unplaced) = say.NeverPlaced ∷ []
+unfoldable pub cause_told : Recorded → PageStory → Option PageCause → List Sentence
+cause_told s p None = []
+cause_told s p (Some (Sent wrong)) = first_told s (Source, wrong.place) wrong.held
+cause_told s p (Some (Placed wrong)) = first_told s (Pager, wrong.place) wrong.held
+cause_told s p (Some (Zeroed n)) = say.WrongFirst (Pager, n) ∷ [] ++ plain_told page.Unfit p.changed None
+cause_told s p (Some (PlacedAgain n)) = say.WrongFirst (Pager, n) ∷ [] ++ plain_told page.Twice None p.found.placement
+cause_told s p (Some (PlacedOver n seen)) = say.WrongFirst (Pager, n) ∷ [] ++ over_told n p.found.touch seen p.found.look
+cause_told s p (Some (UsedEarly n seen)) = say.WrongFirst (Guest, n) ∷ [] ++ early_told p.found.placement seen p.found.look
+cause_told s p (Some Unplaced) = say.NeverPlaced ∷ []
 
 unfoldable pub fault_told : Recorded → FaultStory → List Sentence
-fault_told s f = cause_told s f.cause ++ faulty_told s f
+fault_told s f = cause_told s f.page f.cause ++ faulty_told s f
 
 -- how an order of the records shows a fault
 abbrev pub order_of : FaultStory → Sentence

@@ -7,7 +7,7 @@ use crate::listing::push_if;
 use audit_model::{PageReason, delivery};
 use migration_types::{LogName, PagerRec, Session, SourceRec};
 use std::alloc::AllocError;
-use story_facts::{CellValue, Look, Name};
+use story_facts::{CellValue, Look, Name, PageStory};
 use story_types::{Detail, FaultStory, PageCause, value_at};
 use story_words::Sentence;
 
@@ -242,9 +242,10 @@ fn push_first(
 fn push_cause(
     out: &mut Vec<Sentence>,
     session: &Session,
+    page: &PageStory,
     cause: Option<PageCause>,
 ) -> Result<(), AllocError>
-    ensures { OnOk result (out.new.items ≡ out.old.items ++ cause_told session.now cause) }
+    ensures { OnOk result (out.new.items ≡ out.old.items ++ cause_told session.now page.now cause) }
 {
     match cause {
         Some(PageCause::Sent(wrong)) => {
@@ -252,6 +253,22 @@ fn push_cause(
         }
         Some(PageCause::Placed(wrong)) => {
             push_first(out, session, (LogName::Pager, wrong.place), wrong.held)
+        }
+        Some(PageCause::Zeroed(place)) => {
+            out.extend_from_slice(&[Sentence::WrongFirst((LogName::Pager, place))])?;
+            push_plain(out, PageReason::Unfit, page.changed, None)
+        }
+        Some(PageCause::Again(place)) => {
+            out.extend_from_slice(&[Sentence::WrongFirst((LogName::Pager, place))])?;
+            push_plain(out, PageReason::Twice, None, page.found.placement)
+        }
+        Some(PageCause::Over { place, seen }) => {
+            out.extend_from_slice(&[Sentence::WrongFirst((LogName::Pager, place))])?;
+            push_over(out, place, page.found.touch, seen, page.found.look)
+        }
+        Some(PageCause::Early { place, seen }) => {
+            out.extend_from_slice(&[Sentence::WrongFirst((LogName::Guest, place))])?;
+            push_early(out, page.found.placement, seen, page.found.look)
         }
         Some(PageCause::Unplaced) => out.extend_from_slice(&[Sentence::NeverPlaced]),
         None => Ok(()),
@@ -267,7 +284,7 @@ pub(crate) fn push_fault(
 ) -> Result<(), AllocError>
     ensures { OnOk result (out.new.items ≡ out.old.items ++ fault_told session.now story.now) }
 {
-    push_cause(out, session, story.cause)?;
+    push_cause(out, session, &story.page, story.cause)?;
     push_faulty(out, session, story)
 }
 

@@ -1,15 +1,15 @@
 -- The story of the report on a session.
-use Rattle.std.specs.Prelude.{◌≡◌, ℕ, ◌+◌, ◌<◌, Bool, true, false, not, ◌&&◌, nat_le, is_some, Decides, List, length, MatchOption, Option, Some, None, slice_get, slice_index}
+use Rattle.std.specs.Prelude.{◌≡◌, ◌≢◌, ◌⊎◌, ℕ, ◌+◌, ◌<◌, Bool, true, false, not, ◌&&◌, nat_le, is_some, Decides, List, length, MatchOption, Option, Some, None, slice_get, slice_index}
 use Rattle.migration_types.specs.declared.records.LogName.{LogName}
 use Rattle.migration_types.specs.declared.records.LogName.TheVariants.{Guest}
 use Rattle.migration_types.specs.declared.records.GuestRec.TheVariants.{Read}
 use Rattle.migration_types.specs.declared.records.SourceRec.TheVariants.{Send}
-use Rattle.migration_types.specs.declared.records.PagerRec.TheVariants.{Place}
+use Rattle.migration_types.specs.declared.records.PagerRec.TheVariants.{Place, Zero}
 use Rattle.migration_types.specs.Receipts.{Name}
 use Rattle.migration_types.specs.Sessions.{Recorded, line_of}
 use Rattle.audit_model.specs.declared.reasons.PageReason.{PageReason}
 use Rattle.audit_model.specs.declared.reasons.PageReason.TheVariants.{Read as WrongRead, Early, Given, Stale, Twice, Altered, Unfit, Over}
-use Rattle.audit_model.specs.Flat.{flat, at_halt}
+use Rattle.audit_model.specs.Flat.{flat, at_halt, in_ledger}
 use Rattle.audit_model.specs.FirstFault.{IsFirstFault, IsFirstPageFault}
 use Rattle.audit_model.specs.Laws.{BreaksAt, UnplacedBefore}
 use Rattle.audit_model.specs.Mergings.{IsMerging}
@@ -24,6 +24,7 @@ use Rattle.audit_report.specs.declared.report.Report.{Report}
 use Rattle.audit_report.specs.declared.report.Report.TheVariants as report
 use Rattle.story_facts.specs.Pages.{IsHandover, IsPageStory, sent_before}
 use Rattle.story_facts.specs.Values.{IsInstead, IsOther}
+use Rattle.story_facts.specs.Giving.{IsGiver, MayFollow}
 use Rattle.story_facts.specs.Looks.{IsFurthestLook}
 use Rattle.story_facts.specs.Counted.{IsCounts}
 use Rattle.story_types.specs.Waits.{IsCircle}
@@ -33,7 +34,7 @@ use Rattle.story_types.specs.declared.faults.Detail.{Detail}
 use Rattle.story_types.specs.declared.faults.Detail.TheVariants.{Instead, Seen, Other, Plain}
 use Rattle.story_types.specs.declared.faults.Wrong.{Wrong}
 use Rattle.story_types.specs.declared.faults.PageCause.{PageCause}
-use Rattle.story_types.specs.declared.faults.PageCause.TheVariants.{Sent, Placed, Unplaced}
+use Rattle.story_types.specs.declared.faults.PageCause.TheVariants.{Sent, Placed, Zeroed, Again, Over as PlacedOver, Early as UsedEarly, Unplaced}
 use Rattle.story_types.specs.declared.faults.FaultStory.{FaultStory}
 use Rattle.story_types.specs.declared.faults.ShapeStory.{ShapeStory}
 use Rattle.story_types.specs.declared.explaining.Explanation.{Explanation}
@@ -78,6 +79,12 @@ pub record IsWrongPlacement (s : Recorded) (page : ℕ) (w : Wrong) : Type 0 whe
   pub places : slice_get s.pager w.place ≡ Some (Place page got content)
   pub other : IsOther s page content w.held
 
+-- The first placement of the page puts zeros in its place, and the page is not released at the halt.
+pub record IsZeroed (s : Recorded) (page n : ℕ) : Type 0 where
+  pub is_first : first_before (λ m. is_placement_of page) s.pager (length s.pager) ≡ Some n
+  pub zeroes : slice_get s.pager n ≡ Some (Zero page)
+  pub is_kept : in_ledger s (at_halt s) page ≡ false
+
 -- there is no such `send`; there is no such placement
 abbrev pub IsSentRight : Recorded → ℕ → Type 0
 IsSentRight s page = (w : Wrong) → IsWrongSend s page w → ⊥
@@ -96,15 +103,64 @@ is_unplaced f = unplaced f.placement f.touch f.releases
 abbrev pub first_touch : Recorded → ℕ → Option ℕ
 first_touch s page = first_before (is_late_touch s page) s.guest (length s.guest)
 
-abbrev pub IsUnplaced : Recorded → ℕ → Type 0
-IsUnplaced s page = unplaced (first_before (λ m. is_placement_of page) s.pager (length s.pager)) (first_touch s page) (releases_at s (first_touch s page)) ≡ true
+-- the page's first placement
+abbrev pub first_placement : Recorded → ℕ → Option ℕ
+first_placement s page = first_before (λ m. is_placement_of page) s.pager (length s.pager)
 
--- What first went wrong with a page: its sending; or, if that is right, its placement, whose contents then differ from
--- those that were sent; or that it has no placement.
-abbrev pub IsWrong : Recorded → ℕ → PageCause → Type 0
-IsWrong s page (Sent w) = IsWrongSend s page w
-IsWrong s page (Placed w) = IsSentRight s page × IsWrongPlacement s page w
-IsWrong s page Unplaced = IsSentRight s page × IsUnplaced s page
+abbrev pub IsUnplaced : Recorded → ℕ → Type 0
+IsUnplaced s page = unplaced (first_placement s page) (first_touch s page) (releases_at s (first_touch s page)) ≡ true
+
+-- What is wrong with a page as it first comes: its sending; or, if that is right, its placement, whose contents then
+-- differ from those that were sent, or which then puts zeros in its place.
+abbrev pub IsWrongAtFirst : Recorded → ℕ → PageCause → Type 0
+IsWrongAtFirst s page (Sent w) = IsWrongSend s page w
+IsWrongAtFirst s page (Placed w) = IsSentRight s page × IsWrongPlacement s page w
+IsWrongAtFirst s page (Zeroed n) = IsSentRight s page × IsZeroed s page n
+IsWrongAtFirst s page _ = ⊥
+
+abbrev pub IsRightAtFirst : Recorded → ℕ → Type 0
+IsRightAtFirst s page = (c : PageCause) → IsWrongAtFirst s page c → ⊥
+
+-- a placement gives the read its value that is guest record n, and is not the page's first
+pub record IsPlacedAgain (s : Recorded) (n page q : ℕ) : Type 0 where
+  pub gives : IsGiver s n q
+  pub is_later : first_placement s page ≢ Some q
+
+abbrev pub IsPlacedOnce : Recorded → ℕ → ℕ → Type 0
+IsPlacedOnce s n page = (q : ℕ) → IsPlacedAgain s n page q → ⊥
+
+-- This first placement of the page gives the read its value, and the page's first use at the target is a release.
+pub record IsPlacedOver (s : Recorded) (n page place : ℕ) (look : Option Look) : Type 0 where
+  pub is_first : first_placement s page ≡ Some place
+  pub gives : IsGiver s n place
+  pub releases : releases_at s (first_touch s page) ≡ true
+  pub seen : IsLookBeforeTouch s page look
+
+-- An order may have the page's first placement after this first use of it at the target, which is no release.
+pub record IsUsedEarly (s : Recorded) (page touch : ℕ) (look : Option Look) : Type 0 where
+  pub place : ℕ
+  pub is_first : first_placement s page ≡ Some place
+  pub is_touch : first_touch s page ≡ Some touch
+  pub needs : releases_at s (first_touch s page) ≡ false
+  pub follows : MayFollow s place touch
+  pub seen : IsFurthestLook s touch look
+
+-- the page is used at the target before it comes, or it does not come
+abbrev pub IsMissing : Recorded → ℕ → PageCause → Type 0
+IsMissing s page (UsedEarly touch look) = IsUsedEarly s page touch look
+IsMissing s page Unplaced = IsUnplaced s page
+IsMissing s page _ = ⊥
+
+-- What is wrong with a page that comes right at first, and is wrong in guest record n: it is placed again, or over a
+-- release; or, if it is not placed again, it is missing.
+abbrev pub IsWrongThen : Recorded → ℕ → ℕ → PageCause → Type 0
+IsWrongThen s n page (Again q) = IsPlacedAgain s n page q
+IsWrongThen s n page (PlacedOver place look) = IsPlacedOver s n page place look
+IsWrongThen s n page c = IsPlacedOnce s n page × IsMissing s page c
+
+-- What first went wrong with a page before guest record n: it, as it first comes; or, if that is right, what is wrong then.
+abbrev pub IsWrong : Recorded → ℕ → ℕ → PageCause → Type 0
+IsWrong s n page c = IsWrongAtFirst s page c ⊎ (IsRightAtFirst s page × IsWrongThen s n page c)
 
 -- whether the first use, if there is one, comes no later than guest record n
 abbrev pub is_used_by : Option ℕ → ℕ → Bool
@@ -119,7 +175,7 @@ is_read _ = false
 pub record IsCause (s : Recorded) (reason : PageReason) (n page : ℕ) (c : PageCause) : Type 0 where
   pub reads : is_read reason ≡ true
   pub is_late : is_used_by (first_touch s page) n ≡ true
-  pub wrong : IsWrong s page c
+  pub wrong : IsWrong s n page c
 
 -- the cause in the story, or there is none
 abbrev pub IsToldCause : Recorded → PageReason → ℕ → ℕ → Option PageCause → Type 0

@@ -113,12 +113,19 @@ fn cause_in(cause: &Option<PageCause>) -> Option<u32>
 {
     match cause {
         Some(PageCause::Sent(wrong) | PageCause::Placed(wrong)) => wrong.held.by,
-        Some(PageCause::Unplaced) | None => None,
+        Some(
+            PageCause::Zeroed(_)
+            | PageCause::Again(_)
+            | PageCause::Over { .. }
+            | PageCause::Early { .. }
+            | PageCause::Unplaced,
+        )
+        | None => None,
     }
 }
 
 /// Returns whether it is this number, if there is one.
-fn is_number(one: Option<u32>, place: u32) -> bool
+pub fn is_number(one: Option<u32>, place: u32) -> bool
     ensures { result ≡ is_number one place }
 {
     match one {

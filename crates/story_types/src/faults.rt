@@ -34,6 +34,25 @@ pub enum PageCause {
     Sent(Wrong),
     /// It was sent with the contents that it had at the halt, and the pager placed it with others.
     Placed(Wrong),
+    /// It was not sent with other contents than it had at the halt, and this record of the pager, its first placement,
+    /// put zeros in its place, although it was not released at the halt.
+    Zeroed(u32),
+    /// It came as it should, and this later placement is the first that may have given the read its value.
+    Again(u32),
+    /// It came as it should, but its first use at the target is a release, and this first placement may have given the
+    /// read its value.
+    Over {
+        place: u32,
+        /// The look that reached furthest before the release, if there is one.
+        seen: Option<Look>,
+    },
+    /// It came as it should, but an order has its first placement behind this first use at the target, which is no
+    /// release.
+    Early {
+        place: u32,
+        /// The look that reached furthest before the use, if there is one.
+        seen: Option<Look>,
+    },
     /// The pager never placed it.
     Unplaced,
 }

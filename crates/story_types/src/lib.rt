@@ -10,7 +10,7 @@ mod reasons;
 mod topics;
 mod waits;
 
-pub use amends::{Amended, amended_by, is_always_wrong, tells_of, value_at};
+pub use amends::{Amended, amended_by, is_always_wrong, is_number, tells_of, value_at};
 pub use concerns::{concerned_of, resumed_by};
 pub use explaining::Explanation;
 pub use faults::{Detail, FaultStory, PageCause, ShapeStory, Wrong};
