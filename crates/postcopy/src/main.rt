@@ -19,11 +19,9 @@
 
 ghost use Rattle.std.specs.Prelude.{◌≡◌};
 
-use command_texts::{Closable, Console, Fault, MEMORY, USAGE, tell};
+use command_texts::{Closable, Console, Fault, USAGE, tell};
 use commands::{Reading, Targets, read_words, run_over_folders};
-use process_io::{
-    Disk, Saved, has_wrong_word, put, refuse_targets, slices, tell_wrong_word, words,
-};
+use process_io::{Disk, Saved, has_wrong_word, refuse_targets, slices, tell_wrong_word, words};
 use session_commands::{ErrorSink, WithFolders};
 use std::alloc::Global;
 use std::io::{Input, Write};
@@ -102,15 +100,10 @@ where
     R::Reader: Send,
     D::Text: Send,
 {
-    let mut text = Saved::new(rt, alloc, targets.output);
+    let mut text = Saved::new(Disk { rt }, alloc, targets, ());
     let mut table = None;
     let status = answer(rt, alloc, texts, reading, &mut text, errors, &mut table);
-    match put(rt, alloc, targets, status, text, &table, output) {
-        Ok(()) => status,
-        // (that memory ran out is told once)
-        Err(Fault::Memory) if status == MEMORY => status,
-        Err(fault) => tell(fault, errors),
-    }
+    text.put(status, &table, output, errors)
 }
 
 // Does what a reading of the words asks for, and writes the answer where they say.

@@ -3,13 +3,15 @@
 #![tactic(auto)]
 
 mod arguments;
+mod drafts;
 mod files;
-mod putting;
+mod pieces;
 mod refusing;
 mod saving;
+mod sinks;
 
 pub use arguments::{has_wrong_word, slices, tell_wrong_word, words};
 pub use files::Disk;
-pub use putting::put;
 pub use refusing::refuse_targets;
 pub use saving::Saved;
+pub use sinks::{Account, TextSink};

@@ -1,6 +1,6 @@
 //! The files that no answer is written over: what the command reads, and texts that tell of a migration.
 
-use crate::saving::{Destination, destination_of, is_one_file, is_one_name};
+use crate::drafts::{Destination, destination_of, is_one_file, is_one_name};
 use command_texts::{Fault, USAGE, tell};
 use command_words::{Intent, Job, Reading, Request, Targets};
 use recorder_files::{NAME_FILE, read_file_name};
