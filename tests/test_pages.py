@@ -60,7 +60,7 @@ def run_commands(page, program):
         for command, shown, script in commands_of(read(page)):
             if command.startswith(tuple(NOT_RUN)):
                 continue
-            file = re.fullmatch(r"(?:PYTHONPATH=bindings/python )?python3 (\w+\.py)", command)
+            file = re.fullmatch(r"(?:PYTHONPATH=bindings/python )?python3 (\w+\.py)(?: .*)?", command)
             if file:
                 with open(f"{work}/{file[1]}", "w", encoding="utf-8") as opened:
                     opened.write(script)
