@@ -20,8 +20,6 @@ LISTS = (("crates.txt", "crates"), ("tests/calls/crates.list", "tests/calls"))
 # A crate, and one that it lists and nothing of it names: a call needs an `impl` of it in scope.
 IN_SCOPE = {("judge_commands", "faulty_pages")}
 COMMENTS = {".rt": r"//.*", ".rs": r"//.*", ".antt": r"--.*"}
-# The calls that a clause of which names an inner definition all the same: next_from, of the least number that a page may have.
-NAMES_INNER = {("session_grammar", "next_page")}
 INNER = re.compile(r"^ *(?:pub )?(?:ghost )?use Rattle\.\w+\.specs\.inner\b(?:\.\w+)*(?:\.\{([^}]*)\}| as (\w+))?", re.M)
 CALL = re.compile(r"^( *)pub (?:unsafe )?(?:extern \"C\" )?fn (\w+)(.*?)(?:\n\1\{|;\n|\n\1 *\}\n)", re.M | re.S)
 
@@ -123,7 +121,7 @@ def public_calls(crate, text):
 
 def inner_in_sight():
     """Where a definition of specs/inner is imported outside, or a clause of a public call names one; and how many files were read."""
-    wrong, count, seen = [], 0, set()
+    wrong, count = [], 0
     for crate in sorted(os.listdir(f"{TOP}/crates")):
         for path in files_of(crate, "specs", ".antt"):
             if "/specs/inner" not in path:
@@ -138,10 +136,8 @@ def inner_in_sight():
                 arguments = set(re.findall(r"(\w+): ", rest[: clauses.start()] if clauses else rest))
                 words = set(re.findall(r"(?<![\w.'-])[\w'-]+", clauses[0] if clauses else ""))
                 named = (inner & words) - arguments
-                if named and (crate, name) not in NAMES_INNER:
+                if named:
                     wrong.append(f"{crate}: a clause of {name} names {', '.join(sorted(named))}, which stands in inner")
-                seen |= {(crate, name)} if named else set()
-    wrong += [f"{crate}: no clause of {name} names what stands in inner" for crate, name in sorted(NAMES_INNER - seen)]
     return wrong, count
 
 

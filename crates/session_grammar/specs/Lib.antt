@@ -1,3 +1,4 @@
 pub mod Records
 pub mod Grammar
+pub mod Pages
 pub mod inner

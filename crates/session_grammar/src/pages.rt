@@ -6,7 +6,8 @@ ghost use Rattle.migration_types.specs.Limits.{most_pages};
 ghost use Rattle.migration_types.specs.Pages.{AreZeros};
 ghost use Rattle.migration_types.specs.declared.pages.InitPage.{InitPage as Page};
 ghost use Rattle.session_grammar.specs.Grammar.{page_line};
-ghost use Rattle.session_grammar.specs.inner.InitPages.{IsInitContent, next_from};
+ghost use Rattle.session_grammar.specs.Pages.{next_from};
+ghost use Rattle.session_grammar.specs.inner.InitPages.{IsInitContent};
 
 use crate::contents::read_page_contents;
 use crate::keys::PAGE_KEY;

@@ -1,20 +1,16 @@
--- Contents that are not zeros, and the number that the next page may have.
+-- Contents that are not zeros, and what is known of the number that the next page may have.
 use Rattle.std.specs.Prelude.{◌≡◌, ℕ, ◌+◌, ◌≤◌, List, [], ◌∷◌, ◌++◌, refl}
 use Rattle.std.proofs.Common.{arith}
 use Rattle.migration_types.specs.declared.pages.InitPage.{InitPage}
 use Rattle.migration_types.specs.Contents.{IsContent}
 use Rattle.migration_types.specs.Pages.{AreZeros}
+pub use Rattle.session_grammar.specs.Pages.{next_from}
 pub use Rattle.migration_types.specs.inner.InitPages.{number_of, Rise, rise_long, rise_of, rise_increases, few_init}
 
 -- one value for each of this many cells, not all of them zero
 pub record IsInitContent (cells : ℕ) (xs : List ℕ) : Type 0 where
   pub content : IsContent cells xs
   pub not_zeros : AreZeros xs → ⊥
-
--- the least number that a page after these may have, if the first of them may have `low`
-abbrev pub next_from : ℕ → List InitPage → ℕ
-next_from low [] = low
-next_from low (p ∷ ps) = next_from (p.page + 1) ps
 
 pub next_push : (low : ℕ) (ps : List InitPage) (p : InitPage) → next_from low (ps ++ p ∷ []) ≡ p.page + 1
 next_push low [] p = refl
