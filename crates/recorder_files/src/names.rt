@@ -8,8 +8,11 @@ ghost use Rattle.recorder_files.specs.Reaches.{named_first};
 use migration_types::LogName;
 use recordings::{WideGuest, WideLane, WideLink, WidePager, WideSource};
 
+/// The number that a recorder returns if a record was not written.
+pub const LOST: u64 = 4_294_967_295;
+
 /// Returns what a record of the guest names.
-pub(crate) fn named_by_guest(rec: &WideGuest) -> Option<(LogName, u64)>
+pub fn named_by_guest(rec: &WideGuest) -> Option<(LogName, u64)>
     ensures { result ≡ named_first (guest_row (guest_of rec.now)).fields }
 {
     match *rec {
@@ -20,7 +23,7 @@ pub(crate) fn named_by_guest(rec: &WideGuest) -> Option<(LogName, u64)>
 }
 
 /// Returns what a record of the source names.
-pub(crate) fn named_by_source(rec: &WideSource) -> Option<(LogName, u64)>
+pub fn named_by_source(rec: &WideSource) -> Option<(LogName, u64)>
     ensures { result ≡ named_first (source_row (source_of rec.now)).fields }
 {
     match rec {
@@ -32,7 +35,7 @@ pub(crate) fn named_by_source(rec: &WideSource) -> Option<(LogName, u64)>
 }
 
 /// Returns what a record of the link names.
-pub(crate) fn named_by_link(rec: &WideLink) -> Option<(LogName, u64)>
+pub fn named_by_link(rec: &WideLink) -> Option<(LogName, u64)>
     ensures { result ≡ named_first (link_row (link_of rec.now)).fields }
 {
     match *rec {
@@ -42,7 +45,7 @@ pub(crate) fn named_by_link(rec: &WideLink) -> Option<(LogName, u64)>
 }
 
 /// Returns what a record of the lane names.
-pub(crate) fn named_by_lane(rec: &WideLane) -> Option<(LogName, u64)>
+pub fn named_by_lane(rec: &WideLane) -> Option<(LogName, u64)>
     ensures { result ≡ named_first (lane_row (lane_of rec.now)).fields }
 {
     match *rec {
@@ -51,7 +54,7 @@ pub(crate) fn named_by_lane(rec: &WideLane) -> Option<(LogName, u64)>
 }
 
 /// Returns what a record of the pager names.
-pub(crate) fn named_by_pager(rec: &WidePager) -> Option<(LogName, u64)>
+pub fn named_by_pager(rec: &WidePager) -> Option<(LogName, u64)>
     ensures { result ≡ named_first (pager_row (pager_of rec.now)).fields }
 {
     match rec {

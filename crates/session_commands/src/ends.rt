@@ -7,14 +7,14 @@ ghost use Rattle.recorder_files.specs.Named.{IsNaming};
 ghost use Rattle.session_commands.specs.Telling.{SaysUnless};
 
 use crate::facts::{Facts, left_out};
-use crate::names::{
-    LOST, named_by_guest, named_by_lane, named_by_link, named_by_pager, named_by_source,
-};
 use crate::places::{FoundRecord, find_record, push_placed};
 use crate::stops::{Stop, add};
 use crate::words::{Piece, line_on, push, push_message, push_sentence, word_at};
 use migration_types::LogName;
-use recorder_files::{Front, Party};
+use recorder_files::{
+    Front, LOST, Party, named_by_guest, named_by_lane, named_by_link, named_by_pager,
+    named_by_source,
+};
 use recordings::{
     Visitor, WideGuest, WideInit, WideLane, WideLink, WideMachine, WidePager, WideSource,
 };

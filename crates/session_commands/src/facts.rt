@@ -18,11 +18,11 @@ ghost use Rattle.audit_model.specs.Shape.{is_release, is_resume, is_halt};
 ghost use Rattle.session_commands.specs.Unresumed.{ends_halted, GoesUnresumed, IsHaltOf};
 ghost use Rattle.session_commands.specs.Facts.{HasNone, IsBefore, IsFacts, IsFirstLate};
 
-use crate::names::{
-    LOST, named_by_guest, named_by_lane, named_by_link, named_by_pager, named_by_source,
-};
 use migration_types::{LogName, Size};
-use recorder_files::{Front, Naming};
+use recorder_files::{
+    Front, LOST, Naming, named_by_guest, named_by_lane, named_by_link, named_by_pager,
+    named_by_source,
+};
 use recordings::{Visitor, WideGuest, WideLane, WideLink, WideMachine, WidePager, WideSource};
 use std::alloc::{AllocError, Global};
 

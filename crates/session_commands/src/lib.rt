@@ -18,7 +18,6 @@ mod lines;
 mod machine_words;
 mod machines;
 mod making;
-mod names;
 mod performing;
 mod places;
 mod recording;

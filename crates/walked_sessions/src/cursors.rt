@@ -3,10 +3,7 @@
 ghost use Rattle.std.specs.Prelude.{◌≡◌, ◌↔◌, IfErr, IfOk, IsTrue, length, slice_get};
 ghost use Rattle.walked_sessions.specs.inner.Passing.{IsNotNext, Passes, number_or_lost};
 
-use recorder_files::{Deliveries, Message, TakeRefusal};
-
-/// The number of a message whose sender's record is none of the pager's. No record has it.
-const LOST: u64 = 4_294_967_295;
+use recorder_files::{Deliveries, LOST, Message, TakeRefusal};
 
 /// Returns whether two messages are the same.
 fn is_same(one: Message, other: Message) -> bool
