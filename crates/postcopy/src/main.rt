@@ -145,7 +145,7 @@ fn main(rt: HostRuntime) -> ExitCode {
     let texts = WithFolders {
         alloc,
         disk: Disk { rt: &rt },
-        words: StandardError { rt: &rt },
+        errors: StandardError { rt: &rt },
     };
     let mut output = Closable::new(rt.stdout());
     ExitCode::from(match read_words(alloc, words) {

@@ -31,7 +31,7 @@ pub trait ErrorSink {
 pub struct WithFolders<D, W> {
     pub alloc: Global,
     pub disk: D,
-    pub words: W,
+    pub errors: W,
 }
 
 // Returns the name of the session's text in a folder that has one, and no file of a recorder, as far as it can be known.
@@ -108,7 +108,7 @@ impl<D: TextSource, W: ErrorSink> TextSource for WithFolders<D, W> {
 
     fn session_text(&self, name: &str) -> io::Result<Self::Text> {
         match self.disk.names(self.alloc, name) {
-            Ok(_) => match text_of(&self.disk, self.alloc, name, self.words.errors()) {
+            Ok(_) => match text_of(&self.disk, self.alloc, name, self.errors.errors()) {
                 Ok(text) => Ok(Either::Right(Cursor::new(text))),
                 Err(error) => Err(error),
             },
@@ -118,7 +118,7 @@ impl<D: TextSource, W: ErrorSink> TextSource for WithFolders<D, W> {
     }
 
     fn session(&self, alloc: Global, name: &str) -> io::Result<Option<Session>> {
-        let mut errors = self.words.errors();
+        let mut errors = self.errors.errors();
         match gather_session(alloc, &self.disk, name, &mut errors) {
             Ok(Some(session)) => {
                 tell_name_gone(&self.disk, alloc, name, &mut errors)?;
