@@ -12,7 +12,7 @@ extern "C" {
 #endif
 
 /* The version of this header: 10,000 times its first number, plus 100 times its second, plus its third. */
-#define POSTCOPY_VERSION 10000
+#define POSTCOPY_VERSION 10100
 
 /* Which answer it is. No answer has the number 0. The word before a colon says which calls give the answer: check, replay,
    why and answers stand for the call of that name, missing for postcopy_missing and postcopy_missing_pages, and report for

@@ -40,7 +40,7 @@ from .records import page_in
 __all__ = ["Answer", "Asks", "Fault", "Kind", "OutOfMemory", "Question", "Reason", "Refused", "Report", "Text", "answers", "audit",
            "audit_all", "certify", "check", "draw", "explain", "missing", "missing_pages", "replay", "session", "version", "why"]
 
-__version__ = "1.0.0"
+__version__ = "1.1.0"
 
 #: Bytes, or the path of a file with them. For a session also the path of a folder of recorders' files.
 Text = Union[bytes, bytearray, memoryview, str, "os.PathLike[str]"]

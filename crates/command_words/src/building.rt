@@ -21,7 +21,7 @@ const MOST_NUMBER: u64 = 4_294_967_295;
 /// The greatest number for pages or a page.
 const MOST_PAGES: u64 = 9_223_372_036_854_775_807;
 
-const VERSION: &str = "1.0.0";
+const VERSION: &str = "1.1.0";
 
 const ABOUT: &str =
     "Record post-copy migrations, and audit recorded sessions. Without a command, it runs: check - -";

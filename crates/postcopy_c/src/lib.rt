@@ -37,7 +37,7 @@ use session_answers::{AnswerForm, Story};
 use std::alloc::Global;
 
 /// The version: 10,000 times its first number, plus 100 times its second, plus its third.
-pub const VERSION: u32 = 10_000;
+pub const VERSION: u32 = 10_100;
 
 /// Returns the verdict on the bytes of a session and of its certificate, as `judged_texts::check_texts_alone` does.
 #[unsafe(no_mangle)]
