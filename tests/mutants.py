@@ -5,14 +5,16 @@
     tests/mutants.py --few [N]     N mutants of one crate, 4 where no number is given
     tests/mutants.py --check       whether each mutant can be applied, with no prover
 
-A mutant is a file NAME.edit: a line 'file: src/lib.rt', and then pairs of lines 'old: TEXT' and 'new: TEXT', where each
-old text stands in that file exactly once. Those in crates/CRATE/must-fail are tried by 'rt ci'. Those in
-crates/CRATE/mutants are not: a crate's first mutant costs a proof of the whole crate. Try all of a crate, here, once its sources,
-its specifications or a library below it have changed.
+A mutant is a line 'file: src/lib.rt', and then pairs of lines 'old: TEXT' and 'new: TEXT', where each old text stands in that file
+exactly once. 'rt ci' tries those of crates/CRATE/must-fail, each a file NAME.edit. It does not try those of crates/CRATE/mutants, which are
+such files too, and of crates/CRATE/mutants.edits, where each stands below a line 'mutant: NAME': a crate's first mutant costs a proof of the
+whole crate. Try all of a crate, here, once its sources, its specifications or a library below it have changed. Each crate has one file
+NAME.edit at least, which 'rt must-fail' reads as it is.
 
-Those in tests/planted no clause refuses: tests/planted.py shows that a test finds each. Here they are looked at by --check alone.
+Those in tests/planted/CRATE.edits no clause refuses, and those in outside.edits are of files in no crate. Each has a line
+'test: TEST', as pytest names a test: planted.py shows that it finds the body. Here they are looked at by --check alone.
 
---few takes some of those in mutants/. The commit's hash chooses which, so that over many commits each is
+--few takes some of those that 'rt ci' does not try. The commit's hash chooses which, so that over many commits each is
 likely to be tried. All that it takes are of one crate, whose whole proof is paid once. Run it after 'rt ci', whose libraries it uses.
 
 The tries are made in a copy, by 'rt must-fail', over the libraries that are proved already: all those that 'rt ci' left, or
@@ -32,7 +34,7 @@ from typing import NamedTuple
 
 TOP = os.path.realpath(f"{os.path.dirname(os.path.realpath(__file__))}/..")
 PARTS = ("src", "specs", "proofs")
-NAME = re.compile(r"[A-Za-z0-9_-][A-Za-z0-9_.-]*\.edit")
+NAME = re.compile(r"[A-Za-z0-9_-][A-Za-z0-9_.-]*")
 FEW = 4
 
 
@@ -52,17 +54,51 @@ def read(name):
         return file.read()
 
 
-def files_in(folder):
-    return sorted(f"{folder}/{name}" for name in os.listdir(folder)) if os.path.isdir(folder) else []
+class Mutant(NamedTuple):
+    """A wrong body: its name, the file that has it, the crate that it is of (or '' for none), and its lines."""
+
+    name: str
+    file: str
+    crate: str
+    text: str
+
+    @property
+    def test(self):
+        """The test that finds it, where no clause refuses it."""
+        found = re.search("^test: (.*)$", self.text, re.M)
+        return found[1] if found else ""
+
+
+def mutants_in(file, crate):
+    """The mutants of a file that has several. (What stands above the first is one whose name is none.)"""
+    parts = f"\n{read(file)}".split("\nmutant: ") if os.path.isfile(f"{TOP}/{file}") else []
+    split = (part.partition("\n") for part in parts if part)
+    return [Mutant(name, file, crate, text) for name, _, text in split]
+
+
+def mutants_of(folder, crate):
+    """The mutants of a folder, each in a file of its own."""
+    names = sorted(os.listdir(f"{TOP}/{folder}")) if os.path.isdir(f"{TOP}/{folder}") else []
+    return [Mutant(name[:-len(".edit")] if name.endswith(".edit") else "", f"{folder}/{name}", crate, read(f"{folder}/{name}")) for name in names]
+
+
+def tried_by_gate(crate):
+    """The mutants that 'rt ci' tries."""
+    return mutants_of(f"crates/{crate}/must-fail", crate)
 
 
 def kept_back(crate):
     """The mutants that 'rt ci' does not try."""
-    return files_in(f"{TOP}/crates/{crate}/mutants")
+    return mutants_of(f"crates/{crate}/mutants", crate) + mutants_in(f"crates/{crate}/mutants.edits", crate)
 
 
 def mutants(crate):
-    return files_in(f"{TOP}/crates/{crate}/must-fail") + kept_back(crate)
+    return tried_by_gate(crate) + kept_back(crate)
+
+
+def planted():
+    """The wrong bodies that no clause refuses."""
+    return [it for crate in ("", *crates()) for it in mutants_in(f"tests/planted/{crate or 'outside'}.edits", crate)]
 
 
 def require_rt():
@@ -80,9 +116,7 @@ class Unfit(Exception):
 def changes_in(mutant):
     """What a mutant changes: file, old text and new text."""
     path, old = None, None
-    with open(mutant, encoding="utf-8") as file:
-        lines = file.read().split("\n")
-    for line in lines:
+    for line in mutant.text.split("\n"):
         if line.startswith("file: "):
             path = line[len("file: ") :].strip()
         elif line.startswith("old: "):
@@ -92,13 +126,15 @@ def changes_in(mutant):
                 raise Unfit("a line 'new:' has no line 'file:' or 'old:' before it")
             yield path, old, line[len("new:") :].removeprefix(" ")
             old = None
+        elif line and not line.startswith("test: "):
+            raise Unfit(f"this is no line of a mutant: {line}")
     if not path or old is not None:
         raise Unfit("it has no pair of lines 'old:' and 'new:'")
 
 
-def changed_by(crate, mutant):
-    """The files of a crate that a mutant changes, or of the tree where there is no crate, each with its new text."""
-    texts = {}
+def changed_by(mutant):
+    """The files of its crate that a mutant changes, or of the tree where there is no crate, each with its new text."""
+    texts, crate = {}, mutant.crate
     for path, old, new in changes_in(mutant):
         if path not in texts:
             is_there = path.startswith(tuple(f"{part}/" for part in PARTS)) if crate else not path.startswith(("crates/", "."))
@@ -117,73 +153,46 @@ def changed_by(crate, mutant):
     return texts
 
 
-def fault_in(crate, mutant):
+def fault_in(mutant):
     """What is wrong with a mutant before any prover sees it, if anything is."""
-    if not NAME.fullmatch(os.path.basename(mutant)):
-        return "its name is not of letters, digits, '_', '-' and '.', with '.edit' at the end"
+    if not NAME.fullmatch(mutant.name):
+        return "its name is not of letters, digits, '_', '-' and '.', in a line 'mutant: NAME' or a file's name with '.edit' at the end"
     try:
-        changed_by(crate, mutant)
+        changed_by(mutant)
     except Unfit as why:
         return str(why)
     return None
 
 
-class Planted(NamedTuple):
-    """A wrong body that no clause refuses, of a crate or (with the name '') of none."""
-
-    name: str
-    file: str
-    crate: str
-    test: str
-
-
-def planted():
-    """The wrong bodies that no clause refuses, each with the test that finds it."""
-    found = []
-    for file in files_in(f"{TOP}/tests/planted"):
-        with open(file, encoding="utf-8") as it:
-            said = dict(re.findall("^(crate|test): (.*)$", it.read(), re.M))
-        found.append(Planted(os.path.basename(file).removesuffix(".edit"), file, said.get("crate", ""), said.get("test", "")))
-    return found
-
-
 def fault_of_planted(body):
-    """What is wrong with such a body, if anything is."""
-    if body.crate and body.crate not in crates():
-        return f"there is no crate '{body.crate}'"
+    """What is wrong with a wrong body that a test finds, if anything is."""
     found = re.fullmatch(r"(tests/test_\w+\.py)(?:::(\w+))?(\[[\w-]+\])?", body.test)
     if not found or not os.path.isfile(f"{TOP}/{found[1]}") or found[2] and f"def {found[2]}(" not in read(found[1]):
         return f"there is no test '{body.test}'"
-    return fault_in(body.crate, body.file)
+    return fault_in(body)
 
 
-def strays():
-    """The mutants in any other folder than those that are tried: of no crate, say."""
-    homes = {f"{TOP}/tests/planted", *(f"{TOP}/crates/{crate}/{folder}" for crate in crates() for folder in ("must-fail", "mutants"))}
+def strays(files):
+    """The files of mutants besides these."""
     for at, folders, names in os.walk(TOP):
         folders[:] = sorted(it for it in folders if it not in (".git", "out"))
-        if at not in homes:
-            yield from (os.path.relpath(f"{at}/{it}", TOP) for it in sorted(names) if it.endswith(".edit"))
+        found = (os.path.relpath(f"{at}/{it}", TOP) for it in sorted(names) if it.endswith((".edit", ".edits")))
+        yield from (it for it in found if it not in files)
 
 
 def checked():
-    """Whether each mutant and each planted body can be applied, and each crate has a mutant: how many of both there are, and what is wrong."""
-    names, faults, count = crates(), [], 0
-    faults += [f"{it}: it is in no folder whose mutants are tried" for it in strays()]
-    for crate in names:
-        of_crate = mutants(crate)
-        count += len(of_crate)
-        titles = [os.path.basename(it) for it in of_crate]
-        faults += [f"{crate}: two mutants are named {it}" for it in sorted({it for it in titles if titles.count(it) > 1})]
-        faults += [f"{crate} has no mutant"] if not of_crate else []
-        for mutant in of_crate:
-            why = fault_in(crate, mutant)
-            faults += [f"{os.path.relpath(mutant, TOP)}: {why}"] if why else []
-    others = planted()
-    for body in others:
-        why = fault_of_planted(body)
-        faults += [f"{os.path.relpath(body.file, TOP)}: {why}"] if why else []
-    return count, len(others), faults
+    """Whether each mutant and each planted body can be applied, and each crate has a file NAME.edit: how many of both there are, and what is wrong."""
+    of_crates, others = {it: mutants(it) for it in crates()}, planted()
+    every = [it for some in of_crates.values() for it in some]
+    faults = [f"{it}: it is in no place whose mutants are tried" for it in strays({it.file for it in every + others})]
+    faults += [f"{it} has no mutant in a file NAME.edit" for it, some in of_crates.items() if not any(one.file.endswith(".edit") for one in some)]
+    for some in (*of_crates.values(), others):
+        names = [it.name for it in some]
+        faults += [f"{it.file}: two mutants are named {it.name}" for it in some if names.count(it.name) > 1]
+    for some, fault_of in ((every, fault_in), (others, fault_of_planted)):
+        told = ((it, fault_of(it)) for it in some)
+        faults += [f"{it.file}, {it.name}: {why}" for it, why in told if why]
+    return len(every), len(others), faults
 
 
 def check():
@@ -220,7 +229,8 @@ def copy_of(room, crate, chosen):
                 shutil.copytree(f"{TOP}/crates/{name}/{part}", f"{room}/crates/{name}/{part}")
     os.mkdir(f"{room}/crates/{crate}/must-fail")
     for mutant in chosen:
-        shutil.copy(mutant, f"{room}/crates/{crate}/must-fail")
+        with open(f"{room}/crates/{crate}/must-fail/{mutant.name}.edit", "w", encoding="utf-8") as file:
+            file.write(mutant.text)
     build = tool_that_builds()
     below = next(it for it in build.library_of_rt().crates_below(f"{TOP}/crates/{crate}") if it.name == crate).below()
     # The libraries of one kind don't go with those of the other.
@@ -270,7 +280,7 @@ def try_few(count):
         found = kept_back(crate)
         groups += [(crate, found[at : at + count]) for at in range(0, len(found), count)]
     if not groups:
-        stop("no crate has a mutant in mutants/")
+        stop("no crate has a mutant that 'rt ci' does not try")
     crate, chosen = groups[number_of_commit() % len(groups)]
     is_well, is_proved = try_some(crate, chosen)
     if not is_well and not is_proved:

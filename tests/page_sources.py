@@ -5,6 +5,7 @@ import re
 import sys
 from fnmatch import fnmatch
 
+import mutants
 from page_text import TOP, read
 
 sys.path.insert(0, f"{TOP}/tools")
@@ -69,10 +70,8 @@ class Sources:
         return name in self.members.get(owner, ())
 
     def mutants(self):
-        """How many mutants there are that the prover refuses, in must-fail/ and in mutants/."""
-        tried = [it for it in self.files if re.match(r"crates/\w+/must-fail/", it)]
-        others = [it for it in self.files if re.match(r"crates/\w+/mutants/", it)]
-        return len(tried), len(others)
+        """How many mutants there are that the prover refuses: those that the gate tries, and the others."""
+        return tuple(sum(len(some(crate)) for crate in mutants.crates()) for some in (mutants.tried_by_gate, mutants.kept_back))
 
     def folders_in(self, folder):
         return sum(os.path.isdir(it) for it in glob.glob(f"{TOP}/{folder}/*"))

@@ -3,9 +3,6 @@
 
     tests/planted.py [NAME ..]
 
-Each is a file tests/planted/NAME.edit: a mutant with two lines more, 'crate: CRATE' and 'test: TEST', as pytest names a test. A
-file outside of crates/, such as a recorder's, has no line 'crate:'.
-
 Nothing is proved: all bodies stand in one program, each behind its number, which is compiled once in some two minutes of processor
 (planted_programs.py). Then each takes some seconds.
 """

@@ -1,6 +1,8 @@
 """Whether a test finds each wrong body of tests/planted. pytest runs this module where it is named, as tests/planted.py does.
 
-A body's test has to fail with the wrong body, and to pass where the program has none. What is in no crate is changed in a copy of the tree.
+Those of outside.edits are of files in no crate, such as a recorder's, and are put into a copy of the tree. Nothing is proved: all others
+stand in one program, each behind its number (planted_programs.py). A body's test has to fail with the wrong body, and to pass where the
+program has none.
 """
 import os
 import re
@@ -37,7 +39,7 @@ def run_test(test, tree, program):
 def copy_with(body, room):
     """Copies the tree, and plants a body of no crate there."""
     shutil.copytree(TOP, room, symlinks=True, ignore=shutil.ignore_patterns(".git", "out"))
-    for path, text in mutants.changed_by(body.crate, body.file).items():
+    for path, text in mutants.changed_by(body).items():
         with open(f"{room}/{path}", "w", encoding="utf-8") as file:
             file.write(text)
 

@@ -149,7 +149,7 @@ class Room:
         def unwanted(at, names):
             if at == TOP:
                 return [it for it in names if it in (".git", "bench", "docs", "release", "shipped")]
-            return [it for it in names if it in ("out", "must-fail", "mutants") or at == f"{TOP}/crates" and it not in CRATES or at == f"{TOP}/bindings" and it == "rust"]
+            return [it for it in names if it in ("out", "must-fail", "mutants", "mutants.edits") or at == f"{TOP}/crates" and it not in CRATES or at == f"{TOP}/bindings" and it == "rust"]
         shutil.copytree(TOP, self.tree, symlinks=True, ignore=unwanted)
         write(f"{self.tree}/tools/build", BUILD, 0o755)
 

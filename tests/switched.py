@@ -73,7 +73,7 @@ def put_switches(room, bodies):
     """Puts wrong bodies into a copy of the sources, each behind its number: `bodies` are by their numbers."""
     files = {}
     for number, body in bodies.items():
-        for path, old, new in mutants.changes_in(body.file):
+        for path, old, new in mutants.changes_in(body):
             files.setdefault(body.crate, {}).setdefault(path, []).append((number, old, new))
     for crate, changed in files.items():
         top = f"{room}/crates/{crate}/src"

@@ -1,4 +1,4 @@
-"""Whether each mutant and each planted body can be applied, and each crate has a mutant; and a few of them are tried.
+"""Whether each mutant and each planted body can be applied, and each crate has one in a file NAME.edit; and a few of them are tried.
 
 The commit's hash chooses which: four of one crate, so that its whole proof is paid once, over the libraries that 'rt ci' left.
 """

@@ -175,9 +175,8 @@ def test_reference(whole, room):
         for _, some in whole.calls.public(crate):
             for it in some:
                 count(f"### `{it.call}`" in pages["calls.md"] and all(one.text in pages["calls.md"] for one in it.clauses), f"calls.md lacks {it.call}")
-    for it in reference.files("crates/*/must-fail/*.edit", "crates/*/mutants/*.edit", "tests/planted/*.edit"):
-        name = os.path.basename(it).removesuffix(".edit").replace("_", " ")
-        count(f"| {name} | " in pages["wrong-bodies.md"], f"wrong-bodies.md lacks {it}")
+    for it in reference.wrong_bodies():
+        count(f"| {it.name.replace('_', ' ')} | " in pages["wrong-bodies.md"], f"wrong-bodies.md lacks {it.name}")
     for it in (one for some in reference.scripts() for one in some):
         count(f"| `{it}` | " in pages["scripts.md"], f"scripts.md lacks {it}")
     for file, some in whole.reached().files:

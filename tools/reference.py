@@ -104,14 +104,9 @@ class Reference:
         """The wrong bodies, with the function that each changes and what refuses it."""
         page = "# Wrong bodies, and what refuses each\n\nA clause refuses the mutants of a crate, and the named test finds a planted body.\n"
         rows = {}
-        for file in files("crates/*/must-fail/*.edit", "crates/*/mutants/*.edit", "tests/planted/*.edit"):
-            text = read(file)
-            is_planted = file.startswith("tests/")
-            said = dict(re.findall(r"^(crate|test): (.*)", text, re.M))
-            crate = said.get("crate", "outside the crates") if is_planted else file.split("/")[1]
-            refused = f"`{said['test']}`" if is_planted else "a clause, in each gate" if "/must-fail/" in file else "a clause"
-            name = os.path.basename(file).removesuffix(".edit").replace("_", " ")
-            rows.setdefault(crate, []).append(f"| {name} | `{self.changed(crate, text)}` | {refused} |\n")
+        for it in wrong_bodies():
+            refused = f"`{it.test}`" if it.test else "a clause, in each gate" if "/must-fail/" in it.file else "a clause"
+            rows.setdefault(it.crate or "outside the crates", []).append(f"| {it.name.replace('_', ' ')} | `{self.changed(it.crate, it.text)}` | {refused} |\n")
         for crate in sorted(rows):
             page += f"\n## {crate}\n\n| Wrong body | Of | Refused by |\n|---|---|---|\n{''.join(rows[crate])}"
         return page
@@ -187,6 +182,13 @@ def what_it_does(name):
     text = " ".join(head_of(name).strip().split("\n\n")[0].split())
     found = re.split(r"(?<=[.]) ", text)[0].rstrip(".:").replace("|", "\\|")
     return found or sys.exit(f"tools/pages: {name} does not begin with what it does")
+
+
+def wrong_bodies():
+    """All mutants, and the planted bodies, as tests/mutants.py reads them."""
+    sys.path.append(f"{TOP}/tests")
+    import mutants
+    return [*(it for crate in mutants.crates() for it in mutants.mutants(crate)), *mutants.planted()]
 
 
 def files(*patterns):
