@@ -24,10 +24,6 @@ def sources(name):
     return sorted(f"{CALLS}/{name}/{it}" for it in os.listdir(f"{CALLS}/{name}"))
 
 
-def is_program(name):
-    return os.path.isfile(f"{CALLS}/{name}/main.rs")
-
-
 def tests_in(name):
     """How many tests the sources of a crate have."""
     count = 0
@@ -42,11 +38,11 @@ def copied(source, folder):
     return f"{folder}/src/{os.path.basename(source).removesuffix('.rs')}.rt"
 
 
-def join_to(room, names):
-    """Makes one crate of these crates of tests, each a module of it, beside the copies of the others. Returns its folder."""
+def join_to(room):
+    """Makes one crate, `calls`, of the crates of tests, each a module of it, beside the copies of the others."""
     folder, lines = f"{room}/crates/calls", listed()
     os.makedirs(f"{folder}/src")
-    for name in names:
+    for name in lines:
         os.makedirs(f"{folder}/src/{name}")
         for source in sources(name):
             module = os.path.basename(source).removesuffix(".rs")
@@ -55,32 +51,31 @@ def join_to(room, names):
             with open(f"{folder}/src/{name}.rt" if module == "lib" else f"{folder}/src/{name}/{module}.rt", "w", encoding="utf-8") as file:
                 file.write(text)
     with open(f"{folder}/src/lib.rt", "w", encoding="utf-8") as file:
-        file.write("//! The tests of the crates' calls.\n\n" + "".join(f"mod {name};\n" for name in sorted(names)))
-    needed = {it for name in names for it in lines[name].partition(":")[2].split()}
+        file.write("//! The tests of the crates' calls.\n\n" + "".join(f"mod {name};\n" for name in sorted(lines)))
+    needed = {it for line in lines.values() for it in line.partition(":")[2].split()}
     with open(f"{room}/crates.txt", "a", encoding="utf-8") as file:
         file.write(f"calls: {' '.join(sorted(needed))}\n")
-    return folder
 
 
-def copy_to(room, lines):
-    """Copies the crates' sources, and those of the crates of tests beside them."""
+def copy_to(room, lines=()):
+    """Copies the crates' sources, and beside them those of the crates of tests, by their lines in the list."""
     for name in os.listdir(f"{TOP}/crates"):
         for part in ("src", "specs", "proofs"):
             if os.path.isdir(f"{TOP}/crates/{name}/{part}"):
                 shutil.copytree(f"{TOP}/crates/{name}/{part}", f"{room}/crates/{name}/{part}")
-    for name in lines:
+    for name in (line.partition(":")[0] for line in lines):
         os.makedirs(f"{room}/crates/{name}/src")
         for source in sources(name):
             shutil.copy(source, copied(source, f"{room}/crates/{name}"))
     with open(f"{TOP}/crates.txt", encoding="utf-8") as file:
         text = file.read()
     with open(f"{room}/crates.txt", "w", encoding="utf-8") as file:
-        file.write(text + "".join(f"{line}\n" for line in lines.values()))
+        file.write(text + "".join(f"{line}\n" for line in lines))
 
 
 def lay_out(lines):
     with tempfile.TemporaryDirectory(prefix="lay-out-") as room:
-        copy_to(room, lines)
+        copy_to(room, lines.values())
         for name in lines:
             folder = f"{room}/crates/{name}"
             if subprocess.run(["rt", "fmt"], cwd=folder).returncode:

@@ -14,8 +14,8 @@ class Cases:
 
 
 running = Cases()
-# Whether a test ends at its first case that failed.
-ends_at_first = False
+# Whether a test ends at its first case that failed, and after how many cases it ends, where a number is given.
+ends_at_first, most = False, None
 
 
 def begin():
@@ -35,7 +35,9 @@ def count(is_well, what):
         if len(running.failed) <= TOLD:
             print(f"failed: {what}")
         if ends_at_first:
-            pytest.fail("a case failed, and the others are left out", pytrace=False)
+            pytest.fail(f"case {running.made()} failed, and the others are left out", pytrace=False)
+    if most is not None and running.made() >= most:
+        pytest.skip(f"the cases after the first {most}")
     return bool(is_well)
 
 

@@ -11,7 +11,10 @@ import tempfile
 
 import cases
 import pytest
+from made_once import MadeOnce
 
+# Where the environment says which folder has what is made once.
+MADE_ONCE = "TESTS_MADE_ONCE"
 TOP = os.path.dirname(os.path.dirname(os.path.abspath(__file__)))
 sys.dont_write_bytecode = True
 sys.path[:0] = [f"{TOP}/tests/models", f"{TOP}/bindings/python"]
@@ -22,13 +25,16 @@ def pytest_addoption(parser):
     group.addoption("--program", default=f"{TOP}/crates/postcopy/out/postcopy", help="the program to test")
     group.addoption("--all", action="store_true", help="also the cases that the gate leaves out, since they take minutes")
     group.addoption("--first", action="store_true", help="end at the first case that fails")
+    group.addoption("--up-to", type=int, metavar="N", help="end each test after so many cases")
     group.addoption("--calls", help="the program that the tests of the crates' calls run; one is compiled where none is given")
     group.addoption("--counts", action="store_true", help="tell how many cases each test tried")
+    group.addoption("--times", metavar="FILE", help="write how many seconds of processor each test took, the longest first")
     group.addoption("--qemu", default="qemu-system-x86_64", help="the QEMU that the tests of its recorder migrate by; they were run with 7.2, 10.0 and 11.1")
 
 
 def pytest_collection_modifyitems(items):
-    """What needs the toolchain is left out where there is none."""
+    """What needs the toolchain is left out where there is none, and what compiles for minutes begins first."""
+    items.sort(key=lambda item: not item.get_closest_marker("first"))
     if not shutil.which("rt"):
         for item in items:
             if item.get_closest_marker("toolchain"):
@@ -52,21 +58,43 @@ def pytest_runtest_call(item):
         pytest.fail(f"there were {made.made()} cases, and there have to be {least.args[0]}", pytrace=False)
 
 
+def spent():
+    """The seconds of processor that this process has taken, and those that it waited for."""
+    return sum(os.times()[:4])
+
+
+class Times:
+    """Notes in each report what was spent since the one before it."""
+
+    def __init__(self):
+        self.before = 0.0
+
+    def pytest_runtest_logstart(self):
+        self.before = spent()
+
+    @pytest.hookimpl(hookwrapper=True)
+    def pytest_runtest_makereport(self):
+        made, now = (yield).get_result(), spent()
+        made.user_properties.append(("seconds", now - self.before))
+        self.before = now
+
+
 class Told:
     """What is told after all tests: how many cases there were, what was left out, and the sums."""
 
     def __init__(self):
-        self.cases, self.left_out, self.counts = {}, [], {"passed": 0, "failed": 0, "skipped": 0}
+        self.cases, self.left_out, self.counts, self.seconds = {}, [], {"passed": 0, "failed": 0, "skipped": 0}, {}
 
     def pytest_runtest_logreport(self, report):
         if report.when == "call" or report.outcome != "passed":
             self.counts[report.outcome] += 1
-        if report.when == "call":
-            for name, value in report.user_properties:
-                if name == "cases":
-                    self.cases[report.nodeid] = value
-                else:
-                    self.left_out.append((report.nodeid, value))
+        for name, value in report.user_properties:
+            if name == "seconds":
+                self.seconds[report.nodeid] = self.seconds.get(report.nodeid, 0) + value
+            elif report.when == "call" and name == "cases":
+                self.cases[report.nodeid] = value
+            elif report.when == "call":
+                self.left_out.append((report.nodeid, value))
         if report.skipped:
             self.left_out.append((report.nodeid, report.longrepr[2].removeprefix("Skipped: ")))
 
@@ -74,6 +102,10 @@ class Told:
         if config.getoption("--counts"):
             for test, count in self.cases.items():
                 terminalreporter.write_line(f"{count:,} cases: {test}")
+        if config.getoption("--times"):
+            with open(config.getoption("--times"), "w", encoding="utf-8") as file:
+                file.writelines(f"{self.seconds[it]:8.2f} {it}\n" for it in sorted(self.seconds, key=self.seconds.get, reverse=True))
+                file.write(f"{sum(self.seconds.values()):8.2f} all\n")
         for test, what in self.left_out:
             terminalreporter.write_line(f"left out: {test}: {what}")
         terminalreporter.write_line(f"{sum(self.cases.values()):,} cases")
@@ -85,9 +117,11 @@ class Told:
 
 
 def pytest_configure(config):
-    cases.ends_at_first = config.getoption("--first")
+    cases.ends_at_first, cases.most = config.getoption("--first"), config.getoption("--up-to")
     if cases.ends_at_first:
         config.option.maxfail = 1
+    if config.getoption("--times"):
+        config.pluginmanager.register(Times(), "times")
     if not hasattr(config, "workerinput"):
         config.pluginmanager.register(Told(), "told")
 
@@ -102,11 +136,12 @@ def program(pytestconfig):
 
 
 @pytest.fixture(scope="session")
-def programs(tmp_path_factory):
-    """The programs that have wrong bodies behind numbers, which all processes share."""
-    from planted_programs import Programs
-    folder = tmp_path_factory.getbasetemp()
-    return Programs(folder.parent if "PYTEST_XDIST_WORKER" in os.environ else folder)
+def made_once(tmp_path_factory):
+    """What is made once for all processes, those too that run tests for test_planted.py."""
+    if MADE_ONCE not in os.environ:
+        folder = tmp_path_factory.getbasetemp()
+        os.environ[MADE_ONCE] = str(folder.parent if "PYTEST_XDIST_WORKER" in os.environ else folder)
+    return MadeOnce(os.environ[MADE_ONCE])
 
 
 @pytest.fixture
@@ -125,12 +160,14 @@ def cc():
 
 
 @pytest.fixture(scope="session")
-def refusing(cc):
+def refusing(cc, made_once):
     """The library that stands before the system's calls, counts them, and refuses some."""
-    with tempfile.TemporaryDirectory(prefix="postcopy-tests-") as folder:
-        made = f"{folder}/refusing.so"
-        subprocess.run([cc, "-std=c11", "-O2", "-shared", "-fPIC", "-o", made, f"{TOP}/bindings/c/tests/refusing.c"], check=True)
-        yield made
+    def make(made):
+        words = [cc, "-std=c11", "-O2", "-shared", "-fPIC", "-o", made, f"{TOP}/bindings/c/tests/refusing.c"]
+        ran = subprocess.run(words, stdin=subprocess.DEVNULL, stdout=subprocess.PIPE, stderr=subprocess.STDOUT, text=True)
+        return ran.stdout if ran.returncode else None
+
+    return made_once.file("refusing.so", make)
 
 
 @pytest.fixture(scope="session")

@@ -3,8 +3,8 @@
 
     tests/planted.py [NAME ..]
 
-Nothing is proved: all bodies stand in one program, each behind its number, which is compiled once in some two minutes of processor
-(planted_programs.py). Then each takes some seconds.
+This runs tests/test_planted.py, as the gate does. Nothing is proved: the programs that have all bodies are compiled once, in some minutes of
+processor. Then each body takes a second or some.
 """
 import os
 import sys
@@ -12,8 +12,9 @@ import sys
 import mutants
 
 if __name__ == "__main__":
-    if any(it not in {body.name for body in mutants.planted()} for it in sys.argv[1:]):
+    bodies = {it.name: it for it in mutants.planted()}
+    if any(it not in bodies for it in sys.argv[1:]):
         sys.exit(__doc__)
-    file = "tests/planted_bodies.py"
-    tests = [f"{file}::test_planted[{it}]" for it in sys.argv[1:]] or [file]
-    os.execv(f"{mutants.TOP}/tests/pytest", ["tests/pytest", "-n", "auto", *tests])
+    file = "tests/test_planted.py"
+    tests = [f"{file}::{'test_planted' if bodies[it].crate else 'test_outside'}[{it}]" for it in sys.argv[1:]] or [file]
+    os.execv(f"{mutants.TOP}/tests/pytest", ["tests/pytest", "-n", "auto", "--dist", "loadgroup", *tests])

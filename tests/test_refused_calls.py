@@ -1,6 +1,6 @@
 """Refuses each growth of memory in turn to the library's calls, of which each is made again once it was refused.
 
-The calls are made by the program in tests/calls/refused_calls, over the texts of some examples, and their growths are refused by
+The calls are made by the test in tests/calls/refused_calls, over the texts of some examples, and their growths are refused by
 bindings/c/tests/refusing.c, which stands before the system's calls. Each growth is refused twice: with all later ones of its call, and
 alone; of what threads judge, alone.
 Each time the call has to answer that there was no memory, and nothing else; what its contract says has to stay as it was; and
@@ -13,18 +13,17 @@ has one that is made and stands in none. `commands::run` is the program itself, 
 
 Packets are cut before each byte and have each byte changed besides, and what a stream answers is compared with a slow reader.
 
-The program is compiled as 'rt try' does. That takes nearly all of some minute of processor, and the calls the rest.
+The program is that of test_calls.py.
 """
 import os
 import subprocess
 
 import pytest
-from call_crates import copy_to, listed
 from cases import count, same
-from compiled import compile_program
+from planted_programs import program_with_bodies
 
 TOP = os.path.dirname(os.path.dirname(os.path.realpath(__file__)))
-NAME = "refused_calls"
+TEST = "refused_calls::each_growth_is_refused"
 # How long all calls may take, in seconds by the clock.
 LIMIT = 600
 # What the program ends with.
@@ -205,7 +204,7 @@ def run(program, refusing):
     with open(os.devnull, "wb") as nothing:
         os.dup2(nothing.fileno(), 99)
     try:
-        ran = subprocess.run([program, f"{TOP}/examples"], env={"LD_PRELOAD": refusing, "REFUSING": "told"}, stdin=subprocess.DEVNULL,
+        ran = subprocess.run([program, TEST], cwd=TOP, env={"LD_PRELOAD": refusing, "REFUSING": "told"}, stdin=subprocess.DEVNULL,
                              capture_output=True, text=True, errors="replace", pass_fds=(99,), timeout=LIMIT)
     except subprocess.TimeoutExpired as ran:
         return (ran.stdout or b"").decode(), f"the calls did not end in {LIMIT} seconds"
@@ -214,14 +213,10 @@ def run(program, refusing):
 
 @pytest.mark.toolchain
 @pytest.mark.slow
+@pytest.mark.xdist_group("calls")
 @pytest.mark.cases(1)
-def test_refused_calls(room, refusing, pytestconfig):
-    made = pytestconfig.getoption("--calls")
-    if not made:
-        copy_to(room, {NAME: listed()[NAME]})
-        made, said = compile_program(room, NAME, "-O0")
-        assert made, f"{said[-6000:]}\nthe program was not made"
-    said, failed = run(made, refusing)
+def test_refused_calls(made_once, refusing, pytestconfig):
+    said, failed = run(pytestconfig.getoption("--calls") or program_with_bodies(made_once, "calls"), refusing)
     calls, streams, last = calls_in(said)
     for fault in dict.fromkeys(faults_of(calls)):
         count(False, fault)

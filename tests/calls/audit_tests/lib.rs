@@ -12,5 +12,4 @@ pub mod plain;
 #[cfg(test)]
 mod texts;
 #[cfg(test)]
-#[cfg(test)]
 mod worked;

@@ -1,9 +1,8 @@
 //! Makes calls of which each growth is refused in turn, and writes what came of each.
 //!
-//! The one word is the folder of the examples, whose texts it takes. For each growth it writes four lines: 'refuse NAME N', and
-//! another writes how many growths the call had and how many of them were refused; what the call answered; and where it
-//! answered, whether the answer is the right one.
-#![tactic(auto)]
+//! It takes the texts of the folder `examples`. For each growth it writes four lines: 'refuse NAME N', and another writes how many
+//! growths the call had and how many of them were refused; what the call answered; and where it answered, whether the answer is
+//! the right one.
 
 mod books;
 mod containers;
@@ -17,8 +16,6 @@ mod texts;
 
 use crate::examples::Examples;
 use crate::refusing::{Refuser, all};
-use anyhow::Result;
-use std::env;
 use std::marker::Sync;
 use std::net::{Net, TcpListener, TcpStream};
 use std::sync::Wait;
@@ -41,15 +38,12 @@ fn make_all<R: Threads + Wait + Sync + Net<Listener = TcpListener, Stream = TcpS
     ])
 }
 
-fn main(rt: HostRuntime) -> Result<()> {
-    let words: Vec<String> = env::args(&rt)?.collect(rt.alloc())?;
-    if let [_, folder] = words.as_slice() {
-        let refuser = Refuser::new(rt);
-        let examples = Examples::new(rt, folder.as_str());
-        refuser.tell(match make_all(&rt, refuser, &examples) {
-            Some(()) => b"all were made\n",
-            None => b"not all were made\n",
-        });
-    }
-    Ok(())
+#[test]
+fn each_growth_is_refused(rt: HostRuntime) {
+    let refuser = Refuser::new(rt);
+    let examples = Examples::new(rt, "examples");
+    refuser.tell(match make_all(&rt, refuser, &examples) {
+        Some(()) => b"all were made\n",
+        None => b"not all were made\n",
+    });
 }

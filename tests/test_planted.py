@@ -1,0 +1,147 @@
+"""Whether a test finds each wrong body of tests/planted: it has to fail with the wrong body, and to pass as far where the program has none.
+
+Nothing is proved. All bodies of crates stand in two programs, each behind its number (planted_programs.py), which are compiled before other
+tests run. Those of outside.edits are of files in no crate, such as a recorder's, and are put into a copy of the tree.
+"""
+import os
+import re
+import shutil
+import signal
+import sys
+import tempfile
+import time
+import traceback
+
+import mutants
+import pytest
+from planted_programs import BODIES, NUMBERS, program_with_bodies
+from switched import plant
+
+TOP = os.path.dirname(os.path.dirname(os.path.realpath(__file__)))
+# The modules of tests that run another program than `postcopy`.
+OF_CALLS = ("tests/test_calls.py", "tests/test_refused_calls.py")
+# Of a test that failed, the line that says so, and the one that says with which case.
+FAILED, CASE = re.compile("^FAILED .*$", re.M), re.compile(r"^case (\d+) failed", re.M)
+# How long a test may take, in seconds by the clock: a wrong body may wait for ever.
+LIMIT = 900
+
+pytestmark = [pytest.mark.toolchain, pytest.mark.slow]
+
+
+def program_of(test):
+    return "calls" if test.partition("::")[0] in OF_CALLS else "postcopy"
+
+
+def run_in_fork(words, tree, said):
+    """Has a fork of this process, which has read pytest and the modules of tests, run them with these words. Another tree's are read anew."""
+    child = os.fork()
+    if child:
+        return child
+    status = 3
+    try:
+        os.setsid()
+        os.dup2(os.open(os.devnull, os.O_RDONLY), 0)
+        for number, name in ((1, "stdout"), (2, "stderr")):
+            os.dup2(said.fileno(), number)
+            setattr(sys, name, open(number, "w", closefd=False))
+        os.environ.pop("PYTEST_XDIST_WORKER", None)
+        if tree != TOP:
+            os.chdir(tree)
+            os.execv(sys.executable, [sys.executable, "-m", "pytest", *words])
+        status = int(pytest.main(words))
+    except BaseException:
+        traceback.print_exc()
+    finally:
+        sys.stdout.flush()
+        os._exit(status)
+
+
+def status_of(child):
+    """Waits for a process: its status, or None where it took too long, and was ended with all that it had started."""
+    until = time.monotonic() + LIMIT
+    while time.monotonic() < until:
+        ended, status = os.waitpid(child, os.WNOHANG)
+        if ended:
+            return os.waitstatus_to_exitcode(status)
+        time.sleep(0.02)
+    os.killpg(child, signal.SIGKILL)
+    os.waitpid(child, 0)
+    return None
+
+
+def run_test(test, tree, program, most=None):
+    """Runs a test of a tree, to its first case that fails or to so many cases: the status, and what was printed."""
+    words = ["-q", "--first", "-p", "no:cacheprovider", "-p", "no:xdist", f"--{'calls' if program_of(test) == 'calls' else 'program'}={program}"]
+    words += [f"--up-to={most}"] if most else []
+    with tempfile.TemporaryFile() as said:
+        status = status_of(run_in_fork([*words, f"{tree}/{test}"], tree, said))
+        said.seek(0)
+        return status, said.read().decode(errors="replace")
+
+
+def require_right(made_once, test, program, found):
+    """Sees to it that a test passes where no wrong body runs, up to the case that found one, or the next power of two, so that it is run seldom."""
+    most = 1 << (int(found[1]) - 1).bit_length() if found else None
+
+    def make(made):
+        status, said = run_test(test, TOP, program, most)
+        if status != 0:
+            return said[-6000:]
+        shutil.copy(os.devnull, made)
+        return None
+
+    made_once.file(f"passed {test} {os.path.basename(program)} {most}", make)
+
+
+@pytest.fixture(scope="module")
+def tree():
+    """A copy of the tree, with the library for C that was built."""
+    def unwanted(at, names):
+        return [it for it in names if it == ".git" or it == "out" and at != f"{TOP}/crates/postcopy_c"]
+
+    with tempfile.TemporaryDirectory(prefix="postcopy-tests-") as room:
+        shutil.copytree(TOP, f"{room}/tree", symlinks=True, ignore=unwanted)
+        yield f"{room}/tree"
+
+
+@pytest.fixture
+def planted(name, tree):
+    """The copy with a body of no crate."""
+    changed = mutants.changed_by(BODIES[name])
+    for path, text in changed.items():
+        with open(f"{tree}/{path}", "w", encoding="utf-8") as file:
+            file.write(text)
+    yield tree
+    for path in changed:
+        shutil.copy2(f"{TOP}/{path}", f"{tree}/{path}")
+
+
+@pytest.mark.first
+@pytest.mark.xdist_group("postcopy with all bodies")
+def test_program(made_once):
+    program_with_bodies(made_once, "postcopy")
+
+
+def found_by(made_once, test, right, ran):
+    """Whether a test has found a wrong body, and does not fail for another reason."""
+    status, said = ran
+    print(said[-3000:])
+    assert status is not None, f"{test} does not end"
+    assert status, f"{test} does not find it"
+    assert FAILED.search(said), "the test was not run"
+    require_right(made_once, test, right, CASE.search(said))
+
+
+@pytest.mark.parametrize("name", NUMBERS)
+def test_planted(made_once, room, name):
+    test = BODIES[name].test
+    right, program = program_with_bodies(made_once, program_of(test)), f"{room}/program"
+    plant(right, NUMBERS[name], program)
+    found_by(made_once, test, right, run_test(test, TOP, program))
+
+
+@pytest.mark.xdist_group("copy of the tree")
+@pytest.mark.parametrize("name", [it for it in BODIES if it not in NUMBERS])
+def test_outside(made_once, program, planted, name):
+    test = BODIES[name].test
+    found_by(made_once, test, program, run_test(test, planted, program))
