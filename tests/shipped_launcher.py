@@ -8,7 +8,7 @@ import subprocess
 import sys
 import time
 
-from cases import count, leave_out, same
+from cases import count, leave_out, right, same
 from shipped_copies import (COMMANDS, BEGINS, LIBRARIES, NAMES, NOBODY, PROGRAM, SHIPPED, SOURCE, YES, Ran, append, check, crates_below, home, is_put,
                             is_superuser, kept_in, manifest, put_back, read, read_only, rewrite, run, says, sum_of, write)
 
@@ -307,31 +307,32 @@ def tests_of_limits(room):
              Ran(3, b"", b"output\nstandard output: the file would be too large\n"))
 
 
-def on_terminal(copy, room, at, *words, given):
-    """The status and the standard error of the launcher, whose standard input is a terminal at which this is typed."""
+def at_terminal(*words, **how):
+    """The status and the standard error of a command whose standard input is a terminal, at which nothing is typed."""
     ours, theirs = pty.openpty()
     try:
-        ran = subprocess.Popen([f"{copy}/postcopy", *words], stdin=theirs, stdout=subprocess.PIPE, stderr=subprocess.PIPE,
-                               env={"PATH": room.plain, "HOME": at})
-        os.write(ours, given)
-        errors = ran.communicate(timeout=60)[1]
+        ran = subprocess.run(words, stdin=theirs, stdout=subprocess.PIPE, stderr=subprocess.PIPE, timeout=60, **how)
     finally:
         os.close(ours)
         os.close(theirs)
-    return ran.returncode, errors.decode()
+    return ran.returncode, ran.stderr.decode()
+
+
+def wrong_alone(command, **how):
+    """What is wrong with a command that starts the program, without words at a terminal, where it has to say how it is used and to wait for nothing."""
+    usage = subprocess.run([command, "--help"], stdin=subprocess.DEVNULL, stdout=subprocess.PIPE, check=True, **how).stdout.decode()
+    found = at_terminal(command, **how)
+    return None if usage and found == (2, usage) else f"without words at a terminal: {found}"
 
 
 def tests_of_terminal(room):
-    """The launcher without words at a terminal: it says what the program waits for, and else nothing."""
+    """The launcher without words at a terminal says how it is used. Else its input is judged, and with words it says nothing."""
     copy = room.copy()
-    same("the first answer", check(copy, room), YES)
-    at = home(room, "home-at-terminal")
-    end = b"\x04"
-    status, errors = on_terminal(copy, room, at, given=end)
-    count(status == 1 and errors.startswith("postcopy: waiting for a session and its certificate"), f"it says what it waits for: {errors!r}")
-    status, errors = on_terminal(copy, room, at, "audit", f"{copy}/examples/handover/session", given=end)
-    same("with words it says nothing", (status, errors), (0, ""))
-    same("without a terminal it does not say it", b"waiting" in run(f"{copy}/postcopy", path=room.plain, given=b"").err, False)
+    how = {"env": {"PATH": room.plain, "HOME": home(room, "home-at-terminal")}}
+    right(wrong_alone(f"{copy}/postcopy", **how))
+    same("with words", at_terminal(f"{copy}/postcopy", "audit", f"{copy}/examples/handover/session", **how), (0, ""))
+    given = read(f"{copy}/examples/handover/session") + read(f"{copy}/examples/handover/certificate")
+    same("without a terminal", run(f"{copy}/postcopy", path=room.plain, given=given), YES)
 
 
 def tests_of_damage(room):

@@ -20,8 +20,9 @@ import tarfile
 import zipfile
 
 import pytest
-from cases import leave_out, same
+from cases import leave_out, right, same
 from needed import can_have
+from shipped_launcher import wrong_alone
 
 TOP = os.path.dirname(os.path.dirname(os.path.realpath(__file__)))
 SCRIPTS = {"postcopy-session": "recorders/session", "postcopy-annotate": "share/bin/postcopy-annotate", "postcopy-report": "share/bin/postcopy-report"}
@@ -307,9 +308,10 @@ def judges(*program):
 
 
 def judged(program, room):
-    """The program of an installation: it judges, and an answer that is more than a file may have by the limit of its size is told, and
-    ends it by no signal. The file stays as it was, and no other is there."""
+    """The program of an installation: it judges, says how it is used, and an answer that is more than a file may have by the limit of its
+    size is told, and ends it by no signal. The file stays as it was, and no other is there."""
     same(f"what {program} answers", judges(program), ("yes\n", 0))
+    right(wrong_alone(program), program)
     answer, folder = read(CERTIFICATE, "rb"), f"{room}/limited"
     os.mkdir(folder)
     for most in (0, 1, len(answer) // 2, len(answer) - 1, len(answer)):
