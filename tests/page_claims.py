@@ -3,13 +3,13 @@ import os
 import re
 
 from case_table import CASES
-from page_text import headings, links, number_of, read, rows
+from page_text import links, number_of, read, rows, terms
 
 GUARANTEES, FORMATS, ANSWERS, SCRIPTS = "docs/GUARANTEES.md", "docs/FORMATS.md", "docs/ANSWERS.md", "docs/SCRIPTS.md"
 PERFORMANCE, BENCHES = "docs/PERFORMANCE.md", "bench/results/tables.md"
 MAN1, MAN5 = "share/man/man1/postcopy.1", "share/man/man5/postcopy.5"
 
-# What the glossary has to explain.
+# The words that have to be explained.
 TERMS = ("merging", "receipt", "knot", "cycle", "halt", "owed page", "cancelled", "look", "guard", "sum", "flat machine", "pivot",
          "delivery outcome", "lane", "certificate", "cut", "run", "party", "channel", "mutant", "pool of workers")
 
@@ -170,14 +170,13 @@ def wrong_readme(pages):
         yield "README.md and docs/GUARANTEES.md do not have the same headline"
 
 
-def wrong_glossary(pages):
-    found = {it.lower() for heading in headings(pages["docs/GLOSSARY.md"]) for it in heading.split(", ")}
+def wrong_words(pages):
     for it in TERMS:
-        if it not in found:
-            yield f"docs/GLOSSARY.md does not explain: {it}"
+        if it not in terms(pages[ANSWERS]):
+            yield f"{ANSWERS} does not explain: {it}"
     for name, page in pages.items():
-        if name != "docs/GLOSSARY.md" and not any("GLOSSARY.md" in target for _, target in links(page)):
-            yield f"{name} has no link to the glossary"
+        if name != ANSWERS and not any(target.endswith("ANSWERS.md#words") for _, target in links(page)):
+            yield f"{name} has no link to what the words mean"
 
 
 def answers(sources):
@@ -250,5 +249,5 @@ def wrong(pages, sources):
     """All that is wrong with what is claimed."""
     found = [*wrong_counts(pages, sources), *wrong_lists(pages), *wrong_sums(pages), *wrong_gate(pages), *wrong_scripts(pages)]
     found += [*wrong_sentences(pages), *wrong_ratios()]
-    found += [*wrong_tables(pages), *wrong_readme(pages), *wrong_glossary(pages), *wrong_answers(pages, sources), *wrong_texts(pages)]
+    found += [*wrong_tables(pages), *wrong_readme(pages), *wrong_words(pages), *wrong_answers(pages, sources), *wrong_texts(pages)]
     return [*found, *wrong_silences(pages, sources), *wrong_licence(), *wrong_installed(sources)]

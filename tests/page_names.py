@@ -2,10 +2,10 @@
 import os
 import re
 
-from page_text import TOP, anchor, code_spans, headings, italics, links, read, rows
+from page_text import TOP, anchor, code_spans, headings, italics, links, read, rows, terms
 
 # Pages about other programs, whose identifiers are not ours; paths are looked up there too.
-OF_OTHERS = ("docs/RECORDING.md", "docs/RECORDS.md", "docs/LARGE.md", "docs/SYSTEMS.md", "docs/GUESTS.md", "docs/FOUND.md", "examples/recording/README.md")
+OF_OTHERS = ("docs/RECORDING.md", "docs/RECORDS.md", "docs/PERFORMANCE.md", "docs/SYSTEMS.md", "docs/GUESTS.md", "docs/FOUND.md", "examples/recording/README.md")
 # Files that come of a build or of a command that the page shows, and names of other people's files.
 MADE = re.compile(r"crates/\w+/out\b|.*libpostcopy\.(?:so|a)\b|postcopy\.pc|changed\.svg|(?:stale-page|fault|picture)\.svg|shipped/")
 PLACEHOLDER = re.compile(r"[A-Z]{4,}|[*<>$]|\.\.|^[/~-]|^https?:")
@@ -78,15 +78,15 @@ def wrong_spans(name, page, sources):
             yield f"{name}, line {line}: {said}"
 
 
-def wrong_italics(name, page, sources, terms):
+def wrong_italics(name, page, sources, explained):
     """Definitions and terms in italics; other italics are emphasis where they are no identifier and no page of promises."""
     for line, span in italics(page):
         count()
         if IDENTIFIER.match(span):
             if span not in sources.definitions | sources.words:
                 yield f"{name}, line {line}: no file of definitions has {span}"
-        elif name == "docs/GUARANTEES.md" and span not in sources.definitions and span.lower() not in terms and span != "italics":
-            yield f"{name}, line {line}: neither a definition nor a term of the glossary: {span}"
+        elif name == "docs/GUARANTEES.md" and span not in sources.definitions and span.lower() not in explained and span != "italics":
+            yield f"{name}, line {line}: neither a definition nor one of the words that docs/ANSWERS.md explains: {span}"
 
 
 def functions_in(cell, sources):
@@ -154,11 +154,11 @@ def wrong_links(name, page, pages):
 
 def wrong(pages, sources):
     """All that is wrong with names."""
-    terms = {it.lower() for heading in headings(pages["docs/GLOSSARY.md"]) for it in heading.split(", ")}
+    explained = terms(pages["docs/ANSWERS.md"])
     found = []
     for name, page in pages.items():
         found += wrong_spans(name, page, sources)
-        found += wrong_italics(name, page, sources, terms)
+        found += wrong_italics(name, page, sources, explained)
         found += wrong_clauses(name, page, sources)
         found += wrong_crates(name, page, sources)
         found += wrong_links(name, page, pages)

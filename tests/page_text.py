@@ -82,6 +82,11 @@ def headings(page):
     return re.findall(r"^#+ (.*)$", prose(page), re.M)
 
 
+def terms(page):
+    """The words that the tables of a page explain in its last part, 'Words'."""
+    return {it.lower() for _, cells, _ in rows(page.partition("\n## Words\n")[2]) for it in cells[0].split(", ")}
+
+
 def anchor(heading):
     """The anchor that a heading gets."""
     return re.sub(r"[^\w\- ]", "", heading.lower()).replace(" ", "-")

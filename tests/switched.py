@@ -19,7 +19,7 @@ MARK = b"The number of the planted body: "
 FUNCTION = re.compile(r"( *)(?:(?:pub(?:\([a-z]+\))?|const|final|unsafe) )*fn \w+")
 MESSAGE = re.compile(r'( *#\[error\()(".*")(\)\])')
 ASKED = "\n/// Whether the planted body of this number runs.\npub(crate) fn is_planted(number: u32) -> bool {\n    number == 0\n}\n"
-DEFINED = re.compile(r'define .* i1 @"\w+::is_planted"\(i32 [^)]*%(\w+)\)')
+DEFINED = re.compile(r'^(define .* i1 @"\w+::is_planted"\(i32 [^)]*%(\w+)\).*\n)(?:.*\n)*?\}\n', re.M)
 ANSWERED = """start:
   %number = load volatile i32, ptr getelementptr inbounds (i8, ptr @planted, i64 {length})
   %is = icmp eq i32 %number, %{given}
@@ -86,22 +86,12 @@ def put_switches(room, bodies):
             file.write(ASKED)
 
 
-def with_answers(lines):
-    """The lines of a module of LLVM, in text, in which `is_planted` answers."""
-    is_left_out = is_asked = False
-    for line in lines:
-        found = DEFINED.match(line)
-        if found:
-            is_asked = True
-            yield line
-            yield ANSWERED.format(length=len(MARK), given=found[1])
-            is_left_out = True
-        elif is_left_out:
-            is_left_out = line != "}\n"
-        else:
-            yield line
-    if is_asked:
-        yield f'@planted = global {{ [{len(MARK)} x i8], i32 }} {{ [{len(MARK)} x i8] c"{MARK.decode("ascii")}", i32 0 }}, align 8\n'
+def with_answers(module):
+    """A module of LLVM, in text, in which each `is_planted` answers."""
+    made, count = DEFINED.subn(lambda found: found[1] + ANSWERED.format(length=len(MARK), given=found[2]), module)
+    if count:
+        made += f'@planted = global {{ [{len(MARK)} x i8], i32 }} {{ [{len(MARK)} x i8] c"{MARK.decode("ascii")}", i32 0 }}, align 8\n'
+    return made
 
 
 def compile_module(clang, level, words):
@@ -111,7 +101,7 @@ def compile_module(clang, level, words):
         return subprocess.run([clang, *words]).returncode
     subprocess.run([clang, "-x", "ir", module, "-S", "-emit-llvm", "-O0", "-w", "-o", f"{module}.read.ll"], check=True)
     with open(f"{module}.read.ll", encoding="utf-8") as read, open(f"{module}.ll", "w", encoding="utf-8") as written:
-        written.writelines(with_answers(read))
+        written.write(with_answers(read.read()))
     other = {module: f"{module}.ll", "-O0": level, "-Werror": "-w"}
     return subprocess.run([clang, *(other.get(word, word) for word in words if word != "-fsanitize=address")]).returncode
 

@@ -111,7 +111,7 @@ PLANTED = {
 @pytest.mark.parametrize("planted, wrong", PLANTED.values(), ids=PLANTED.keys())
 def test_planted_style(planted, wrong):
     """A page that is right, and what is planted into it."""
-    name = "docs/WEB.md"
+    name = "docs/TOUR.md"
     found = page_style.wrong({name: f"{read(name)}\n{planted}\n\nThe end.\n"})
     line = read(name).count("\n") + 2
     assert found == ([f"{name}, line {line}: {wrong}"] if wrong else [])

@@ -409,10 +409,10 @@ def record(folder, placed=lambda page: page + 1, is_closed=True):
 
 
 def test_lines_for_windows(program, room):
-    """The lines of docs/LARGE.md that judge a larger machine through windows, on one machine and by an array job, whose tasks run here one
+    """The lines of docs/PERFORMANCE.md that judge a larger machine through windows, on one machine and by an array job, whose tasks run here one
     after the other. Their status is 0 if each window is clean, and only then: not if what they show cannot be written, nor if the recording
     made no text and that of an earlier one is there. So it is too where the last window has fewer pages than the others."""
-    written, cut, judged, _, as_tasks, put_together = re.findall(r"^```sh\n(.*?)^```$", read("docs/LARGE.md"), re.M | re.S)
+    written, cut, judged, _, as_tasks, put_together = re.findall(r"^```sh\n(.*?)^```$", read("docs/PERFORMANCE.md"), re.M | re.S)
     as_tasks = f'sbatch() {{ for SLURM_ARRAY_TASK_ID in $(seq "${{2#--array=1-}}"); do export SLURM_ARRAY_TASK_ID; sh -c "$4"; done; }}\n{as_tasks}'
     os.symlink(program, f"{room}/postcopy")
 

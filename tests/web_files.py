@@ -153,7 +153,7 @@ def tests_of_companions(browser, room, program):
 
 
 def tests_of_memory(browser, room):
-    """What docs/WEB.md says of the memory that judging takes, for each byte of a session, and for each page that one names."""
+    """What docs/EMBEDDING.md says of the memory that judging takes, for each byte of a session, and for each page that one names."""
     text = read(example("handover")[0]).decode()
     long = text.replace("guest 9", "guest 1000009").replace("see 7\n", "see 7\n" * 1_000_001)
     wide = f"postcopy-session 3\npages {1 << 20}\ncells 1\ninit 0\n" + "".join(f"{it} 0\n" for it in ("guest", "source", "link", "lane", "pager")) + "end\n"

@@ -124,7 +124,7 @@ function showInList() {
   for (const it of sessions()) it.way.setAttribute("aria-current", it === shown);
 }
 
-// What judging a session takes, where that is much: it is told before it is taken. The numbers are those of docs/WEB.md.
+// What judging a session takes, where that is much: it is told before it is taken. The numbers are those of docs/EMBEDDING.md.
 const MUCH = 512 << 20, OF_PAGE = 74, OF_BYTE = 5, PAGES_A_SECOND = 1.3e6;
 function costWords({ name, file, pages }) {
   if (!file) return undefined;
