@@ -8,8 +8,8 @@ use Rattle.guest_script.specs.declared.transcript.Answered.{Answered}
 use Rattle.host_checks.specs.declared.outcome.Migrated.{Migrated}
 use Rattle.host_checks.specs.declared.outcome.RunFault.{RunFault}
 use Rattle.host_checks.specs.declared.outcome.RunFault.TheVariants as told
-use Rattle.host_primitives.specs.declared.stop_reason.StopReason.{StopReason}
-use Rattle.host_primitives.specs.declared.stop_reason.StopReason.TheVariants.{LogFull, Memory, Threads, Link, Astray}
+use Rattle.host_threads.specs.declared.stop_reason.StopReason.{StopReason}
+use Rattle.host_threads.specs.declared.stop_reason.StopReason.TheVariants.{LogFull, Memory, Threads, Link, Astray}
 
 -- the refusal of a run that stopped for this reason, before anything is checked
 abbrev pub told_as : StopReason → Option RunFault

@@ -5,11 +5,20 @@ ghost use Rattle.host_checks.specs.declared.outcome.RunFault.{RunFault as Refusa
 ghost use Rattle.host_checks.specs.Outcomes.{HasMigrated, IsRunFault};
 ghost use Rattle.host_threads.specs.Runs.{told_as, told_of, IsRunOf};
 
+use crate::books::{books_of, left_by};
+use crate::carry::Echo;
+use crate::gate::{Gate, most_at_once};
+use crate::link::run_link;
+use crate::loopback::open_loopback;
+use crate::pager::run_pager;
+use crate::passage::{NoRelay, Passage};
+use crate::relay::Relay;
+use crate::shared::SharedBooks;
+use crate::source::run_source;
+use crate::stop_reason::StopReason;
+use crate::vcpu::run_vcpu;
 use guest_script::{Script, Transcript};
 use host_checks::{Migrated, RunFault, session_of, settle};
-use host_primitives::{
-    Echo, Gate, NoRelay, Passage, Relay, StopReason, most_at_once, open_loopback,
-};
 use migration_types::{Logs, Seq};
 use page_store::Store;
 use std::alloc::Global;
@@ -17,7 +26,6 @@ use std::net::{Net, TcpListener, TcpStream};
 use std::sync::Wait;
 use std::thread;
 use std::thread::{JoinHandle, Scope, Threads};
-use thread_bodies::{SharedBooks, books_of, left_by, run_link, run_pager, run_source, run_vcpu};
 
 /// Starts a thread for each virtual processor. If one cannot be started, the run stops.
 fn start_vcpus<'s, E, R: Threads + Wait + Sync, G: Gate>(

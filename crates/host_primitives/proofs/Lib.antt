@@ -1,3 +1,0 @@
-pub mod Echoes
-pub mod Carrying
-pub mod Making

@@ -1,5 +1,0 @@
-use Rattle.host_primitives.specs.Fates.{line, HaveMet}
-use Rattle.host_primitives.proofs.lines.turn_line.Given as goal
-
-abbrev pub invariant-loop-count : goal.invariant-loop-count
-invariant-loop-count g l = HaveMet l.direction l.count (line l.fn.link.part l.fn.fates.left.now) (line l.link.part l.fates.left.now)

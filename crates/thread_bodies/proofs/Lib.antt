@@ -1,4 +1,0 @@
-pub mod Packets
-pub mod Turning
-pub mod Tried
-pub mod Working
