@@ -181,7 +181,7 @@ def wrong_words(pages):
 
 def answers(sources):
     """The lines, reasons and words on standard error that the program can answer, by its sources."""
-    texts = [read(it) for it in sorted(sources.files) if re.match(r"crates/(?:command_texts|judge_commands|host_commands|window_commands|commands|audit_report)/src/.*\.rt$", it)]
+    texts = [read(it) for it in sorted(sources.files) if re.match(r"crates/(?:command_texts|judge_commands|host_commands|windows|commands|audit_report)/src/.*\.rt$", it)]
     found = {it.strip() for text in texts for it in re.findall(r'b"([a-z-]+(?: [a-z]+)*) ?(?:\\n)?"', text)} - {"end", "line"}
     reasons = re.findall(r'=> b"([a-z-]+)"', read("crates/audit_model/src/reasons.rt"))
     return found, reasons

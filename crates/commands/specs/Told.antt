@@ -4,8 +4,8 @@ use Rattle.std.specs.Global.{Vec}
 use Rattle.command_words.specs.declared.requests.Request.{Request}
 use Rattle.command_words.specs.declared.requests.Request.TheVariants.{One, Two, Migrate, Draw, Window}
 use Rattle.command_words.specs.declared.requests.Pages.{Pages}
-use Rattle.window_cut.specs.declared.pages.Window.{Window as CutWindow}
-use Rattle.window_commands.specs.Windows.{EndsWindow, HasWindowLines}
+use Rattle.windows.specs.declared.pages.Window.{Window as CutWindow}
+use Rattle.windows.specs.Windows.{EndsWindow, HasWindowLines}
 use Rattle.command_words.specs.declared.requests.Demand.{Demand}
 use Rattle.command_words.specs.declared.requests.Demand.TheVariants.{Safety}
 use Rattle.command_words.specs.declared.requests.Demand.TheVariants as demand
@@ -23,7 +23,7 @@ use Rattle.command_words.specs.declared.requests.OneText.TheVariants.{Certify, A
 use Rattle.command_words.specs.declared.requests.TwoTexts.{TwoTexts}
 use Rattle.command_words.specs.declared.requests.TwoTexts.TheVariants.{Check, Replay, Steps}
 use Rattle.command_words.specs.declared.requests.TwoTexts.TheVariants as two
-use Rattle.window_commands.specs.Tables.{SpellsTable}
+use Rattle.windows.specs.Tables.{SpellsTable}
 use Rattle.session_answers.specs.declared.forms.Ask.{Ask}
 use Rattle.session_answers.specs.declared.forms.AnswerForm.{AnswerForm}
 use Rattle.session_answers.specs.declared.forms.AnswerForm.TheVariants as form

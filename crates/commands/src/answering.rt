@@ -11,7 +11,7 @@ ghost use Rattle.command_texts.specs.Told.{AreNamed, Ends, IsNamed, NoSession};
 ghost use Rattle.text_access.specs.Names.{files_of};
 ghost use Rattle.text_access.specs.Written.{BothGain};
 ghost use Rattle.host_commands.specs.Migrations.{IsMigrateAnswer};
-ghost use Rattle.window_commands.specs.Windows.{EndsWindow, HasWindowLines};
+ghost use Rattle.windows.specs.Windows.{EndsWindow, HasWindowLines};
 ghost use Rattle.commands.specs.Told.{EndsAsked, FirstHas, HasLines, IsBesideOne, IsBesideTwo, IsOneAnswer, IsTwoAnswer, NoNote, window_of};
 
 use crate::drawing::{DrawAlongCommand, DrawCommand};
@@ -30,8 +30,7 @@ use std::net::{Net, TcpListener, TcpStream};
 use std::sync::Wait;
 use std::thread::Threads;
 use text_access::TextSource;
-use window_commands::perform_window;
-use window_cut::Window;
+use windows::{Window, perform_window};
 
 // Runs a command on the text under a name.
 fn asked_one<'a, R: Threads + Sync, S: TextSource, I: Read + Send, O: Write, E: Write>(

@@ -6,7 +6,7 @@ use Rattle.completeness.specs.declared.lack.Extent.{Extent}
 use Rattle.audit_report.specs.ToldLines.{line_by}
 use Rattle.command_texts.specs.declared.answer.Answer.{Answer}
 use Rattle.command_texts.specs.Answers.{Says}
-use Rattle.window_commands.specs.Tables.{SpellsTable}
+use Rattle.windows.specs.Tables.{SpellsTable}
 use Rattle.session_answers.specs.declared.forms.Story.{Story}
 use Rattle.session_answers.specs.Lacks.{story_lack}
 use Rattle.judge_commands.specs.ByTables.{IsExplainedByTable, refused_table}

@@ -4,7 +4,7 @@ use Rattle.text_lines.specs.Text.{IsSpelling, IsRefusalLine}
 use Rattle.completeness.specs.declared.lack.Extent.{Extent}
 use Rattle.audit_report.specs.ToldLines.{line_by}
 use Rattle.command_texts.specs.Answers.{numbered}
-use Rattle.window_commands.specs.Tables.{SpellsTable}
+use Rattle.windows.specs.Tables.{SpellsTable}
 use Rattle.report_json.specs.JsonText.{table_object}
 use Rattle.session_answers.specs.declared.forms.Story.{Story}
 use Rattle.session_answers.specs.declared.forms.LackForm.{LackForm}

@@ -6,7 +6,7 @@ ghost use Rattle.text_lines.specs.Answer.{IsRead};
 ghost use Rattle.session_log.specs.Grammar.{SpellsSession};
 ghost use Rattle.session_answers.specs.Forms.{TellsStory};
 ghost use Rattle.session_answers.specs.Judged.{IsJudgedTold};
-ghost use Rattle.window_commands.specs.Tables.{SpellsTable};
+ghost use Rattle.windows.specs.Tables.{SpellsTable};
 ghost use Rattle.command_texts.specs.Answers.{Says};
 ghost use Rattle.judge_commands.specs.Answers.{story_telling};
 ghost use Rattle.judge_commands.specs.ByTables.{IsExplainedByTable, refused_table};
@@ -29,7 +29,7 @@ use session_answers::{LackForm, Story, print_story, print_story_refusal};
 use session_log::session_texts_are_unambiguous;
 use std::alloc::{AllocError, Global};
 use std::thread::Threads;
-use window_commands::TableParts;
+use windows::TableParts;
 
 /// Returns the story of a session in this form, with these line numbers.
 fn told<R: Threads + Sync, L: Lines>(

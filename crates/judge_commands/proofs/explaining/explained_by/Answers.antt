@@ -1,6 +1,6 @@
 use Rattle.std.proofs.Common.{ℕ, List, Result, subst}
 use Rattle.text_lines.specs.Answer.{IsRead}
-use Rattle.window_commands.specs.Tables.{SpellsTable}
+use Rattle.windows.specs.Tables.{SpellsTable}
 use Rattle.judge_commands.proofs.Explained.{by_table, table_refused}
 use Rattle.judge_commands.proofs.explaining.explained_by.Goals as goal
 

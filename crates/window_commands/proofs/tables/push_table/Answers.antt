@@ -1,5 +1,0 @@
-use Rattle.window_commands.proofs.Written.{written_next}
-use Rattle.window_commands.proofs.tables.push_table.Goals as goal
-
-pub loop-line-preserved : goal.loop-line-preserved
-loop-line-preserved c = written_next c.args.out.now.items c.args.table.now c.loop-line.line-index c.loop-line.out.items c.push_row.new.out.items c.loop-line-test.true c.loop-line.invariant c.in_ok-push_row.ensures

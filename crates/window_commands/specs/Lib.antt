@@ -1,4 +1,0 @@
-pub mod Windows
-pub mod Found
-pub mod Tables
-pub mod inner

@@ -1,7 +1,0 @@
-use Rattle.session_grammar.specs.Grammar.{page_line}
-use Rattle.recordings.specs.Wide.{init_of}
-use Rattle.window_cut.proofs.Lists.{section_more}
-use Rattle.window_cut.proofs.sections.Section.push_init.Goals as goal
-
-pub returns : goal.returns
-returns c = λ lines is. section_more c.args.self.now lines (page_line (init_of c.args.given.now)) c.in_ok-self.field-0 c.push.new.out is c.in_ok-self.ensures c.in_ok-push.ensures

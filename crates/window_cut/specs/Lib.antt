@@ -1,4 +1,0 @@
-pub mod Pages
-pub mod Origins
-pub mod Cuts
-pub mod inner

@@ -1,0 +1,16 @@
+pub mod Marked
+pub mod Found
+pub mod Numbered
+pub mod Lists
+pub mod Steps
+pub mod Lines
+pub mod Text
+pub mod Rights
+pub mod Windowed
+pub mod Lineage
+pub mod Seen
+pub mod Same
+pub mod Read
+pub mod Later
+pub mod Told
+pub mod Written

@@ -1,0 +1,83 @@
+-- Lists that grow by an item at their end.
+use Rattle.std.proofs.Common.{◌≡◌, ℕ, ◌+◌, Bool, true, false, List, [], ◌∷◌, ◌++◌, length, map, refl, sym, ap, ◌∙◌, arith, append_assoc, ◌<◌, suc, take, get_or}
+use Rattle.std.proofs.Math.Seq.{take-suc}
+use Rattle.text_lines.specs.Text.{ended}
+use Rattle.audit_model.specs.Windows.{kept_in}
+use Rattle.windows.specs.inner.Marks.{has_mark}
+use Rattle.std.specs.Global.{Vec}
+use Rattle.migration_types.specs.declared.records.GuestRec.{GuestRec}
+use Rattle.audit_model.specs.Windows.{Numbers}
+use Rattle.windows.specs.declared.marking.Marks.{Marks}
+use Rattle.windows.specs.declared.sections.Section.{Section}
+use Rattle.windows.specs.inner.Guided.{guest_marks, guest_by, far_after, further_by}
+use Rattle.windows.specs.inner.Met.{lines_of, IsSection}
+
+pub map_end : {A B : Type 0} (f : A → B) (xs : List A) (x : A) → map f (xs ++ x ∷ []) ≡ map f xs ++ f x ∷ []
+map_end f [] x = refl
+map_end f (y ∷ xs) x = ap (λ ys. f y ∷ ys) (map_end f xs x)
+
+pub map_more : {A : Type 0} (f : A → Bool) (xs : List A) (x : A) (ys zs : List Bool) (b : Bool) → ys ≡ map f xs → b ≡ f x → zs ≡ ys ++ b ∷ [] → zs ≡ map f (xs ++ x ∷ [])
+map_more f xs x ys zs b e t m = m ∙ ap (λ us. us ++ b ∷ []) e ∙ ap (λ c. map f xs ++ c ∷ []) t ∙ sym (map_end f xs x)
+
+pub map_nothing : {A : Type 0} (f g : A → Bool) (xs : List A) (ys : List Bool) → xs ≡ [] → ys ≡ map f xs → ys ≡ map g xs
+map_nothing f g xs ys none e = e ∙ ap (map f) none ∙ sym (ap (map g) none)
+
+pub ended_end : (lines : List (List ℕ)) (line : List ℕ) → ended (lines ++ line ∷ []) ≡ ended lines ++ (line ++ 10 ∷ [])
+ended_end [] line = refl
+ended_end (l ∷ lines) line = ap (λ xs. l ++ 10 ∷ xs) (ended_end lines line) ∙ sym (append_assoc l (10 ∷ ended lines) (line ++ 10 ∷ []))
+
+pub length_end : {A : Type 0} (xs : List A) (x : A) → length (xs ++ x ∷ []) ≡ length xs + 1
+length_end [] x = refl
+length_end (y ∷ xs) x = let e = length_end xs x in omega (arith, e)
+
+pub kept_nothing : {A : Type 0} (marks : List Bool) → kept_in {A = A} marks [] ≡ []
+kept_nothing [] = refl
+kept_nothing (m ∷ marks) = refl
+
+kept_more : {A : Type 0} (marks : List Bool) (log : List A) (x : A) → has_mark marks (length log) ≡ true → kept_in marks (log ++ x ∷ []) ≡ kept_in marks log ++ x ∷ []
+kept_more [] [] x h = absurd (cc)
+kept_more [] (y ∷ log) x h = absurd (cc)
+kept_more (true ∷ marks) [] x h = ap (λ xs. x ∷ xs) (kept_nothing marks)
+kept_more (false ∷ marks) [] x h = absurd (cc)
+kept_more (true ∷ marks) (y ∷ log) x h = ap (λ xs. y ∷ xs) (kept_more marks log x h)
+kept_more (false ∷ marks) (y ∷ log) x h = kept_more marks log x h
+
+kept_same : {A : Type 0} (marks : List Bool) (log : List A) (x : A) → has_mark marks (length log) ≡ false → kept_in marks (log ++ x ∷ []) ≡ kept_in marks log
+kept_same [] [] x h = refl
+kept_same [] (y ∷ log) x h = refl
+kept_same (true ∷ marks) [] x h = absurd (cc)
+kept_same (false ∷ marks) [] x h = kept_nothing marks
+kept_same (true ∷ marks) (y ∷ log) x h = ap (λ xs. y ∷ xs) (kept_same marks log x h)
+kept_same (false ∷ marks) (y ∷ log) x h = kept_same marks log x h
+
+pub lines_more : {A : Type 0} (line : A → List ℕ) (new : A → A) (marks : List Bool) (log : List A) (x : A) → has_mark marks (length log) ≡ true → lines_of line new marks (log ++ x ∷ []) ≡ lines_of line new marks log ++ line (new x) ∷ []
+lines_more line new marks log x h = ap (λ xs. map line (map new xs)) (kept_more marks log x h) ∙ ap (map line) (map_end new (kept_in marks log) x) ∙ map_end line (map new (kept_in marks log)) (new x)
+
+pub lines_same : {A : Type 0} (line : A → List ℕ) (new : A → A) (marks : List Bool) (log : List A) (x : A) → has_mark marks (length log) ≡ false → lines_of line new marks (log ++ x ∷ []) ≡ lines_of line new marks log
+lines_same line new marks log x h = ap (λ xs. map line (map new xs)) (kept_same marks log x h)
+
+pub section_more : (section : Section) (lines : List (List ℕ)) (line : List ℕ) (count : ℕ) (text : Vec ℕ) → IsSection section lines → count ≡ section.count + 1 → text.items ≡ section.lines.items ++ (line ++ 10 ∷ []) → IsSection (record { count = count; lines = text }) (lines ++ line ∷ [])
+section_more section lines line count text is one more = record {
+  counted = one ∙ ap (λ n. n + 1) is.counted ∙ sym (length_end lines line);
+  text = more ∙ ap (λ xs. xs ++ (line ++ 10 ∷ [])) is.text ∙ sym (ended_end lines line);
+}
+
+pub marks_end : (number : Numbers) (known : Marks) (far : ℕ) (log : List GuestRec) (r : GuestRec) → guest_marks number known far (log ++ r ∷ []) ≡ guest_marks number known far log ++ guest_by number known (far_after known far log) r ∷ []
+marks_end number known far [] r = refl
+marks_end number known far (x ∷ log) r = ap (λ ms. guest_by number known far x ∷ ms) (marks_end number known (further_by known x far) log r)
+
+pub far_end : (known : Marks) (far : ℕ) (log : List GuestRec) (r : GuestRec) → far_after known far (log ++ r ∷ []) ≡ further_by known r (far_after known far log)
+far_end known far [] r = refl
+far_end known far (x ∷ log) r = far_end known (further_by known x far) log r
+
+-- one more number, as a loop adds it
+pub sum_more : (first : ℕ) (xs : List ℕ) (n i : ℕ) (front old new : List ℕ) → i < length xs → n ≡ get_or xs i 0 → old ≡ front ++ map (λ p. first + p) (take i xs) → new ≡ old ++ (first + n) ∷ [] → new ≡ front ++ map (λ p. first + p) (take (i + 1) xs)
+sum_more first xs n i front old new lt here so_far more =
+    let at : n ≡ get_or xs i 0 = here in
+    let j : suc i ≡ i + 1 = omega arith in
+    more
+    ∙ ap (λ ys. ys ++ (first + n) ∷ []) so_far
+    ∙ append_assoc front (map (λ p. first + p) (take i xs)) ((first + n) ∷ [])
+    ∙ ap (λ m. front ++ (map (λ p. first + p) (take i xs) ++ (first + m) ∷ [])) at
+    ∙ ap (λ ys. front ++ ys) (sym (map_end (λ p. first + p) (take i xs) (get_or xs i 0)) ∙ ap (map (λ p. first + p)) (sym (take-suc xs i 0 lt)))
+    ∙ ap (λ m. front ++ map (λ p. first + p) (take m xs)) j

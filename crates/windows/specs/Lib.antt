@@ -1,0 +1,7 @@
+pub mod Pages
+pub mod Origins
+pub mod Cuts
+pub mod inner
+pub mod Windows
+pub mod Found
+pub mod Tables

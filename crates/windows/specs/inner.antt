@@ -1,0 +1,8 @@
+-- Definitions that only proofs use.
+pub mod Guided
+pub mod Marks
+pub mod Met
+pub mod Parts
+pub mod Settled
+pub mod Answered
+pub mod Plain
