@@ -3,8 +3,8 @@
 Each combination is run over texts of several kinds in turn, which are in files, in folders, or the standard input. A growth is refused
 alone, or with all after it. The answer is then whole, with the status and the files that it has where none is refused, though what is
 told beside it may be left out; or it is 'out of memory', with status 4, and each file is as it was, with no other beside it. Of each
-combination the first growth is refused, the last ones, by which an answer is held and gets its name, and some between, others each time.
-With --all, which takes some minutes, every one is.
+combination the first growth is refused, every second of the last ones, by which an answer is held and gets its name, and some between,
+others each time. With --all, which takes some minutes, every one is.
 """
 import itertools
 import os
@@ -12,7 +12,6 @@ import random
 import re
 import shutil
 import subprocess
-from concurrent.futures import ProcessPoolExecutor
 
 import pytest
 import test_hostile as hostile
@@ -40,8 +39,8 @@ FOLDERS = (*EXAMPLES, *CASES, "whole", "spread", "larger")
 # What the file `lines` has, which is read or written over.
 LINES = b"".join(b"%d\n" % line for line in range(1, 41))
 
-# How many growths are refused at the end of a combination, and how many between: so many of a command, and at least so many of each.
-LAST, BETWEEN, LEAST = 8, 800, 4
+# How many growths are at the end of a combination, and how many are refused between: so many of a command, and at least so many of each.
+LAST, BETWEEN, LEAST = 8, 400, 2
 
 # All growths there may be, and how long a migration may take, in seconds.
 MOST, WAIT = 9999999, 60
@@ -106,18 +105,14 @@ def in_turn(rng, items):
         yield from rng.sample(items, len(items))
 
 
-def combinations(program, room):
-    """What is tried: the words, what the standard input has, whether the file of the answer is there, and how many growths are refused
-    between the first and the last ones."""
-    tell = lambda *words: subprocess.run([program, *words], capture_output=True, encoding="ascii", check=True).stdout
-    for words in ((), ("--help",), ("--version",), ("help", "audit"), ("-",)):
-        yield words, b"", False, LEAST
-    for command in commands(tell, VALUES):
-        yield from (((command.name, *more), b"", False, LEAST) for more in ((), ("--help",), ("../missing",)))
-        rng, given, options = random.Random(command.name), inputs(command.words, room), command.combinations()
-        tries = max(len(options), len(given))
-        for _, more, (words, text) in zip(range(tries), in_turn(rng, options), in_turn(rng, given)):
-            yield (command.name, *more, *words), text, rng.random() < 0.5, max(BETWEEN // tries, LEAST)
+def combinations(command, room):
+    """What is tried of a command: the words, what the standard input has, whether the file of the answer is there, and how many growths are
+    refused between the first and the last ones."""
+    yield from (((command.name, *more), b"", False, LEAST) for more in ((), ("--help",), ("../missing",)))
+    rng, given, options = random.Random(command.name), inputs(command.words, room), command.combinations()
+    tries = max(len(options), len(given))
+    for _, more, (words, text) in zip(range(tries), in_turn(rng, options), in_turn(rng, given)):
+        yield (command.name, *more, *words), text, rng.random() < 0.5, max(BETWEEN // tries, LEAST)
 
 
 def chosen(growths, turn, count, is_all):
@@ -126,7 +121,7 @@ def chosen(growths, turn, count, is_all):
         return [(first, last) for first in range(1, growths + 1) for last in (first, MOST)]
     end, step = max(growths - LAST, 1), max(growths // count, 1)
     between = range(2 + turn % step, end, step)
-    return [(1, MOST), *((it, MOST if it % 2 else it) for it in between), *((it, it) for it in range(end + 1, growths + 1))]
+    return [(1, MOST), *((it, MOST if it % 2 else it) for it in between), *((it, it) for it in range(end + 1 + turn % 2, growths + 1, 2))]
 
 
 def files():
@@ -189,20 +184,36 @@ class Tries:
         return f"{' '.join(self.words)} with {refusing} of {self.growths}: {str(found)[:200]} and {sorted(after)}"
 
 
-def tried(case):
-    """For each growth that is refused, and for the combination itself, what went wrong, or None."""
-    turn, (words, given, is_old, between), is_all = case
-    tries = Tries(words, given, is_old)
-    return [tries.wrong, *(tries.refused(*it) for it in chosen(tries.growths, turn, between, is_all))]
+# The commands, each with how many cases it has at least, and the words of no command.
+LEAST_OF = {"audit": 500, "certify": 100, "check": 500, "draw": 200, "explain": 500, "migrate": 50, "replay": 200, "session": 50, "steps": 100, "window": 100}
+NO_COMMAND = ((), ("--help",), ("--version",), ("help", "audit"), ("-",))
+
+
+def refuse(given, is_all):
+    """Of each combination, what went wrong itself, and then for each growth that is refused."""
+    for turn, (words, text, is_old, between) in enumerate(given):
+        tries = Tries(words, text, is_old)
+        right(tries.wrong)
+        for first, last in chosen(tries.growths, turn, between, is_all):
+            right(tries.refused(first, last))
+
+
+@pytest.fixture
+def known(program, room, refusing, monkeypatch, pytestconfig):
+    """The commands by their names, in a folder of its own beside those of the inputs."""
+    make_inputs(program, room, pytestconfig.getoption("--all"))
+    monkeypatch.chdir(room)
+    hostile.start(program, room, refusing)
+    return {it.name: it for it in commands(lambda *words: subprocess.run([program, *words], capture_output=True, encoding="ascii", check=True).stdout, VALUES)}
 
 
 @pytest.mark.slow
-@pytest.mark.cases(15000)
-def test_refused_growths(program, room, refusing, pytestconfig):
-    is_all = pytestconfig.getoption("--all")
-    make_inputs(program, room, is_all)
-    cases = [(turn, case, is_all) for turn, case in enumerate(combinations(program, room))]
-    with ProcessPoolExecutor(2, initializer=hostile.start, initargs=(program, room, refusing)) as pool:
-        for found in pool.map(tried, cases, chunksize=5):
-            for wrong in found:
-                right(wrong)
+@pytest.mark.parametrize("name", [pytest.param(it, marks=pytest.mark.cases(least)) for it, least in LEAST_OF.items()])
+def test_refused_growths(known, room, pytestconfig, name):
+    refuse(combinations(known[name], room), pytestconfig.getoption("--all"))
+
+
+@pytest.mark.cases(20)
+def test_no_command(known, pytestconfig):
+    assert {*known} == {*LEAST_OF}
+    refuse(((words, b"", False, LEAST) for words in NO_COMMAND), pytestconfig.getoption("--all"))
