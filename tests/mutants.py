@@ -166,8 +166,8 @@ def fault_in(mutant):
 
 def fault_of_planted(body):
     """What is wrong with a wrong body that a test finds, if anything is."""
-    found = re.fullmatch(r"(tests/test_\w+\.py)(?:::(\w+))?(\[[\w-]+\])?", body.test)
-    if not found or not os.path.isfile(f"{TOP}/{found[1]}") or found[2] and f"def {found[2]}(" not in read(found[1]):
+    found = re.fullmatch(r"(tests/test_\w+\.py)::(\w+)(\[[\w/-]+\])?", body.test)
+    if not found or not os.path.isfile(f"{TOP}/{found[1]}") or f"def {found[2]}(" not in read(found[1]):
         return f"there is no test '{body.test}'"
     return fault_in(body)
 
