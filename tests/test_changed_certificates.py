@@ -1,11 +1,12 @@
 """Checks certificates that were changed in small ways, and compares each verdict with that of a slow checker.
 
 The slow checker is check_model.py. Each certificate is cut after each byte, has each byte changed and a byte more before
-each, and has each number of each entry and the length of each run replaced by small ones, and its log by the others; and each
-session meets the certificates of the others.
+each, and has each number of each entry and the length of each run replaced by small ones, and its log by the others: half of these are
+tried, the same in each run, and all with --all. And each session meets the certificates of the others.
 """
 import itertools
 import os
+import random
 import subprocess
 from concurrent.futures import ThreadPoolExecutor
 
@@ -20,9 +21,8 @@ MORE = b"0 \n"
 
 
 def changes(session, text):
-    """The certificate and its changes, each once."""
-    found = {text: None}
-    found.update(dict.fromkeys(text[:n] for n in range(len(text))))
+    """The changes of a certificate, each once."""
+    found = dict.fromkeys(text[:n] for n in range(len(text)))
     found.update(dict.fromkeys(text[:n] + bytes([byte]) + text[n + 1:] for n in range(len(text)) for byte in BYTES))
     found.update(dict.fromkeys(text[:n] + bytes([byte]) + text[n:] for n in range(len(text) + 1) for byte in MORE))
     lines = text.decode().split("\n")
@@ -33,7 +33,7 @@ def changes(session, text):
         _, log, length = lines[n].split(" ")
         for run in [f"run {log} {other}" for other in range(10)] + [f"run {other} {length}" for other in LOGS]:
             found["\n".join(lines[:n] + [run] + lines[n + 1:]).encode()] = None
-    return list(found)
+    return [it for it in found if it != text]
 
 
 def entries(session, entry):
@@ -71,8 +71,8 @@ CERTIFICATES = (
 
 
 @pytest.mark.slow
-@pytest.mark.cases(23970)
-def test_changed_certificates(program):
+@pytest.mark.cases(11950)
+def test_changed_certificates(program, pytestconfig):
     found = set()
     others = []
     for _, certificate in CERTIFICATES:
@@ -85,7 +85,11 @@ def test_changed_certificates(program):
                 recorded = text.read()
             session = Session(recorded.decode())
             with open(certificate, "rb") as text:
-                texts = list(dict.fromkeys(others + changes(session, text.read())))
+                right = text.read()
+            changed = changes(session, right)
+            if not pytestconfig.getoption("--all"):
+                changed = random.Random(right).sample(changed, len(changed) // 2)
+            texts = list(dict.fromkeys(others + changed))
 
             def answer(text):
                 # The two texts in one input: the session ends at its own line `end`.
