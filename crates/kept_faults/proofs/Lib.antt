@@ -27,3 +27,6 @@ pub mod ThinFits
 pub mod ThinSafe
 pub mod Repeats
 pub mod Again
+pub mod Stations
+pub mod Woven
+pub mod Told

@@ -3,3 +3,4 @@ pub mod Left
 pub mod Thinned
 pub mod ThinLaws
 pub mod Repeats
+pub mod ToldOrders
