@@ -1,5 +1,6 @@
 pub mod Scanning
 pub mod Unasked
+pub mod Losses
 pub mod Looking
 pub mod Reaching
 pub mod Setting

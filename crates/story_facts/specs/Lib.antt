@@ -5,6 +5,7 @@ pub mod Pages
 pub mod Values
 pub mod Looks
 pub mod Giving
+pub mod Losing
 pub mod Counted
 pub mod Subjects
 pub mod inner

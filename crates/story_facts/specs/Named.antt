@@ -1,6 +1,7 @@
 -- The record that a record names.
 use Rattle.std.specs.Prelude.{ℕ, List, [], ◌∷◌, Option, Some, None}
 use Rattle.migration_types.specs.declared.records.LogName.{LogName}
+use Rattle.migration_types.specs.declared.records.LogName.TheVariants.{Source, Link, Lane, Pager}
 use Rattle.migration_types.specs.declared.rows.Field.{Field}
 use Rattle.migration_types.specs.declared.rows.Field.TheVariants as field
 use Rattle.migration_types.specs.Receipts.{Name}
@@ -11,6 +12,16 @@ use Rattle.migration_types.specs.Sessions.{Recorded}
 abbrev pub named_in : LogName → Option ℕ → Option Name
 named_in log None = None
 named_in log (Some n) = Some (log, n)
+
+-- the first of these records that exists
+abbrev pub or_else : Option Name → Option Name → Option Name
+or_else None other = other
+or_else (Some name) other = Some name
+
+-- how far a page came: to the pager, or else to a delivery by the link, or by the lane, or to the source's sending
+abbrev pub furthest : Option ℕ → Option ℕ → Option ℕ → Option ℕ → Option Name
+furthest got delivered by_lane sent =
+    or_else (named_in Pager got) (or_else (named_in Link delivered) (or_else (named_in Lane by_lane) (named_in Source sent)))
 
 -- the first record that the fields name, if they name one
 abbrev pub named_among : List Field → Option Name

@@ -1,5 +1,5 @@
 -- The value of a cell on one machine that never moved, and the record that gave it.
-use Rattle.std.specs.Prelude.{◌≡◌, ◌≢◌, ℕ, ◌<◌, Bool, true, false, ◌==◌, ◌&&◌, List, slice_index}
+use Rattle.std.specs.Prelude.{◌≡◌, ◌≢◌, ℕ, ◌<◌, Bool, true, false, ◌==◌, ◌&&◌, List, Some, slice_get, slice_index}
 use Rattle.migration_types.specs.declared.records.GuestRec.{GuestRec}
 use Rattle.migration_types.specs.declared.records.GuestRec.TheVariants.{Read, Write, Release}
 use Rattle.migration_types.specs.Sessions.{Recorded}
@@ -26,6 +26,15 @@ is_read _ = false
 pub record IsInstead (s : Recorded) (n page cell : ℕ) (h : CellValue) : Type 0 where
   pub cell_is : h.cell ≡ cell
   pub held : IsHeld s n page h
+
+-- the cell of the read that is guest record n had another value at the halt
+pub record IsOtherAtHalt (s : Recorded) (n : ℕ) (h : CellValue) : Type 0 where
+  pub vcpu : ℕ
+  pub page : ℕ
+  pub value : ℕ
+  pub reads : slice_get s.guest n ≡ Some (Read vcpu page h.cell value)
+  pub held : IsHeld s (at_halt s) page h
+  pub differs : value ≢ h.value
 
 -- the first cell in which these contents differ from the page's at the halt, and what the page has there
 pub record IsOther (s : Recorded) (page : ℕ) (content : List ℕ) (h : CellValue) : Type 0 where

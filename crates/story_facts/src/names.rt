@@ -1,7 +1,7 @@
 //! Records by their names, and the record that a record names.
 
 ghost use Rattle.std.specs.Prelude.{◌≡◌};
-ghost use Rattle.story_facts.specs.Named.{named_among, named_by, named_in};
+ghost use Rattle.story_facts.specs.Named.{furthest, named_among, named_by, named_in, or_else};
 
 use migration_types::{Field, LogName, Session};
 
@@ -16,6 +16,32 @@ pub fn named_in(log: LogName, place: Option<u32>) -> Option<Name>
         Some(place) => Some((log, place)),
         None => None,
     }
+}
+
+/// Returns the first of these records that exists.
+fn or_else(name: Option<Name>, other: Option<Name>) -> Option<Name>
+    ensures { result ≡ or_else name other }
+{
+    match name {
+        Some(name) => Some(name),
+        None => other,
+    }
+}
+
+/// Returns how far a page came: to the pager, or else to a delivery by the link, or by the lane, or to the source's
+/// sending.
+pub fn furthest(
+    got: Option<u32>,
+    delivered: Option<u32>,
+    by_lane: Option<u32>,
+    sent: Option<u32>,
+) -> Option<Name>
+    ensures { result ≡ furthest got delivered by_lane sent }
+{
+    let sent = named_in(LogName::Source, sent);
+    let by_lane = or_else(named_in(LogName::Lane, by_lane), sent);
+    let delivered = or_else(named_in(LogName::Link, delivered), by_lane);
+    or_else(named_in(LogName::Pager, got), delivered)
 }
 
 /// Returns the first record that fields name, if they name one.

@@ -3,6 +3,7 @@
 ghost use Rattle.std.specs.Prelude.{◌≡◌};
 ghost use Rattle.story_facts.specs.Values.{sets};
 ghost use Rattle.story_facts.specs.Giving.{puts};
+ghost use Rattle.story_facts.specs.Losing.{gives};
 ghost use Rattle.story_facts.specs.Pages.{changes, carries, lane_carries, is_access_after};
 ghost use Rattle.story_facts.specs.inner.Questions.{asks_guest, asks_source, asks_link, asks_lane, asks_pager, asks_entry, knows_behind};
 
@@ -21,6 +22,8 @@ pub(crate) enum GuestQuestion {
     Changes(PageNo),
     /// Whether it writes the cell, or releases its page.
     Sets(PageNo, u16),
+    /// Whether it gives the cell this value.
+    Gives { page: PageNo, cell: u16, value: u64 },
     /// Whether it reads or writes some page after the record of this number.
     AccessAfter(u32),
 }
@@ -106,6 +109,24 @@ fn sets(rec: &GuestRec, page: PageNo, cell: u16) -> bool
     }
 }
 
+/// Returns whether a record gives the cell this value: a write of it, or a release of its page if the value is zero.
+fn gives(rec: &GuestRec, page: PageNo, cell: u16, value: u64) -> bool
+    ensures { result ≡ gives page cell value rec.now }
+{
+    match *rec {
+        GuestRec::Write {
+            page: written,
+            cell: at,
+            value: given,
+            ..
+        } => written.number() == page.number() && (at == cell && given == value),
+        GuestRec::Release { page: released, .. } => {
+            released.number() == page.number() && value == 0
+        }
+        _ => false,
+    }
+}
+
 /// Returns whether the record of this number reads or writes some page after another record.
 fn is_access_after(rec: &GuestRec, n: usize, resume: u32) -> bool
     ensures { result ≡ is_access_after resume n rec.now }
@@ -179,6 +200,7 @@ impl RecordQuestion for GuestQuestion {
             GuestQuestion::Miss => is_miss(rec),
             GuestQuestion::Changes(page) => changes(rec, page),
             GuestQuestion::Sets(page, cell) => sets(rec, page, cell),
+            GuestQuestion::Gives { page, cell, value } => gives(rec, page, cell, value),
             GuestQuestion::AccessAfter(resume) => is_access_after(rec, n, resume),
         }
     }

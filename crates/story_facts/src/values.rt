@@ -39,6 +39,20 @@ fn cells_at_start(alloc: Global, session: &Session, page: PageNo) -> Result<Vec<
     vec![in alloc; 0u64; session.geometry().cells() as usize]
 }
 
+/// Returns the value that a cell begins with. Allocates memory for one page. Fails only if memory runs out.
+pub(crate) fn initial_of(
+    alloc: Global,
+    session: &Session,
+    page: PageNo,
+    cell: u16,
+) -> Result<u64, AllocError>
+    requires page { page < session.now.geometry.pages }
+    requires cell { cell < session.now.geometry.cells }
+    ensures { IfOk result (λ value. value ≡ initial session.now.init page cell) }
+{
+    Ok(cells_at_start(alloc, session, page)?[cell as usize])
+}
+
 /// Gives a cell a value if the page has that cell.
 fn write(cells: &mut Vec<u64>, cell: u16, value: u64)
     ensures { cells.new.items ≡ set cells.old.items cell value }
@@ -105,7 +119,7 @@ fn set_by(guest: &[GuestRec], n: u32) -> u64
 
 /// Returns what a page has in a cell on one machine that never moved, before this record of the guest. Searches the
 /// guest's log backwards, and allocates memory for one page. Fails only if memory runs out.
-fn held_at(
+pub(crate) fn held_at(
     alloc: Global,
     session: &Session,
     page: PageNo,
@@ -123,7 +137,7 @@ fn held_at(
     let by = last_of(session, &GuestQuestion::Sets(page, cell), guest, to);
     let value = match by {
         Some(n) => set_by(guest, n),
-        None => cells_at_start(alloc, session, page)?[cell as usize],
+        None => initial_of(alloc, session, page, cell)?,
     };
     Ok(CellValue { cell, value, by })
 }

@@ -14,6 +14,7 @@ use Rattle.audit_model.specs.Shape.{is_halt, is_resume, is_miss, is_send_of, is_
 use Rattle.story_facts.specs.Pages.{changes, carries, lane_carries, is_access_after}
 use Rattle.story_facts.specs.Values.{sets}
 use Rattle.story_facts.specs.Giving.{is_unseen, puts}
+use Rattle.story_facts.specs.Losing.{gives}
 use Rattle.story_facts.specs.Counted.{is_unmoved, is_sent, is_zeroed, is_send, is_again, is_join, is_skip}
 use Rattle.story_facts.specs.declared.looks.Look.{Look}
 use Rattle.story_facts.specs.declared.questions.GuestQuestion.{GuestQuestion}
@@ -35,6 +36,7 @@ asks_guest guest.Resume s n = is_resume
 asks_guest guest.Miss s n = is_miss
 asks_guest (guest.Changes page) s n = changes page
 asks_guest (guest.Sets page cell) s n = sets page cell
+asks_guest (guest.Gives page cell value) s n = gives page cell value
 asks_guest (guest.AccessAfter resume) s n = is_access_after resume n
 
 abbrev pub asks_source : SourceQuestion → Recorded → ℕ → SourceRec → Bool

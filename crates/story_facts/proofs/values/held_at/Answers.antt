@@ -1,6 +1,5 @@
-use Rattle.std.proofs.Common.{◌≡◌, ℕ, List, Option, Some, None, sym, ap, ◌∙◌, arith}
-use Rattle.std.specs.Prelude.{slice_get, slice_index}
-use Rattle.std.proofs.lemmas.Grind.{get_or_default_zero}
+use Rattle.std.proofs.Common.{◌≡◌, ℕ, List, Option, Some, None, sym, ap, ◌∙◌}
+use Rattle.std.specs.Prelude.{slice_get}
 use Rattle.migration_types.specs.declared.records.GuestRec.{GuestRec}
 use Rattle.story_facts.specs.Scans.{last_before}
 use Rattle.story_facts.specs.Values.{sets}
@@ -20,15 +19,13 @@ returns-in-Some-clause-held c =
       by = by;
     }
 
-pub returns-in_ok-cells_at_start-in-None-clause-held : goal.returns-in_ok-cells_at_start-in-None-clause-held
-returns-in_ok-cells_at_start-in-None-clause-held c =
+pub returns-in_ok-value-in-None-clause-held : goal.returns-in_ok-value-in-None-clause-held
+returns-in_ok-value-in-None-clause-held c =
     let s = c.args.session.now in
     let page = c.args.page in
     let cell = c.args.cell in
     let by : None ≡ last_before (λ m. sets page cell) s.guest c.args.to = c.in-None.ensures ∙ ap (λ (log : List GuestRec). last_before (λ m. sets page cell) log c.args.to) c.guest-guest.ensures in
-    let cells = c.in_ok-cells_at_start-in-None.field-0.items in
-    let read : c.index.result.now ≡ slice_index cells cell = c.index.ensures ∙ get_or_default_zero cells cell c.index.result.now (omega (arith, c.requires.cell, c.in_ok-cells_at_start-in-None.ensures.size)) in
     record {
-      value = read ∙ (c.in_ok-cells_at_start-in-None.ensures.same cell c.requires.cell ∙ (ap (λ (o : Option ℕ). value_by s page cell o) by ∙ sym (flat_is_set s page cell c.args.to)));
+      value = c.in_ok-value-in-None.ensures ∙ (ap (λ (o : Option ℕ). value_by s page cell o) by ∙ sym (flat_is_set s page cell c.args.to));
       by = c.last_of-by.ensures ∙ ap (λ (log : List GuestRec). last_before (λ m. sets page cell) log c.args.to) c.guest-guest.ensures;
     }
