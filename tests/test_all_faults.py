@@ -5,6 +5,7 @@ The sessions are those of test_explained.py. Of one that is clean or faulty, `au
 pages have a fault, and each with its first one; and the same pages as an object. Of another it writes the first line alone.
 `explain --page` has to name the faulty record of the page just where it has one, and `explain --line` the record at the line.
 """
+import re
 import json
 import os
 import subprocess
@@ -56,10 +57,10 @@ class Tests:
 
     def page(self, what, text, first, page, fault):
         told, _ = self.says(text, "explain", "--page", str(page))
-        wrong = [line for line in told.splitlines() if " is wrong: " in line]
-        wanted = [f"Line {fault[0]} ({fault[2]} {fault[3]})"] if fault else []
+        wrong = re.findall(r"^(?:L|It shows at l)(ine [0-9]+ \([a-z]+ [0-9]+\))(?: is wrong)?: ", told, re.M)
+        wanted = [f"ine {fault[0]} ({fault[2]} {fault[3]})"] if fault else []
         self.same(f"the words on {what}", (told.startswith(first), f"page {page}" in told), (True, True))
-        self.same(f"the fault of {what}", [line.split(" is wrong: ")[0] for line in wrong], wanted)
+        self.same(f"the fault of {what}", wrong, wanted)
 
 
 @pytest.mark.slow

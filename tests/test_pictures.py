@@ -23,7 +23,7 @@ import pytest
 import test_random_schedules as schedules
 from cases import right
 from check_model import Session, run_not_walked
-from picture_model import Told, is_in_every_order, sentences_of
+from picture_model import Told, as_headed, is_in_every_order, sentences_of
 from picture_rows import own_rows
 from picture_shapes import shown_wrongly
 from session_text import LOGS, SessionText
@@ -221,7 +221,7 @@ def drawn_wrongly(program, session, runs=None):
 def page_headed_wrongly(told, picture):
     """What is wrong with the heading of a picture of a page, or None."""
     title, *found, order, facts = [line.text for line in picture.findall(SVG + "text")]
-    first, *lines = told.told.splitlines()
+    first, *lines = as_headed(told.told.splitlines())
     shown = "In the found order" if first == "clean" else "In the order that shows the first fault of the session"
     if (title, order, facts) != (f"{first}\n", shown, facts_of(told.session)):
         return f"the heading {[title, order, facts]}"

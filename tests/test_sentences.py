@@ -51,8 +51,14 @@ WANTED = f"(?:{'|'.join(EACH_WANTED)})"
 # Each sentence, by its name in the sources, and the forms that it has.
 FORMS = {
     "Wrong": [rf"L{PLACE[1:]} is wrong: {DONE}\."],
-    "WrongFirst": [rf"The page first went wrong at {RECORD}\."],
-    "NeverPlaced": [r"The page went wrong first, as the pager never places it and the guest uses it at the target\."],
+    "GoesWrong": [rf"Page \d+ goes wrong at {PLACE}: {how}\." for how in (
+        "the source sends other contents than it has at the halt", "the pager places other contents than it has at the halt",
+        "the pager puts zeros in its place", "the pager places it a second time", "the pager places it over a release of the guest",
+        "the guest uses it before it has come", "the guest uses it at the target, and the pager never places it", r"the write of \d+ into cell \d+ is lost", "its release is lost")],
+    "Keeps": [rf"Cell \d+ keeps \d+, which it has since {RECORD}\.", r"Cell \d+ keeps \d+, as at the start\."],
+    "Unexplained": [r"No record explains what page \d+ has: somebody writes to it who records nothing, or memory is damaged\."],
+    "AtSource": [r"The guest is at the source by then: the migration has no part in it\."],
+    "Shows": [rf"It shows at {RECORD}\."],
     "OneMachine": [rf"One machine that never moved has \d+ there, since {RECORD}\.",
                    rf"One machine that never moved has {VALUE} there, as at the start\."],
     "NotThere": [r"The guest is at the target by then, and the page is never placed there\."],
@@ -306,24 +312,38 @@ STORIES = (
         f"The page is placed with 7, {SEVEN}, in cell 0, where it has 6, {SIX}, at the halt, as at the start.",
         f"What came with pager 2 was sent with 6, {SIX}, there: line 12 (source 2): the source sends page 0."]),
     ("zeros in the place of a page that is not released", of_one_page(1, [], [], [], ["zero 0"], ["see 2", "r 0 0 0 0"]), (), [
-        "The page first went wrong at line 19 (pager 2): the pager places page 0 as zeros.",
+        "Page 0 goes wrong at line 19 (pager 2): the pager puts zeros in its place.",
         "The page is not released at the halt, so it must not be placed as zeros.", "The guest neither writes nor releases it before the halt.",
-        "Line 10 (guest 3) is wrong: virtual processor 0 reads 0 in cell 0 of page 0."]),
+        "It shows at line 10 (guest 3): virtual processor 0 reads 0 in cell 0 of page 0."]),
     ("a second placement over a write", of_one_page(1, [SENT], ["down 2"], [], ["got 1", f"place 0 2 {SIX}", f"place 0 2 {SIX}"], ["see 3", "w 0 0 0 9", "r 0 0 0 6"]), (), [
-        "The page first went wrong at line 24 (pager 4): the pager places page 0, which came with pager 2.",
+        "Page 0 goes wrong at line 24 (pager 4): the pager places it a second time.",
         "A page is placed once, and this one was placed before: line 23 (pager 3): the pager places page 0, which came with pager 2.",
-        "Line 11 (guest 4) is wrong: virtual processor 0 reads 6 in cell 0 of page 0."]),
-    ("a second placement that the write was told of, so that it is no cause",
+        "It shows at line 11 (guest 4): virtual processor 0 reads 6 in cell 0 of page 0."]),
+    ("a second placement that the write was told of, so that the write is lost",
      of_one_page(1, [SENT], ["down 2"], [], ["got 1", f"place 0 2 {SIX}", f"place 0 2 {SIX}"], ["see 4", "w 0 0 0 9", "r 0 0 0 6"]), (), [
-         "faulty line 11 read", "Line 11 (guest 4) is wrong: virtual processor 0 reads 6 in cell 0 of page 0."]),
+         "faulty line 11 read", "Page 0 goes wrong at line 10 (guest 3): the write of 9 into cell 0 is lost.", "Cell 0 keeps 6, as at the start.",
+         "It shows at line 11 (guest 4): virtual processor 0 reads 6 in cell 0 of page 0."]),
+    ("a release that is lost", of_one_page(2, [SENT], ["down 2"], [], ["got 1", f"place 0 2 {SIX}"], ["see 3", "w 0 0 0 9", "z 0 0", "r 0 0 0 9"]), (), [
+        "Page 0 goes wrong at line 11 (guest 4): its release is lost.",
+        "Cell 0 keeps 9, which it has since line 10 (guest 3): virtual processor 0 writes 9 into cell 0 of page 0.",
+        "It shows at line 12 (guest 5): virtual processor 0 reads 9 in cell 0 of page 0."]),
+    ("a value that the cell never had", of_one_page(1, [SENT], ["down 2"], [], ["got 1", f"place 0 2 {SIX}"], ["see 3", "r 0 0 0 9"]), (), [
+        "No record explains what page 0 has: somebody writes to it who records nothing, or memory is damaged.",
+        "It shows at line 10 (guest 3): virtual processor 0 reads 9 in cell 0 of page 0."]),
+    ("a write that is lost at the source", of_one_page(1, [], [], [], []).replace("guest 2\nhalt\n", "guest 4\nw 0 0 0 9\nr 0 0 0 6\nhalt\n").replace("halted 0", "halted 2"), (), [
+        "Page 0 goes wrong at line 7 (guest 0): the write of 9 into cell 0 is lost.", "Cell 0 keeps 6, as at the start.",
+        "The guest is at the source by then: the migration has no part in it.", "It shows at line 8 (guest 1): virtual processor 0 reads 6 in cell 0 of page 0."]),
+    ("a value of no record at the source", of_one_page(1, [], [], [], []).replace("guest 2\nhalt\n", "guest 3\nr 0 0 0 9\nhalt\n").replace("halted 0", "halted 1"), (), [
+        "No record explains what page 0 has: somebody writes to it who records nothing, or memory is damaged.",
+        "The guest is at the source by then: the migration has no part in it."]),
     ("a placement over a release, which a read gives", of_one_page(2, [SENT], ["down 2"], [], ["got 1", f"place 0 2 {SIX}"], ["z 0 0", "r 0 0 0 6"]), (), [
-        "The page first went wrong at line 23 (pager 3): the pager places page 0, which came with pager 2.",
+        "Page 0 goes wrong at line 23 (pager 3): the pager places it over a release of the guest.",
         "The first use of the page at the target is a release, which makes it zeros there: line 9 (guest 2): virtual processor 0 releases page 0."]),
     ("a read before the page has come", of_one_page(1, [SENT], ["down 2"], [], ["got 1", f"place 0 2 {SIX}"], ["r 0 0 0 0"]), (), [
-        "The page first went wrong at line 9 (guest 2): virtual processor 0 reads 0 in cell 0 of page 0.",
+        "Page 0 goes wrong at line 9 (guest 2): the guest uses it before it has come.",
         "The guest is at the target by then, and no look before this use reaches the placement of the page, line 21 (pager 3).",
         "The guest looks at no placement before it.", "No look reaches it at all.",
-        "Line 9 (guest 2) is wrong: virtual processor 0 reads 0 in cell 0 of page 0."]),
+        "It shows at line 9 (guest 2): virtual processor 0 reads 0 in cell 0 of page 0."]),
     ("a pager that says twice that all is there", of_one_page(1, [SENT], ["down 2"], [], ["got 1", f"place 0 2 {SIX}", "all", "all"]), ("--complete",), [
         "The source never learned that every owed page had come: its log has no `done` behind the `ask` of that.", "The pager said so at line 22 (pager 5)."]),
     ("a release between the halt and the resume, where a release at the target is no fault",
@@ -349,7 +369,7 @@ def test_stories(program, room):
 
 
 # The sentences that tell of a record with a role in the object of JSON.
-ROLES = {"Wrong": "faulty", "Misshapen": "faulty", "Change": "changed", "Halt": "halt", "Sending": "sent", "SentBefore": "sent", "Delivery": "delivered",
+ROLES = {"Wrong": "faulty", "Shows": "faulty", "Misshapen": "faulty", "Change": "changed", "Halt": "halt", "Sending": "sent", "SentBefore": "sent", "Delivery": "delivered",
          "Taking": "taken", "Placement": "placed", "SecondPlacement": "placed-again", "FirstLook": "look", "FirstUse": "touch", "ResumedToo": "resume", "Waits": "waits"}
 
 

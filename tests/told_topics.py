@@ -5,7 +5,7 @@ HEAD = re.compile(r"Page (\d+) has (?:a|no) fault\.")
 NO_PAGE = re.compile(r"The machine has no page (\d+): it has (\d+) page")
 NO_RECORD = re.compile(r"Line (\d+) tells no record of the logs\.")
 NAMED = re.compile(r"(?:This is l|L)ine (\d+) \((\w+) (\d+)\)(?::| does not have the right shape)")
-WRONG = re.compile(r"Line (\d+) \((\w+) (\d+)\) is wrong:")
+WRONG = re.compile(r"(?:Line|It shows at line) (\d+) \((\w+) (\d+)\)(?: is wrong)?:")
 STEP = re.compile(r"  line (\d+) \((\w+) (\d+)\): ")
 
 

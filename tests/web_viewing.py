@@ -285,7 +285,7 @@ def tests_of_tree(browser):
     browser.choose(*example(FLAGSHIP))
     nodes = [{key: it.get(key, {}).get("value") for key in ("role", "name", "description")} for it in browser.cdp("Accessibility.getFullAXTree")["nodes"] if not it["ignored"]]
     described = [it["description"] for it in nodes if it["name"] == "The records in an order"]
-    count(len(described) == 1 and "The page first went wrong at line 3004" in (described[0] or ""), f"what describes the picture: {described}")
+    count(len(described) == 1 and "Page 7 goes wrong at line 3004" in (described[0] or ""), f"what describes the picture: {described}")
     same("the faulty row", [it["role"] for it in nodes if (it["name"] or "").startswith("line 2566 ") and it["name"].endswith(", faulty")], ["button"])
     same("the verdict", [it["role"] for it in nodes if it["name"] == "Not safe." and it["role"] == "heading"], ["heading"])
 

@@ -15,10 +15,16 @@ NAMES = {"resume": ["pager"], "see": ["pager"], "halted": ["guest"], "again": ["
          "pull": ["lane"], "fault": ["guest"], "join": ["pager"], "down": ["source"], "place": [None, "pager"], "skip": ["pager"]}
 
 
+def as_headed(lines):
+    """Lines that `explain` writes, of which that on the wrong record says so as a heading does: without what went wrong before."""
+    return [re.sub(r"^It shows at l(ine \d+ \(\w+ \d+\)): ", r"L\1 is wrong: ", line) for line in lines]
+
+
 def sentences_of(report, told):
     """What `explain` says first: what is wrong and why, or that nothing is."""
     lines = told.split("\n")[1:-1]
     if report.startswith("faulty"):
+        lines = as_headed(lines)
         lines = lines[next(n for n, line in enumerate(lines) if " is wrong: " in line):]
     return lines[:2] if report.startswith(("faulty", "shape")) else lines[:1]
 

@@ -1,15 +1,14 @@
 //! Contents that differ from those of a page at the halt.
 
-ghost use Rattle.std.specs.Prelude.{◌≡◌, ◌<◌, IfOk, MatchOption, slice_get};
+ghost use Rattle.std.specs.Prelude.{◌<◌, IfOk, slice_get};
 ghost use Rattle.std.specs.List.{AllByRecursion};
 ghost use Rattle.migration_types.specs.Follow.{ContentFits};
 ghost use Rattle.audit_model.specs.Names.{if_there};
-ghost use Rattle.session_story.specs.inner.Contents.{AreNotWrong, IsOtherAt, IsWrongAt};
+ghost use Rattle.session_story.specs.inner.Contents.{IsOtherAt};
 
 use migration_types::{PageNo, Record, Session};
 use std::alloc::{AllocError, Global};
 use story_facts::{CellValue, other_of};
-use story_types::Wrong;
 
 /// Returns the first cell in which the contents of a record, if it has any, differ from the page's at the halt.
 pub(crate) fn other_at<R: Record>(
@@ -28,27 +27,6 @@ pub(crate) fn other_at<R: Record>(
     };
     match rec.contents() {
         Some(contents) => other_of(alloc, session, page, contents),
-        None => Ok(None),
-    }
-}
-
-/// Returns the record of this number, if there is one and its contents differ from the page's at the halt.
-pub(crate) fn wrong_at<R: Record>(
-    alloc: Global,
-    session: &Session,
-    page: PageNo,
-    log: &[R],
-    place: Option<u32>,
-) -> Result<Option<Wrong>, AllocError>
-    requires page { page < session.now.geometry.pages }
-    requires fits { AllByRecursion (λ rec. ContentFits session.now.geometry (R.contents rec)) log.now }
-    ensures { IfOk result (λ wrong. MatchOption wrong (AreNotWrong session.now page (λ n. if_there R.contents (slice_get log.now n)) place) (IsWrongAt session.now page (λ n. if_there R.contents (slice_get log.now n)) place)) }
-{
-    let Some(place) = place else {
-        return Ok(None);
-    };
-    match other_at(alloc, session, page, log, place as usize)? {
-        Some(held) => Ok(Some(Wrong { place, held })),
         None => Ok(None),
     }
 }

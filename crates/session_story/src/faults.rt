@@ -10,22 +10,22 @@ ghost use Rattle.audit_report.specs.Reports.{IsReport};
 ghost use Rattle.cert_check.specs.Verdicts.{IsShapeFault};
 ghost use Rattle.story_facts.specs.Pages.{IsPageStory};
 ghost use Rattle.story_facts.specs.Giving.{IsGiver};
-ghost use Rattle.story_types.specs.Explained.{IsFaultStory, IsLookBeforeTouch, IsMissing, IsReportedStory, IsRightAtFirst, IsShapeStory, IsToldCause, IsWrongAtFirst, IsWrongThen, IsZeroed, is_read, is_unplaced, is_used_by};
-ghost use Rattle.session_story.specs.inner.Contents.{is_zero, used_early};
+ghost use Rattle.story_types.specs.Explained.{IsExplained, IsFaultStory, IsGivenRight, IsGivenWrong, IsLeft, IsLookBeforeTouch, IsMissing, IsReportedStory, IsSentRight, IsShapeStory, IsToldCause, IsUnexplained, IsWrong, IsWrongSend, first_placement, is_read, is_unplaced, is_zero};
+ghost use Rattle.session_story.specs.inner.Contents.{used_early};
 
-use crate::contents::wrong_at;
 use crate::orders::in_every_order;
 use crate::reasons::{detail_of, is_read};
 use audit_model::PageReason;
 use audit_report::Report;
 use cert_check::ShapeFault;
-use migration_types::{PagerRec, Session};
+use migration_types::{LogName, PagerRec, Session};
 use page_facts::PageFault;
 use std::alloc::{AllocError, Global};
 use story_facts::{
-    Look, PageStory, giver_of, greatest_look, handover_of, is_unseen, sent_before, story_of,
+    CellValue, Look, PageStory, giver_of, greatest_look, handover_of, is_unseen, lost_by,
+    other_at_halt, sent_before, story_of,
 };
-use story_types::{Detail, FaultStory, PageCause, ShapeStory, is_number};
+use story_types::{FaultStory, PageCause, ShapeStory, Wrong, is_number, is_used_by, value_at};
 
 /// Returns the look before a page's first use at the target that reached furthest.
 pub(crate) fn look_before(session: &Session, page: &PageStory) -> Option<Look>
@@ -35,16 +35,6 @@ pub(crate) fn look_before(session: &Session, page: &PageStory) -> Option<Look>
     match page.found.touch {
         Some(first) => greatest_look(session, first as usize),
         None => None,
-    }
-}
-
-/// Returns whether the guest has used a page at the target by the time this record of it is done.
-fn is_used_by(page: &PageStory, place: u32) -> bool
-    ensures { result ≡ is_used_by page.now.found.touch place }
-{
-    match page.found.touch {
-        Some(first) => first <= place,
-        None => false,
     }
 }
 
@@ -66,51 +56,50 @@ fn places_zeros(session: &Session, place: u32) -> bool
     }
 }
 
-/// Returns the first placement of a page, if that puts zeros in its place although it is not released at the halt.
-fn zeroed_by(session: &Session, page: &PageStory) -> Option<u32>
+/// Returns the page's first `send`, if that has another value in this cell than the page has there at the halt.
+fn wrong_send(session: &Session, page: &PageStory, held: CellValue) -> Option<u32>
     requires { IsPageStory session.now page.now.page page.now }
-    ensures { MatchOption result ((n : ℕ) → IsZeroed session.now page.now.page n → ⊥) (IsZeroed session.now page.now.page) }
+    ensures { MatchOption result (IsSentRight session.now page.now.page held) (IsWrongSend session.now page.now.page held) }
 {
-    match page.found.placement {
-        Some(place) => {
-            if places_zeros(session, place) && !page.found.released {
-                Some(place)
-            } else {
+    let Some(place) = page.sent else {
+        return None;
+    };
+    match value_at(session, (LogName::Source, place), held.cell) {
+        Some(value) => {
+            if value == held.value {
                 None
+            } else {
+                Some(place)
             }
         }
         None => None,
     }
 }
 
-/// Returns what is wrong with a page as it first comes to the target, if anything is.
-fn wrong_at_first(
-    alloc: Global,
+/// Returns the cause of a read whose value this first placement gives, although the cell had another one at the halt.
+fn given_wrong(
     session: &Session,
+    _read: u32,
     page: &PageStory,
-) -> Result<Option<PageCause>, AllocError>
-    requires page { page.now.page < session.now.geometry.pages }
+    place: u32,
+    held: CellValue,
+) -> PageCause
     requires story { IsPageStory session.now page.now.page page.now }
-    ensures { IfOk result (λ cause. MatchOption cause (IsRightAtFirst session.now page.now.page) (IsWrongAtFirst session.now page.now.page)) }
+    requires given { IsGivenWrong session.now _read page.now.page place held }
+    ensures { IsWrong session.now _read page.now.page result }
 {
-    session.keeps_limits();
-    let sent = wrong_at(alloc, session, page.page, session.source(), page.sent)?;
-    if let Some(wrong) = sent {
-        return Ok(Some(PageCause::Sent(wrong)));
-    }
-    let placed = wrong_at(
-        alloc,
-        session,
-        page.page,
-        session.pager(),
-        page.found.placement,
-    )?;
-    if let Some(wrong) = placed {
-        return Ok(Some(PageCause::Placed(wrong)));
-    }
-    match zeroed_by(session, page) {
-        Some(place) => Ok(Some(PageCause::Zeroed(place))),
-        None => Ok(None),
+    match wrong_send(session, page, held) {
+        Some(sending) => PageCause::Sent(Wrong {
+            place: sending,
+            held,
+        }),
+        None => {
+            if places_zeros(session, place) {
+                PageCause::Zeroed(place)
+            } else {
+                PageCause::Placed(Wrong { place, held })
+            }
+        }
     }
 }
 
@@ -145,38 +134,95 @@ fn missing_by(session: &Session, page: &PageStory) -> Option<PageCause>
     }
 }
 
-/// Returns what is wrong with a page that comes right at first, if this placement is the first that may have given a read
-/// its value.
-fn given_by(session: &Session, _read: u32, page: &PageStory, giver: u32) -> Option<PageCause>
+/// Returns the cause of a read whose value this first placement gives, as the cell had it at the halt, if there is one.
+fn given_right(session: &Session, _read: u32, page: &PageStory, place: u32) -> Option<PageCause>
     requires story { IsPageStory session.now page.now.page page.now }
-    requires gives { IsGiver session.now _read giver }
-    ensures { MatchOption result ((c : PageCause) → IsWrongThen session.now _read page.now.page c → ⊥) (IsWrongThen session.now _read page.now.page) }
+    requires first { first_placement session.now page.now.page ≡ Some place }
+    requires gives { IsGiver session.now _read place }
+    requires right { IsGivenRight session.now _read page.now.page }
+    ensures { MatchOption result ((c : PageCause) → IsWrong session.now _read page.now.page c → ⊥) (IsWrong session.now _read page.now.page) }
 {
-    if is_number(page.found.placement, giver) {
-        if page.found.releases {
-            let seen = look_before(session, page);
-            Some(PageCause::Over { place: giver, seen })
-        } else {
-            missing_by(session, page)
-        }
+    if page.found.releases {
+        let seen = look_before(session, page);
+        Some(PageCause::Over { place, seen })
     } else {
-        Some(PageCause::Again(giver))
+        missing_by(session, page)
     }
 }
 
-/// Returns what is wrong with a page that comes right at first, in this read of it at the target.
-fn wrong_then(session: &Session, read: u32, page: &PageStory) -> Option<PageCause>
+/// Returns the cause of a read whose value this first placement gives, if there is one.
+fn given_first(
+    alloc: Global,
+    session: &Session,
+    read: u32,
+    page: &PageStory,
+    place: u32,
+) -> Result<Option<PageCause>, AllocError>
     requires there { read < length session.now.guest }
     requires story { IsPageStory session.now page.now.page page.now }
-    ensures { MatchOption result ((c : PageCause) → IsWrongThen session.now read page.now.page c → ⊥) (IsWrongThen session.now read page.now.page) }
+    requires first { first_placement session.now page.now.page ≡ Some place }
+    requires gives { IsGiver session.now read place }
+    ensures { IfOk result (λ cause. MatchOption cause ((c : PageCause) → IsWrong session.now read page.now.page c → ⊥) (IsWrong session.now read page.now.page)) }
 {
-    match giver_of(session, read as usize) {
-        Some(giver) => given_by(session, read, page, giver),
-        None => missing_by(session, page),
+    match other_at_halt(alloc, session, read as usize)? {
+        Some(held) => Ok(Some(given_wrong(session, read, page, place, held))),
+        None => Ok(given_right(session, read, page, place)),
     }
 }
 
-/// Returns what went wrong with the page of a wrong read at the target before it: the first cause that applies.
+/// Returns the cause of a read whose value this placement gives, if there is one.
+fn given_by(
+    alloc: Global,
+    session: &Session,
+    read: u32,
+    page: &PageStory,
+    giver: u32,
+) -> Result<Option<PageCause>, AllocError>
+    requires there { read < length session.now.guest }
+    requires story { IsPageStory session.now page.now.page page.now }
+    requires gives { IsGiver session.now read giver }
+    ensures { IfOk result (λ cause. MatchOption cause ((c : PageCause) → IsWrong session.now read page.now.page c → ⊥) (IsWrong session.now read page.now.page)) }
+{
+    if is_number(page.found.placement, giver) {
+        given_first(alloc, session, read, page, giver)
+    } else {
+        Ok(Some(PageCause::Again(giver)))
+    }
+}
+
+/// Returns the cause of a read of a page at the target, if a placement gives its value, or if the page need not have
+/// been there.
+fn explained_by(
+    alloc: Global,
+    session: &Session,
+    read: u32,
+    page: &PageStory,
+) -> Result<Option<PageCause>, AllocError>
+    requires there { read < length session.now.guest }
+    requires story { IsPageStory session.now page.now.page page.now }
+    ensures { IfOk result (λ cause. MatchOption cause (IsUnexplained session.now read page.now.page) (IsExplained session.now read page.now.page)) }
+{
+    if !is_used_by(page.found.touch, read) {
+        return Ok(None);
+    }
+    match giver_of(session, read as usize) {
+        Some(giver) => given_by(alloc, session, read, page, giver),
+        None => Ok(missing_by(session, page)),
+    }
+}
+
+/// Returns the cause of a read that nothing else explains: a change that is lost, or a record that is missing.
+fn left_of(alloc: Global, session: &Session, read: u32) -> Result<PageCause, AllocError>
+    requires { read < length session.now.guest }
+    ensures { IfOk result (IsLeft session.now read) }
+{
+    match lost_by(alloc, session, read as usize)? {
+        Some(lost) => Ok(PageCause::Lost(lost)),
+        None => Ok(PageCause::Unrecorded),
+    }
+}
+
+/// Returns the cause of a wrong read.
 fn cause_of(
     alloc: Global,
     session: &Session,
@@ -184,18 +230,16 @@ fn cause_of(
     place: u32,
     page: &PageStory,
 ) -> Result<Option<PageCause>, AllocError>
-    requires page { page.now.page < session.now.geometry.pages }
     requires there { is_read reason ≡ true → place < length session.now.guest }
     requires story { IsPageStory session.now page.now.page page.now }
     ensures { IfOk result (IsToldCause session.now reason place page.now.page) }
 {
-    if !is_read(reason) || !is_used_by(page, place) {
+    if !is_read(reason) {
         return Ok(None);
     }
-    let first = wrong_at_first(alloc, session, page)?;
-    match first {
+    match explained_by(alloc, session, place, page)? {
         Some(cause) => Ok(Some(cause)),
-        None => Ok(wrong_then(session, place, page)),
+        None => Ok(Some(left_of(alloc, session, place)?)),
     }
 }
 

@@ -1,7 +1,6 @@
 -- The sentences about what a session lacks that does not tell of a whole migration.
 use Rattle.std.specs.Prelude.{ℕ, List, [], ◌∷◌, ◌++◌, length, Option, Some, None}
 use Rattle.std.specs.Option.{option_map}
-use Rattle.migration_types.specs.declared.records.LogName.TheVariants.{Guest, Source, Link, Lane, Pager}
 use Rattle.migration_types.specs.Receipts.{Name}
 use Rattle.migration_types.specs.Sessions.{Recorded}
 use Rattle.audit_model.specs.Shape.{delivers, is_halt, is_send_of}
@@ -9,22 +8,12 @@ use Rattle.completeness.specs.Complete.{is_all, is_back}
 use Rattle.completeness.specs.declared.lack.Lack.{Lack}
 use Rattle.completeness.specs.declared.lack.Lack.TheVariants as missing
 use Rattle.page_facts.specs.Tables.{first_before}
-use Rattle.story_facts.specs.Named.{named_in}
+use Rattle.story_facts.specs.Named.{furthest}
 use Rattle.story_facts.specs.Pages.{carries, lane_carries}
 use Rattle.story_facts.specs.Scans.{last_before}
 use Rattle.story_sentences.specs.Sentences.{listed}
 use Rattle.story_words.specs.declared.sentences.Sentence.{Sentence}
 use Rattle.story_words.specs.declared.sentences.Sentence.TheVariants as say
-
--- the first of these records that exists
-abbrev pub or_else : Option Name → Option Name → Option Name
-or_else None other = other
-or_else (Some name) other = Some name
-
--- how far a page came: to the pager, or else to a delivery by the link, or by the lane, or to the source's sending
-abbrev pub furthest : Option ℕ → Option ℕ → Option ℕ → Option ℕ → Option Name
-furthest got delivered by_lane sent =
-    or_else (named_in Pager got) (or_else (named_in Link delivered) (or_else (named_in Lane by_lane) (named_in Source sent)))
 
 abbrev pub came_to : Recorded → ℕ → Option Name
 came_to s page =

@@ -20,16 +20,19 @@ use Rattle.audit_model.specs.Shape.{delivery, passes}
 use Rattle.page_facts.specs.Tables.{first_before}
 use Rattle.audit_report.specs.declared.report.Report.{Report}
 use Rattle.audit_report.specs.declared.report.Report.TheVariants as report
-use Rattle.story_types.specs.Amended.{value_at}
+use Rattle.story_types.specs.Causes.{came_to}
 use Rattle.story_facts.specs.Named.{named_by}
 use Rattle.story_types.specs.Concerned.{resumed_by}
 use Rattle.story_facts.specs.Pages.{is_access_after}
+use Rattle.story_types.specs.Explained.{is_used_by}
+use Rattle.story_types.specs.Values.{value_at}
 use Rattle.story_types.specs.Waits.{next_in}
 use Rattle.story_facts.specs.declared.counting.Counts.{Counts}
+use Rattle.story_types.specs.declared.causes.CauseKind.TheVariants as kind
 use Rattle.story_types.specs.declared.explaining.Explanation.{Explanation}
 use Rattle.story_types.specs.declared.explaining.Explanation.TheVariants as explained
 use Rattle.story_types.specs.declared.faults.PageCause.{PageCause}
-use Rattle.story_types.specs.declared.faults.PageCause.TheVariants.{Sent, Placed, Zeroed, Again as PlacedAgain, Over as PlacedOver, Early as UsedEarly, Unplaced}
+use Rattle.story_types.specs.declared.faults.PageCause.TheVariants.{Sent, Placed, Zeroed, Again as PlacedAgain, Over as PlacedOver, Early as UsedEarly, Unplaced, Lost, Unrecorded}
 use Rattle.story_types.specs.declared.faults.Detail.{Detail}
 use Rattle.story_types.specs.declared.faults.Detail.TheVariants.{Instead, Seen, Other, Plain}
 use Rattle.story_types.specs.declared.faults.FaultStory.{FaultStory}
@@ -120,22 +123,34 @@ wrong_told s f _ = plain_told f.fault.reason f.page.changed f.page.found.placeme
 unfoldable pub faulty_told : Recorded → FaultStory → List Sentence
 faulty_told s f = say.Wrong (f.fault.log, f.fault.place) ∷ [] ++ wrong_told s f f.detail
 
--- what went wrong before with the page of a wrong read, if the story has that
-unfoldable pub first_told : Recorded → Name → CellValue → List Sentence
-first_told s name at_halt = say.WrongFirst name ∷ [] ++ contents_told s name at_halt
+-- for a read at the source, that it is one
+abbrev pub source_of : FaultStory → Option Sentence
+source_of f = if is_used_by f.page.found.touch f.fault.place then None else Some say.AtSource
 
-unfoldable pub cause_told : Recorded → PageStory → Option PageCause → List Sentence
-cause_told s p None = []
-cause_told s p (Some (Sent wrong)) = first_told s (Source, wrong.place) wrong.held
-cause_told s p (Some (Placed wrong)) = first_told s (Pager, wrong.place) wrong.held
-cause_told s p (Some (Zeroed n)) = say.WrongFirst (Pager, n) ∷ [] ++ plain_told page.Unfit p.changed None
-cause_told s p (Some (PlacedAgain n)) = say.WrongFirst (Pager, n) ∷ [] ++ plain_told page.Twice None p.found.placement
-cause_told s p (Some (PlacedOver n seen)) = say.WrongFirst (Pager, n) ∷ [] ++ over_told n p.found.touch seen p.found.look
-cause_told s p (Some (UsedEarly n seen)) = say.WrongFirst (Guest, n) ∷ [] ++ early_told p.found.placement seen p.found.look
-cause_told s p (Some Unplaced) = say.NeverPlaced ∷ []
+-- that a page never comes, given its first use at the target
+unfoldable pub never_told : PageStory → Option ℕ → List Sentence
+never_told page None = []
+never_told page (Some touch) = say.GoesWrong page.page kind.NeverPlaced (Guest, touch) ∷ say.CameTo (came_to page) ∷ []
+
+-- what went wrong before a wrong read
+unfoldable pub wrongly_told : Recorded → FaultStory → PageCause → List Sentence
+wrongly_told s f (Sent w) = say.GoesWrong f.page.page kind.StaleSend (Source, w.place) ∷ [] ++ contents_told s (Source, w.place) w.held
+wrongly_told s f (Placed w) = say.GoesWrong f.page.page kind.Altered (Pager, w.place) ∷ [] ++ contents_told s (Pager, w.place) w.held
+wrongly_told s f (Zeroed q) = say.GoesWrong f.page.page kind.Zeroed (Pager, q) ∷ [] ++ plain_told page.Unfit f.page.changed None
+wrongly_told s f (PlacedAgain q) = say.GoesWrong f.page.page kind.PlacedAgain (Pager, q) ∷ [] ++ plain_told page.Twice None f.page.found.placement
+wrongly_told s f (PlacedOver q seen) = say.GoesWrong f.page.page kind.PlacedOver (Pager, q) ∷ [] ++ over_told q f.page.found.touch seen f.page.found.look
+wrongly_told s f (UsedEarly n seen) = say.GoesWrong f.page.page kind.Early (Guest, n) ∷ [] ++ early_told f.page.found.placement seen f.page.found.look
+wrongly_told s f Unplaced = never_told f.page f.page.found.touch
+wrongly_told s f (Lost l) = say.GoesWrong f.page.page kind.LostWrite (Guest, l.change) ∷ say.Keeps f.fault.place l.since ∷ [] ++ listed (source_of f)
+wrongly_told s f Unrecorded = say.Unexplained f.page.page ∷ [] ++ listed (source_of f)
+
+-- a fault, after what went wrong before, if the story has that
+unfoldable pub caused_told : Recorded → FaultStory → Option PageCause → List Sentence
+caused_told s f None = faulty_told s f
+caused_told s f (Some cause) = wrongly_told s f cause ++ (say.Shows (f.fault.log, f.fault.place) ∷ [] ++ wrong_told s f f.detail)
 
 unfoldable pub fault_told : Recorded → FaultStory → List Sentence
-fault_told s f = cause_told s f.page f.cause ++ faulty_told s f
+fault_told s f = caused_told s f f.cause
 
 -- how an order of the records shows a fault
 abbrev pub order_of : FaultStory → Sentence

@@ -1,14 +1,14 @@
 //! The sentences about a page's fault.
 
 ghost use Rattle.std.specs.Prelude.{◌≡◌, ◌++◌, OnOk};
-ghost use Rattle.story_sentences.specs.Sentences.{cause_told, contents_of, contents_told, early_told, fault_told, faulty_told, first_sending, first_told, order_of, origin_at, origin_by, origin_of, over_told, place_of, plain_told, unseen_told, wrong_told};
+ghost use Rattle.story_sentences.specs.Sentences.{caused_told, contents_of, contents_told, early_told, fault_told, faulty_told, first_sending, order_of, origin_at, origin_by, origin_of, over_told, place_of, plain_told, never_told, source_of, unseen_told, wrong_told, wrongly_told};
 
 use crate::listing::push_if;
 use audit_model::{PageReason, delivery};
 use migration_types::{LogName, PagerRec, Session, SourceRec};
 use std::alloc::AllocError;
 use story_facts::{CellValue, Look, Name, PageStory};
-use story_types::{Detail, FaultStory, PageCause, value_at};
+use story_types::{CauseKind, Detail, FaultStory, PageCause, came_to, is_used_by, value_at};
 use story_words::Sentence;
 
 /// Returns what the contents of a record have in a cell whose value in the page is another at the halt, if the record
@@ -223,59 +223,129 @@ pub(crate) fn push_faulty(
     push_wrong(out, session, story)
 }
 
-/// Appends a record with wrong contents, with which a page first went wrong.
-#[tactic(auto, unfolding(crate::specs::Sentences::first_told))]
-fn push_first(
+/// Appends that a page never comes, given its first use at the target.
+#[tactic(auto, unfolding(crate::specs::Sentences::never_told))]
+fn push_never(
     out: &mut Vec<Sentence>,
-    session: &Session,
-    name: Name,
-    at_halt: CellValue,
-) -> Result<(), AllocError>
-    ensures { OnOk result (out.new.items ≡ out.old.items ++ first_told session.now name at_halt) }
-{
-    out.extend_from_slice(&[Sentence::WrongFirst(name)])?;
-    push_contents(out, session, name, at_halt)
-}
-
-/// Appends what went wrong with a page before the guest read it, if the story has that.
-#[tactic(auto, unfolding(crate::specs::Sentences::cause_told))]
-fn push_cause(
-    out: &mut Vec<Sentence>,
-    session: &Session,
     page: &PageStory,
-    cause: Option<PageCause>,
+    touch: Option<u32>,
 ) -> Result<(), AllocError>
-    ensures { OnOk result (out.new.items ≡ out.old.items ++ cause_told session.now page.now cause) }
+    ensures { OnOk result (out.new.items ≡ out.old.items ++ never_told page.now touch) }
 {
-    match cause {
-        Some(PageCause::Sent(wrong)) => {
-            push_first(out, session, (LogName::Source, wrong.place), wrong.held)
-        }
-        Some(PageCause::Placed(wrong)) => {
-            push_first(out, session, (LogName::Pager, wrong.place), wrong.held)
-        }
-        Some(PageCause::Zeroed(place)) => {
-            out.extend_from_slice(&[Sentence::WrongFirst((LogName::Pager, place))])?;
-            push_plain(out, PageReason::Unfit, page.changed, None)
-        }
-        Some(PageCause::Again(place)) => {
-            out.extend_from_slice(&[Sentence::WrongFirst((LogName::Pager, place))])?;
-            push_plain(out, PageReason::Twice, None, page.found.placement)
-        }
-        Some(PageCause::Over { place, seen }) => {
-            out.extend_from_slice(&[Sentence::WrongFirst((LogName::Pager, place))])?;
-            push_over(out, place, page.found.touch, seen, page.found.look)
-        }
-        Some(PageCause::Early { place, seen }) => {
-            out.extend_from_slice(&[Sentence::WrongFirst((LogName::Guest, place))])?;
-            push_early(out, page.found.placement, seen, page.found.look)
-        }
-        Some(PageCause::Unplaced) => out.extend_from_slice(&[Sentence::NeverPlaced]),
+    match touch {
+        Some(touch) => out.extend_from_slice(&[
+            Sentence::GoesWrong {
+                page: page.page,
+                kind: CauseKind::NeverPlaced,
+                name: (LogName::Guest, touch),
+            },
+            Sentence::CameTo(came_to(page)),
+        ]),
         None => Ok(()),
     }
 }
 
-/// Appends what first went wrong with a page, if the story has that, and then its fault.
+/// Returns that a read is at the source, if it is.
+fn source_of(story: &FaultStory) -> Option<Sentence>
+    ensures { result ≡ source_of story.now }
+{
+    if is_used_by(story.page.found.touch, story.fault.place) {
+        None
+    } else {
+        Some(Sentence::AtSource)
+    }
+}
+
+/// Appends what went wrong before a wrong read.
+#[tactic(auto, unfolding(crate::specs::Sentences::wrongly_told))]
+fn push_wrongly(
+    out: &mut Vec<Sentence>,
+    session: &Session,
+    story: &FaultStory,
+    cause: &PageCause,
+) -> Result<(), AllocError>
+    ensures { OnOk result (out.new.items ≡ out.old.items ++ wrongly_told session.now story.now cause.now) }
+{
+    let page = story.page.page;
+    let changed = story.page.changed;
+    let found = &story.page.found;
+    match *cause {
+        PageCause::Sent(wrong) => {
+            let name = (LogName::Source, wrong.place);
+            let kind = CauseKind::StaleSend;
+            out.extend_from_slice(&[Sentence::GoesWrong { page, kind, name }])?;
+            push_contents(out, session, name, wrong.held)
+        }
+        PageCause::Placed(wrong) => {
+            let name = (LogName::Pager, wrong.place);
+            let kind = CauseKind::Altered;
+            out.extend_from_slice(&[Sentence::GoesWrong { page, kind, name }])?;
+            push_contents(out, session, name, wrong.held)
+        }
+        PageCause::Zeroed(place) => {
+            let name = (LogName::Pager, place);
+            let kind = CauseKind::Zeroed;
+            out.extend_from_slice(&[Sentence::GoesWrong { page, kind, name }])?;
+            push_plain(out, PageReason::Unfit, changed, None)
+        }
+        PageCause::Again(place) => {
+            let name = (LogName::Pager, place);
+            let kind = CauseKind::PlacedAgain;
+            out.extend_from_slice(&[Sentence::GoesWrong { page, kind, name }])?;
+            push_plain(out, PageReason::Twice, None, found.placement)
+        }
+        PageCause::Over { place, seen } => {
+            let name = (LogName::Pager, place);
+            let kind = CauseKind::PlacedOver;
+            out.extend_from_slice(&[Sentence::GoesWrong { page, kind, name }])?;
+            push_over(out, place, found.touch, seen, found.look)
+        }
+        PageCause::Early { place, seen } => {
+            let name = (LogName::Guest, place);
+            let kind = CauseKind::Early;
+            out.extend_from_slice(&[Sentence::GoesWrong { page, kind, name }])?;
+            push_early(out, found.placement, seen, found.look)
+        }
+        PageCause::Unplaced => push_never(out, &story.page, found.touch),
+        PageCause::Lost(lost) => {
+            let name = (LogName::Guest, lost.change);
+            let kind = CauseKind::LostWrite;
+            let read = story.fault.place;
+            let since = lost.since;
+            out.extend_from_slice(&[
+                Sentence::GoesWrong { page, kind, name },
+                Sentence::Keeps { read, since },
+            ])?;
+            push_if(out, source_of(story))
+        }
+        PageCause::Unrecorded => {
+            out.extend_from_slice(&[Sentence::Unexplained(page)])?;
+            push_if(out, source_of(story))
+        }
+    }
+}
+
+/// Appends a page's fault, after this cause, if there is one.
+#[tactic(auto, unfolding(crate::specs::Sentences::caused_told))]
+fn push_caused(
+    out: &mut Vec<Sentence>,
+    session: &Session,
+    story: &FaultStory,
+    cause: &Option<PageCause>,
+) -> Result<(), AllocError>
+    ensures { OnOk result (out.new.items ≡ out.old.items ++ caused_told session.now story.now cause.now) }
+{
+    match cause {
+        Some(cause) => {
+            push_wrongly(out, session, story, cause)?;
+            out.extend_from_slice(&[Sentence::Shows((story.fault.log, story.fault.place))])?;
+            push_wrong(out, session, story)
+        }
+        None => push_faulty(out, session, story),
+    }
+}
+
+/// Appends a page's fault, after what went wrong before, if the story has that.
 #[tactic(auto, unfolding(crate::specs::Sentences::fault_told))]
 pub(crate) fn push_fault(
     out: &mut Vec<Sentence>,
@@ -284,8 +354,7 @@ pub(crate) fn push_fault(
 ) -> Result<(), AllocError>
     ensures { OnOk result (out.new.items ≡ out.old.items ++ fault_told session.now story.now) }
 {
-    push_cause(out, session, &story.page, story.cause)?;
-    push_faulty(out, session, story)
+    push_caused(out, session, story, &story.cause)
 }
 
 /// Returns how an order of the records shows a fault.

@@ -3,42 +3,16 @@
 ghost use Rattle.std.specs.Prelude.{◌≡◌, ◌<◌, ◌++◌, IfOk, OnOk, length};
 ghost use Rattle.page_facts.specs.Tables.{first_before};
 ghost use Rattle.completeness.specs.Complete.{IsFirstMissing, is_all, is_back};
-ghost use Rattle.story_sentences.specs.Lacks.{came_to, furthest, halted_of, lack_told, missing_told, or_else, said_of, started_of};
+ghost use Rattle.story_sentences.specs.Lacks.{came_to, halted_of, lack_told, missing_told, said_of, started_of};
 ghost use Rattle.story_facts.specs.Scans.{last_before};
 
 use crate::listing::push_if;
 use crate::questions::{SaysAll, StartsAgain};
 use completeness::Lack;
-use migration_types::{LogName, PageNo, Session};
+use migration_types::{PageNo, Session};
 use std::alloc::{AllocError, Global};
-use story_facts::{Name, first_of, handover_of, last_of, named_in, story_of};
+use story_facts::{Name, first_of, furthest, handover_of, last_of, story_of};
 use story_words::Sentence;
-
-/// Returns the first of these records that exists.
-fn or_else(name: Option<Name>, other: Option<Name>) -> Option<Name>
-    ensures { result ≡ or_else name other }
-{
-    match name {
-        Some(name) => Some(name),
-        None => other,
-    }
-}
-
-/// Returns how far a page came: to the pager, or else to a delivery by the link, or by the lane, or to the source's
-/// sending.
-fn furthest(
-    got: Option<u32>,
-    delivered: Option<u32>,
-    by_lane: Option<u32>,
-    sent: Option<u32>,
-) -> Option<Name>
-    ensures { result ≡ furthest got delivered by_lane sent }
-{
-    let sent = named_in(LogName::Source, sent);
-    let by_lane = or_else(named_in(LogName::Lane, by_lane), sent);
-    let delivered = or_else(named_in(LogName::Link, delivered), by_lane);
-    or_else(named_in(LogName::Pager, got), delivered)
-}
 
 /// Returns how far a page came.
 fn came_to(alloc: Global, session: &Session, page: PageNo) -> Result<Option<Name>, AllocError>

@@ -1,17 +1,13 @@
 -- What is wrong in a faulty record and what would be right, which uses of its page the story tells, and whether each
 -- order shows the fault.
-use Rattle.std.specs.Prelude.{ℕ, Bool, false, ◌==◌, ◌&&◌, ◌||◌, List, Option, Some, None, slice_get}
-use Rattle.migration_types.specs.declared.records.LogName.TheVariants.{Guest, Source, Pager}
-use Rattle.migration_types.specs.declared.records.GuestRec.{GuestRec}
-use Rattle.migration_types.specs.declared.records.GuestRec.TheVariants.{Read}
-use Rattle.migration_types.specs.Receipts.{Name}
-use Rattle.migration_types.specs.Rows.{source_contents, pager_contents}
+use Rattle.std.specs.Prelude.{ℕ, Bool, false, ◌==◌, ◌&&◌, ◌||◌, Option, Some, None}
+use Rattle.migration_types.specs.declared.records.LogName.TheVariants.{Guest}
 use Rattle.migration_types.specs.Sessions.{Recorded}
-use Rattle.audit_model.specs.Names.{if_there, same_log}
+use Rattle.audit_model.specs.Names.{same_log}
 use Rattle.story_types.specs.declared.amends.Amended.{Amended}
 use Rattle.story_facts.specs.declared.values.CellValue.{CellValue}
 use Rattle.story_types.specs.declared.faults.PageCause.{PageCause}
-use Rattle.story_types.specs.declared.faults.PageCause.TheVariants.{Sent, Placed}
+use Rattle.story_types.specs.declared.faults.PageCause.TheVariants.{Sent, Placed, Lost}
 use Rattle.story_types.specs.declared.faults.Detail.{Detail}
 use Rattle.story_types.specs.declared.faults.Detail.TheVariants.{Instead, Other}
 use Rattle.story_types.specs.declared.faults.FaultStory.{FaultStory}
@@ -21,22 +17,7 @@ use Rattle.story_types.specs.declared.topics.FullPageStory.{FullPageStory}
 use Rattle.story_types.specs.declared.topics.TopicStory.{TopicStory}
 use Rattle.story_types.specs.Concerned.{given_in}
 use Rattle.story_types.specs.Topics.{fault_in, page_in}
-
--- the value of a cell in contents, if there are any
-abbrev pub cell_in : Option (List ℕ) → ℕ → Option ℕ
-cell_in None cell = None
-cell_in (Some contents) cell = slice_get contents cell
-
-abbrev pub read_value : GuestRec → Option ℕ
-read_value (Read vcpu page cell value) = Some value
-read_value rec = None
-
--- the value that a record has: for a read, the one that it gives; for a record with contents, that of the cell
-abbrev pub value_at : Recorded → Name → ℕ → Option ℕ
-value_at s (Guest, n) cell = if_there read_value (slice_get s.guest n)
-value_at s (Source, n) cell = cell_in (if_there source_contents (slice_get s.source n)) cell
-value_at s (Pager, n) cell = cell_in (if_there pager_contents (slice_get s.pager n)) cell
-value_at s name cell = None
+use Rattle.story_types.specs.Values.{value_at}
 
 -- what the story says about a cell, if anything
 abbrev pub held_in : Detail → Option CellValue
@@ -63,6 +44,7 @@ amended_by s told = amended_for s (fault_in told)
 abbrev pub cause_in : Option PageCause → Option ℕ
 cause_in (Some (Sent wrong)) = wrong.held.by
 cause_in (Some (Placed wrong)) = wrong.held.by
+cause_in (Some (Lost lost)) = lost.since
 cause_in cause = None
 
 -- whether it is this number, if there is one

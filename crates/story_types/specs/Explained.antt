@@ -1,19 +1,20 @@
 -- The story of the report on a session.
 use Rattle.std.specs.Prelude.{◌≡◌, ◌≢◌, ◌⊎◌, ℕ, ◌+◌, ◌<◌, Bool, true, false, not, ◌&&◌, nat_le, is_some, Decides, List, length, MatchOption, Option, Some, None, slice_get, slice_index}
 use Rattle.migration_types.specs.declared.records.LogName.{LogName}
-use Rattle.migration_types.specs.declared.records.LogName.TheVariants.{Guest}
+use Rattle.migration_types.specs.declared.records.LogName.TheVariants.{Guest, Source}
 use Rattle.migration_types.specs.declared.records.GuestRec.TheVariants.{Read}
 use Rattle.migration_types.specs.declared.records.SourceRec.TheVariants.{Send}
+use Rattle.migration_types.specs.declared.records.PagerRec.{PagerRec}
 use Rattle.migration_types.specs.declared.records.PagerRec.TheVariants.{Place, Zero}
 use Rattle.migration_types.specs.Receipts.{Name}
 use Rattle.migration_types.specs.Sessions.{Recorded, line_of}
 use Rattle.audit_model.specs.declared.reasons.PageReason.{PageReason}
 use Rattle.audit_model.specs.declared.reasons.PageReason.TheVariants.{Read as WrongRead, Early, Given, Stale, Twice, Altered, Unfit, Over}
-use Rattle.audit_model.specs.Flat.{flat, at_halt, in_ledger}
+use Rattle.audit_model.specs.Flat.{flat, at_halt}
 use Rattle.audit_model.specs.FirstFault.{IsFirstFault, IsFirstPageFault}
 use Rattle.audit_model.specs.Laws.{BreaksAt, UnplacedBefore}
 use Rattle.audit_model.specs.Mergings.{IsMerging}
-use Rattle.audit_model.specs.Shape.{IsRightShape, is_send_of, is_placement_of}
+use Rattle.audit_model.specs.Shape.{IsRightShape, is_send_of, is_placement_of, passes}
 use Rattle.faulty_pages.specs.FaultyPages.{AreManyFaulty}
 use Rattle.page_facts.specs.declared.findings.Findings.{Findings}
 use Rattle.page_facts.specs.declared.page_fault.PageFault.{PageFault}
@@ -23,18 +24,20 @@ use Rattle.page_facts.specs.Tables.{first_before}
 use Rattle.audit_report.specs.declared.report.Report.{Report}
 use Rattle.audit_report.specs.declared.report.Report.TheVariants as report
 use Rattle.story_facts.specs.Pages.{IsHandover, IsPageStory, sent_before}
-use Rattle.story_facts.specs.Values.{IsInstead, IsOther}
+use Rattle.story_facts.specs.Values.{IsInstead, IsOther, IsOtherAtHalt}
 use Rattle.story_facts.specs.Giving.{IsGiver, MayFollow}
+use Rattle.story_facts.specs.Losing.{IsLost}
 use Rattle.story_facts.specs.Looks.{IsFurthestLook}
 use Rattle.story_facts.specs.Counted.{IsCounts}
+use Rattle.story_types.specs.Values.{value_at}
 use Rattle.story_types.specs.Waits.{IsCircle}
 use Rattle.story_facts.specs.declared.looks.Look.{Look}
+use Rattle.story_facts.specs.declared.losing.Lost.{Lost as LostChange}
 use Rattle.story_facts.specs.declared.values.CellValue.{CellValue}
 use Rattle.story_types.specs.declared.faults.Detail.{Detail}
 use Rattle.story_types.specs.declared.faults.Detail.TheVariants.{Instead, Seen, Other, Plain}
-use Rattle.story_types.specs.declared.faults.Wrong.{Wrong}
 use Rattle.story_types.specs.declared.faults.PageCause.{PageCause}
-use Rattle.story_types.specs.declared.faults.PageCause.TheVariants.{Sent, Placed, Zeroed, Again, Over as PlacedOver, Early as UsedEarly, Unplaced}
+use Rattle.story_types.specs.declared.faults.PageCause.TheVariants.{Sent, Placed, Zeroed, Again, Over as PlacedOver, Early as UsedEarly, Unplaced, Lost, Unrecorded}
 use Rattle.story_types.specs.declared.faults.FaultStory.{FaultStory}
 use Rattle.story_types.specs.declared.faults.ShapeStory.{ShapeStory}
 use Rattle.story_types.specs.declared.explaining.Explanation.{Explanation}
@@ -64,34 +67,6 @@ IsDetail s Twice log n page Plain = Unit {0}
 IsDetail s Unfit log n page Plain = Unit {0}
 IsDetail s reason log n page detail = ⊥
 
--- The first `send` of the page has contents that differ from the page's at the halt, first at this cell.
-pub record IsWrongSend (s : Recorded) (page : ℕ) (w : Wrong) : Type 0 where
-  pub content : List ℕ
-  pub is_first : first_before (λ m. is_send_of page) s.source (length s.source) ≡ Some w.place
-  pub sends : slice_get s.source w.place ≡ Some (Send page content)
-  pub other : IsOther s page content w.held
-
--- The first placement of the page is a `place` whose contents differ from the page's at the halt, first at this cell.
-pub record IsWrongPlacement (s : Recorded) (page : ℕ) (w : Wrong) : Type 0 where
-  pub got : ℕ
-  pub content : List ℕ
-  pub is_first : first_before (λ m. is_placement_of page) s.pager (length s.pager) ≡ Some w.place
-  pub places : slice_get s.pager w.place ≡ Some (Place page got content)
-  pub other : IsOther s page content w.held
-
--- The first placement of the page puts zeros in its place, and the page is not released at the halt.
-pub record IsZeroed (s : Recorded) (page n : ℕ) : Type 0 where
-  pub is_first : first_before (λ m. is_placement_of page) s.pager (length s.pager) ≡ Some n
-  pub zeroes : slice_get s.pager n ≡ Some (Zero page)
-  pub is_kept : in_ledger s (at_halt s) page ≡ false
-
--- there is no such `send`; there is no such placement
-abbrev pub IsSentRight : Recorded → ℕ → Type 0
-IsSentRight s page = (w : Wrong) → IsWrongSend s page w → ⊥
-
-abbrev pub IsPlacedRight : Recorded → ℕ → Type 0
-IsPlacedRight s page = (w : Wrong) → IsWrongPlacement s page w → ⊥
-
 -- whether the page is never placed, and is needed by its first use at the target, which is not a release
 abbrev pub unplaced : Option ℕ → Option ℕ → Bool → Bool
 unplaced placement touch releases = not (is_some placement) && is_some touch && not releases
@@ -110,16 +85,41 @@ first_placement s page = first_before (λ m. is_placement_of page) s.pager (leng
 abbrev pub IsUnplaced : Recorded → ℕ → Type 0
 IsUnplaced s page = unplaced (first_placement s page) (first_touch s page) (releases_at s (first_touch s page)) ≡ true
 
--- What is wrong with a page as it first comes: its sending; or, if that is right, its placement, whose contents then
--- differ from those that were sent, or which then puts zeros in its place.
-abbrev pub IsWrongAtFirst : Recorded → ℕ → PageCause → Type 0
-IsWrongAtFirst s page (Sent w) = IsWrongSend s page w
-IsWrongAtFirst s page (Placed w) = IsSentRight s page × IsWrongPlacement s page w
-IsWrongAtFirst s page (Zeroed n) = IsSentRight s page × IsZeroed s page n
-IsWrongAtFirst s page _ = ⊥
+-- The page's first placement gives the read its value that is guest record n, and the cell had another one at the halt.
+pub record IsGivenWrong (s : Recorded) (n page place : ℕ) (held : CellValue) : Type 0 where
+  pub is_first : first_placement s page ≡ Some place
+  pub gives : IsGiver s n place
+  pub other : IsOtherAtHalt s n held
 
-abbrev pub IsRightAtFirst : Recorded → ℕ → Type 0
-IsRightAtFirst s page = (c : PageCause) → IsWrongAtFirst s page c → ⊥
+abbrev pub IsGivenRight : Recorded → ℕ → ℕ → Type 0
+IsGivenRight s n page = (place : ℕ) (held : CellValue) → IsGivenWrong s n page place held → ⊥
+
+-- the page's first `send` has another value in this cell than the page has there at the halt
+pub record IsWrongSend (s : Recorded) (page : ℕ) (held : CellValue) (place : ℕ) : Type 0 where
+  pub value : ℕ
+  pub is_first : first_before (λ m. is_send_of page) s.source (length s.source) ≡ Some place
+  pub sends : value_at s (Source, place) held.cell ≡ Some value
+  pub differs : value ≢ held.value
+
+abbrev pub IsSentRight : Recorded → ℕ → CellValue → Type 0
+IsSentRight s page held = (place : ℕ) → IsWrongSend s page held place → ⊥
+
+-- The first placement gives the read a wrong value, and this `send` had one before.
+pub record IsSentWrong (s : Recorded) (n page place : ℕ) (held : CellValue) : Type 0 where
+  pub placement : ℕ
+  pub given : IsGivenWrong s n page placement held
+  pub sends : IsWrongSend s page held place
+
+-- whether a record places a page as zeros
+abbrev pub is_zero : PagerRec → Bool
+is_zero (Zero page) = true
+is_zero _ = false
+
+-- This first placement gives the read a wrong value, no `send` had one before, and it is one of zeros or not.
+pub record IsPlacedWrong (s : Recorded) (n page place : ℕ) (held : CellValue) (zeros : Bool) : Type 0 where
+  pub given : IsGivenWrong s n page place held
+  pub sent : IsSentRight s page held
+  pub is_of_zeros : passes is_zero (slice_get s.pager place) ≡ zeros
 
 -- a placement gives the read its value that is guest record n, and is not the page's first
 pub record IsPlacedAgain (s : Recorded) (n page q : ℕ) : Type 0 where
@@ -151,16 +151,16 @@ IsMissing s page (UsedEarly touch look) = IsUsedEarly s page touch look
 IsMissing s page Unplaced = IsUnplaced s page
 IsMissing s page _ = ⊥
 
--- What is wrong with a page that comes right at first, and is wrong in guest record n: it is placed again, or over a
--- release; or, if it is not placed again, it is missing.
-abbrev pub IsWrongThen : Recorded → ℕ → ℕ → PageCause → Type 0
-IsWrongThen s n page (Again q) = IsPlacedAgain s n page q
-IsWrongThen s n page (PlacedOver place look) = IsPlacedOver s n page place look
-IsWrongThen s n page c = IsPlacedOnce s n page × IsMissing s page c
-
--- What first went wrong with a page before guest record n: it, as it first comes; or, if that is right, what is wrong then.
+-- What went wrong with a page before the read that is guest record n. A placement gives the read its value: the first,
+-- which is wrong itself, or comes over a release; or a later one. Or, if no later one does and none is wrong, the page
+-- is missing.
 abbrev pub IsWrong : Recorded → ℕ → ℕ → PageCause → Type 0
-IsWrong s n page c = IsWrongAtFirst s page c ⊎ (IsRightAtFirst s page × IsWrongThen s n page c)
+IsWrong s n page (Sent w) = IsSentWrong s n page w.place w.held
+IsWrong s n page (Placed w) = IsPlacedWrong s n page w.place w.held false
+IsWrong s n page (Zeroed place) = (held : CellValue) × IsPlacedWrong s n page place held true
+IsWrong s n page (Again q) = IsPlacedAgain s n page q
+IsWrong s n page (PlacedOver place look) = IsGivenRight s n page × IsPlacedOver s n page place look
+IsWrong s n page c = IsGivenRight s n page × (IsPlacedOnce s n page × IsMissing s page c)
 
 -- whether the first use, if there is one, comes no later than guest record n
 abbrev pub is_used_by : Option ℕ → ℕ → Bool
@@ -171,11 +171,23 @@ abbrev pub is_read : PageReason → Bool
 is_read WrongRead = true
 is_read _ = false
 
--- this is a wrong read at the target, and this first went wrong with its page
+-- a read at the target has this cause; it has none
+abbrev pub IsExplained : Recorded → ℕ → ℕ → PageCause → Type 0
+IsExplained s n page c = (is_used_by (first_touch s page) n ≡ true) × IsWrong s n page c
+
+abbrev pub IsUnexplained : Recorded → ℕ → ℕ → Type 0
+IsUnexplained s n page = (c : PageCause) → IsExplained s n page c → ⊥
+
+-- what is wrong if there is no such cause: the cell's last change is lost, or a record is missing
+abbrev pub IsLeft : Recorded → ℕ → PageCause → Type 0
+IsLeft s n (Lost l) = IsLost s n l
+IsLeft s n Unrecorded = (l : LostChange) → IsLost s n l → ⊥
+IsLeft s n _ = ⊥
+
+-- this is a wrong read, and this is its cause
 pub record IsCause (s : Recorded) (reason : PageReason) (n page : ℕ) (c : PageCause) : Type 0 where
   pub reads : is_read reason ≡ true
-  pub is_late : is_used_by (first_touch s page) n ≡ true
-  pub wrong : IsWrong s n page c
+  pub wrong : IsExplained s n page c ⊎ (IsUnexplained s n page × IsLeft s n c)
 
 -- the cause in the story, or there is none
 abbrev pub IsToldCause : Recorded → PageReason → ℕ → ℕ → Option PageCause → Type 0

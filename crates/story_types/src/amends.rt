@@ -3,7 +3,8 @@
 
 ghost use Rattle.std.specs.Prelude.{◌≡◌, slice_get};
 ghost use Rattle.audit_model.specs.Names.{if_there};
-ghost use Rattle.story_types.specs.Amended.{amended_by, amended_for, amended_with, cause_in, cell_in, held_in, is_always_wrong, is_number, read_value, tells_for, tells_in, tells_of, tells_on, value_at};
+ghost use Rattle.story_types.specs.Amended.{amended_by, amended_for, amended_with, cause_in, held_in, is_always_wrong, is_number, tells_for, tells_in, tells_of, tells_on};
+ghost use Rattle.story_types.specs.Values.{cell_in, read_value, value_at};
 
 use crate::explaining::Explanation;
 use crate::faults::{Detail, FaultStory, PageCause};
@@ -107,18 +108,20 @@ fn amended_with(page: PageNo, held: CellValue, wrong: Option<u64>) -> Option<Ame
     }
 }
 
-/// Returns the guest's record that gave the page what first went wrong with it.
+/// Returns the guest's record that gave a cell the value that a cause is set against, or that a read still gives.
 fn cause_in(cause: &Option<PageCause>) -> Option<u32>
     ensures { result ≡ cause_in cause.now }
 {
     match cause {
         Some(PageCause::Sent(wrong) | PageCause::Placed(wrong)) => wrong.held.by,
+        Some(PageCause::Lost(lost)) => lost.since,
         Some(
             PageCause::Zeroed(_)
             | PageCause::Again(_)
             | PageCause::Over { .. }
             | PageCause::Early { .. }
-            | PageCause::Unplaced,
+            | PageCause::Unplaced
+            | PageCause::Unrecorded,
         )
         | None => None,
     }

@@ -2,7 +2,7 @@
 
 use cert_check::ShapeFault;
 use page_facts::PageFault;
-use story_facts::{CellValue, Handover, Look, PageStory};
+use story_facts::{CellValue, Handover, Look, Lost, PageStory};
 
 /// What the story says about a faulty record besides its page's story.
 #[derive(Clone, Copy)]
@@ -18,36 +18,39 @@ pub enum Detail {
     Plain,
 }
 
-/// Contents of a page that differ from those that it had at the halt.
+/// A record in which a cell of a page has another value than it had at the halt.
 #[derive(Clone, Copy)]
 pub struct Wrong {
-    /// The number of the record that has them.
+    /// The number of the record.
     pub place: u32,
-    /// The first cell that differs, with what the page has there at the halt.
+    /// The cell, with what the page has there at the halt.
     pub held: CellValue,
 }
 
-/// What went wrong with a page before the guest read it at the target.
+/// What went wrong with a page before a read of it that is wrong. A placement gives the read its value if an order has
+/// it between the cell's last change and the read, with no other placement of the page before the read. The first one
+/// that does counts.
 #[derive(Clone, Copy)]
 pub enum PageCause {
-    /// The source sent it with other contents than it had at the halt.
+    /// The first placement gives the read its value, which the cell did not have at the halt, and the page was sent with
+    /// a wrong value in the cell too.
     Sent(Wrong),
-    /// It was sent with the contents that it had at the halt, and the pager placed it with others.
+    /// The first placement gives the read such a value, and the page was sent with the right one.
     Placed(Wrong),
-    /// It was not sent with other contents than it had at the halt, and this record of the pager, its first placement,
-    /// put zeros in its place, although it was not released at the halt.
+    /// This first placement gives the read such a value, as it puts zeros in the page's place, and the page was not sent
+    /// with a wrong one.
     Zeroed(u32),
-    /// It came as it should, and this later placement is the first that may have given the read its value.
+    /// This later placement gives the read its value.
     Again(u32),
-    /// It came as it should, but its first use at the target is a release, and this first placement may have given the
-    /// read its value.
+    /// This first placement gives the read its value, as the cell had it at the halt, and the page's first use at the
+    /// target is a release.
     Over {
         place: u32,
         /// The look that reached furthest before the release, if there is one.
         seen: Option<Look>,
     },
-    /// It came as it should, but an order has its first placement behind this first use at the target, which is no
-    /// release.
+    /// None of these is so, and an order has the page's first placement behind this first use of it at the target, which
+    /// is no release.
     Early {
         place: u32,
         /// The look that reached furthest before the use, if there is one.
@@ -55,6 +58,11 @@ pub enum PageCause {
     },
     /// The pager never placed it.
     Unplaced,
+    /// None of these is so, or the read is at the source, and it gives a value that the cell had before its last change,
+    /// which is lost.
+    Lost(Lost),
+    /// No record explains the value.
+    Unrecorded,
 }
 
 /// A fault of a page, and the story of this page.
@@ -65,7 +73,7 @@ pub struct FaultStory {
     pub page: PageStory,
     pub handover: Handover,
     pub detail: Detail,
-    /// For a wrong read at the target: what went wrong with its page before, if anything did.
+    /// For a wrong read: what went wrong with its page before.
     pub cause: Option<PageCause>,
     /// Whether every order of the records shows it. If the session does not have the right shape, this means nothing.
     pub in_every_order: bool,

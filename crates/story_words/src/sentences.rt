@@ -6,7 +6,7 @@ use audit_report::Lines;
 use migration_types::{LogName, PageNo};
 use std::alloc::AllocError;
 use story_facts::{CellValue, Handover, Name};
-use story_types::Waiting;
+use story_types::{CauseKind, Waiting};
 
 /// A sentence, with its records and numbers. If the log of a record is clear, the sentence has only the record's number
 /// there.
@@ -15,10 +15,23 @@ pub enum Sentence {
     // ---- a fault of a page
     /// This record is wrong.
     Wrong(Name),
-    /// The page of a wrong read first went wrong with this record.
-    WrongFirst(Name),
-    /// The page of a wrong read is never placed.
-    NeverPlaced,
+    /// A page goes wrong in this way, with this record.
+    GoesWrong {
+        page: PageNo,
+        kind: CauseKind,
+        name: Name,
+    },
+    /// The cell of this read keeps the value that it has since this record, or from the start.
+    Keeps {
+        read: u32,
+        since: Option<u32>,
+    },
+    /// No record explains what this page has.
+    Unexplained(PageNo),
+    /// The guest is at the source, so a fault is none of the migration.
+    AtSource,
+    /// What went wrong before shows at this record.
+    Shows(Name),
     /// What one machine that never moved has instead of what a read gives.
     OneMachine(CellValue),
     /// The page of an early use is never placed.
@@ -208,8 +221,13 @@ impl<L: Lines> Teller<'_, L> {
     ) -> Result<(), AllocError> {
         match *sentence {
             Sentence::Wrong(name) => self.push_wrong(out, name),
-            Sentence::WrongFirst(name) => self.push_wrong_first(out, name),
-            Sentence::NeverPlaced => out.push_str(faults::NEVER_PLACED),
+            Sentence::GoesWrong { page, kind, name } => {
+                self.push_goes_wrong(out, page, kind, name)
+            }
+            Sentence::Keeps { read, since } => self.push_keeps(out, read, since),
+            Sentence::Unexplained(page) => faults::push_unexplained(out, page),
+            Sentence::AtSource => out.push_str(faults::AT_SOURCE),
+            Sentence::Shows(name) => self.push_with_record(out, "It shows at ", name),
             Sentence::OneMachine(held) => self.push_one_machine(out, held),
             Sentence::NotThere => out.push_str(faults::NOT_THERE),
             Sentence::Unreached(place) => self.push_unreached(out, place),

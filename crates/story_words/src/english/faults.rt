@@ -3,12 +3,13 @@
 use super::Teller;
 use audit_model::PageReason;
 use audit_report::Lines;
-use migration_types::{LogName, PagerRec};
+use migration_types::{GuestRec, LogName, PageNo, PagerRec};
 use std::alloc::AllocError;
 use story_facts::Name;
+use story_types::CauseKind;
 
-pub(crate) const NEVER_PLACED: &str =
-    "The page went wrong first, as the pager never places it and the guest uses it at the target.";
+pub(crate) const AT_SOURCE: &str =
+    "The guest is at the source by then: the migration has no part in it.";
 
 pub(crate) const NOT_THERE: &str =
     "The guest is at the target by then, and the page is never placed there.";
@@ -47,6 +48,31 @@ pub(crate) fn in_shown_order(reason: PageReason) -> &'static str {
     }
 }
 
+/// Returns how a page goes wrong, as the end of a sentence.
+fn how_it_goes_wrong(kind: CauseKind) -> &'static str {
+    match kind {
+        CauseKind::StaleSend => "the source sends other contents than it has at the halt.",
+        CauseKind::GivenSend => "the source sends it although it is released.",
+        CauseKind::Altered => "the pager places other contents than it has at the halt.",
+        CauseKind::Zeroed => "the pager puts zeros in its place.",
+        CauseKind::PlacedAgain => "the pager places it a second time.",
+        CauseKind::PlacedOver => "the pager places it over a release of the guest.",
+        CauseKind::Early => "the guest uses it before it has come.",
+        CauseKind::NeverPlaced => "the guest uses it at the target, and the pager never places it.",
+        CauseKind::LostWrite => "a write is lost.",
+        CauseKind::Unrecorded => "no record explains it.",
+    }
+}
+
+/// Appends that no record explains what a page has.
+pub(crate) fn push_unexplained(out: &mut String, page: PageNo) -> Result<(), AllocError> {
+    let page = page.number();
+    write!(
+        out,
+        "No record explains what page {page} has: somebody writes to it who records nothing, or memory is damaged."
+    )
+}
+
 /// Appends how many other pages have a fault.
 pub(crate) fn push_more(out: &mut String, more: usize) -> Result<(), AllocError> {
     if more == 1 {
@@ -65,9 +91,51 @@ impl<L: Lines> Teller<'_, L> {
         self.push_of_record(out, " is wrong", name)
     }
 
-    /// Appends the record with which a page first went wrong.
-    pub(crate) fn push_wrong_first(&self, out: &mut String, name: Name) -> Result<(), AllocError> {
-        self.push_with_record(out, "The page first went wrong at ", name)
+    /// Appends what a lost write or release was.
+    fn push_lost(&self, out: &mut String, place: u32) -> Result<(), AllocError> {
+        match self.session.guest().get(place as usize) {
+            Some(GuestRec::Write { cell, value, .. }) => {
+                write!(out, "the write of {value} into cell {cell} is lost.")
+            }
+            _ => out.push_str("its release is lost."),
+        }
+    }
+
+    /// Appends the record with which a page goes wrong, and how it does.
+    pub(crate) fn push_goes_wrong(
+        &self,
+        out: &mut String,
+        page: PageNo,
+        kind: CauseKind,
+        name: Name,
+    ) -> Result<(), AllocError> {
+        let page = page.number();
+        write!(out, "Page {page} goes wrong at ")?;
+        self.push_place(out, name)?;
+        out.push_str(": ")?;
+        match kind {
+            CauseKind::LostWrite => self.push_lost(out, name.1),
+            other => out.push_str(how_it_goes_wrong(other)),
+        }
+    }
+
+    /// Appends the value that a read gives, and since when its cell has it.
+    pub(crate) fn push_keeps(
+        &self,
+        out: &mut String,
+        read: u32,
+        since: Option<u32>,
+    ) -> Result<(), AllocError> {
+        if let Some(GuestRec::Read { cell, value, .. }) = self.session.guest().get(read as usize) {
+            write!(out, "Cell {cell} keeps {value}, ")?;
+        }
+        self.push_with_record_or(
+            out,
+            "which it has since ",
+            "as at the start.",
+            LogName::Guest,
+            since,
+        )
     }
 
     /// Appends the placement that no look before a use reaches.

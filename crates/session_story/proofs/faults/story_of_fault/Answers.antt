@@ -38,9 +38,6 @@ read_there s Over log n e f = absurd (cc)
 pub cause_of-requires-clause-there : goal.cause_of-requires-clause-there
 cause_of-requires-clause-there c = λ e. read_there c.args.session.now c.args.fault.now.reason c.args.fault.now.log c.args.fault.now.place e c.requires.fault
 
-pub cause_of-requires-clause-page : goal.cause_of-requires-clause-page
-cause_of-requires-clause-page c = page_below c.args.session.now c.keeps_limits.ensures (c.args.fault.now.log, c.args.fault.now.place) c.args.page.now.page c.requires.of
-
 pub returns-clause-story : goal.returns-clause-story
 returns-clause-story c = record {
   is_of = c.requires.of;
