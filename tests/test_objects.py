@@ -25,6 +25,13 @@ PAGE_FIELD = {"r": 2, "w": 2, "send": 1, "place": 1, "zero": 1}
 # The fields of the object of a refused text, in their order.
 REFUSED = ("verdict", "line", "column", "found", "expected", "reason")
 
+# The kinds of causes.
+CAUSES = "altered", "early", "given-send", "lost-write", "never-placed", "placed-again", "placed-over", "stale-send", "unrecorded", "zeroed"
+
+# The first sentence on a fault of a page, and the first record in it.
+CAUSED = re.compile(r"^(Page \d+ goes wrong|No record explains|Line \d+ \([a-z]+ \d+\) is wrong: )", re.M)
+FIRST = re.compile(r"[Ll]ine (\d+) \(([a-z]+) (\d+)\)")
+
 # What the first word of a record of each role is, where the role says it.
 ROLES = {
     "changed": ("w", "z"), "halt": ("halt",), "sent": ("send",), "delivered": ("down",), "taken": ("got", "pull"),
@@ -123,7 +130,7 @@ class Tests:
 
     def __init__(self, program, room):
         self.program, self.room = program, room
-        self.seen, self.roles, self.reasons = set(), set(), set()
+        self.seen, self.roles, self.reasons, self.causes = set(), set(), set(), set()
 
     def ran(self, *words):
         child = subprocess.run([self.program, *words], cwd=self.room, stdin=subprocess.DEVNULL, capture_output=True)
@@ -157,10 +164,27 @@ class Tests:
         found = json.loads(output)
         self.same(f"the line of the story of {what}", output.decode(), json.dumps(found, separators=(",", ":")) + "\n")
         names = list(found)
-        topic, records = found.pop("topic", None), found.pop("records", None)
+        topic, cause, records = found.pop("topic", None), found.pop("cause", None), found.pop("records", None)
         self.same(f"the story of {what}", list(found.items()), list(report.items()))
-        self.same(f"the last fields of the story of {what}", names[len(found):], [name for name, it in (("topic", topic), ("records", records)) if it is not None])
+        self.same(f"the last fields of the story of {what}", names[len(found):], [name for name, it in (("topic", topic), ("cause", cause), ("records", records)) if it is not None])
+        self.cause(what, cause, records, words[1].decode())
         return topic, records, words[1].decode()
+
+    def cause(self, what, cause, records, told):
+        """The cause of a fault of a page, which is there just where the words tell such a fault. Its record is the first that they name."""
+        faulty = CAUSED.search(told.partition("\n")[2])
+        self.same(f"whether there is a cause in {what}", cause is not None, faulty is not None)
+        if cause is None:
+            return
+        self.causes.add(cause["kind"])
+        if cause["kind"] == "unrecorded":
+            self.same(f"the cause of {what}", list(cause), ["kind"])
+        else:
+            line, log, n = FIRST.search(told.partition("\n")[2], faulty.start()).groups()
+            self.same(f"the cause of {what}", [cause[name] for name in ("line", "log", "record")], [int(line), log, int(n)])
+        for it in (cause, cause.get("against", {})):
+            if "log" in it:
+                self.same(f"the place of {it} of {what}", f"line {it['line']} ({it['log']} {it['record']})" in told.replace("\nLine ", "\nline "), True)
 
     def story(self, what, session_bytes):
         """The object of an explanation, beside that of the audit and the words."""
@@ -259,6 +283,7 @@ def test_objects(program, room):
     same("the verdicts that were met", sorted(verdicts), every)
     missing = {reason for verdict, reason in tests.seen if verdict == "incomplete"}
     same("the roles that were met", sorted(tests.roles), sorted(ROLES))
+    same("the causes that were met", sorted(tests.causes), sorted(CAUSES))
     same("what was missing", sorted(missing), ["all", "done", "halt", "page", "placement", "resume", "returned"])
 
 

@@ -77,7 +77,7 @@ class Tests:
             return alone[JSON]
         if other == JSON:
             topic = topic_of(alone[one][1])
-            told = {name: it for name, it in json.loads(alone[JSON][1]).items() if name != "records"}
+            told = {name: it for name, it in json.loads(alone[JSON][1]).items() if name not in ("cause", "records")}
             reason = re.search(rf"^page {topic.get('page')} line \d+ (.+)$", self.run("audit", *ALL, *names)[1], re.M)
             if "fault" in topic:
                 topic["fault"]["reason"] = reason[1]

@@ -4,6 +4,7 @@ use Rattle.migration_types.specs.Sessions.{Recorded, line_of}
 use Rattle.audit_model.specs.Reasons.{page_word}
 use Rattle.page_facts.specs.declared.page_fault.PageFault.{PageFault}
 use Rattle.audit_report.specs.declared.report.Report.{Report}
+use Rattle.story_types.specs.Causes.{cause_of}
 use Rattle.story_types.specs.Topics.{IsTold}
 use Rattle.story_types.specs.declared.faults.FaultStory.{FaultStory}
 use Rattle.story_types.specs.declared.topics.FullPageStory.{FullPageStory}
@@ -12,6 +13,7 @@ use Rattle.migration_types.specs.declared.topic.Topic.{Topic}
 use Rattle.story_types.specs.declared.topics.TopicStory.{TopicStory}
 use Rattle.story_types.specs.declared.topics.TopicStory.TheVariants as story
 use Rattle.report_json.specs.JsonText.{listed, number, opened, record_in, report_begun, word}
+use Rattle.report_json.specs.CausesText.{cause_told}
 use Rattle.report_json.specs.RecordsText.{records_of, told_record}
 
 -- the first fault of a page, as in ,"fault":{"line":13,"log":"guest","record":6,"reason":"early"}
@@ -45,9 +47,9 @@ topic_of tell s (story.Report e) = []
 topic_of tell s (story.Page n t) = codes ",\"topic\":" ++ page_topic tell s n t ++ codes "}"
 topic_of tell s (story.Line line t) = codes ",\"topic\":" ++ line_topic tell s line t ++ codes "}"
 
--- the object of a report with its story on a topic: the topic, and the records of the story
+-- the object of a report with its story on a topic: the topic, the cause of its fault, and the records of the story
 abbrev pub told_object : (ℕ → ℕ) → Recorded → Report → TopicStory → List ℕ
-told_object tell s report t = report_begun tell s report ++ topic_of tell s t ++ listed (codes "records") told_record (records_of tell s t) ++ codes "}\n"
+told_object tell s report t = report_begun tell s report ++ topic_of tell s t ++ cause_told tell s (cause_of t) ++ listed (codes "records") told_record (records_of tell s t) ++ codes "}\n"
 
 -- this is the story on some topic
 abbrev pub IsStory : Recorded → Report → TopicStory → Type 0

@@ -2,6 +2,7 @@
 //! people.
 #![tactic(auto)]
 
+mod causes;
 mod fields;
 mod lists;
 mod objects;

@@ -5,6 +5,7 @@ ghost use Rattle.completeness.specs.Complete.{IsFirstMissing};
 ghost use Rattle.report_json.specs.JsonText.{all_faults_object, at_line, begun, fault_told, missing_object, missing_told, number, pages_told, record_at, report_begun, report_object, shape_object, shape_told, table_object, verdict_object, word};
 ghost use Rattle.report_json.specs.TopicsText.{IsStory, told_object};
 
+use crate::causes::push_cause;
 use crate::fields::{
     begin, end, push_bare, push_number_under, push_page, push_record, push_word_under,
 };
@@ -19,7 +20,7 @@ use migration_types::{LogName, PageNo, Run, Session};
 use page_facts::PageFault;
 use std::alloc::{AllocError, Global};
 use story_facts::page_at;
-use story_types::TopicStory;
+use story_types::{TopicStory, cause_of};
 
 /// Appends the object of a verdict at a line of a text.
 fn push_at_line(out: &mut Vec<u8>, verdict: &[u8], line: u64) -> Result<(), AllocError>
@@ -147,8 +148,9 @@ pub fn push_all_faults(
     end(out)
 }
 
-/// Appends the object of the report on a session with the story on a topic: the topic, unless it is the report, and the
-/// records of the story, each with its role. Line numbers are from `lines`. Of the report, these are the records that
+/// Appends the object of the report on a session with the story on a topic: the topic, unless it is the report, the
+/// cause of the fault of a page that the story tells, and the records of the story, each with its role. Line numbers are
+/// from `lines`. Of the report, these are the records that
 /// led to what it names, and for a clean session none. Of a page, they are the record of its first fault, if it has one,
 /// and those of the page's story. Of a line, they are its record and those of the page that this is about. Fails only if
 /// memory runs out.
@@ -166,6 +168,7 @@ pub fn push_told<L: Lines>(
     let records = records_of(alloc, session, lines, told)?;
     begin_report(out, lines, session, report)?;
     push_topic(out, lines, session, told)?;
+    push_cause(out, lines, session, cause_of(told))?;
     push_list_under(out, b"records", &records)?;
     end(out)
 }

@@ -1,5 +1,5 @@
 -- What went wrong with a page first.
-use Rattle.std.proofs.Common.{◌≡◌, ℕ, ◌&&◌, not, Bool, true, false, refl, length, Option, Some, None, MatchOption, sym, ap, ◌∙◌, subst}
+use Rattle.std.proofs.Common.{◌≡◌, ℕ, ◌&&◌, not, Bool, true, false, refl, Option, Some, None, MatchOption, sym, ap, ◌∙◌}
 use Rattle.std.proofs.lemmas.Bool.{and_parts, eqb-true}
 use Rattle.migration_types.specs.Sessions.{Recorded}
 use Rattle.page_facts.specs.Findings.{IsFindings}

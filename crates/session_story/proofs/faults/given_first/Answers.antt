@@ -1,4 +1,3 @@
-use Rattle.std.proofs.Common.{◌≡◌}
 use Rattle.std.proofs.lemmas.Option.{MatchOption-at_none}
 use Rattle.story_facts.specs.Values.{IsOtherAtHalt}
 use Rattle.story_facts.specs.declared.values.CellValue.{CellValue}
