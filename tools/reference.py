@@ -9,7 +9,7 @@ from calls import Calls, calls_on_memory
 from definitions import TOP, Definitions, read
 
 GUARANTEES = "docs/GUARANTEES.md"
-RUN, FOLDERS, HEADLINE = "commands::run", "commands::run_over_folders", "judged_texts::check_texts"
+RUN, FOLDERS, INTO, HEADLINE = "commands::run", "commands::run_over_folders", "commands::run_into", "judged_texts::check_texts"
 KEPT_MARKS = r"pytest\.mark\.(quick|slow|toolchain|browser|qemu)\b"
 
 
@@ -23,7 +23,7 @@ class Reference:
     def __init__(self):
         self.definitions = Definitions()
         self.calls = Calls(self.definitions)
-        (self.run,), (self.folders,), (self.check,) = map(self.calls.named, (RUN, FOLDERS, HEADLINE))
+        (self.run,), (self.folders,), (self.into,), (self.check,) = map(self.calls.named, (RUN, FOLDERS, INTO, HEADLINE))
         self.exports = [it for it in self.calls.functions if it.source.crate == "postcopy_c" and it.is_public and 'extern "C"' in it.head]
 
     def headline(self):
@@ -32,7 +32,7 @@ class Reference:
 
     def reached(self):
         """What all that the program and the library for C promise rests on."""
-        return self.calls.closure([(it, it.clauses) for it in (self.run, self.folders, *self.exports)])
+        return self.calls.closure([(it, it.clauses) for it in (self.run, self.folders, self.into, *self.exports)])
 
     def between_crates(self):
         """The definitions outside specs/inner/ on which neither rests."""
@@ -48,7 +48,7 @@ class Reference:
             ("that status 0 of `check` carries it",
              self.calls.closure([(self.run, self.run.named(("headline", "bare_headline")))])),
             ("that status 0 of `audit` of a folder carries it", self.calls.closure([(self.folders, self.folders.named(("clean",)))])),
-            ("all that the program promises", self.calls.closure([(it, it.clauses) for it in (self.run, self.folders)])),
+            ("all that the program promises", self.calls.closure([(it, it.clauses) for it in (self.run, self.folders, self.into)])),
             ("all that the library for C promises", self.calls.closure([(it, it.clauses) for it in self.exports])),
             ("all that the two promise", self.reached()),
         )

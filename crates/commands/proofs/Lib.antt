@@ -7,3 +7,5 @@ pub mod Shown
 pub mod Clean
 pub mod WholeFolders
 pub mod Migrated
+pub mod Named
+pub mod Put

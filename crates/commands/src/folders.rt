@@ -1,12 +1,7 @@
 //! The program over a disk, whose folders stand in the place of sessions.
 
-ghost use Rattle.std.specs.Prelude.{◌≡◌, ℕ, List, [], IfSome};
-ghost use Rattle.command_words.specs.Words.{error_kinds, several_asked};
-ghost use Rattle.command_texts.specs.Told.{IsNamed, NoSession};
 ghost use Rattle.text_access.specs.Names.{files_of};
-ghost use Rattle.judged_texts.specs.Checked.{HeadlineHolds};
-ghost use Rattle.commands.specs.Folders.{IsEachWholeWith, IsFolder, IsWholeWith};
-ghost use Rattle.commands.specs.Shown.{AsksAudit, AsksCheck, AsksExplanation, SpellsMigrated};
+ghost use Rattle.commands.specs.Folders.{AuditsFolder, AuditsFolders, ChecksFolder, ExplainsFolder};
 
 use crate::program::run;
 use command_texts::Console;
@@ -37,10 +32,10 @@ pub fn run_over_folders<
 ) -> u8
 where
     D::Text: Send,
-    ensures checked { (folder cert : List ℕ) → IsFolder (files_of (D.bytes_of console.old.texts.now.disk) (D.names_in console.old.texts.now.disk)) folder → AsksCheck reading.entry folder cert → result ≡ 0 → (text : List ℕ) × IsNamed cert (files_of (D.bytes_of console.old.texts.now.disk) (D.names_in console.old.texts.now.disk)) NoSession (I.remaining console.old.input) text × IsWholeWith (files_of (D.bytes_of console.old.texts.now.disk) (D.names_in console.old.texts.now.disk)) folder (λ session. HeadlineHolds session text) }
-    ensures clean { (folder : List ℕ) → IsFolder (files_of (D.bytes_of console.old.texts.now.disk) (D.names_in console.old.texts.now.disk)) folder → AsksAudit reading.entry folder → result ≡ 0 → IsWholeWith (files_of (D.bytes_of console.old.texts.now.disk) (D.names_in console.old.texts.now.disk)) folder SpellsMigrated }
-    ensures lined { (folder second : List ℕ) → IsFolder (files_of (D.bytes_of console.old.texts.now.disk) (D.names_in console.old.texts.now.disk)) folder → AsksExplanation reading.entry folder second → result ≡ 0 → IsWholeWith (files_of (D.bytes_of console.old.texts.now.disk) (D.names_in console.old.texts.now.disk)) folder SpellsMigrated }
-    ensures each { error_kinds reading.entry ≡ [] → IfSome (several_asked reading.entry) (λ asked. result ≡ 0 → IsEachWholeWith (files_of (D.bytes_of console.old.texts.now.disk) (D.names_in console.old.texts.now.disk)) SpellsMigrated asked.1) }
+    ensures checked { ChecksFolder reading.entry (files_of (D.bytes_of console.old.texts.now.disk) (D.names_in console.old.texts.now.disk)) (I.remaining console.old.input) result }
+    ensures clean { AuditsFolder reading.entry (files_of (D.bytes_of console.old.texts.now.disk) (D.names_in console.old.texts.now.disk)) result }
+    ensures lined { ExplainsFolder reading.entry (files_of (D.bytes_of console.old.texts.now.disk) (D.names_in console.old.texts.now.disk)) result }
+    ensures each { AuditsFolders reading.entry (files_of (D.bytes_of console.old.texts.now.disk) (D.names_in console.old.texts.now.disk)) result }
 {
     run(console, reading, lines)
 }

@@ -20,8 +20,10 @@
 ghost use Rattle.std.specs.Prelude.{◌≡◌};
 
 use command_texts::{Closable, Console, Fault, USAGE, tell};
-use commands::{Reading, Targets, read_words, run_over_folders};
-use process_io::{Disk, Saved, has_wrong_word, refuse_targets, slices, tell_wrong_word, words};
+use commands::{
+    Disk, Reading, has_wrong_word, read_words, refuse_targets, run_into, run_over_folders, slices,
+    tell_wrong_word, words,
+};
 use session_commands::{ErrorSink, WithFolders};
 use std::alloc::Global;
 use std::io::{Input, Write};
@@ -56,64 +58,10 @@ fn refuse_words<R: Env, E: Write>(rt: &R, alloc: Global, errors: &mut E) -> u8
     USAGE
 }
 
-// Does what the words ask for, and writes the answer to this output. Puts the table of a window's lines into `lines`.
-fn answer<R, D: TextSource, W: ErrorSink, O: Write, E: Write>(
-    rt: &R,
-    alloc: Global,
-    texts: &WithFolders<D, W>,
-    reading: Reading<'_>,
-    output: &mut O,
-    errors: &mut E,
-    lines: &mut Option<Vec<u8>>,
-) -> u8
-where
-    R: Threads + Wait + Sync + Net<Listener = TcpListener, Stream = TcpStream> + Input,
-    R::Reader: Send,
-    D::Text: Send,
-{
-    let mut console = Console {
-        rt,
-        alloc,
-        texts,
-        input: rt.reader(),
-        output,
-        errors,
-    };
-    run_over_folders(&mut console, reading, lines)
-}
-
-// Does what the words ask for. The answer goes to the file that the words name, if an answer with its status goes to a
-// file, and else to the output.
-fn answer_into<R, D: TextSource, W: ErrorSink, O: Write, E: Write>(
-    rt: &R,
-    alloc: Global,
-    texts: &WithFolders<D, W>,
-    reading: Reading<'_>,
-    targets: Targets<'_>,
-    output: &mut O,
-    errors: &mut E,
-) -> u8
-where
-    R: Threads + Wait + Sync + Net<Listener = TcpListener, Stream = TcpStream> + Files + Input,
-    R: RandomSource,
-    R::File: AsFd,
-    R::Reader: Send,
-    D::Text: Send,
-{
-    let mut text = Saved::new(Disk { rt }, alloc, targets, ());
-    let mut table = None;
-    let status = answer(rt, alloc, texts, reading, &mut text, errors, &mut table);
-    text.put(status, &table, output, errors)
-}
-
 // Does what a reading of the words asks for, and writes the answer where they say.
-fn answer_to<R, D: TextSource, W: ErrorSink, O: Write, E: Write>(
-    rt: &R,
-    alloc: Global,
-    texts: &WithFolders<D, W>,
+fn answer<R, D: TextSource, W: ErrorSink, O: Write + Drop, E: Write + Drop>(
+    mut console: Console<'_, R, WithFolders<D, W>, R::Reader, O, E>,
     reading: Reading<'_>,
-    output: &mut O,
-    errors: &mut E,
 ) -> u8
 where
     R: Threads + Wait + Sync + Net<Listener = TcpListener, Stream = TcpStream> + Files + Input,
@@ -124,11 +72,12 @@ where
 {
     let targets = reading.targets();
     if targets.lines.is_none() && targets.output.is_none() {
-        return answer(rt, alloc, texts, reading, output, errors, &mut None);
+        return run_over_folders(&mut console, reading, &mut None);
     }
-    match refuse_targets(rt, alloc, &reading, errors) {
+    let mut disk = Disk { rt: console.rt };
+    match refuse_targets(console.rt, console.alloc, &reading, &mut console.errors) {
         Some(status) => status,
-        None => answer_into(rt, alloc, texts, reading, targets, output, errors),
+        None => run_into(console, reading, &mut disk, ()).0,
     }
 }
 
@@ -150,7 +99,17 @@ fn main(rt: HostRuntime) -> ExitCode {
     let mut output = Closable::new(rt.stdout());
     ExitCode::from(match read_words(alloc, words) {
         Ok(reading) if has_wrong_word(words, &reading) => refuse_words(&rt, alloc, &mut errors),
-        Ok(reading) => answer_to(&rt, alloc, &texts, reading, &mut output, &mut errors),
+        Ok(reading) => {
+            let console = Console {
+                rt: &rt,
+                alloc,
+                texts: &texts,
+                input: rt.reader(),
+                output: &mut output,
+                errors: &mut errors,
+            };
+            answer(console, reading)
+        }
         Err(_) => tell(Fault::Memory, &mut errors),
     })
 }

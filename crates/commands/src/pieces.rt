@@ -2,7 +2,7 @@
 
 ghost use Rattle.std.specs.Prelude.{◌≡◌, ℕ, List, [], ◌++◌, None, IfSome, IsOk, OnOk, OnErr};
 ghost use Rattle.std.specs.Io.KnownBytes.{Appends};
-ghost use Rattle.process_io.specs.Saving.{IsSaved, at_end, at_keep, name_of, under};
+ghost use Rattle.commands.specs.Saving.{IsSaved, at_end, at_keep, name_of, under};
 
 use crate::sinks::TextSink;
 use std::alloc::Global;

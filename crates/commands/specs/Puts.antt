@@ -3,7 +3,7 @@ use Rattle.std.specs.Prelude.{◌≡◌, ◌⊎◌, ℕ, List, [], ◌++◌, Opt
 use Rattle.std.specs.Io.KnownBytes.{Appends}
 use Rattle.command_words.specs.declared.requests.AnswerKind.{AnswerKind}
 use Rattle.command_words.specs.Words.{is_due, is_report}
-use Rattle.process_io.specs.Saving.{Named, under}
+use Rattle.commands.specs.Saving.{Named, under}
 
 -- a table gets this name, if there are both
 abbrev pub under_if : Option (List ℕ) → Option (List ℕ) → Named

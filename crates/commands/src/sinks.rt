@@ -2,7 +2,7 @@
 
 ghost use Rattle.std.specs.Prelude.{◌≡◌, ℕ, List, [], ◌∷◌, ◌++◌, Option, None, IfOk, IfSome, OnOk, OnErr};
 ghost use Rattle.std.specs.Io.KnownBytes.{Appends, append_known};
-ghost use Rattle.process_io.specs.Saving.{Named, with_more};
+ghost use Rattle.commands.specs.Saving.{Named, with_more};
 
 use std::alloc::Global;
 use std::io;
@@ -52,8 +52,11 @@ pub trait TextSink {
         ensures ok { is_known → OnOk result (Appends (O.contents output.old) (O.contents output.new) (draft_of draft.old).1) };
 }
 
-/// What was written so far. Only proofs use this.
-pub trait Account {
+/// What was written so far of an answer that is to get a name, or of one that is to get none. Only proofs use this.
+pub trait Account: Drop {
+    /// The name that the answer is to get.
+    ghost name: { Option (List ℕ) } = { None };
+
     ghost written: { Self → Option (List ℕ) } = { λ _. None };
 
     fn add(&mut self, bytes: &[u8])
