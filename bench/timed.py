@@ -449,3 +449,18 @@ class Timed:
             self.absent -= 1
             self.wake(self.pending.pop(page, ()))
             self.report()
+
+
+class Frugal(Timed):
+    """A source that does not send a page twice while it is under way: one that waits in the line goes to the front of it."""
+
+    def serve(self, packet):
+        copies = [it for it in self.line if it.page == packet.page] if packet.kind == "want" else []
+        if not copies:
+            super().serve(packet)
+            return
+        self.is_heard = True
+        self.rule.fault_at(packet.page)
+        if copies[0] in self.queue:
+            self.queue.remove(copies[0])
+            self.queue.appendleft(copies[0])
