@@ -54,7 +54,7 @@ def run_commands(page, program):
     """Runs the commands of a page. Yields of each what is wrong, or None."""
     with tempfile.TemporaryDirectory() as work:
         os.symlink(program, f"{work}/postcopy")
-        for folder in ("bindings", "crates", "docs", "examples", "recorders", "share", "tests", "tools"):
+        for folder in ("bench", "bindings", "crates", "docs", "examples", "recorders", "share", "tests", "tools"):
             if os.path.isdir(f"{TOP}/{folder}"):
                 os.symlink(f"{TOP}/{folder}", f"{work}/{folder}")
         for command, shown, script in commands_of(read(page)):

@@ -5,6 +5,7 @@ what does not fit or is no trace. Of scripts at random, over links that are slow
 whose session the program finds clean and complete, and which has the records that the schedule counts; events that lack one, and a rule
 that is not the host's, are found.
 """
+import gzip
 import os
 import random
 import subprocess
@@ -145,6 +146,16 @@ def test_fit():
     made = run(f"{TOP}/recorders/script", "-", "--move", "0", "--thin", "fit", given=given)
     assert made.returncode == 0
     assert "after it 35,003 of 70,000: first ones, and one in 2" in made.stderr
+
+
+def test_example(tmp_path):
+    """The script of the example is that of its trace."""
+    example = f"{TOP}/examples/migrated-program"
+    with gzip.open(f"{example}/trace.gz", "rb") as packed:
+        (tmp_path / "trace").write_bytes(packed.read())
+    made = run(f"{TOP}/recorders/script", f"{tmp_path}/trace", "--move", "1/4", "--thin", "150")
+    with open(f"{example}/script", encoding="ascii") as file:
+        assert made.stdout == file.read()
 
 
 # Schedules.
