@@ -7,6 +7,7 @@ from kinds import MEMORIES
 from results import markdown, versions_of
 
 DROPS, KEEPS, HOT, PAUSED = "drops translations", "keeps translations", "writes hot pages", "is paused"  # the guest, in pre-copy
+UNCUT, EARLY, LATE = "no", "early", "at the last pages"  # where the connection is cut
 
 # The values of each axis, by its name. The first is what a plan has that is drawn without axes.
 AXES = {
@@ -16,10 +17,12 @@ AXES = {
     "transport": ("unix", "tcp"),  # (fd has neither preempt nor multifd)
     "guest": (DROPS, KEEPS, HOT, PAUSED),
     "preempt": ("no", "yes"),
-    "recovery": ("no", "yes"),
+    "cut": (UNCUT, EARLY, LATE),
     "processors": (1, 2, 4),
 }
 
+# Pairs with which QEMU was found to lose memory, or to run the guest on both sides.
+FOUND = ((("memory", "one"), ("guest", HOT)), (("guest", DROPS), ("cut", LATE)), (("memory", "uneven"), ("guest", KEEPS)), (("memory", "numa"), ("guest", KEEPS)))
 
 GOOD = ("clean", "cut not reached", "nothing lost in pre-copy")  # words of results that are no fault
 
@@ -59,6 +62,20 @@ def rows(drawn, values):
     return found
 
 
+def in_order(drawn, values, seen=()):
+    """Returns the rows of a campaign: first one of each pair of FOUND, with the first value of all other axes, and then those of `rows`, each time
+    the one with most pairs that are new. `seen` has pairs that are not."""
+    first, seen = {axis: of_axis[0] for axis, of_axis in values.items()}, set(seen)
+    found = [{**first, **dict(pair)} for pair in FOUND if all(value in values[axis] for axis, value in pair)]
+    left = rows(drawn, values)
+    seen.update(*map(pairs_of, found))
+    while left:
+        found.append(max(left, key=lambda row: len(pairs_of(row) - seen)))
+        left.remove(found[-1])
+        seen |= pairs_of(found[-1])
+    return found
+
+
 def new_pairs(row, axis, value, places):
     """Returns the pairs that a value of a further axis makes with those of a row. `places` has all axes, in order."""
     return {tuple(sorted([(axis, value), other], key=lambda one: places.index(one[0]))) for other in row.items()}
@@ -75,7 +92,13 @@ def row_of(plan):
     """Returns the row of a plan that was drawn by axes."""
     return {"memory": plan.memory, "machine": plan.machine, "capability": "multifd" if plan.multifd else plan.further[0] if plan.further else "none",
             "transport": plan.transport, "guest": PAUSED if plan.paused else HOT if plan.hot else DROPS if plan.flush else KEEPS,
-            "preempt": "yes" if plan.preempt else "no", "recovery": "yes" if plan.cuts else "no", "processors": plan.cpus}
+            "preempt": "yes" if plan.preempt else "no", "cut": UNCUT if not plan.cuts else LATE if plan.cuts[0] * 2 > moved(plan) else EARLY,
+            "processors": plan.cpus}
+
+
+def moved(plan):
+    """Returns how many pages of the window a plan that was drawn by axes leaves to post-copy, about."""
+    return plan.hot or (plan.pages // 2 if plan.paused else plan.pages)
 
 
 def in_words(part):

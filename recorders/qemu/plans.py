@@ -72,15 +72,16 @@ def plan_by_axes(drawn, row):
     plan = plan_of("live", ram=16, pages=drawn.choice((64, 64, 128, 256)), words=drawn.choice((1, 8, 32)), writes=drawn.choice((4, 8, 15)),
                    bandwidth=drawn.choice((500_000, 1_000_000, 2_000_000)), post_bandwidth=drawn.choice((300_000, 1_000_000)),
                    warm=drawn.choice((0, 200, 2000)), pre=0.0, after=drawn.choice((200, 2000)), limit=30.0, **axes.fields_of(row))
-    # A guest that is stopped dirties no page again.
-    plan.pre_pages = plan.pages // 2 if plan.paused else drawn.choice((plan.pages // 2, plan.pages * 9 // 8))
+    # A guest that is stopped dirties no page again, and one that keeps translations loses what it writes to a page that was sent.
+    plan.pre_pages = plan.pages // 2 if plan.paused else plan.pages * 9 // 8 if row["guest"] == axes.KEEPS else drawn.choice((plan.pages // 2, plan.pages * 9 // 8))
     if plan.hot and row["capability"] == "auto-converge":
         # From the second round on it synchronizes the bitmap each 5 s. So a round takes 26 s, and sends the hot pages after 19 s.
         plan.pages, plan.ram, plan.words, plan.writes, plan.bandwidth, plan.pre_pages, plan.limit = 8192, 64, 1, 15, 1_300_000, 15360, 150.0
     elif plan.hot:
         plan.pages, plan.bandwidth, plan.pre_pages = 512, 1_000_000, 448
-    after = plan.hot or plan.pages
-    plan.cuts = [drawn.randrange(after // 8, after // 4)] if row["recovery"] == "yes" else []  # (earlier ones end the targets of old versions)
+    moved = axes.moved(plan)
+    # (A cut that is earlier ends the targets of old versions. One at the last pages loses up to 22 of them.)
+    plan.cuts = {axes.UNCUT: [], axes.EARLY: [drawn.randrange(moved // 8, moved // 4)], axes.LATE: [moved - drawn.randrange(5, 14)]}[row["cut"]]
     return plan
 
 

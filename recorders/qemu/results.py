@@ -3,10 +3,11 @@ import collections
 import json
 import os
 import re
-from dataclasses import asdict, dataclass
+from dataclasses import asdict, dataclass, field
 from xml.etree import ElementTree
 
 from dialect import version_of
+from files import lines_of
 from kinds import plan_from_text
 
 BUSY = "not at its end on a busy machine"
@@ -36,6 +37,24 @@ UNJUDGED = (("lost pages in pre-copy", r"; pre-copy lost \d"), ("nothing lost in
             ("refused{}", "cannot migrate with [^:]*(?P<words>: .*)"), ("machine not there", "has no machine"))
 
 
+# The sections of docs/FOUND.md by what shows them: the word of a result, and what its plan has. The first that fits is the one.
+KNOWN = (
+    ("the-source-aborts-in-pre-copy", r"source aborted: Assertion `block == qemu_get_ram_block", lambda plan: plan.memory != "one"),
+    ("lost-writes-to-each-ram-block-but-the-first", "`read`|lost pages in pre-copy", lambda plan: plan.memory != "one" and not plan.flush),
+    ("lost-writes-to-pages-not-sent-yet", "`read`|lost pages in pre-copy", lambda plan: plan.hot),
+    ("others-of-qemu", "`read`|lost pages in pre-copy", lambda plan: not plan.flush),
+    ("the-guest-runs-on-both-sides", "both ran", lambda plan: plan.cuts),
+    ("the-target-hangs-with-preempt", "(returned and )?target hangs", lambda plan: plan.preempt and not plan.multifd),
+    ("a-lost-answer", "returned$|source waits forever", lambda plan: plan.cuts and not plan.multifd),
+    ("a-post-copy-with-nothing-left-to-send", "target ended: `Operation not permitted`", lambda plan: not plan.cuts),
+    ("the-source-waits-for-itself", "source waits for itself", lambda plan: plan.cuts),
+    ("a-guest-started-after-a-failed-load", "`early`", lambda plan: plan.cuts),
+    ("others-of-qemu", "target (aborted|hangs|was killed)|source waits forever", lambda plan: plan.multifd),
+    ("others-of-qemu", "target ended while it loaded", lambda plan: plan.cuts),
+)
+LONGEST_LIST = 8  # pages that a line names
+
+
 @dataclass
 class Result:
     plan: object
@@ -47,6 +66,7 @@ class Result:
     is_cut_missed: bool = False  # whether it ended before a planned cut
     load: float = 0.0        # of the machine, after the migration: how many processes wanted to run
     death: str = ""          # how a QEMU ended by itself, in its words: the source, or else the target
+    pages: list = field(default_factory=list)  # that pre-copy left at the target and that differ from the source's at the halt
 
     def to_text(self):
         return json.dumps({**asdict(self), "plan": json.loads(self.plan.to_text())})
@@ -111,6 +131,11 @@ class Result:
         return self.is_clean and not self.is_put_in
 
     @property
+    def known(self):
+        """Returns the section of docs/FOUND.md that it looks like, or nothing. (What a fault that was put in gave is none.)"""
+        return "" if self.is_put_in else next((section for section, form, fits in KNOWN if re.match(form, self.in_a_word) and fits(self.plan)), "")
+
+    @property
     def fault(self):
         if not self.plan.fault:
             return "-" if self.plan.flush else "no flush"
@@ -124,7 +149,9 @@ class Result:
         parts += [f"{what} {value}" for what, value in (("memory", plan.memory), ("machine", plan.machine), ("transport", plan.transport)) if value not in ("one", "pc", "unix")]
         parts += [*plan.further, *(f"{name} {value}" for name, value in plan.parameters.items())]
         parts += [what for what in ("hot", "paused", "preempt", "multifd") if getattr(plan, what) and what not in plan.kind]
-        return "; ".join([f"{', '.join(parts)}: {self.verdict}", *([self.restart] if self.restart else []), self.outcome])
+        more = len(self.pages) - LONGEST_LIST
+        lost = [f"lost page{'s' if len(self.pages) > 1 else ''} {' '.join(map(str, self.pages[:LONGEST_LIST]))}{f' and {more} more' if more > 0 else ''}"] if self.pages else []
+        return "; ".join([f"{', '.join(parts)}: {self.verdict}", *([self.restart] if self.restart else []), *lost, self.outcome])
 
 
 def named(names, words):
@@ -145,6 +172,21 @@ def result_from_text(text):
     return Result(**{**fields, "plan": plan_from_text(json.dumps(fields["plan"]))})
 
 
+def of_campaign(folder):
+    """Returns the results that a campaign left in its folder. One that is under way will do."""
+    return lines_of(f"{folder}/results", result_from_text, "result of a campaign")
+
+
+def known(found):
+    """Yields a line for each section of docs/FOUND.md that results look like, by version, with their numbers in the campaign."""
+    of_each = collections.defaultdict(list)
+    for number, result in enumerate(found):
+        if result.known:
+            of_each[result.version or "no QEMU", result.known].append(f"{number:05}")
+    for (version, section), numbers in of_each.items():
+        yield f"{version}: {len(numbers)} as docs/FOUND.md#{section}: {' '.join(numbers)}"
+
+
 def read(path):
     if not os.path.exists(path):
         return ""
@@ -162,7 +204,12 @@ def result_of(plan, folder, done):
     version = " to ".join(dict.fromkeys([made["source_version"], made["target_version"]]))
     is_cut_missed = any("cut not reached" in remark for remark in outcome["remarks"])
     return Result(plan, verdict, outcome_in_words(outcome), was_put_in(folder), read(f"{folder}/restart").strip(), version, is_cut_missed,
-                  death=min(outcome["deaths"], default=""))
+                  death=min(outcome["deaths"], default=""), pages=lost_pages(folder))
+
+
+def lost_pages(folder):
+    """Returns the pages that the witness names."""
+    return [int(page) for page in read(f"{folder}/witness").partition("at the halt: ")[2].split()]
 
 
 def was_put_in(folder):

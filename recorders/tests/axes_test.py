@@ -37,6 +37,14 @@ def of_rows(tests):
         tests.wants("each pair stands in a row", axes.all_pairs().difference(*map(axes.pairs_of, rows)), set())
         tests.wants("in few of them", len(rows) < 30, True)
         tests.wants("the same seed, the same rows", axes.rows(random.Random(seed), axes.AXES), rows)
+        order = axes.in_order(random.Random(seed), axes.AXES)
+        tests.wants("a campaign begins with the pairs of what was found", [set(pair) <= set(row.items()) for row, pair in zip(order, axes.FOUND)], [True] * 4)
+        tests.wants("and has each row", sorted(map(str, order[4:])), sorted(map(str, rows)))
+        seen = set().union(*map(axes.pairs_of, [*order[:4], order[5]]))
+        later = axes.in_order(random.Random(seed), axes.AXES, seen)[4:]
+        for place, row in enumerate(later):
+            tests.wants("each next row has most pairs that are new", len(axes.pairs_of(row) - seen), max(len(axes.pairs_of(one) - seen) for one in later[place:]))
+            seen |= axes.pairs_of(row)
         made = [plans.plan_by_axes(random.Random(seed), row) for row in rows]
         tests.wants("a plan has the values of its row", [axes.row_of(plan) for plan in made], rows)
         tests.wants("a plan's text and back", [plan_from_text(plan.to_text()) for plan in made], made)
@@ -53,8 +61,8 @@ def of_results(tests):
     made = [result("clean, yes"), result("clean, yes", memory="numa"), *[result("faulty line 7 read", memory="numa", guest=axes.KEEPS)] * 2,
             *[result("faulty line 7 read", "7.2.22", guest=axes.KEEPS)] * 2, result("faulty line 9 read", memory="dimm")]
     tests.wants("what all have in common of which it became", list(axes.in_common(made)), [
-        "10.0.13: 3 `read`; 3 of 5 with machine pc, capability none, transport unix, preempt no, recovery no, processors 1",
-        "7.2.22: 2 `read`; 2 of 2 with memory one, machine pc, capability none, transport unix, guest keeps translations, preempt no, recovery no, processors 1"])
+        "10.0.13: 3 `read`; 3 of 5 with machine pc, capability none, transport unix, preempt no, cut no, processors 1",
+        "7.2.22: 2 `read`; 2 of 2 with memory one, machine pc, capability none, transport unix, guest keeps translations, preempt no, cut no, processors 1"])
     apart = [result("faulty line 1 read", **{axis: values[-1] for axis, values in axes.AXES.items()}), result("faulty line 1 read")]
     tests.wants("where that is nothing", list(axes.in_common(apart)), ["10.0.13: 2 `read`; 2 of 2 with nothing in common"])
     tests.wants("of one alone, and of what is no fault, nothing is said", list(axes.in_common(made[:2] + made[-1:])), [])
@@ -243,6 +251,33 @@ def of_owners(tests):
         tests.wants(f"in a word: {wanted}", (result.in_a_word, result.is_clean), (wanted, False))
 
 
+def of_what_is_known(tests, room):
+    """A result names the section of the page that it looks like, and the pages whose writes are lost."""
+    first = {axis: values[0] for axis, values in axes.AXES.items()}
+
+    def result(verdict, outcome="completed", restart="", death="", plan=None, **values):
+        return Result(plan or plans.plan_by_axes(random.Random(1), {**first, **values}), verdict, outcome, restart=restart, death=death, version="11.1.3", pages=list(range(9)) if "read" in verdict else [])
+
+    aborted = "source aborted: qemu-system-x86_64: ../system/physmem.c:872: it: Assertion `block == qemu_get_ram_block(end - 1)' failed."
+    found = [result("faulty line 7 read", guest=axes.HOT), result("faulty line 7 read", memory="numa", guest=axes.KEEPS), result("faulty line 7 read", guest=axes.KEEPS),
+             result("not judged: there was no post-copy", f"source ENDED, target ENDED; {aborted}", death=aborted, memory="uneven"),
+             result("shape line 9 both", "source failed, target postcopy-paused", "both ran: 7 accesses", cut=axes.LATE), result("faulty line 7 read"), result("clean, yes", cut=axes.LATE)]
+    sections = ["lost-writes-to-pages-not-sent-yet", "lost-writes-to-each-ram-block-but-the-first", "others-of-qemu", "the-source-aborts-in-pre-copy", "the-guest-runs-on-both-sides", "", ""]
+    tests.wants("the sections", [one.known for one in found], sections)
+    tests.wants("in lines", list(results.known(found)), [f"11.1.3: 1 as docs/FOUND.md#{section}: {number:05}" for number, section in enumerate(sections) if section])
+    tests.wants("the pages", found[0].line().split("; ")[-2], "lost pages 0 1 2 3 4 5 6 7 and 1 more")
+    with open(f"{QEMU}/../../docs/FOUND.md", encoding="utf-8") as page:
+        titles = {line.lstrip("# ").strip().lower().replace(" ", "-") for line in page if line.startswith("#")}
+    tests.wants("each section is there", {section for section, _, _ in results.KNOWN} - titles, set())
+    for words, wanted in (("9 pages that pre-copy sent were not sent again; of these 2 are not what the source has at the halt: 3 17\n", [3, 17]), ("the source's memory at the halt was not kept\n", [])):
+        with open(f"{room}/witness", "w", encoding="ascii") as out:
+            out.write(words)
+        tests.wants("pages of the witness", results.lost_pages(room), wanted)
+    with open(f"{room}/results", "w", encoding="ascii") as out:
+        out.write(found[0].to_text() + "\n")
+    tests.wants("an earlier campaign", command("campaign").earlier(room), found[:1])
+
+
 def of_the_end_of_precopy(tests, room):
     """Pre-copy that comes to its end is compared, and one that fails has QEMU's words."""
     wire = SimpleNamespace(has_state=False, strange="")
@@ -280,6 +315,6 @@ def run(tests):
     of_hot_pages(tests)
     of_failed_recoveries(tests)
     of_owners(tests)
-    for of_them in (of_machines, of_transports, of_the_end_of_precopy):
+    for of_them in (of_machines, of_transports, of_what_is_known, of_the_end_of_precopy):
         with tempfile.TemporaryDirectory() as room:
             of_them(tests, room)
