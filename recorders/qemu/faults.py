@@ -6,6 +6,7 @@ contents. A page that it holds back, and does not hand over later, is lost. `ski
 """
 from dataclasses import replace
 
+from dialect import PC_RAM
 from stream import PAGE_BYTES
 
 KINDS = {
@@ -22,7 +23,14 @@ KINDS = {
     "twice": "a page comes twice: QEMU finds this one itself",
 }
 NEED_CUT = ("forget",)
+NEED_PRECOPY = ("stale", "keep-drop", "preflip", "keep")  # which take pages that pre-copy sent
 FOUND_BY_QEMU = ("keep", "twice")
+
+
+def pages_before(fault, pages):
+    """Returns how many pages pre-copy sends before the switch at least, of a window of so many, for this fault to have an occasion: all of them,
+    and some of them once more."""
+    return pages * 5 // 4 if fault in NEED_PRECOPY else 0
 
 
 def flipped(page, at):
@@ -173,14 +181,15 @@ class Keep(Fault):
 
 
 class Forget(Fault):
-    """The target's bitmap says that a lost page has arrived."""
+    """The target's bitmap says that a lost page has arrived: the last one, if so many were not lost as are to be left alone."""
 
     def bitmap(self, bitmap, lost):
-        if bitmap.block != "pc.ram" or not lost or not self.is_taken():
+        if bitmap.block != PC_RAM or not lost or self.is_done:
             return bitmap.raw
-        raw, page = bytearray(bitmap.raw), lost[0] // PAGE_BYTES
+        self.is_done, at = True, lost[min(self.skip, len(lost) - 1)]
+        raw, page = bytearray(bitmap.raw), at // PAGE_BYTES
         raw[bitmap.bits.start + page // 8] |= 1 << page % 8
-        self.tell("fault", self.kind, self.window.page(bitmap.block, lost[0]))
+        self.tell("fault", self.kind, self.window.page(bitmap.block, at))
         return bytes(raw)
 
 

@@ -1,7 +1,7 @@
 """Plans of migrations: random ones, and those that compare versions."""
 import axes
 from faults import KINDS as FAULTS
-from faults import NEED_CUT
+from faults import NEED_CUT, pages_before
 from kinds import plan_of
 
 DRAWN = ("live", "left", "cells", "wide", "paused", "processors", "preempt", "recovery", "preempt-recovery")
@@ -64,6 +64,7 @@ def random_plan(drawn, with_faults=False, without_flush=False):
     if with_faults and drawn.random() < 0.5:
         plan.fault = drawn.choice([fault for fault in FAULTS if plan.cuts or fault not in NEED_CUT])
         plan.skip = drawn.choice((0, 3, 20))
+        plan.pre_pages = max(plan.pre_pages, pages_before(plan.fault, plan.pages))
     return plan
 
 

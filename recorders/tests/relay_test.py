@@ -203,20 +203,22 @@ def of_few_pages(tests):
 
 
 def of_a_bitmap(tests):
-    with tempfile.TemporaryDirectory() as room:
-        ends = Ends(room, fault="forget", skip=0)
-        ends.relay.lost = [at(1)]
-        source, target = ends.connect()
-        target.sendall(bitmap("pc.ram", bytes(256)))
-        target.shutdown(socket.SHUT_WR)
-        wanted = bytearray(256)
-        wanted[at(1) // 4096 // 8] |= 1 << at(1) // 4096 % 8
-        source.settimeout(10)
-        found = b""
-        while len(found) < len(bitmap("pc.ram", bytes(256))):
-            found += source.recv(4096)
-        tests.wants("fault forget", found, bitmap("pc.ram", bytes(wanted)))
-        ends.end()
+    """The bitmap says of a lost page that it came: of the one behind so many, or else of the last."""
+    for skip, lost in ((0, at(1)), (3, at(2))):
+        with tempfile.TemporaryDirectory() as room:
+            ends = Ends(room, fault="forget", skip=skip)
+            ends.relay.lost = [at(1), at(2)]
+            source, target = ends.connect()
+            target.sendall(bitmap("pc.ram", bytes(256)))
+            target.shutdown(socket.SHUT_WR)
+            wanted = bytearray(256)
+            wanted[lost // 4096 // 8] |= 1 << lost // 4096 % 8
+            source.settimeout(10)
+            found = b""
+            while len(found) < len(bitmap("pc.ram", bytes(256))):
+                found += source.recv(4096)
+            tests.wants(f"fault forget, skip {skip}", found, bitmap("pc.ram", bytes(wanted)))
+            ends.end()
 
 
 def of_a_target_that_waits(tests):
