@@ -130,6 +130,6 @@ def rom_for(plan, rom, path):
     """Writes the ROM with the settings of a plan."""
     with open(rom, "rb") as file:
         bytes_of_rom = file.read()
-    settings = struct.pack("<7I", plan.pages, plan.words, plan.writes, plan.pace, plan.flush, plan.cpus, plan.hot)
+    settings = struct.pack("<8I", plan.pages, plan.words, plan.writes, plan.pace, plan.flush, plan.cpus, plan.hot, plan.suspended)
     with naming(path), open(path, "wb") as file:
         file.write(settings + bytes_of_rom[len(settings):])

@@ -24,6 +24,8 @@ COMMANDS = {1: "open-return-path", 2: "ping", 3: "advise", 4: "listen", 5: "run"
 ENDS = ("completed", "failed", "cancelled", "postcopy-paused")
 IN_POSTCOPY = ("postcopy-active", "postcopy-recover", "postcopy-recover-setup",  # 10.0
                "postcopy-device")  # 11.1: the target loads the package
+IN_RECOVERY = ("postcopy-recover", "postcopy-recover-setup")
+SUSPENDED_SINCE = (9, 0)  # a guest that is suspended is moved so; before, QEMU wakes it first
 STOPS, RUNS = "vm_state_notify running 0 ", "vm_state_notify running 1 "  # what the lines of a guest's halt and start begin with
 LIBRARY = "uffd"  # what the lines of the preloaded library begin with
 

@@ -85,6 +85,8 @@ class Emulator:
                           f"    sysctl vm.nr_hugepages={plan.ram}")
         if plan.kvm and not os.access("/dev/kvm", os.R_OK | os.W_OK):
             raise Missing("there is no /dev/kvm that this user may open: left out")
+        if plan.suspended and self.version < dialect.SUSPENDED_SINCE:
+            raise Missing(f"{self} ({self.path}) wakes a suspended guest before it moves it: left out")
         names = plan.capabilities()
         asked = [{"execute": "qmp_capabilities"},
                  {"execute": "migrate-set-capabilities",

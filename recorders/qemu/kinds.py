@@ -53,7 +53,9 @@ class Plan:
     huge: bool = False        # the guest's memory has pages of 2 MiB
     paused: bool = False      # the guest is stopped first, and resumes at the target after the end
     cuts: list = field(default_factory=list)  # the connection is cut after this many pages; -1: after the package
-    fails: int = 0            # how many times each recovery fails first, since nobody listens at the new connection
+    fails: int = 0            # how many times each recovery fails first, since nobody listens at the new connection,
+    broken: int = 0           # and then since the new connections are lost before anything comes over them
+    suspended: bool = False   # the guest suspends itself first (ACPI's S3), and is woken at the target after the end
     fault: str = ""
     skip: int = 3             # of the pages that the fault could take
     linger: int = 0           # milliseconds by which a QEMU that ends with an error is delayed
@@ -105,9 +107,15 @@ KINDS = {
                          {"pages": 512, "preempt": True, "post_bandwidth": 1_000_000, "cuts": [200]}),
     "reconnect": ("the connection is cut, and the first two recoveries find nobody who listens",
                   {"pages": 512, "post_bandwidth": 1_000_000, "cuts": [200], "fails": 2}),
+    "handshake": ("the connection is cut, and that of the first recovery is lost before the target answers",
+                  {"pages": 512, "post_bandwidth": 1_000_000, "cuts": [200], "broken": 1}),
+    "suspended": ("the guest suspends itself before, and is woken at the target: QEMU 9.0",
+                  {"pages": 512, "suspended": True, "post_bandwidth": 1_000_000}),
     "kvm": ("the guest runs on the processor, where /dev/kvm is",
             {"pages": 64, "kvm": True, "warm": 50, "after": 100, "bandwidth": 200_000, "post_bandwidth": 200_000}),
     "multifd": ("pre-copy goes over two more connections", {"pages": 1024, "multifd": 2, "post_bandwidth": 1_000_000}),
+    "multifd-preempt": ("the same, and pages that are asked for have a connection of their own",
+                        {"pages": 1024, "multifd": 2, "preempt": True, "post_bandwidth": 1_000_000}),
     "huge": ("the guest's memory is of pages of 2 MiB, where there are free ones",
              {"pages": 1024, "huge": True, "post_bandwidth": 4_000_000}),
     "lost-write": ("64 pages, which fit the emulator's TLB: QEMU 5.2 and 7.2 lose writes here",

@@ -228,6 +228,13 @@ class Relay:
             shut(*self.unread)
             self.target, self.is_cut_off = target, False
 
+    def lose(self, source, target):
+        """Takes both ends of a new connection after a cut, over which nothing came or comes, and cuts it, too."""
+        with self.lock, self.books:
+            self.opened(source, target)
+            self.cut()
+        self.was_cut.clear()
+
     def start(self, work, *words):
         thread = threading.Thread(target=self.guarded, args=(work, *words), daemon=True)
         thread.start()

@@ -14,12 +14,12 @@ BUSY = "not at its end on a busy machine"
 # The names of a migration's ends in the table, and of some what QEMU says. Any other end is there in QEMU's words.
 ENDS = (
     ("source waits for itself", "Cannot resume if there is no paused migration"),
+    (BUSY, "(it took more than|the guest does not walk|no recovery: source postcopy-).*the machine was busy"),
     ("source waits forever", "no recovery: source postcopy-(active|device|recover)"),
     ("target aborted", "target ENDED.*; target(:| aborted:) [^;]*Assertion .* failed"),
     ("target ended: `Operation not permitted`", "target ENDED.*loadvm failed during postcopy: -1: .*Operation not permitted"),
     ("target ended while it loaded", "target ENDED.*(load of migration failed|loadvm failed)"),
     ("target failed while it loaded", "no recovery: source [a-z-]+, target failed$"),
-    (BUSY, "(it took more than|the guest does not walk).*the machine was busy"),
     ("target hangs", "target HANGS"),
     ("source hangs", "source HANGS"),
     ("target failed by itself", "the target went to"),

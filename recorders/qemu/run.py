@@ -7,15 +7,20 @@ from dataclasses import asdict, dataclass, field, replace
 
 import build
 import folders
-from dialect import ENDS, IN_POSTCOPY
+from dialect import ENDS, IN_POSTCOPY, IN_RECOVERY
 from machine import DEAD, Machine
 from qmp import Gone, Refused
 from relay import ANY_PORT, PRECOPY_ENDED, CutPlan, Relay, Window, connected_to
 
 GAVE_UP = "gave up: "
-TOO_LONG = ("it took more than", f"{GAVE_UP}the guest does not walk")  # the beginnings of messages about a time limit
+TOO_LONG = ("it took more than", f"{GAVE_UP}the guest does not walk", "no recovery: source postcopy-")  # the beginnings of messages about a time limit
 SECONDS_TO_END = 2  # within which a target whose load failed ends, if it does
 QEMUS_DOWNTIME = 300  # milliseconds: QEMU's own limit, where no other is asked for
+
+
+def told(stands):
+    """Returns where each stands, in words."""
+    return ", ".join(f"{name} {status}" for name, status in stands.items())
 
 
 class PrecopyEnded(Gone):
@@ -184,11 +189,25 @@ class Migration:
         self.warm_up()
         if plan.paused:
             self.source("stop")
+        if plan.suspended:
+            self.suspend()
         self.source("migrate", uri=self.outgoing())
         if not plan.is_precopy:
             self.switch()
         self.follow()
         self.finish()
+
+    def suspend(self):
+        """Has the guest suspend itself."""
+        self.press_key()
+        until = time.monotonic() + self.plan.limit
+        while self.source("query-status")["status"] != "suspended":
+            if time.monotonic() > until:
+                raise Gone("the guest does not suspend itself")
+            time.sleep(0.02)
+
+    def press_key(self):
+        self.source("send-key", keys=[{"type": "qcode", "data": "spc"}])
 
     def incoming(self, command, name):
         """Has the target wait for a connection, and returns the address for the relay."""
@@ -266,7 +285,7 @@ class Migration:
         waits = self.plan.hot and not self.plan.paused
         while status == "active" and (self.relay.sent_before < pages or waits) and time.monotonic() < until:
             if waits and self.source("query-migrate").get("ram", {}).get("dirty-sync-count", 0) > 1:
-                self.source("send-key", keys=[{"type": "qcode", "data": "spc"}])
+                self.press_key()
                 waits = False
             time.sleep(0.005)
             status = self.source.migration()
@@ -329,11 +348,16 @@ class Migration:
         stands = {machine.name: self.paused(machine) for machine in (self.source, self.target)}
         self.relay.was_cut.clear()
         if stands["target"] != "postcopy-paused" or stands["source"] not in ("postcopy-paused", "postcopy-active"):
-            self.remark("no recovery: " + ", ".join(f"{name} {status}" for name, status in stands.items()))
+            self.remark("no recovery: " + told(stands))
             return False
         for _ in range(self.plan.fails):
             self.fail_to_connect()
         try:
+            for number in range(self.plan.broken):
+                stands = self.break_handshake(f"broken-{self.outcome.recoveries}-{number}")
+                if set(stands.values()) != {"postcopy-paused"}:
+                    self.remark("no recovery after a broken one: " + told(stands))
+                    return False
             self.relay.recover(self.incoming("migrate-recover", f"target-{self.outcome.recoveries + 1}"))
             self.source("migrate", uri=self.outgoing(), resume=True)
         except (Refused, Gone) as fault:
@@ -354,6 +378,22 @@ class Migration:
         status = self.source.wait_for(("postcopy-paused", *ENDS), self.plan.limit)
         self.say(f"a recovery found nobody who listens: source {status}")
 
+    def break_handshake(self, name):
+        """Has both begin to recover over connections that hand on nothing, and closes these. Returns where each stands then."""
+        silent = self.room.name(f"{name}-source")
+        with socket.socket(socket.AF_UNIX) as listener:
+            listener.bind(silent)
+            listener.listen()
+            listener.settimeout(self.plan.limit)
+            target = connected_to(self.incoming("migrate-recover", name))
+            self.source("migrate", uri=f"unix:{silent}", resume=True)
+            source = listener.accept()[0]
+        during = {machine.name: machine.wait_for(IN_RECOVERY, 5) for machine in (self.source, self.target)}
+        self.relay.lose(source, target)
+        stands = {machine.name: self.paused(machine) for machine in (self.source, self.target)}
+        self.say(f"a recovery lost its connections: {told(during)}, and then {told(stands)}")
+        return stands
+
     def ask_both(self):
         """Asks both QEMUs where the migration stands."""
         self.outcome.source, self.outcome.target = self.source.migration(), self.target.wait_for(ENDS, 3)
@@ -365,6 +405,8 @@ class Migration:
         try:
             if plan.paused and outcome.target == "completed":
                 self.target("cont")
+            if plan.suspended and outcome.target == "completed":
+                self.target("system_wakeup")
             if outcome.target == "completed":
                 self.run_on()
                 self.target("stop")

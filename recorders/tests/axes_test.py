@@ -144,6 +144,9 @@ def of_words(tests):
                                           "--parameter", "a=5", "--parameter", "b=zlib", "--parameter", "c=true"])
     plan = migrate.plan_of_words(parser, asked)
     tests.wants("the plan", (plan.memory, plan.machine, plan.transport, plan.hot, plan.further, plan.parameters), ("numa", "q35", "tcp", 64, ["xbzrle", "auto-converge"], {"a": 5, "b": "zlib", "c": True}))
+    for words, pages in (([], 0), (["--fault", "stale"], 320), (["--fault", "keep-drop", "--pages", "512"], 640), (["--fault", "stale", "--pre-pages", "7"], 7), (["--fault", "flip"], 0)):
+        plan = migrate.plan_of_words(parser, parser.parse_intermixed_args(["live", "x", *words]))
+        tests.wants(f"pages of pre-copy before the switch: {' '.join(words)}", plan.pre_pages, pages)
     for words, said in ((["--capability", "release-ram"], "'release-ram' cannot be recorded: "), (["--parameter", "a"], "'a' is not NAME=VALUE"), (["--memory", "two"], "invalid choice"), (["--transport", "rdma"], "invalid choice"),
                         (["--hot", "65"], "at most a quarter of --pages")):
         done = subprocess.run([sys.executable, "-B", f"{QEMU}/migrate", "x", *words], capture_output=True, text=True)
@@ -233,6 +236,57 @@ def of_failed_recoveries(tests):
         tests.wants("what is told", told, ["a recovery found nobody who listens: source postcopy-paused"])
 
 
+class Resuming(Listening):
+    """A source that stands in for QEMU: it connects where it is to resume, and is in each state that is waited for."""
+
+    name = "source"
+
+    def __call__(self, command, **words):
+        self.asked = command, words.get("resume")
+        self.end = connected_to(words["uri"].partition(":")[2])
+
+    def wait_for(self, states, seconds):
+        return states[0]
+
+
+def of_broken_recoveries(tests, room):
+    """A recovery whose connections are lost leaves both paused, and its connection is one of the relay's, over which nothing came."""
+    one, told = Migration.__new__(Migration), []
+    one.plan, one.room, one.say, one.source, one.target = plan_of("handshake"), Room(), told.append, Resuming(), Listening()
+    one.relay = Relay(room, one.room, Window(BASE, PAGES), None)
+    one.target.name, one.target.wait_for = "target", one.source.wait_for
+    tests.wants("both are paused", one.break_handshake("broken"), {"source": "postcopy-paused", "target": "postcopy-paused"})
+    with one.source.end, one.target.accepted() as target:
+        tests.wants("nothing came, and both connections are over", (received(one.source.end), received(target)), (b"", b""))
+    tests.wants("what the source was asked, and what is told", (one.source.asked, told), (
+        ("migrate", True), ["a recovery lost its connections: source postcopy-recover, target postcopy-recover, and then source postcopy-paused, target postcopy-paused"]))
+    tests.wants("that is no cut of the plan", one.relay.was_cut.is_set(), False)
+    one.relay.end()
+    tests.wants("the relay's log", read(f"{room}/relay.log"), "open 0 main new\ncut 0\n")
+    one.room.end()
+
+
+def of_suspended_guests(tests, room):
+    """The guest suspends itself once a key is pressed, and is woken at the target; older QEMUs wake it themselves."""
+    one, states, asked = Migration.__new__(Migration), iter(("running", "suspended")), []
+    one.plan = plan_of("suspended")
+
+    def source(command, **words):
+        asked.append(command)
+        return {"status": next(states)} if command == "query-status" else {}
+
+    one.source = source
+    one.suspend()
+    tests.wants("the source is asked", asked, ["send-key", "query-status", "query-status"])
+    one.outcome, one.target, one.ask_both, one.run_on, one.at_end, one.look_at_ends, one.say = Outcome(target="completed"), mock.Mock(), *[lambda: None] * 4, asked.append
+    one.source = mock.Mock(return_value={"ram": {"postcopy-requests": 3}})
+    one.finish()
+    tests.wants("the target is asked", [call.args for call in one.target.call_args_list], [("system_wakeup",), ("stop",)])
+    emulator = Emulator(qemu_like(room, "7.2.22", []))
+    said = tests.refuses("an older QEMU", build.Missing, lambda: emulator.require(one.plan, ""))
+    tests.wants("it is told", "wakes a suspended guest before it moves it" in said, True)
+
+
 def of_owners(tests):
     """Each end has whose it is, in QEMU's words."""
     plan, unjudged = plan_of("live"), "not judged: there was no post-copy: the state was never handed over in a package"
@@ -246,6 +300,8 @@ def of_owners(tests):
             (unjudged, "completed", "no post-copy"), ("not judged: the stream has what is not known here: a page with flags 0x60", "completed", "unknown stream"),
             ("incomplete page 7", "source postcopy-device, target postcopy-paused; source: migrate-pause: it is refused; no recovery: source postcopy-device, target postcopy-paused",
              "source waits forever"),
+            ("incomplete page 7", "source postcopy-recover, target postcopy-paused; no recovery: source postcopy-recover; the machine was busy: QEMU had no processor for 9 of 10 s",
+             "not at its end on a busy machine"),
             ("incomplete page 7", "source failed, target postcopy-paused; no recovery: source failed, target postcopy-paused", "source failed after a cut")):
         result = Result(plan, verdict, outcome)
         tests.wants(f"in a word: {wanted}", (result.in_a_word, result.is_clean), (wanted, False))
@@ -315,6 +371,6 @@ def run(tests):
     of_hot_pages(tests)
     of_failed_recoveries(tests)
     of_owners(tests)
-    for of_them in (of_machines, of_transports, of_what_is_known, of_the_end_of_precopy):
+    for of_them in (of_machines, of_transports, of_broken_recoveries, of_suspended_guests, of_what_is_known, of_the_end_of_precopy):
         with tempfile.TemporaryDirectory() as room:
             of_them(tests, room)

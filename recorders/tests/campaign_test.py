@@ -191,6 +191,7 @@ def of_a_busy_machine(tests):
     late, ended = ["it took more than 30 s"], ["target: load of migration failed"]
     for wanted, outcome in ((True, Outcome(seconds=40, waited=20, remarks=late)), (False, Outcome(seconds=40, waited=19, remarks=late)),
                             (True, Outcome(seconds=40, waited=20, remarks=[*ended, "gave up: the guest does not walk"])),
+                            (True, Outcome(seconds=40, waited=20, remarks=["no recovery: source postcopy-recover"])),
                             (False, Outcome(seconds=40, waited=39, remarks=ended))):
         tests.wants(f"held up: {outcome}", outcome.is_held_up, wanted)
 

@@ -16,11 +16,17 @@
  *
  * With `hot`, once a key is pressed, the processor that sees it writes that many pages alone, the first of the window's last quarter, and
  * the others stand still.
+ *
+ * With `suspends`, once a key is pressed, the machine is suspended (S3 of a PC's ACPI). It is woken by a reset: the processor begins anew, with
+ * the next number, and goes on over the window as it is.
  */
 #include <stdint.h>
 
 #define BASE 0x400000u
 #define KEYBOARD 0x64 /* whose bit 0 says that a key was pressed */
+#define PCI 0xcf8
+#define POWER_MANAGEMENT 0x80000b00u /* on the bus of PCI: device 1, function 3 */
+#define POWER 0x600 /* where its ports are put */
 
 /* What `migrate` writes over the first bytes of the ROM. */
 struct settings {
@@ -31,8 +37,9 @@ struct settings {
     uint32_t flush;
     uint32_t cpus;
     uint32_t hot;
+    uint32_t suspends;
 };
-__attribute__((section(".settings"))) const volatile struct settings settings = {256, 16, 4, 0, 0, 1, 0};
+__attribute__((section(".settings"))) const volatile struct settings settings = {256, 16, 4, 0, 0, 1, 0, 0};
 
 void read_word(volatile uint32_t *word, uint32_t page, uint32_t cell);
 void write_word(volatile uint32_t *word, uint32_t page, uint32_t cell, uint32_t low, uint32_t high);
@@ -56,6 +63,20 @@ static inline int is_key_pressed(void)
     uint8_t status;
     asm volatile("inb %1, %0" : "=a"(status) : "i"(KEYBOARD));
     return status & 1;
+}
+
+static void out(uint16_t port, uint32_t value)
+{
+    asm volatile("outl %0, %1" : : "a"(value), "d"(port));
+}
+
+static void suspend(void)
+{
+    out(PCI, POWER_MANAGEMENT | 0x40);
+    out(PCI + 4, POWER | 1);
+    out(PCI, POWER_MANAGEMENT | 0x80);
+    out(PCI + 4, 1);
+    asm volatile("outw %w0, %w1" : : "a"(1 << 13 | 1 << 10), "d"(POWER + 4));
 }
 
 static inline volatile uint32_t *word_at(uint32_t page, uint32_t cell)
@@ -134,6 +155,11 @@ void walk(uint32_t cpu)
         if (settings.hot && is_key_pressed()) {
             uint32_t first = settings.pages / 4 * 3;
             write_hot_pages(word_at(first, 0), first, first + settings.hot, cpu, settings.flush);
+        }
+        if (settings.suspends && is_key_pressed()) {
+            release();
+            suspend();
+            acquire();
         }
         if (settings.cpus > 1) {
             tell(0xc0);
