@@ -27,19 +27,22 @@ class Qmp:
         self.socket = socket.socket(socket.AF_UNIX)
         self.seconds, self.waited, self.hear, self.begun = seconds, waited, hear, b""
         self.socket.settimeout(seconds)
-        self.connect(path, is_running, time.monotonic() + seconds)
+        self.connect(path, is_running)
         self.line()
         self("qmp_capabilities")
 
-    def connect(self, path, is_running, until):
-        while True:
-            try:
-                self.socket.connect(path)
-                return
-            except OSError:
-                if not is_running() or time.monotonic() > until:
-                    raise Gone("it did not start") from None
-                time.sleep(0.02)
+    def connect(self, path, is_running):
+        for _ in range(self.TIMES):
+            before, until = self.waited(), time.monotonic() + self.seconds
+            while is_running() and time.monotonic() <= until:
+                try:
+                    self.socket.connect(path)
+                    return
+                except OSError:
+                    time.sleep(0.02)
+            if not is_running() or self.waited() - before < self.seconds / 2:
+                break
+        raise Gone("it did not start")
 
     def line(self):
         while b"\n" not in self.begun:

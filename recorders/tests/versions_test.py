@@ -29,7 +29,7 @@ import run as migration
 from emulator import Emulator
 from files import lines_of
 from kinds import plan_of
-from results import Result, result_from_text
+from results import Result, of_campaign, result_from_text
 
 QEMU = f"{os.path.dirname(os.path.dirname(os.path.abspath(__file__)))}/qemu"
 
@@ -200,6 +200,15 @@ def of_one_that_hangs(tests, room):
         tests.refuses("a monitor that does not answer", qmp.Hangs, lambda: qmp.Qmp(path, lambda: True, 0.2))
     tests.wants("one that had no processor is given more time", qmp_of_a_late_one(f"{room}/late", itertools.count(0.0, 0.2)), {})
     tests.refuses("one that had, and is as late", qmp.Hangs, lambda: qmp_of_a_late_one(f"{room}/idle", itertools.count(0.0, 0.01)))
+    for step, is_given in ((0.2, True), (0.01, False)):
+        waited, tries = itertools.count(0.0, step), itertools.count()
+        one = qmp.Qmp.__new__(qmp.Qmp)
+        one.seconds, one.waited = 0.1, lambda waited=waited: next(waited)
+        one.socket = mock.Mock(connect=mock.Mock(side_effect=lambda path, tries=tries: None if next(tries) > 7 else one.socket.refuse()), refuse=mock.Mock(side_effect=FileNotFoundError))
+        if is_given:
+            tests.wants("one that starts late, and had no processor, is given more time", one.connect("", lambda: True), None)
+        else:
+            tests.refuses("one that had, and is as late", qmp.Gone, lambda: one.connect("", lambda: True))
     tests.wants("a thread that ran", 0 <= machine.seconds_waited("/proc/self") < 1e6, True)
     tests.wants("one that is not there", machine.seconds_waited(room), 0.0)
     hanging = machine.Machine.__new__(machine.Machine)
@@ -334,9 +343,9 @@ def of_what_was_found(tests, room):
         out.write("{}\n")
     said = tests.refuses("another object", ValueError, lambda: lines_of(f"{room}/other-form", result_from_text, "result"))
     tests.wants("which line that is", said, f"{room}/other-form:1: this line is no result, or not whole")
-    said = tests.refuses("results that are not whole", ValueError, lambda: found.read(f"{room}/short"))
+    said = tests.refuses("results that are not whole", ValueError, lambda: of_campaign(f"{room}/short"))
     tests.wants("which line it is", said, f"{room}/short/results:2: this line is no result of a campaign, or not whole")
-    tests.wants("what campaigns left", found.read(f"{room}/one") + found.read(f"{room}/other"), made)
+    tests.wants("what campaigns left", of_campaign(f"{room}/one") + of_campaign(f"{room}/other"), made)
     tests.wants("the tables", found.tables(made).splitlines(), [
         "6 migrations, 2 of them clean, at a load of 0 to 21; 1 were not recorded, and stand in no column:", "",
         "| What became of it | 7.2.22 | 10.0.13 |", "| --- | --- | --- |", "| clean | 1 | 1 |", "| target ended while it loaded | 2 | |",
