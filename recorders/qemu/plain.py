@@ -114,10 +114,11 @@ class Side(Running):
 
 class Forwarder:
     """Hands on bytes in both directions, until it is told to lose those of one, or to cut. With `cuts_after_package` it cuts by itself once it
-    has handed on the package with the state of the devices."""
+    has handed on the package with the state of the devices, and with `cut_after` once it has handed on so many bytes more."""
 
     def __init__(self, path, target):
         self.target, self.loses_down, self.loses_up, self.cuts_after_package = target, False, False, False
+        self.handed, self.limit = 0, None  # bytes, of the way down
         self.ends, self.lost, self.last, self.was_cut = [], 0, time.monotonic(), threading.Event()
         self.listener = socket.socket(socket.AF_UNIX)
         self.listener.bind(path)
@@ -133,13 +134,21 @@ class Forwarder:
             target = socket.socket(socket.AF_UNIX)
             target.connect(self.target)
             self.ends += [source, target]
-            threading.Thread(target=self.copy, args=(target, source, lambda: self.loses_up), daemon=True).start()
-            threading.Thread(target=self.copy, args=(source, target, lambda: self.loses_down), daemon=True).start()
+            threading.Thread(target=self.copy, args=(target, source, lambda: self.loses_up, False), daemon=True).start()
+            threading.Thread(target=self.copy, args=(source, target, lambda: self.loses_down, True), daemon=True).start()
 
-    def copy(self, here, there, loses):
+    def cut_after(self, length):
+        """Cuts once so many bytes more came down."""
+        self.limit = self.handed + length
+
+    def copy(self, here, there, loses, is_down):
         try:
             while data := here.recv(1 << 14):
                 self.last = time.monotonic()
+                self.handed += len(data) if is_down else 0
+                if self.limit is not None and self.handed > self.limit:
+                    self.cut()
+                    return
                 if self.cuts_after_package and (package := up_to_package(here, data)):
                     there.sendall(package)
                     self.cut()
@@ -149,6 +158,9 @@ class Forwarder:
                     there.sendall(data)
         except OSError:
             pass  # the connection is closed
+
+    def end(self):
+        self.cut()
 
     def cut(self):
         for end in [*self.ends, self.listener]:

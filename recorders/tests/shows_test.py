@@ -71,6 +71,20 @@ def of_the_forwarder(tests, room):
         tests.wants("what is lost is counted, and does not come", (forwarder.lost, received(target)), (4, b""))
 
 
+def of_a_cut_after_bytes(tests, room):
+    """Once so many bytes more came down, all is cut. What comes up does not count."""
+    with forwarded(room) as (forwarder, _, source, target):
+        source.sendall(b"before")
+        tests.wants("what comes before it", target.recv(100), b"before")
+        forwarder.cut_after(4)
+        target.sendall(b"upwards")
+        tests.wants("what comes up", source.recv(100), b"upwards")
+        source.sendall(b"four")
+        tests.wants("so many", target.recv(100), b"four")
+        source.sendall(b"more")
+        tests.wants("and then it is cut", (received(target), forwarder.was_cut.wait(10)), (b"", True))
+
+
 def of_a_cut_after_the_package(tests, room):
     """The package goes on as a whole, also where it comes in parts, and nothing after it."""
     with forwarded(room) as (forwarder, _, source, target):
@@ -88,13 +102,15 @@ class Side:
 
     def __init__(self, name, *stands, refuses="", events=(), hangs=False):
         self.name, self.some, self.refuses, self.events, self.hangs = name, list(stands), refuses, list(events), hangs
-        self.asked = []
+        self.asked, self.dies = [], ""
 
     def stands(self):
         return self.some.pop(0) if len(self.some) > 1 else self.some[0]
 
     def __call__(self, what, **arguments):
         self.asked.append(what)
+        if what == "query-status" and self.dies:
+            raise plain.Ended(self, self.dies)
         if what == self.refuses:
             raise qmp.Refused(f"{what}: it is not allowed")
 
@@ -222,6 +238,30 @@ def of_the_status(tests, room):
         tests.wants("each is told", said.getvalue().splitlines()[1:-1], [f"{one}: why" for one in found])
 
 
+def of_a_broken_recovery(tests, room):
+    """A target that is to recover, and whose new connection ends at once: it ends, or it is paused as before."""
+    path = f"{room}/again"
+    for what, end, wanted in (("it ends", "it exited: it cannot peek", True), ("it is paused", "", False)):
+        with socket.socket(socket.AF_UNIX) as listener, contextlib.ExitStack() as patches:
+            listener.bind(path)
+            listener.listen()
+            source, target = Side("source", ("postcopy-active", "finish-migrate"), STILL), Side("target", ("postcopy-active", "running"), ("postcopy-paused", "running"))
+            run = run_of(source, target)
+            run.room.name, run.forwarder.cut = (lambda name: f"{room}/{name}"), lambda: None
+            if end:
+                target.dies = end
+            patches.enter_context(mock.patch.object(shows.time, "sleep", lambda seconds: None))
+            tests.wants(what, shows.broken_recovery(shows.CASES["broken-recovery"], run)[0], wanted)
+            connection, _ = listener.accept()
+            with connection:
+                tests.wants("nothing came", (connection.recv(1), target.asked[:1]), (b"", ["migrate-recover"]))
+        os.unlink(path)
+    paused = run_of(Side("source", ("postcopy-active", "finish-migrate"), RUNS), Side("target", ("postcopy-active", "running")))
+    paused.forwarder.cut = lambda: None
+    with mock.patch.object(shows, "wait_until", lambda is_so, **how: is_so()):
+        tests.refuses("a cut that does not pause both", shows.NoOccasion, lambda: shows.broken_recovery(shows.CASES["broken-recovery"], paused))
+
+
 def of_pages(tests):
     """The pages name the cases, and each fault of QEMU that has a report has a case of its name."""
     pages = [f"{TOP}/docs/FOUND.md", *sorted(glob.glob(f"{TOP}/docs/reports/*.md"))]
@@ -232,7 +272,7 @@ def of_pages(tests):
 
 
 def run(tests):
-    for of_them in (of_the_forwarder, of_a_cut_after_the_package, of_last_words, of_words, of_the_status):
+    for of_them in (of_the_forwarder, of_a_cut_after_bytes, of_a_cut_after_the_package, of_a_broken_recovery, of_last_words, of_words, of_the_status):
         with tempfile.TemporaryDirectory() as room:
             of_them(tests, room)
     of_pages(tests)
