@@ -22,6 +22,7 @@ import build
 import page_campaign
 import page_source
 import page_target
+import page_tls
 import page_verdict
 from needed import can_have
 
@@ -462,6 +463,21 @@ def test_refused_words(guarded, tmp_path, words, status, says):
     same(" ".join(words), (done.returncode, says in done.stderr), (status, True))
 
 
+def test_credentials(tmp_path):
+    """Both ends have one key, or each has a certificate for its use, of an authority that both know."""
+    for kind, host in (("psk", {}), ("x509", {"tls-hostname": "target"})):
+        room = f"{tmp_path}/{kind}"
+        os.mkdir(room)
+        page_tls.make(kind, room)
+        same("words", [page_tls.words(kind, room, end)[1] for end in ("server", "client")], [f"tls-creds-{kind},id=tls,endpoint={end},dir={room}" for end in ("server", "client")])
+        same("parameters", [page_tls.parameters(kind, end) for end in ("server", "client")], [{"tls-creds": "tls"}, {"tls-creds": "tls", **host}])
+    same("a key", bool(re.fullmatch("qemu:[0-9a-f]{32}\n", open(f"{tmp_path}/psk/keys.psk", encoding="ascii").read())), True)
+    for end, purpose in (("server", "sslserver"), ("client", "sslclient")):
+        words = ["openssl", "verify", "-x509_strict", "-purpose", purpose, "-CAfile", f"{tmp_path}/x509/ca-cert.pem", f"{tmp_path}/x509/{end}-cert.pem"]
+        same(f"the certificate of the {end}", subprocess.run(words, stdout=subprocess.DEVNULL).returncode, 0)
+    same("without TLS", (page_tls.words("", "", "server"), page_tls.parameters("", "client")), ((), {}))
+
+
 # Migrations between two QEMUs
 
 NEEDED = ("qemu-system-x86_64:qemu-system-x86", "gcc:gcc,libc6-dev", "ld:binutils")
@@ -487,7 +503,7 @@ def migrated(qemu, room, program, *words):
 
 
 @pytest.mark.qemu
-@pytest.mark.parametrize("words", [[], ["--track"], ["--kvm"], ["--tls"], ["--cut", "500", "--cut", "500"], ["--memory", "numa"], ["--huge"]], ids=" ".join)
+@pytest.mark.parametrize("words", [[], ["--track"], ["--kvm"], ["--tls", "psk"], ["--tls", "x509", "--cut", "500"], ["--cut", "500", "--cut", "500"], ["--memory", "numa"], ["--huge"]], ids=" ".join)
 def test_clean_migration(qemu, tmp_path, program, words):
     said, status = migrated(qemu, tmp_path, program, *words)
     same("said", (said[:2], status), (["source completed, target completed", "clean"], 0))

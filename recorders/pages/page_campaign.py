@@ -9,6 +9,7 @@ import time
 
 import axes
 import build
+import page_tls
 import page_verdict
 from dialect import PC_RAM
 from kinds import MEMORIES
@@ -21,7 +22,8 @@ AXES = {
     "guest": ("test, TCG", "test, KVM", "Linux, TCG"),
     "memory": tuple(MEMORIES),
     "pages": ("4 KiB", "2 MiB"),
-    "way": ("plain", "preempt", "TLS", "cut"),
+    "way": ("plain", "preempt", "cut"),
+    "TLS": ("none", *page_tls.KINDS),
     "writes": ("not tracked", "tracked"),
 }
 FAULTS = ("flip", "stale", "swap", "drop")  # in turn, over ways that the relay can read and that do not heal them
@@ -31,7 +33,7 @@ CLEAN, TOLD, NOT_PUT_IN = "clean", "told by its pages", "not put in"
 def settings_of(row, fault=""):
     is_linux = "Linux" in row["guest"]
     return Settings(ram=160 if is_linux else 64, memory=row["memory"], huge=row["pages"] == "2 MiB", kvm="KVM" in row["guest"], is_linux=is_linux, workload="work=200:100",
-                    further=["postcopy-preempt"] if row["way"] == "preempt" else [], has_tls=row["way"] == "TLS", cuts=[600] if row["way"] == "cut" else [],
+                    further=["postcopy-preempt"] if row["way"] == "preempt" else [], tls=row["TLS"] if row["TLS"] in page_tls.KINDS else "", cuts=[600] if row["way"] == "cut" else [],
                     is_tracking=row["writes"] == "tracked", fault=fault)
 
 
@@ -42,7 +44,7 @@ def drawn(count, seed, values):
         left = left or axes.rows(random_one, values)
         row = left.pop()
         fault = FAULTS[number // 2 % len(FAULTS)] if number % 2 else ""
-        yield ({**row, "way": "plain"} if fault and row["way"] in ("TLS", "cut") else row), fault
+        yield ({**row, "TLS": "none", "way": "plain" if row["way"] == "cut" else row["way"]} if fault else row), fault
 
 
 def made(row, fault, folder, emulator):

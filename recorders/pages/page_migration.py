@@ -8,13 +8,13 @@ from dataclasses import dataclass
 import build
 import debian
 import folders
-from files import write
+import page_tls
 from kinds import Plan
 from linux_run import BOOTED, PANIC, WORDS
 from machine import memory
 from page_source import Lost, Monitor, Observer, words_of_qmp
 from page_target import BLOCKS, new_key, prepare
-from plain import Running, wait_until, words_of_test_guest
+from plain import Forwarder, Running, wait_until, words_of_test_guest
 from relay import CutPlan, Relay, Window
 
 PAGE = 4096
@@ -36,7 +36,7 @@ class Settings(Plan):
     seconds: float = 1.0  # before the migration
     is_linux: bool = False
     is_tracking: bool = False
-    has_tls: bool = False
+    tls: str = ""  # one of page_tls.KINDS, or nothing
     is_bare: bool = False  # neither observer is there, and nothing is recorded
     command: tuple = ()  # the words that start the QEMU of another guest
 
@@ -44,7 +44,7 @@ class Settings(Plan):
 class Migration:
     def __init__(self, settings, folder, emulator, say):
         self.settings, self.folder, self.emulator, self.say = settings, folder, emulator, say
-        self.room, self.machines, self.relay = None, {}, None
+        self.room, self.machines, self.relay, self.recovered = None, {}, None, 0
 
     def run(self):
         """Makes the migration. Returns what the QEMUs say of it. Raises Missing, or Lost if the source was not recorded."""
@@ -92,9 +92,11 @@ class Migration:
 
     def migrate(self, key):
         settings = self.settings
-        self.start("target", "-incoming", "defer", *self.credentials("server"),
+        if settings.tls:
+            page_tls.make(settings.tls, self.room.path)
+        self.start("target", "-incoming", "defer", *page_tls.words(settings.tls, self.room.path, "server"),
                    **({} if settings.is_bare else prepare(f"{self.folder}/target", key, settings.is_tracking)))
-        self.start("source", "-qmp", f"unix:{self.room.name('watch')},server=on,wait=off", *self.credentials("client"))
+        self.start("source", "-qmp", f"unix:{self.room.name('watch')},server=on,wait=off", *page_tls.words(settings.tls, self.room.path, "client"))
         if settings.is_bare:
             return self.move()
         faults = []
@@ -122,10 +124,10 @@ class Migration:
 
     def move(self):
         settings, (source, target) = self.settings, (self.machines[side].qmp for side in ("source", "target"))
-        for qmp in (target, source):
+        for qmp, end in ((target, "server"), (source, "client")):
             qmp("migrate-set-capabilities", capabilities=[{"capability": name, "state": True} for name in ("postcopy-ram", *settings.further)])
-            if settings.has_tls:
-                qmp("migrate-set-parameters", **{"tls-creds": "tls"})
+            if settings.tls:
+                qmp("migrate-set-parameters", **page_tls.parameters(settings.tls, end))
         source("migrate-set-parameters", **{"max-bandwidth": settings.bandwidth, "downtime-limit": 1})
         target("migrate-incoming", uri=f"unix:{self.room.name('migration')}")
         self.warm_up()
@@ -133,14 +135,9 @@ class Migration:
         wait_until(lambda: self.stands("source") not in ("none", "setup"))
         time.sleep(settings.pre)
         source("migrate-start-postcopy")
+        if settings.tls and self.relay:
+            self.relay.cut_after(settings.cuts[0] * PAGE)
         return self.follow()
-
-    def credentials(self, end):
-        """Returns the words for a QEMU's end of TLS, by a key that both have."""
-        if not self.settings.has_tls:
-            return ()
-        write(self.room.name("keys.psk"), f"qemu:{new_key()}\n")
-        return "-object", f"tls-creds-psk,id=tls,endpoint={end},dir={self.room.path}"
 
     def warm_up(self):
         """Lets the guest run: the test guest until it has filled its pages, and Linux until it has booted."""
@@ -163,9 +160,17 @@ class Migration:
         settings = self.settings
         if not settings.fault and not settings.cuts:
             return self.room.name("migration")
+        if settings.tls:
+            return self.unread("migration")
         self.relay = Relay(self.folder, self.room, Window(0, settings.ram << 20 >> 12), self.room.name("migration"), settings.fault, 3,
                            [CutPlan(pages) for pages in settings.cuts])
         return self.relay.path
+
+    def unread(self, name):
+        """Returns the socket of a way to the target that nobody reads, as nobody can read TLS. It can be cut."""
+        path = self.room.name(f"{name}-way")
+        self.relay = Forwarder(path, self.room.name(name))
+        return path
 
     def are_paused(self):
         return all(self.stands(side) == PAUSED for side in SIDES)
@@ -178,11 +183,21 @@ class Migration:
         self.relay.was_cut.clear()
         if not wait_until(self.are_paused, seconds=SECONDS_FOR_LAST):
             return
-        again = self.room.name(f"target-{len(self.relay.connections)}")
-        self.machines["target"]("migrate-recover", uri=f"unix:{again}")
-        self.relay.recover(again)
-        self.machines["source"]("migrate", uri=f"unix:{self.relay.path}", resume=True)
+        self.recovered += 1
+        name = f"target-{self.recovered}"
+        self.machines["target"]("migrate-recover", uri=f"unix:{self.room.name(name)}")
+        self.machines["source"]("migrate", uri=f"unix:{self.way_again(name)}", resume=True)
         self.say("the way was cut, and the migration goes on over another")
+
+    def way_again(self, name):
+        """Returns the socket to which the source connects after a cut."""
+        if not self.settings.tls:
+            self.relay.recover(self.room.name(name))
+            return self.relay.path
+        path = self.unread(name)
+        if self.recovered < len(self.settings.cuts):
+            self.relay.cut_after(self.settings.cuts[self.recovered] * PAGE)
+        return path
 
     def put_in(self):
         """Returns the pages of the fault that the relay has put in."""
