@@ -13,6 +13,7 @@ TOP = os.path.dirname(os.path.dirname(os.path.abspath(__file__)))
 sys.path[:0] = [f"{TOP}/recorders/tests", f"{TOP}/recorders/qemu", f"{TOP}/recorders/criu", f"{TOP}/recorders"]
 import accesses_test
 import axes_test
+import build_test
 import campaign_test
 import check
 import criu_campaign_test
@@ -34,7 +35,7 @@ import versions_test
 
 # How many cases each has at least.
 LEAST = {
-    records_test: 12, roots_test: 28, stream_test: 35, relay_test: 56, folders_test: 106, campaign_test: 56, versions_test: 57, shows_test: 40, axes_test: 150, facts_test: 175,
+    records_test: 12, roots_test: 28, stream_test: 35, relay_test: 56, folders_test: 106, campaign_test: 56, versions_test: 57, shows_test: 44, axes_test: 150, build_test: 17, facts_test: 175,
     accesses_test: 32, linux_test: 74, linux_command_test: 73, page_server_test: 151, criu_campaign_test: 36, criu_programs_test: 13, criu_waiting_test: 33, criu_test: 87,
 }
 

@@ -29,6 +29,11 @@ def top():
     return cache("qemu")
 
 
+def builds():
+    """Returns the folder of what recorders/qemu/build made."""
+    return cache("builds")
+
+
 def qemu_of(root):
     return f"{root}/{NAME}"
 
@@ -165,14 +170,16 @@ def make_alone(suite, root, mirror, say):
 
 
 def found(name):
-    """Returns the path of a QEMU: that of a release whose root exists, that of a program in PATH, or the path itself."""
+    """Returns the path of a QEMU: that of a release whose root exists, of a build, of a program in PATH, or the path itself."""
     if "/" in name:
         path = os.path.abspath(name)
     elif SUITE.fullmatch(name) and os.path.exists(qemu_of(f"{top()}/{name}")):
         path = qemu_of(f"{top()}/{name}")
+    elif os.path.exists(build := f"{builds()}/{name}/source/build/{NAME}"):
+        path = build
     else:
         path = shutil.which(name)
     if not path or not os.access(path, os.X_OK) or os.path.isdir(path):
-        raise Missing(f"{name} is no program here, and no release that recorders/qemu/versions has made a root of. On Debian:\n"
+        raise Missing(f"{name} is no program here, no release that recorders/qemu/versions has made a root of, and no build of recorders/qemu/build. On Debian:\n"
                       f"    apt-get install --no-install-recommends {PACKAGES}")
     return path
