@@ -31,7 +31,7 @@ CLEAN, DONE = "clean, yes", "source completed, target completed"
 
 # A name, the words of `migrate`, and patterns of what the audit and what QEMU have to say.
 KINDS = [(kind, [kind, "--flush"], CLEAN, DONE) for kind in
-         ("live", "left", "cells", "wide", "paused", "processors", "preempt", "recovery", "preempt-recovery", "reconnect")]
+         ("live", "left", "cells", "wide", "paused", "processors", "preempt", "recovery", "preempt-recovery", "reconnect", "suspended", "multifd-preempt")]
 FAULTS = [
     ("lost-write", ["lost-write"], "faulty line [0-9]+ read", DONE),
     ("lost-write-flush", ["lost-write", "--flush"], CLEAN, DONE),
@@ -68,6 +68,7 @@ LEFT = "incomplete .*|faulty line [0-9]+ (read|early)"
 ENDS = [
     ("keep", ["live", "--flush", "--fault", "keep"], LEFT, "source postcopy-[a-z]*, target (ENDED|failed|postcopy-paused)"),
     ("twice", ["live", "--flush", "--fault", "twice"], LEFT, "source postcopy-[a-z]*, target (ENDED|failed|postcopy-paused)"),
+    ("handshake", ["handshake", "--flush"], LEFT, "source postcopy-[a-z]*, target ENDED"),
     ("cut-behind-package", ["preempt", "--flush", "--cut", "-1"], LEFT, "source postcopy-paused, target ENDED"),
     ("started-after-failed-load", ["recovery", "--flush", "--pages", "64", "--cpus", "2", "--writes", "15", "--pace", "20000", "--warm", "200",
                                    "--pre-pages", "80", "--cut", "-1", "--linger", "100"],
@@ -87,12 +88,15 @@ LINUX = [("clean", [], CLEAN, 0), *((fault, ["--fault", fault], "faulty line [0-
 AGAIN = "shape line [0-9]+ both|incomplete returned"
 NEWER = {
     "lost-write": [((10, 0), CLEAN, DONE)],
+    "handshake": [((10, 0), CLEAN, DONE), ((11, 0), "incomplete page [0-9]+", "source postcopy-paused, target ENDED")],
     "hot-pages": [((10, 0), CLEAN, DONE), ((11, 0), "faulty line [0-9]+ read", DONE)],
     "uneven-lost-write": [((10, 0), "not judged: there was no post-copy: .*", "source ENDED, target ENDED")],
     "cut-behind-last-page": [((10, 0), AGAIN, "source failed, target postcopy-paused")],
     "cut-behind-package": [((11, 1), AGAIN, "source failed, target (HANGS|ENDED|failed|postcopy-paused)")],
     "started-after-failed-load": [((11, 1), AGAIN, "source failed, target (ENDED|failed|postcopy-paused)")],
 }
+# Kinds that only some versions can have: since. (10.0 refuses multifd with post-copy.)
+SINCE = {"suspended": (9, 0), "multifd-preempt": (11, 0)}
 # A fault that recorders/qemu/shows shows, and the versions that have it: since, and up to, which is not included.
 SHOWN = [("lost-write", (0, 0), (10, 0)), ("uneven", (10, 0), (100, 0)), ("both-ran", (10, 0), (100, 0)), ("source-waits", (0, 0), (10, 0)), ("syncs", (11, 0), (100, 0))]
 # What the name of each folder ends with: QEMU's options are cut at commas, its log's name has a percent sign for the process,
@@ -178,6 +182,8 @@ def pytest_generate_tests(metafunc):
 
 def test_qemu(qemu, program, pytestconfig, monkeypatch, case):
     monkeypatch.setenv("POSTCOPY", program)
+    if Emulator(qemu).version < SINCE.get(case[0], (0, 0)):
+        pytest.skip(f"a QEMU of this version cannot have {case[0]}, or lacks it")
     room = tempfile.mkdtemp(prefix="qemu-")
     is_right, line = run(case, qemu, room, not pytestconfig.getoption("--all"))
     assert is_right, line
