@@ -22,12 +22,29 @@ def of_names(tests):
 def of_apt(tests, room):
     apt = build.Apt(f"{room}/apt", "http://mirror/debian")
     lines = read(f"{room}/apt/sources.list").splitlines()
-    tests.wants("the lists are of sources alone", ([line.split()[0] for line in lines], [line.split()[-2] for line in lines]), (["deb-src"] * len(build.SUITES), list(build.SUITES)))
+    tests.wants("the lists", [(line.split()[0], line.split()[-2]) for line in lines], [*(("deb-src", suite) for suite in build.SUITES), ("deb", "trixie")])
     with mock.patch.object(build, "run", return_value="Package: qemu\nVersion: 1:10.0.13+ds-0\n\nPackage: qemu\nVersion: 1:10.2.2+ds-1\n") as run:
         tests.wants("which there are", apt.versions(), {"10.0.13": "1:10.0.13+ds-0", "10.2.2": "1:10.2.2+ds-1"})
         said = tests.refuses("one that is not there", Missing, lambda: build.full_version(apt, "10.1.0", lambda line: None))
-    tests.wants("no list of the machine is used", {f"Dir::State::lists={room}/apt/lists", f"Dir::Etc::sourceparts={room}/apt/none"} < set(run.call_args.args), True)
+        asked = [call.args for call in run.call_args_list]
+    tests.wants("no list of the machine is used", [{f"Dir::State::lists={room}/apt/lists", f"Dir::Etc::sourceparts={room}/apt/none"} < set(words) for words in asked], [True] * 3)
+    tests.wants("the lists are downloaded first, once", [words[0] for words in asked], ["apt-cache", "apt-get", "apt-cache"])
     tests.wants("those that are there are told", said, "there is no source of QEMU 10.1.0; there are 10.0.13, 10.2.2")
+
+
+def of_meson(tests, room):
+    """It is unpacked once, and not installed."""
+    def asked(tool, *words, folder):
+        os.makedirs(f"{room}/tree/DEBIAN")
+        os.makedirs(f"{room}/tree/usr/lib/python3/dist-packages/mesonbuild")
+        with open(f"{room}/tree/DEBIAN/control", "w", encoding="ascii") as out:
+            out.write("Package: meson\nVersion: 1.7\nArchitecture: all\nMaintainer: it\nDescription: it\n")
+        subprocess.run(["dpkg-deb", "--build", f"{room}/tree", f"{folder}/meson_1.7_all.deb"], check=True, stdout=subprocess.DEVNULL)
+
+    apt = mock.Mock(side_effect=asked)
+    with mock.patch.dict(os.environ, {"XDG_CACHE_HOME": room}):
+        found = [build.meson(apt, lambda line: None) for _ in range(2)]
+    tests.wants("the modules", (os.listdir(found[0]), found[0] == found[1], apt.call_count), (["mesonbuild"], True, 1))
 
 
 def of_a_source(tests, room):
@@ -67,11 +84,11 @@ def of_words(tests, room):
     done = subprocess.run([sys.executable, "-B", f"{QEMU}/build", "10.0.13", f"{room}/none.patch"], capture_output=True, text=True, env={**os.environ, "XDG_CACHE_HOME": room})
     tests.wants("a patch that is not there", (done.returncode, done.stderr), (2, f"build: {room}/none.patch is no file\n"))
     done = subprocess.run([sys.executable, "-B", f"{QEMU}/build", "10.0.13"], capture_output=True, text=True, env={**os.environ, "PATH": room})
-    tests.wants("a machine without the tools", (done.returncode, "apt-get, apt-cache, dpkg-source" in done.stderr, "apt-get install --no-install-recommends dpkg-dev" in done.stderr), (3, True, True))
+    tests.wants("a machine without the tools", (done.returncode, "apt-get, apt-cache, dpkg-deb, dpkg-source" in done.stderr, "apt-get install --no-install-recommends dpkg-dev" in done.stderr), (3, True, True))
 
 
 def run(tests):
     of_names(tests)
-    for of_them in (of_apt, of_a_source, of_the_program, of_words):
+    for of_them in (of_apt, of_meson, of_a_source, of_the_program, of_words):
         with tempfile.TemporaryDirectory() as room:
             of_them(tests, room)
