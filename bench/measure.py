@@ -43,7 +43,9 @@ def leave_out(what):
 
 
 def default_program():
-    """The program as it was built here, or the shipped one."""
+    """The program that the variable POSTCOPY names, or as it was built here, or the shipped one."""
+    if os.environ.get("POSTCOPY"):
+        return os.environ["POSTCOPY"]
     built = f"{TOP}/crates/postcopy/out/postcopy"
     return built if os.access(built, os.X_OK) else f"{TOP}/shipped/x86_64-linux/postcopy"
 

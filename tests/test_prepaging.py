@@ -219,15 +219,34 @@ def test_planted(program, tmp_path):
     assert any(it.wrong(program, it.timed.events) for it in found)
 
 
+TWO_PAGES = ("postcopy-script 1\npages 2\ncells 1\ninit 2\npage 0 0000000000000001\npage 1 0000000000000002\npivots 1\nwindow 8\ndown -\nup -\n"
+             "vcpus 1\nvcpu 0 2\nr 0 0\nr 1 0\nend\n")
+
+
+def over_link(host):
+    return host(scheduled.script_of(TWO_PAGES, "text"), timed.Link(Fraction(1, 7), 5), 1).run()
+
+
 def test_link():
     """Of two pages that are pushed over a link, when the guest goes on and when the last one comes, by hand: the state takes 5 ticks, and
     each page 7 on the wire and 5 more."""
-    text = ("postcopy-script 1\npages 2\ncells 1\ninit 2\npage 0 0000000000000001\npage 1 0000000000000002\npivots 1\nwindow 8\ndown -\nup -\n"
-            "vcpus 1\nvcpu 0 2\nr 0 0\nr 1 0\nend\n")
-    counts = timed.Timed(scheduled.script_of(text, "text"), timed.Link(Fraction(1, 7), 5), 1).run()
+    counts = over_link(timed.Timed)
     assert (counts.resumed, counts.last) == (5, 19)
     # Page 0 is missed at 5; the want comes at 10, and page 0 at 12: asked for and come. Its repeat is sent after page 1.
     assert (counts.asked, counts.used, counts.early, counts.waited, counts.ended) == (2, 2, 0, 13, 19)
+
+
+def test_rules():
+    """The page that each rule chooses, and a host that sends no page twice, by hand."""
+    for rule, wanted in ((timed.Bubbling, 9), (timed.InOrder, 2), (timed.Leaning, 14), (timed.Dying, 9)):
+        chooser = rule(timed.Unsent(16, [page in (2, 9, 14) for page in range(16)]), 1)
+        chooser.fault_at(10)
+        same(rule.__name__, chooser.choose(), wanted)
+    dying = timed.Dying(timed.Unsent(16, [page == 2 for page in range(16)]), 2)
+    for page in (3, 10):
+        dying.fault_at(page)
+    same("the pivot that dies", (dying.choose(), dying.pivots), (2, [3]))
+    same("repeats", (over_link(timed.Timed).again, over_link(timed.Frugal).again), (2, 0))
 
 
 def test_command(program, tmp_path):
