@@ -4,10 +4,9 @@ import math
 from curves import STYLE
 
 WIDTH, PANEL, LEFT, PITCH = 960, 210, 120, 280
-COLOURS = 4
 # Of the bars of a guest: what is drawn, by how its setting's name begins.
 BARS = ("demand only", "in order *", "1 pivot, window 16", "4 pivots, window 16")
-HIGHEST = 120  # percent of what is waited by demand only
+HIGHEST = 160  # percent of what is waited by demand only
 
 
 def picture(height, title, parts):
