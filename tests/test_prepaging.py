@@ -122,6 +122,12 @@ def test_session():
                            "down -\nup -\nvcpus 1\nvcpu 1 1\nz 1\nr 1 0\nend\n")
 
 
+def test_folder():
+    """The session in a folder."""
+    made = run(f"{TOP}/recorders/script", f"{TOP}/examples/handover")
+    assert made.stdout.splitlines()[10:] == ["vcpus 1", "vcpu 1 3", "w 1 0 1", "r 0 0", "w 1 0 3", "r 1 0", "end"], made.stderr
+
+
 REFUSED = {
     "pages": ("".join(f"0 r {page}\n" for page in range(65_537)), 1, "65,537 pages, and a script has 65,536 at most"),
     "operations": ("0 r 1\n" * 65_537, 1, "65,537 operations of processor 0 after the move"),
