@@ -57,6 +57,9 @@ def by_rule():
     yield made("three streams", "three places of 250 pages, in turns of 1 to 4 pages", streams(chance))
 
 
+# How they were made, with the busybox of Debian 12, where `source` is what assignments.awk writes:
+#     valgrind --tool=lackey --trace-mem=yes --log-file=trace busybox awk -f compile.awk source
+#     head -n 2000007 trace | recorders/script - --move 1/4 --thin 60
 # Of the accesses of a program one in 60 is kept, and the first of each page; a program makes some 1,000 in a microsecond.
 RECORDED = {
     "awk": "busybox's awk, which compiles assignments to code for a stack: its first 2,000,000 accesses, a quarter of them before the move",
