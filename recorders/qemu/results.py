@@ -46,7 +46,7 @@ KNOWN = (
     ("the-guest-runs-on-both-sides", "both ran", lambda plan: plan.cuts),
     ("the-target-hangs-with-preempt", "(returned and )?target hangs", lambda plan: plan.preempt and not plan.multifd),
     ("a-lost-answer", "returned$|source waits forever", lambda plan: plan.cuts and not plan.multifd),
-    ("a-post-copy-with-nothing-left-to-send", "target ended: `Operation not permitted`", lambda plan: not plan.cuts),
+    ("a-post-copy-with-nothing-left-to-send", "target ended: `Operation not permitted`", lambda plan: True),
     ("the-source-waits-for-itself", "source waits for itself", lambda plan: plan.cuts),
     ("a-guest-started-after-a-failed-load", "`early`", lambda plan: plan.cuts),
     ("others-of-qemu", "target (aborted|hangs|was killed)|source waits forever", lambda plan: plan.multifd),
