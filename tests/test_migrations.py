@@ -18,6 +18,7 @@ import random
 import re
 import subprocess
 
+import cases
 import pytest
 from cases import leave_out, right
 from guests import AFTER, BEFORE, guest_log, random_op, strays_from_the_script, wrong_read
@@ -25,7 +26,12 @@ from session_text import SessionText
 from steps_model import Script, contents_of
 
 TOP = os.path.dirname(os.path.dirname(os.path.abspath(__file__)))
-SECONDS = 120
+
+
+def seconds():
+    """How long a run may take, by the clock. One that waits for ever is waited for less where the test ends at its first fault."""
+    return 20 if cases.ends_at_first else 120
+
 
 # Two virtual processors that wait for a page each, and two that wait for the same one.
 WORKED = (
@@ -96,7 +102,7 @@ def full_script(is_after):
 
 def ran(program, words, text):
     """What the program writes, to both outputs, and its status; or it took too long."""
-    done = subprocess.run([program, *words], input=text.encode(), capture_output=True, timeout=SECONDS)
+    done = subprocess.run([program, *words], input=text.encode(), capture_output=True, timeout=seconds())
     return done.stdout.decode("latin-1"), done.stderr.decode("latin-1"), done.returncode
 
 
@@ -248,7 +254,7 @@ def is_carried_wrongly(program):
         return None, "there is no `unshare` here"
     for worked in (WORKED[0], PUSHED[0]):
         text = worked.replace(" / ", "\n") + "\n"
-        done = [subprocess.run([*alone, program, "migrate", "-", "--link", link], input=text.encode(), capture_output=True, timeout=SECONDS)
+        done = [subprocess.run([*alone, program, "migrate", "-", "--link", link], input=text.encode(), capture_output=True, timeout=seconds())
                 for link in ("memory", "tcp")]
         if (done[0].returncode, done[0].stderr) != (0, b""):
             return "a link in memory wants a network", None
@@ -284,7 +290,7 @@ def addresses(program, cc, room):
         file.write(BOUND)
     subprocess.run([cc, "-shared", "-fPIC", "-o", f"{room}/bound.so", file.name, "-ldl"], check=True)
     subprocess.run([program, "migrate", "--link", "tcp", "-"], input=WORKED[0].replace(" / ", "\n").encode() + b"\n", stdout=subprocess.DEVNULL, check=True,
-                   env={"LD_PRELOAD": f"{room}/bound.so", "BOUND": f"{room}/bound"}, timeout=SECONDS)
+                   env={"LD_PRELOAD": f"{room}/bound.so", "BOUND": f"{room}/bound"}, timeout=seconds())
     with open(f"{room}/bound", encoding="ascii") as file:
         return file.read().split()
 
