@@ -1,6 +1,6 @@
 """Refuses each growth of memory in turn to the library's calls, of which each is made again once it was refused.
 
-The calls are made by the test in tests/calls/refused_calls, over the texts of some examples, and their growths are refused by
+The calls are made by the tests in tests/calls/refused_calls, over the texts of some examples, and their growths are refused by
 bindings/c/tests/refusing.c, which stands before the system's calls. Each growth is refused twice: with all later ones of its call, and
 alone; of what threads judge, alone.
 Each time the call has to answer that there was no memory, and nothing else; what its contract says has to stay as it was; and
@@ -23,11 +23,21 @@ from cases import count, same
 from planted_programs import program_with_bodies
 
 TOP = os.path.dirname(os.path.dirname(os.path.realpath(__file__)))
-TEST = "refused_calls::each_growth_is_refused"
 # How long all calls may take, in seconds by the clock.
 LIMIT = 600
-# What the program ends with.
-ENDED, NOT_ENDED = "all were made", "not all were made"
+# What a test ends with, and what the program adds.
+ENDED, NOT_ENDED, ADDED = "all were made", "not all were made", "\ntest result: ok\n"
+
+# The calls that each test makes, by the beginnings of their names.
+PARTS = {
+    "containers": "balloon_ledger bubbling fault_queue migration_types::Geometry page_store residency",
+    "packets": "page_stream",
+    "texts": "cert_text guest_script session_log",
+    "judges": "audit_report cert_check cert_maker judged_texts merge_runs migration_types::Session migration_types::line_of",
+    "books": "active_push link_book pager_book target_book target_side",
+    "cores": "session_core",
+    "hosts": "host_threads",
+}
 
 # The calls that take memory, by crate.
 REFUSED = {
@@ -97,8 +107,10 @@ THREADS = {
 }
 
 
-def names(table):
-    return {f"{crate}::{call}" for crate, calls in table.items() for call in calls.split()}
+def names(table, part=""):
+    """The calls of a table: all, or those that a test makes."""
+    found = {f"{crate}::{call}" for crate, calls in table.items() for call in calls.split()}
+    return {it for it in found if it.startswith(tuple(PARTS[part].split()))} if part else found
 
 
 # Packets of a machine of two pages of one cell, and what a byte of them is changed to.
@@ -190,37 +202,42 @@ def calls_in(said):
     return calls, streams, last
 
 
-def faults_of(calls):
+def faults_of(calls, part):
     yield from (f"{it.name} {it.fault()}" for it in calls if it.fault())
     met = {it.name for it in calls}
     refused = {it.name for it in calls if it.refused}
-    yield from (f"{name} stands in no table" for name in sorted(met - names(REFUSED) - names(NONE)))
-    yield from (f"{name} was not made" for name in sorted(names(NONE) - met))
-    yield from (f"{name} was refused nothing" for name in sorted(names(REFUSED) - refused))
+    yield from (f"{name} stands in no table" for name in sorted(met - names(REFUSED, part) - names(NONE, part)))
+    yield from (f"{name} was not made" for name in sorted(names(NONE, part) - met))
+    yield from (f"{name} was refused nothing" for name in sorted(names(REFUSED, part) - refused))
 
 
-def run(program, refusing):
-    """Makes the calls: what the program wrote, and what it failed with."""
+def run(program, part, refusing):
+    """Makes the calls: what a test wrote, and what it failed with."""
     with open(os.devnull, "wb") as nothing:
         os.dup2(nothing.fileno(), 99)
     try:
-        ran = subprocess.run([program, TEST], cwd=TOP, env={"LD_PRELOAD": refusing, "REFUSING": "told"}, stdin=subprocess.DEVNULL,
+        ran = subprocess.run([program, f"refused_calls::of_{part}"], cwd=TOP, env={"LD_PRELOAD": refusing, "REFUSING": "told"}, stdin=subprocess.DEVNULL,
                              capture_output=True, text=True, errors="replace", pass_fds=(99,), timeout=LIMIT)
     except subprocess.TimeoutExpired as ran:
         return (ran.stdout or b"").decode(), f"the calls did not end in {LIMIT} seconds"
-    return ran.stdout, f"status {ran.returncode} {ran.stderr[-2000:]}" if ran.returncode or ran.stderr else ""
+    return ran.stdout.removesuffix(ADDED), f"status {ran.returncode} {ran.stderr[-2000:]}" if ran.returncode or ran.stderr else ""
 
 
 @pytest.mark.toolchain
 @pytest.mark.slow
 @pytest.mark.xdist_group("calls")
 @pytest.mark.cases(1)
-def test_refused_calls(made_once, refusing, pytestconfig):
-    said, failed = run(pytestconfig.getoption("--calls") or program_with_bodies(made_once, "calls"), refusing)
+@pytest.mark.parametrize("part", PARTS)
+def test_refused_calls(made_once, refusing, pytestconfig, part):
+    said, failed = run(pytestconfig.getoption("--calls") or program_with_bodies(made_once, "calls"), part, refusing)
     calls, streams, last = calls_in(said)
-    for fault in dict.fromkeys(faults_of(calls)):
+    for fault in dict.fromkeys(faults_of(calls, part)):
         count(False, fault)
-    same("packets that are cut or changed", streams, list(slow_answers()))
+    same("packets that are cut or changed", streams, list(slow_answers()) if part == "packets" else [])
     same(f"the end of the program, after {calls[-1].name if calls else 'no call'}", (failed, last), ("", ENDED))
-    for _ in range(len(names(REFUSED)) + len(names(NONE)) + sum(it.refused or 0 for it in calls)):
+    for _ in range(len(names(REFUSED, part)) + len(names(NONE, part)) + sum(it.refused or 0 for it in calls)):
         count(True, "")
+
+
+def test_each_call_is_of_a_test():
+    assert sorted(it for part in PARTS for it in (*names(REFUSED, part), *names(NONE, part))) == sorted((*names(REFUSED), *names(NONE)))

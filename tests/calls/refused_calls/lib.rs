@@ -15,35 +15,56 @@ mod refusing;
 mod texts;
 
 use crate::examples::Examples;
-use crate::refusing::{Refuser, all};
-use std::marker::Sync;
-use std::net::{Net, TcpListener, TcpStream};
-use std::sync::Wait;
-use std::thread::Threads;
+use crate::refusing::Refuser;
 
-/// Makes all calls. None where some of them were not made, as something that they need was not there.
-fn make_all<R: Threads + Wait + Sync + Net<Listener = TcpListener, Stream = TcpStream>>(
-    rt: &R,
-    refuser: Refuser,
-    examples: &Examples,
-) -> Option<()> {
-    all(&[
-        containers::make(refuser),
-        packets::make(refuser),
-        texts::make(refuser, examples),
-        judges::make(rt, refuser, examples),
-        books::make(refuser, examples),
-        cores::make(refuser, examples),
-        hosts::make(rt, refuser, examples),
-    ])
-}
+const FOLDER: &str = "examples";
 
-#[test]
-fn each_growth_is_refused(rt: HostRuntime) {
-    let refuser = Refuser::new(rt);
-    let examples = Examples::new(rt, "examples");
-    refuser.tell(match make_all(&rt, refuser, &examples) {
+/// Tells whether all calls were made. None says that some were not, as something that they need was not there.
+fn tell(refuser: Refuser, made: Option<()>) {
+    refuser.tell(match made {
         Some(()) => b"all were made\n",
         None => b"not all were made\n",
     });
+}
+
+#[test]
+fn of_containers(rt: HostRuntime) {
+    let refuser = Refuser::new(rt);
+    tell(refuser, containers::make(refuser));
+}
+
+#[test]
+fn of_packets(rt: HostRuntime) {
+    let refuser = Refuser::new(rt);
+    tell(refuser, packets::make(refuser));
+}
+
+#[test]
+fn of_texts(rt: HostRuntime) {
+    let refuser = Refuser::new(rt);
+    tell(refuser, texts::make(refuser, &Examples::new(rt, FOLDER)));
+}
+
+#[test]
+fn of_judges(rt: HostRuntime) {
+    let refuser = Refuser::new(rt);
+    tell(refuser, judges::make(&rt, refuser, &Examples::new(rt, FOLDER)));
+}
+
+#[test]
+fn of_books(rt: HostRuntime) {
+    let refuser = Refuser::new(rt);
+    tell(refuser, books::make(refuser, &Examples::new(rt, FOLDER)));
+}
+
+#[test]
+fn of_cores(rt: HostRuntime) {
+    let refuser = Refuser::new(rt);
+    tell(refuser, cores::make(refuser, &Examples::new(rt, FOLDER)));
+}
+
+#[test]
+fn of_hosts(rt: HostRuntime) {
+    let refuser = Refuser::new(rt);
+    tell(refuser, hosts::make(&rt, refuser, &Examples::new(rt, FOLDER)));
 }
