@@ -181,11 +181,11 @@ fn disagreement(alloc: Global, rounds: usize) -> Result<(Option<usize>, usize), 
 
 #[test]
 fn finds_the_greatest_front(rt: HostRuntime) {
-    let Ok((round, cut)) = disagreement(rt.alloc(), 200) else {
+    let Ok((round, cut)) = disagreement(rt.alloc(), 60) else {
         unreachable!();
     };
     assert!(rt; round == None, "{round:?}");
-    assert!(rt; cut > 50 && cut < 200, "{cut}");
+    assert!(rt; cut > 15 && cut < 60, "{cut}");
 }
 
 /// A recording of which nothing is left out, and a recording of which one record more is named than there is.
