@@ -175,7 +175,7 @@ def found(name):
         path = os.path.abspath(name)
     elif SUITE.fullmatch(name) and os.path.exists(qemu_of(f"{top()}/{name}")):
         path = qemu_of(f"{top()}/{name}")
-    elif os.path.exists(build := f"{builds()}/{name}/source/build/{NAME}"):
+    elif os.path.exists(build := qemu_of(f"{builds()}/{name}")):
         path = build
     else:
         path = shutil.which(name)

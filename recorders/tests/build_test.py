@@ -48,32 +48,50 @@ def of_meson(tests, room):
 
 
 def of_a_source(tests, room):
-    """A source gets the patches in their order, and what is chosen of the devices; where a patch does not fit, there is no source."""
+    """A source gets what is chosen of the devices, and has no settings that it does not know."""
     os.mkdir(f"{room}/made")
-    for name, old, new in (("one", "a", "b"), ("two", "b", "c")):
-        with open(f"{room}/{name}.patch", "w", encoding="ascii") as out:
-            out.write(f"--- a/file\n+++ b/file\n@@ -1 +1 @@\n-{old}\n+{new}\n")
 
     def fetch(apt, full, folder):
         os.makedirs(f"{folder}/source.new/{os.path.dirname(build.DEVICES)}")
-        with open(f"{folder}/source.new/file", "w", encoding="ascii") as out:
-            out.write("a\n")
 
     with mock.patch.object(build, "fetch", fetch):
-        tests.refuses("patches in another order", Missing, lambda: build.make_source(None, "1:1", [f"{room}/two.patch", f"{room}/one.patch"], f"{room}/made", lambda line: None))
-        tests.wants("no source", os.path.exists(f"{room}/made/source"), False)
-        build.make_source(None, "1:1", [f"{room}/one.patch", f"{room}/two.patch"], f"{room}/made", lambda line: None)
-    tests.wants("the source", (read(f"{room}/made/source/file"), "CONFIG_I440FX=y" in read(f"{room}/made/source/{build.DEVICES}"), os.listdir(f"{room}/made")), ("c\n", True, ["source"]))
+        build.make_source(None, "1:1", f"{room}/made", lambda line: None)
+    tests.wants("the source", ("CONFIG_I440FX=y" in read(f"{room}/made/source/{build.DEVICES}"), os.listdir(f"{room}/made")), (True, ["source"]))
     configure = program(f"{room}/made/source/configure", "echo '  live-block-migration   more'")
     tests.wants("all settings", build.settings(os.path.dirname(configure)), list(build.SETTINGS))
     program(configure, "echo")
     tests.wants("but those that are not known there", set(build.SETTINGS) - set(build.settings(os.path.dirname(configure))), {"--enable-live-block-migration"})
 
 
+def of_patches(tests, room):
+    """A source gets the patches in their order, and has those of the last build alone; what is put back is new to ninja."""
+    os.makedirs(f"{room}/source/sub")
+    file, old = f"{room}/source/sub/file", 1_000_000_000
+    with open(file, "w", encoding="ascii") as out:
+        out.write("a\n")
+    os.utime(file, (old, old))
+    patches = {}
+    for name, before, after in (("one", "a", "b"), ("two", "b", "c"), ("three", "a", "d")):
+        patches[name] = f"{room}/{name}.patch"
+        with open(patches[name], "w", encoding="ascii") as out:
+            out.write(f"--- a/sub/file\n+++ b/sub/file\n@@ -1 +1 @@\n-{before}\n+{after}\n")
+
+    def changed(*names):
+        build.change(room, [patches[name] for name in names], lambda line: None)
+        return read(file)
+
+    tests.wants("none", (changed(), os.path.getmtime(file)), ("a\n", old))
+    tests.wants("two of one file", changed("one", "two"), "c\n")
+    tests.wants("another", changed("three"), "d\n")
+    tests.refuses("another order", Missing, lambda: changed("two", "one"))
+    tests.wants("the same in their order", changed("one", "two"), "c\n")
+    tests.wants("none again", (changed(), os.path.getmtime(file) > old), ("a\n", True))
+
+
 def of_the_program(tests, room):
     """--qemu takes a build by its name."""
     with mock.patch.dict(os.environ, {"XDG_CACHE_HOME": room}):
-        folder = f"{releases.builds()}/10.0.13+offset/source/build"
+        folder = f"{releases.builds()}/10.0.13+offset"
         os.makedirs(folder)
         made = program(f"{folder}/{releases.NAME}", "exit 0")
         tests.wants("its program", releases.found("10.0.13+offset"), made)
@@ -89,6 +107,6 @@ def of_words(tests, room):
 
 def run(tests):
     of_names(tests)
-    for of_them in (of_apt, of_meson, of_a_source, of_the_program, of_words):
+    for of_them in (of_apt, of_meson, of_a_source, of_patches, of_the_program, of_words):
         with tempfile.TemporaryDirectory() as room:
             of_them(tests, room)
