@@ -137,7 +137,7 @@ def program(pytestconfig):
 
 @pytest.fixture(scope="session")
 def made_once(tmp_path_factory):
-    """What is made once for all processes, those too that run tests for test_planted.py."""
+    """What is made once for all processes, those too that run tests for planted_bodies.py."""
     if MADE_ONCE not in os.environ:
         folder = tmp_path_factory.getbasetemp()
         os.environ[MADE_ONCE] = str(folder.parent if "PYTEST_XDIST_WORKER" in os.environ else folder)

@@ -3,8 +3,8 @@
 
     tests/planted.py [NAME ..]
 
-This runs tests/test_planted.py, as the gate does. Nothing is proved: the programs that have all bodies are compiled once, in some minutes of
-processor. Then each body takes a second or some.
+This runs tests/planted_bodies.py. Nothing is proved: the programs that have all bodies are compiled once, in some minutes of processor. Then most
+bodies take some seconds. The gate does not try them: one that waits for ever takes minutes.
 """
 import os
 import sys
@@ -15,6 +15,6 @@ if __name__ == "__main__":
     bodies = {it.name: it for it in mutants.planted()}
     if any(it not in bodies for it in sys.argv[1:]):
         sys.exit(__doc__)
-    file = "tests/test_planted.py"
+    file = "tests/planted_bodies.py"
     tests = [f"{file}::{'test_planted' if bodies[it].crate else 'test_outside'}[{it}]" for it in sys.argv[1:]] or [file]
     os.execv(f"{mutants.TOP}/tests/pytest", ["tests/pytest", "-n", "auto", "--dist", "loadgroup", *tests])
