@@ -24,13 +24,16 @@ def sources(name):
     return sorted(f"{CALLS}/{name}/{it}" for it in os.listdir(f"{CALLS}/{name}"))
 
 
-def tests_in(name):
-    """How many tests the sources of a crate have."""
-    count = 0
+def modules_with_tests(name):
+    """How many tests each module of a crate has that has any, by its path in the program."""
+    found = {}
     for source in sources(name):
+        module = os.path.basename(source).removesuffix(".rs")
         with open(source, encoding="utf-8") as file:
-            count += len(re.findall(r"(?m)^\s*#\[test\]", file.read()))
-    return count
+            count = len(re.findall(r"(?m)^\s*#\[test\]", file.read()))
+        if count:
+            found[name if module == "lib" else f"{name}::{module}"] = count
+    return found
 
 
 def copied(source, folder):

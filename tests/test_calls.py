@@ -6,7 +6,7 @@ that 'rt ci' proves. 'rt ci' refuses a file NAME.rt that it does not read, so th
 names each with what it depends on, in the form of crates.txt.
 
 They are compiled as the modules of one program, which has the planted bodies too, each behind its number (planted_programs.py). It runs one
-test at a time, by its name, and has to have as many as there are functions marked #[test] in the sources. test_refused_calls.py runs that of
+test at a time, by its name, and has to have as many as there are functions marked #[test] in the sources. test_refused_calls.py runs those of
 refused_calls.
 """
 import os
@@ -14,24 +14,23 @@ import re
 import subprocess
 
 import pytest
-from call_crates import CALLS, listed, tests_in
+from call_crates import CALLS, listed, modules_with_tests
 from cases import count
 from planted_programs import program_with_bodies
 
 # How long one test may take, in seconds, on a slow machine that other work uses too. Most end within one.
 LIMIT = 900
-# The crate whose test is run elsewhere.
-REFUSED = "refused_calls"
+MODULES = {module: count for name in listed() if name != "refused_calls" for module, count in modules_with_tests(name).items()}
 
 pytestmark = [pytest.mark.toolchain, pytest.mark.slow, pytest.mark.first, pytest.mark.xdist_group("calls")]
 
 
-@pytest.mark.parametrize("name", [it for it in listed() if it != REFUSED])
-def test_calls(made_once, pytestconfig, name):
+@pytest.mark.parametrize("module", [pytest.param(it, id=it.replace("::", "-")) for it in MODULES])
+def test_calls(made_once, pytestconfig, module):
     program = pytestconfig.getoption("--calls") or program_with_bodies(made_once, "calls")
     told = subprocess.run([program, "--list"], stdin=subprocess.DEVNULL, stdout=subprocess.PIPE, text=True).stdout
-    tests = re.findall(rf"^({name}::\S+): test$", told, re.M)
-    assert len(tests) == tests_in(name)
+    tests = re.findall(rf"^({module}::\w+): test$", told, re.M)
+    assert len(tests) == MODULES[module]
     for test in tests:
         ran = subprocess.run([program, test], stdin=subprocess.DEVNULL, stdout=subprocess.PIPE, stderr=subprocess.STDOUT, errors="replace", timeout=LIMIT)
         count(ran.returncode == 0, f"{test}: {ran.stdout[-3000:]}")

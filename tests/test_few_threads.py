@@ -1,10 +1,12 @@
 """How many threads judge: as many as there are processors, with one more for the shape, and where no further thread may be made, the
-one that there is. A migration, which cannot do with one, says what it lacks.
+one that there is. A migration, which cannot do with one, says what it lacks, and so it does where one of its threads is refused.
 
 The superuser has no limit on threads, so the program is run as another user then. What is judged is long enough that several threads
 would read and judge it. Calls that make a thread are counted by bindings/c/tests/refusing.c.
 """
+import errno
 import os
+import re
 import resource
 import subprocess
 import tempfile
@@ -36,8 +38,8 @@ def limited():
         os.setuid(NOBODY)
 
 
-def run(program, words, given, before=None):
-    child = subprocess.run([program, *words], input=given, capture_output=True, cwd="/", preexec_fn=before)
+def run(program, words, given, before=None, **env):
+    child = subprocess.run([program, *words], input=given, capture_output=True, cwd="/", preexec_fn=before, env={**os.environ, **env}, timeout=30)
     return child.returncode, child.stdout, child.stderr
 
 
@@ -88,13 +90,22 @@ def tries(program):
     wanted = run(program, ("check", "-", "-"), both)
     yield "the check of a long certificate", wanted[:2], (0, b"yes\n")
     yield "the check of a long certificate, with one thread", run(program, ("check", "-", "-"), both, limited), wanted
+
+
+def migrations(program, refusing):
+    """Three parties and the virtual processors have a thread each: none of them may be made, or one of them, which is told."""
+    refused = (3, b"", b"threads\n")
     for example in ("migrated", "migrated-over-a-lane"):
         with open(f"{TOP}/examples/{example}/script", "rb") as file:
             script = file.read()
+        threads = 3 + int(re.search(rb"^vcpus (\d+)$", script, re.M)[1])
         for link in ("memory", "tcp"):
             words = ("migrate", "--link", link, "-")
             yield f"{example} over {link}", run(program, words, script)[0], 0
-            yield f"{example} over {link}, with one thread", run(program, words, script, limited), (3, b"", b"threads\n")
+            yield f"{example} over {link}, with one thread", run(program, words, script, limited), refused
+            for number in range(1, threads + 1):
+                found = run(program, words, script, LD_PRELOAD=refusing, REFUSING=f"thread {number} {number} {errno.EAGAIN}")
+                yield f"{example} over {link}, without thread {number}", found, refused
 
 
 @pytest.mark.cases(6)
@@ -103,7 +114,13 @@ def test_threads_begun(program, refusing):
         same(*case)
 
 
-@pytest.mark.cases(30)
+@pytest.mark.cases(22)
 def test_one_thread(program):
     for case in tries(program):
+        same(*case)
+
+
+@pytest.mark.cases(24)
+def test_migrations(program, refusing):
+    for case in migrations(program, refusing):
         same(*case)
