@@ -13,13 +13,15 @@ import os
 import re
 import subprocess
 
+import cases
 import pytest
 from call_crates import CALLS, listed, modules_with_tests
 from cases import count
 from planted_programs import program_with_bodies
 
-# How long one test may take, in seconds, on a slow machine that other work uses too. Most end within one.
-LIMIT = 900
+# How long one test may take, in seconds, on a slow machine that other work uses too, and where a wrong body may wait for ever. Most end
+# within one.
+LIMIT, SHORT_LIMIT = 900, 60
 MODULES = {module: count for name in listed() if name != "refused_calls" for module, count in modules_with_tests(name).items()}
 
 pytestmark = [pytest.mark.toolchain, pytest.mark.slow, pytest.mark.first, pytest.mark.xdist_group("calls")]
@@ -32,7 +34,8 @@ def test_calls(made_once, pytestconfig, module):
     tests = re.findall(rf"^({module}::\w+): test$", told, re.M)
     assert len(tests) == MODULES[module]
     for test in tests:
-        ran = subprocess.run([program, test], stdin=subprocess.DEVNULL, stdout=subprocess.PIPE, stderr=subprocess.STDOUT, errors="replace", timeout=LIMIT)
+        ran = subprocess.run([program, test], stdin=subprocess.DEVNULL, stdout=subprocess.PIPE, stderr=subprocess.STDOUT, errors="replace",
+                             timeout=SHORT_LIMIT if cases.ends_at_first else LIMIT)
         count(ran.returncode == 0, f"{test}: {ran.stdout[-3000:]}")
 
 
