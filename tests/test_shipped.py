@@ -307,7 +307,7 @@ PARTS = {it.__name__.removeprefix("tests_of_"): it for it in (
     tests_of_ship, tests_of_digest, tests_of_check, tests_of_page, *shipped_launcher.TESTS, tests_of_comparison, tests_of_library, tests_of_install)}
 # How many cases each has at least.
 LEAST = {"ship": 29, "digest": 16, "check": 11, "page": 30, "answers": 37, "places": 53, "read_only": 22, "forty": 4, "changes": 23, "builds": 20,
-         "plants": 26, "old_times": 12, "limits": 2, "terminal": 4, "damage": 13, "mounts": 4, "git": 13, "comparison": 19, "library": 13, "install": 11}
+         "plants": 26, "old_times": 12, "limits": 2, "terminal": 3, "damage": 13, "mounts": 4, "git": 13, "comparison": 19, "library": 13, "install": 11}
 
 
 @pytest.mark.parametrize("part", [pytest.param(part, marks=pytest.mark.cases(LEAST.get(name, 1)), id=name) for name, part in PARTS.items()])

@@ -13,6 +13,7 @@ import signal
 import stat
 import sys
 import tempfile
+import threading
 
 import build
 from files import write
@@ -81,7 +82,10 @@ def refuse_words(parser, folder, words, what):
 
 
 def end_in_order():
-    """Has a signal that would end this process at once end it as an exception does, so that its temporary folder does not stay."""
+    """Has a signal that would end this process at once end it as an exception does, so that its temporary folder does not stay. Only the main
+    thread can, so elsewhere, as in a process of pytest that runs its tests in another, signals stay as they are."""
+    if threading.current_thread() is not threading.main_thread():
+        return
     for number in (signal.SIGHUP, signal.SIGTERM):
         if signal.getsignal(number) == signal.SIG_DFL:
             signal.signal(number, lambda number, _: sys.exit(128 + number))
