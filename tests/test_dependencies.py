@@ -1,7 +1,6 @@
 """Whether crates.txt says what the crates depend on, and no more.
 
-Each crate that a line lists has to be named by a source, a definition or a proof of the line's own crate, comments aside, or have an
-`impl` that a call of it needs. A line
+Each crate that a line lists has to be named by a source, a definition or a proof of the line's own crate, comments aside. A line
 stands after those of the crates that it lists, and lists each once, in the order of the alphabet. The same is asked of the lines
 of tests/calls/crates.list, which stand after all of crates.txt. Each line of crates.txt stands under the heading of its floor, the
 lowest above those of the crates that it lists.
@@ -17,8 +16,6 @@ from cases import count
 
 TOP = os.path.realpath(f"{os.path.dirname(os.path.realpath(__file__))}/..")
 LISTS = (("crates.txt", "crates"), ("tests/calls/crates.list", "tests/calls"))
-# A crate, and one that it lists and nothing of it names: a call needs an `impl` of it in scope.
-IN_SCOPE = {("judge_commands", "faulty_pages")}
 COMMENTS = {".rt": r"//.*", ".rs": r"//.*", ".antt": r"--.*"}
 INNER = re.compile(r"^ *(?:pub )?(?:ghost )?use Rattle\.\w+\.specs\.inner\b(?:\.\w+)*(?:\.\{([^}]*)\}| as (\w+))?", re.M)
 CALL = re.compile(r"^( *)pub (?:unsafe )?(?:extern \"C\" )?fn (\w+)(.*?)(?:\n\1\{|;\n|\n\1 *\}\n)", re.M | re.S)
@@ -60,8 +57,8 @@ def wrong_lines(lines):
     for path, crate, folder, others in lines:
         text = text_of(folder)
         for other in others:
-            if names(text, other) == ((crate, other) in IN_SCOPE):
-                yield f"{path}: {crate} lists {other}, which {'is named' if names(text, other) else 'nothing of it names'}"
+            if not names(text, other):
+                yield f"{path}: {crate} lists {other}, which nothing of it names"
             if other in crates and other not in above:
                 yield f"{path}: {crate} stands before {other}, which it lists"
         if others != sorted(set(others)):

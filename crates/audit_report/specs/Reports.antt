@@ -22,7 +22,7 @@ use Rattle.audit_model.specs.Delayed.{IsFirstPlacement, IsDelayedOrder}
 use Rattle.audit_model.specs.Laws.{BreaksAt}
 use Rattle.page_facts.specs.declared.page_fault.PageFault.{PageFault}
 use Rattle.page_facts.specs.PageFaults.{HasItsPage}
-use Rattle.faulty_pages.specs.FaultyPages.{AreManyFaulty}
+use Rattle.page_facts.specs.FaultyPages.{AreManyFaulty}
 use Rattle.cert_check.specs.Verdicts.{IsShapeFault}
 use Rattle.cert_maker.specs.Orders.{IsTied}
 use Rattle.cert_maker.specs.Made.{IsMade}

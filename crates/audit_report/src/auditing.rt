@@ -9,7 +9,7 @@ ghost use Rattle.audit_model.specs.Shape.{IsRightShape};
 ghost use Rattle.audit_model.specs.Faults.{HasNoPageFault};
 ghost use Rattle.audit_model.specs.FirstFault.{IsFirstPageFault};
 ghost use Rattle.page_facts.specs.PageFaults.{HasItsPage, IsFirstFault, IsFirstFaultFrom, IsClean as IsCleanPage};
-ghost use Rattle.faulty_pages.specs.FaultyPages.{AreFaultyPages, AreManyFaulty, AreManyFrom};
+ghost use Rattle.page_facts.specs.FaultyPages.{AreFaultyPages, AreManyFaulty, AreManyFrom};
 ghost use Rattle.cert_maker.specs.Orders.{AreFoundRuns};
 ghost use Rattle.cert_maker.specs.Made.{AreMadeFrom, HasBarePage};
 ghost use Rattle.audit_report.specs.Reports.{IsReport, IsClean, JudgesPages, ReportFits};
@@ -21,11 +21,11 @@ use crate::report::{FullAudit, Report};
 use audit_model::{clean_is_certified, faults_are_unsafe};
 use cert_check::shape;
 use cert_maker::{MadeEntries, Order, find_order, make_over};
-use faulty_pages::{Faults, FaultyPage, HowMany, many_of_pages_are_many};
 use migration_types::{Entry, PageNo, Run, Seq, Session, line_of};
 use page_facts::{
-    Findings, FirstFault, InThreads, Judges, OneThread, PageFault, Question, answer_apart,
-    fault_of, first_of_pages_is_first, is_judged_alone,
+    Faults, FaultyPage, Findings, FirstFault, HowMany, InThreads, Judges, OneThread, PageFault,
+    Question, answer_apart, fault_of, first_of_pages_is_first, is_judged_alone,
+    many_of_pages_are_many,
 };
 use std::alloc::{AllocError, Global};
 use std::marker::Sync;

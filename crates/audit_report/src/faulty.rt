@@ -6,7 +6,7 @@ ghost use Rattle.audit_report.specs.FaultyPagesText.{all_faults_text, faulty_pag
 
 use crate::Report;
 use crate::printing::print_first_line;
-use faulty_pages::FaultyPage;
+use page_facts::FaultyPage;
 use std::alloc::{AllocError, Global};
 use text_lines::{push_keyed, push_keyed_word, push_number};
 

@@ -2,9 +2,8 @@
 
 use cert_check::ShapeFault;
 use cert_maker::{FirstLeft, FoundRuns};
-use faulty_pages::FaultyPage;
 use migration_types::{Cert, Run, Seq};
-use page_facts::PageFault;
+use page_facts::{FaultyPage, PageFault};
 
 /// The report of an audit of a session. A line is one of the session's text, and lines count from 1.
 #[derive(Drop)]

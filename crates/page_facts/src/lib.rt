@@ -5,11 +5,13 @@
 //! handover. [`Judges`] find these facts for all pages, in one pass over each log with the cells of the pages, alone or
 //! by ranges of pages side by side. The findings about a page are not kept. A [`Question`] takes what it wants from
 //! them: [`FirstFault`] takes the first fault of all pages, and [`JudgesEntries`] the first entry of a certificate that
-//! is not right. [`findings_for`] returns the findings about one page, and [`fault_of`] the first fault of a page.
+//! is not right. [`findings_for`] returns the findings about one page, [`fault_of`] the first fault of a page, and
+//! [`faulty_pages`] each page that has a fault, with its first.
 #![tactic(auto)]
 
 mod entries;
 mod facts;
+mod faulty_pages;
 mod findings;
 mod judges;
 mod looks;
@@ -24,6 +26,10 @@ mod range_start;
 mod right_entry;
 
 pub use facts::{PageFacts, facts_of};
+pub use faulty_pages::{
+    Faults, FaultyPage, HowMany, clean_sessions_have_no_faulty_page, faulty_pages,
+    many_of_pages_are_many,
+};
 pub use findings::Findings;
 pub use judges::{InThreads, Judges, JudgesEntries, OneThread, is_judged_alone};
 pub use machine::halt_place;

@@ -4,8 +4,8 @@ ghost use Rattle.std.specs.Prelude.{◌≡◌, ◌++◌, ℕ, List, codes, OnOk}
 ghost use Rattle.report_json.specs.JsonText.{after_commas, faulty_page, listed, run, runs, with_commas};
 
 use crate::fields::{open, push_number_under, push_word_under};
-use faulty_pages::FaultyPage;
 use migration_types::Run;
+use page_facts::FaultyPage;
 use std::alloc::AllocError;
 use text_lines::push_number;
 

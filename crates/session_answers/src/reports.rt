@@ -1,7 +1,7 @@
 //! The report on a session, written in a form.
 
 ghost use Rattle.std.specs.Prelude.{◌≡◌, IfOk};
-ghost use Rattle.faulty_pages.specs.FaultyPages.{AreFaultyPages};
+ghost use Rattle.page_facts.specs.FaultyPages.{AreFaultyPages};
 ghost use Rattle.audit_report.specs.Reports.{IsReport, JudgesPages, ReportFits};
 ghost use Rattle.session_answers.specs.Judged.{Refused, Reported};
 ghost use Rattle.session_answers.specs.Forms.{ArePagesFor, Tells, TellsAllFaults, TellsAllFaultsObject, TellsObject};
@@ -9,9 +9,9 @@ ghost use Rattle.session_answers.specs.Forms.{ArePagesFor, Tells, TellsAllFaults
 use crate::forms::AnswerForm;
 use crate::stories::{object_of_refusal, print_story, print_story_refusal};
 use audit_report::{OwnLines, Report, print_all_faults, print_refused_session};
-use faulty_pages::FaultyPage;
 use judged_texts::print_wanted;
 use migration_types::Session;
+use page_facts::FaultyPage;
 use report_json::{push_all_faults, push_report};
 use std::alloc::{AllocError, Global};
 

@@ -7,8 +7,8 @@ use Rattle.audit_model.specs.declared.reasons.PageReason.{PageReason}
 use Rattle.audit_model.specs.Faults.{IsPageFault}
 use Rattle.page_facts.specs.declared.page_fault.PageFault.{PageFault}
 use Rattle.page_facts.specs.PageFaults.{page_at, IsFirstFault}
-use Rattle.faulty_pages.specs.declared.FaultyPage.{FaultyPage}
-use Rattle.faulty_pages.specs.FaultyPages.{AreFaultyPages}
+use Rattle.page_facts.specs.declared.faulty_pages.FaultyPage.{FaultyPage}
+use Rattle.page_facts.specs.FaultyPages.{AreFaultyPages}
 use Rattle.story_types.specs.declared.faults.FaultStory.{FaultStory}
 use Rattle.story_types.specs.declared.topics.FullPageStory.{FullPageStory}
 use Rattle.story_types.specs.Explained.{IsFaultStory}

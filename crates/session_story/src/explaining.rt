@@ -2,7 +2,7 @@
 
 ghost use Rattle.std.specs.Prelude.{◌≡◌, IfOk};
 ghost use Rattle.audit_model.specs.FirstFault.{IsFirstPageFault};
-ghost use Rattle.faulty_pages.specs.FaultyPages.{AreManyFaulty};
+ghost use Rattle.page_facts.specs.FaultyPages.{AreManyFaulty};
 ghost use Rattle.audit_report.specs.Reports.{IsReport};
 ghost use Rattle.story_facts.specs.Counted.{IsCounts};
 ghost use Rattle.story_types.specs.Explained.{AreMoreFaulty, IsExplanation};

@@ -15,7 +15,7 @@ use Rattle.audit_model.specs.FirstFault.{IsFirstFault, IsFirstPageFault}
 use Rattle.audit_model.specs.Laws.{BreaksAt, UnplacedBefore}
 use Rattle.audit_model.specs.Mergings.{IsMerging}
 use Rattle.audit_model.specs.Shape.{IsRightShape, is_send_of, is_placement_of, passes}
-use Rattle.faulty_pages.specs.FaultyPages.{AreManyFaulty}
+use Rattle.page_facts.specs.FaultyPages.{AreManyFaulty}
 use Rattle.page_facts.specs.declared.findings.Findings.{Findings}
 use Rattle.page_facts.specs.declared.page_fault.PageFault.{PageFault}
 use Rattle.page_facts.specs.Judged.{is_late_touch, releases_at}

@@ -1,7 +1,7 @@
 -- An audit with each page that has a fault, and what is known before the pages are judged.
 use Rattle.migration_types.specs.Sessions.{Recorded}
 use Rattle.audit_model.specs.Shape.{IsRightShape}
-use Rattle.faulty_pages.specs.FaultyPages.{AreFaultyPages}
+use Rattle.page_facts.specs.FaultyPages.{AreFaultyPages}
 use Rattle.cert_maker.specs.Orders.{AreFoundRuns}
 use Rattle.audit_report.specs.Reports.{IsReport, JudgesPages}
 use Rattle.audit_report.specs.declared.report.FullAudit.{FullAudit}

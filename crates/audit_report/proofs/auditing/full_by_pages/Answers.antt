@@ -1,4 +1,4 @@
-use Rattle.faulty_pages.proofs.MorePages.{from_zero}
+use Rattle.page_facts.proofs.MorePages.{from_zero}
 use Rattle.audit_report.proofs.auditing.full_by_pages.Goals as goal
 
 pub returns : goal.returns

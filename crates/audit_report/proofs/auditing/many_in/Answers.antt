@@ -2,8 +2,8 @@ use Rattle.std.proofs.Common.{ℕ, [], refl, arith}
 use Rattle.std.proofs.lemmas.Option.{MatchOption-at_some, MatchOption-at_none}
 use Rattle.migration_types.specs.Sessions.{Recorded}
 use Rattle.page_facts.specs.PageFaults.{IsClean, IsFirstFault}
-use Rattle.faulty_pages.specs.FaultyPages.{AreManyFrom}
-use Rattle.faulty_pages.proofs.MorePages.{many_clean, many_faulty, no_page}
+use Rattle.page_facts.specs.FaultyPages.{AreManyFrom}
+use Rattle.page_facts.proofs.MorePages.{many_clean, many_faulty, no_page}
 use Rattle.audit_report.proofs.auditing.many_in.Goals as goal
 
 none : (s : Recorded) (page : ℕ) → AreManyFrom s page 0 0

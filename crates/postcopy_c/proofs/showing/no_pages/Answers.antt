@@ -1,6 +1,6 @@
 use Rattle.std.proofs.Common.{List, sym, subst}
-use Rattle.faulty_pages.specs.declared.FaultyPage.{FaultyPage}
-use Rattle.faulty_pages.specs.FaultyPages.{AreFaultyPages}
+use Rattle.page_facts.specs.declared.faulty_pages.FaultyPage.{FaultyPage}
+use Rattle.page_facts.specs.FaultyPages.{AreFaultyPages}
 use Rattle.postcopy_c.proofs.showing.no_pages.Goals as goal
 
 pub returns : goal.returns

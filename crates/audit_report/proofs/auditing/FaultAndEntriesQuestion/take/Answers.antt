@@ -1,7 +1,7 @@
 use Rattle.std.proofs.Common.{ℕ, None, subst, arith}
 use Rattle.page_facts.specs.PageFaults.{IsFirstFaultFrom}
 use Rattle.page_facts.proofs.OverPages.{least_more, least_none}
-use Rattle.faulty_pages.specs.FaultyPages.{AreManyFrom}
+use Rattle.page_facts.specs.FaultyPages.{AreManyFrom}
 use Rattle.audit_report.proofs.auditing.FaultAndEntriesQuestion.take.Goals as goal
 
 pub returns : goal.returns

@@ -1,15 +1,14 @@
 //! The pages of a session that have a fault, each with its first fault, and how many such pages there are.
-#![tactic(auto)]
 
 ghost use Rattle.std.specs.Prelude.{⊤, ◌≡◌, ℕ, [], IfOk};
 ghost use Rattle.std.specs.Thread.{IsSync};
 ghost use Rattle.migration_types.specs.Sessions.{IsSession, Recorded};
 ghost use Rattle.audit_model.specs.Faults.{HasNoPageFault};
 ghost use Rattle.page_facts.specs.PageFaults.{IsFirstFault};
-ghost use Rattle.faulty_pages.specs.FaultyPages.{AreFaultyFrom, AreFaultyPages, AreManyFaulty, AreManyFrom, IsFaultyPage};
+ghost use Rattle.page_facts.specs.FaultyPages.{AreFaultyFrom, AreFaultyPages, AreManyFaulty, AreManyFrom, IsFaultyPage};
 
+use crate::{Findings, InThreads, Judges, PageFault, Question, answer_apart, fault_of};
 use migration_types::{PageNo, Session, line_of};
-use page_facts::{Findings, InThreads, Judges, PageFault, Question, answer_apart, fault_of};
 use std::alloc::{AllocError, Global};
 use std::marker::Sync;
 use std::thread::Threads;

@@ -8,8 +8,8 @@ use Rattle.migration_types.specs.Limits.{most_pages}
 use Rattle.migration_types.specs.Sessions.{Recorded, line_of}
 use Rattle.page_facts.specs.declared.page_fault.PageFault.{PageFault}
 use Rattle.page_facts.specs.PageFaults.{IsClean, IsFirstFault}
-use Rattle.faulty_pages.specs.declared.FaultyPage.{FaultyPage}
-use Rattle.faulty_pages.specs.FaultyPages.{AreFaultyBelow, AreFaultyFrom, AreManyFrom, IsFaultyPage}
+use Rattle.page_facts.specs.declared.faulty_pages.FaultyPage.{FaultyPage}
+use Rattle.page_facts.specs.FaultyPages.{AreFaultyBelow, AreFaultyFrom, AreManyFrom, IsFaultyPage}
 
 -- ---- lists one behind the other
 
