@@ -34,7 +34,7 @@ PARTS = {
     "packets": "page_stream",
     "texts": "cert_text guest_script session_log",
     "judges": "audit_report cert_check cert_maker judged_texts merge_runs migration_types::Session migration_types::line_of",
-    "books": "active_push link_book pager_book target_book target_side",
+    "books": "active_push link_book target_side",
     "cores": "session_core",
     "hosts": "host_threads",
 }
@@ -56,9 +56,8 @@ REFUSED = {
     "audit_report": "audit print_report",
     "active_push": "SourceBook::halted SourceBook::push SourceBook::serve SourceBook::tick",
     "link_book": "LinkBook::room LinkBook::turn",
-    "target_side": "GuestBook::new GuestBook::access GuestBook::halt",
-    "target_book": "TargetBook::access",
-    "pager_book": "PagerBook::new PagerBook::pop PagerBook::pull PagerBook::next_fault PagerBook::deliver PagerBook::tick",
+    "target_side": "GuestBook::new GuestBook::access GuestBook::halt TargetBook::access PagerBook::new PagerBook::pop PagerBook::pull "
+                   "PagerBook::next_fault PagerBook::deliver PagerBook::tick",
     "session_core": "Core::start Core::step Core::session run",
     "guest_script": "read_script write_script read_events write_events",
     "host_threads": "migrate migrate_over migrate_tcp",
@@ -79,9 +78,8 @@ NONE = {
     "link_book": "LinkBook::new LinkBook::offer_down LinkBook::offer_up LinkBook::head LinkBook::peek_down LinkBook::peek_up "
                  "LinkBook::pop_down LinkBook::pop_up LinkBook::down_len LinkBook::quiet LinkBook::link_log "
                  "LinkBook::offer_lane LinkBook::lane_len LinkBook::peek_lane LinkBook::pop_lane",
-    "target_side": "GuestBook::guest_log",
-    "target_book": "TargetBook::guest_log TargetBook::geometry TargetBook::into_parts",
-    "pager_book": "PagerBook::pager_log PagerBook::flush PagerBook::next_page",
+    "target_side": "GuestBook::guest_log TargetBook::guest_log TargetBook::geometry TargetBook::into_parts PagerBook::pager_log "
+                   "PagerBook::flush PagerBook::next_page",
 }
 
 # Those that make the growth of a line again, by itself, where it was refused to them among others; or that make it as lines come, where

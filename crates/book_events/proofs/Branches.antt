@@ -3,11 +3,11 @@ use Rattle.std.proofs.Common.{◌≡◌, ℕ, ◌+◌, ◌<◌, ◌≤◌, Bool,
 use Rattle.migration_types.specs.declared.records.PagerRec.TheVariants.{Fault}
 use Rattle.residency.specs.Placements.{is_resident}
 use Rattle.fault_queue.specs.Waiting.{is_asked, is_waiting}
-use Rattle.target_book.specs.TargetPart.{TargetPart, settled as with_settled, resumes, with_zeroed, with_misses}
-use Rattle.target_book.specs.declared.UntakenMiss.{UntakenMiss}
-use Rattle.pager_book.specs.declared.Incoming.{Incoming}
-use Rattle.pager_book.specs.PagerPart.{PagerPart, Paged, settles, is_released, fault_join, fault_new, zeroes, faults, faults_by, next_fault, delivers_next, delivers_by, deliver}
-use Rattle.pager_book.proofs.Settling.{settles_is, next_fault_plain, deliver_plain}
+use Rattle.target_side.specs.TargetPart.{TargetPart, settled as with_settled, resumes, with_zeroed, with_misses}
+use Rattle.target_side.specs.declared.access.UntakenMiss.{UntakenMiss}
+use Rattle.target_side.specs.declared.incoming.Incoming.{Incoming}
+use Rattle.target_side.specs.PagerPart.{PagerPart, Paged, settles, is_released, fault_join, fault_new, zeroes, faults, faults_by, next_fault, delivers_next, delivers_by, deliver}
+use Rattle.target_side.proofs.Settling.{settles_is, next_fault_plain, deliver_plain}
 
 pub either : {A : Type 0} (f : Paged → A) (z : A) (c : Bool) (x y : Paged) → f x ≡ z → f y ≡ z → f (cond c x y) ≡ z
 either f z true x y p q = p

@@ -6,8 +6,8 @@ use Rattle.page_stream.specs.declared.Packet.TheVariants.{State as StatePacket, 
 use Rattle.link_book.specs.LinkPart.{LinkPart, with_back, with_front, with_lane, with_up}
 use Rattle.link_book.specs.declared.Arrival.{Arrival}
 use Rattle.active_push.specs.SourcePart.{SourcePart}
-use Rattle.target_book.specs.TargetPart.{TargetPart}
-use Rattle.pager_book.specs.PagerPart.{PagerPart, Paged, next_fault, deliver}
+use Rattle.target_side.specs.TargetPart.{TargetPart}
+use Rattle.target_side.specs.PagerPart.{PagerPart, Paged, next_fault, deliver}
 use Rattle.migration_model.specs.Books.{BooksAfter}
 use Rattle.book_events.specs.Parts.{pushing, sending, receiving, placing, HasGained, Gains, IsOffered, IsDone, Tells}
 use Rattle.book_events.specs.inner.Offers.{is_page, Carries, HasMore, IsOffer}

@@ -5,11 +5,11 @@ use Rattle.migration_types.specs.Extents.{Extent}
 use Rattle.migration_types.specs.PageSets.{with_page}
 use Rattle.residency.specs.Placements.{is_resident}
 use Rattle.fault_queue.specs.Waiting.{is_asked, is_waiting, without}
-use Rattle.target_book.specs.TargetPart.{TargetPart, settled as with_settled}
-use Rattle.target_book.specs.declared.UntakenMiss.{UntakenMiss}
-use Rattle.pager_book.specs.declared.Incoming.{Incoming}
+use Rattle.target_side.specs.TargetPart.{TargetPart, settled as with_settled}
+use Rattle.target_side.specs.declared.access.UntakenMiss.{UntakenMiss}
+use Rattle.target_side.specs.declared.incoming.Incoming.{Incoming}
 use Rattle.book_events.proofs.Branches.{either}
-use Rattle.pager_book.specs.PagerPart.{PagerPart, Paged, settles, is_released, fault_join, faults, faults_by, next_fault, delivers_next, delivers_by, deliver}
+use Rattle.target_side.specs.PagerPart.{PagerPart, Paged, settles, is_released, fault_join, faults, faults_by, next_fault, delivers_next, delivers_by, deliver}
 
 abbrev IsOn : Extent → Paged → Type 0
 IsOn e r = r.pager.geometry ≡ e

@@ -12,9 +12,9 @@ use Rattle.page_stream.specs.declared.Packet.{Packet}
 use Rattle.link_book.specs.LinkPart.{LinkPart, if_packet, with_back, with_front, with_up, with_pushed, pushed_line}
 use Rattle.link_book.specs.declared.Arrival.{Arrival}
 use Rattle.active_push.specs.SourcePart.{SourcePart, Offer, source_push, source_serve, source_tick}
-use Rattle.target_book.specs.TargetPart.{TargetPart, with_misses, settled as with_settled}
-use Rattle.target_book.specs.declared.UntakenMiss.{UntakenMiss}
-use Rattle.pager_book.specs.PagerPart.{PagerPart, Paged, Sent, settles, is_released, fault_new, fault_join, zeroes, faults, faults_by, next_fault, deliver, flushes, pager_pop, pager_pull, pager_flush, pager_tick}
+use Rattle.target_side.specs.TargetPart.{TargetPart, with_misses, settled as with_settled}
+use Rattle.target_side.specs.declared.access.UntakenMiss.{UntakenMiss}
+use Rattle.target_side.specs.PagerPart.{PagerPart, Paged, Sent, settles, is_released, fault_new, fault_join, zeroes, faults, faults_by, next_fault, deliver, flushes, pager_pop, pager_pull, pager_flush, pager_tick}
 use Rattle.book_events.specs.declared.effect.Effect.TheVariants.{Nothing}
 use Rattle.migration_events.specs.declared.events.Event.{Event}
 use Rattle.migration_events.specs.declared.events.Event.TheVariants.{Push, Serve, SourceTick, PagerPop, PagerPull, PagerFault, PagerFlush, PagerDeliver, PagerTick}

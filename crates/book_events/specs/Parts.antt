@@ -5,8 +5,8 @@ use Rattle.target_side.specs.GuestPart.{GuestPart}
 use Rattle.link_book.specs.LinkPart.{LinkPart, with_back}
 use Rattle.page_stream.specs.declared.Packet.{Packet}
 use Rattle.page_stream.specs.declared.Packet.TheVariants.{Page as PagePacket}
-use Rattle.target_book.specs.TargetPart.{TargetPart, halted_target}
-use Rattle.pager_book.specs.PagerPart.{PagerPart}
+use Rattle.target_side.specs.TargetPart.{TargetPart, halted_target}
+use Rattle.target_side.specs.PagerPart.{PagerPart}
 use Rattle.migration_events.specs.declared.events.Event.{Event}
 use Rattle.migration_events.specs.declared.faults.EventFault.{EventFault}
 use Rattle.migration_events.specs.declared.faults.EventFault.TheVariants.{LogFull, Memory}

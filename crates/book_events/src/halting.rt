@@ -5,15 +5,14 @@ ghost use Rattle.migration_types.specs.Limits.{most_records};
 ghost use Rattle.bubbling.specs.Bubbling.{most_pivots};
 ghost use Rattle.active_push.specs.Books.{part_of as source_of};
 ghost use Rattle.target_side.specs.Guests.{part_of as guest_of};
-ghost use Rattle.target_book.specs.TargetPart.{halted_target};
-ghost use Rattle.target_book.specs.Kept.{geometry_of, part_of as target_of};
+ghost use Rattle.target_side.specs.TargetPart.{halted_target};
+ghost use Rattle.target_side.specs.Kept.{geometry_of, part_of as target_of};
 ghost use Rattle.book_events.specs.Parts.{IsHalt};
 
 use active_push::SourceBook;
 use link_book::LinkBook;
 use migration_events::EventFault;
-use target_book::TargetBook;
-use target_side::GuestBook;
+use target_side::{GuestBook, TargetBook};
 
 /// Carries out Halt, for which each virtual processor must be at its move. The guest's book splits into the source's,
 /// which keeps at most this many pivots, 1 to 16, and the target's, and the packet of the state is offered. The error

@@ -6,9 +6,9 @@ ghost use Rattle.book_events.specs.Logs.{of_guest, lengths_of};
 use active_push::SourceBook;
 use link_book::LinkBook;
 use migration_types::{GuestRec, LOG_COUNT, LaneRec, LinkRec, Logs, PagerRec, Seq, SourceRec};
-use pager_book::PagerBook;
 use std::alloc::{AllocError, Global};
 use std::marker::Model;
+use target_side::PagerBook;
 
 /// The logs of the books, lent.
 #[derive(Drop)]

@@ -2,9 +2,9 @@
 
 ghost use Rattle.std.specs.Prelude.{◌≡◌, ◌⊎◌, ◌<◌, true, false, [], length, Some, is_some, slice_get};
 ghost use Rattle.link_book.specs.declared.Arrival.{Arrival};
-ghost use Rattle.target_book.specs.Kept.{geometry_of, part_of as target_of};
-ghost use Rattle.pager_book.specs.PagerPart.{faults_by, next_fault, delivers_by, deliver};
-ghost use Rattle.pager_book.specs.PagerLists.{part_of, IsPacketOf};
+ghost use Rattle.target_side.specs.Kept.{geometry_of, part_of as target_of};
+ghost use Rattle.target_side.specs.PagerPart.{faults_by, next_fault, delivers_by, deliver};
+ghost use Rattle.target_side.specs.PagerLists.{part_of, IsPacketOf};
 ghost use Rattle.migration_events.specs.declared.events.Event.{Event};
 ghost use Rattle.book_events.specs.Parts.{receiving, placing, ComesTo, LooksFor};
 ghost use Rattle.book_events.specs.inner.Work.{HasFault, HasDelivery};
@@ -12,8 +12,7 @@ ghost use Rattle.book_events.specs.inner.Work.{HasFault, HasDelivery};
 use crate::effect::Effect;
 use link_book::LinkBook;
 use migration_events::EventFault;
-use pager_book::PagerBook;
-use target_book::TargetBook;
+use target_side::{PagerBook, TargetBook};
 
 /// Carries out PagerPop: the pager takes the oldest packet that has arrived, if there is one; it must be one that the
 /// source of such a machine sends. The error is `EventFault::LogFull` exactly when the pager's log has no room for the

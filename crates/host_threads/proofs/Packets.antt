@@ -6,7 +6,7 @@ use Rattle.migration_types.specs.Extents.{Extent}
 use Rattle.page_stream.specs.declared.Packet.{Packet}
 use Rattle.page_stream.specs.declared.Packet.TheVariants.{State, Page, Want, All}
 use Rattle.page_stream.specs.Bytes.{Rises, Fits}
-use Rattle.pager_book.specs.PagerLists.{IsPacketOf}
+use Rattle.target_side.specs.PagerLists.{IsPacketOf}
 
 below : (from limit : ℕ) (pages : List ℕ) → Rises from limit pages → AllByRecursion (λ p. p < limit) pages
 below from limit [] rises = tt

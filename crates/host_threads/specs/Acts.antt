@@ -4,8 +4,8 @@ use Rattle.migration_events.specs.declared.events.Event.{Event}
 use Rattle.guest_script.specs.declared.script.Scenario.{Scenario}
 use Rattle.active_push.specs.Books.{SourceKept, part_of as source_of}
 use Rattle.link_book.specs.Links.{Linked, is_quiet}
-use Rattle.pager_book.specs.PagerLists.{PagerLists, part_of as pager_of}
-use Rattle.target_book.specs.Kept.{Kept, part_of as target_of}
+use Rattle.target_side.specs.PagerLists.{PagerLists, part_of as pager_of}
+use Rattle.target_side.specs.Kept.{Kept, part_of as target_of}
 use Rattle.book_events.specs.Parts.{pushing, sending, receiving, placing}
 use Rattle.host_threads.specs.declared.turns.TurnReport.{TurnReport}
 use Rattle.host_threads.specs.Tries.{source_makes, exchange_makes, attend_makes}

@@ -4,9 +4,9 @@ use Rattle.migration_events.specs.Ops.{answer_of}
 use Rattle.migration_events.specs.declared.ops.Op.{Op}
 use Rattle.guest_script.specs.declared.transcript.Answered.{Answered as AnsweredOp}
 use Rattle.target_side.specs.GuestPart.{GuestPart, guest_access}
-use Rattle.target_book.specs.TargetPart.{TargetPart, Accessed, target_access}
-use Rattle.target_book.specs.declared.Access.{Access}
-use Rattle.target_book.specs.declared.Access.TheVariants.{Done, Missed as Misses, Waiting}
+use Rattle.target_side.specs.TargetPart.{TargetPart, Accessed, target_access}
+use Rattle.target_side.specs.declared.access.Access.{Access}
+use Rattle.target_side.specs.declared.access.Access.TheVariants.{Done, Missed as Misses, Waiting}
 use Rattle.host_threads.specs.declared.vcpu.OpResult.{OpResult}
 use Rattle.host_threads.specs.declared.vcpu.OpResult.TheVariants.{Answered, Missed, Waits, Stops}
 

@@ -3,7 +3,7 @@ use Rattle.std.specs.Prelude.{◌≡◌, ℕ, Option, Some, None}
 use Rattle.active_push.specs.Books.{SourceKept, part_of as source_of}
 use Rattle.target_side.specs.Guests.{part_of as guest_of}
 use Rattle.link_book.specs.LinkPart.{LinkPart}
-use Rattle.target_book.specs.Kept.{part_of as target_of}
+use Rattle.target_side.specs.Kept.{part_of as target_of}
 use Rattle.book_events.specs.Parts.{IsHalt}
 use Rattle.host_threads.specs.declared.side.TargetSide.{TargetSide}
 use Rattle.host_threads.specs.declared.side.TargetSide.TheVariants.{Guest, Moving, Target}

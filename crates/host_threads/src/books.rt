@@ -15,11 +15,10 @@ use guest_script::Script;
 use link_book::LinkBook;
 use migration_types::Logs;
 use page_store::Store;
-use pager_book::PagerBook;
 use std::alloc::{AllocError, Global};
 use std::mem::drop;
 use std::sync::Mutex;
-use target_side::GuestBook;
+use target_side::{GuestBook, PagerBook};
 
 /// Returns the guest's book before the first event. Fails only if memory runs out.
 fn guest_of(alloc: Global, script: &Script) -> Result<GuestBook, AllocError>

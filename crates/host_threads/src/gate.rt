@@ -3,7 +3,7 @@
 ghost use Rattle.std.specs.Prelude.{⊤, ◌≡◌, true};
 
 use migration_types::PageNo;
-use target_book::TargetBook;
+use target_side::TargetBook;
 
 /// A gate: calls that the threads of a run make at some of its moments. Each call may wait, and the thread waits with
 /// it. Only `held` is called while a lock is held, which is the target's.

@@ -4,8 +4,8 @@ ghost use Rattle.std.specs.Prelude.{◌≡◌, true, false, Some, is_some};
 ghost use Rattle.std.specs.Option.{option_map};
 ghost use Rattle.link_book.specs.Links.{arrival, is_quiet};
 ghost use Rattle.link_book.specs.declared.Arrival.{Arrival as Arrived};
-ghost use Rattle.target_book.specs.Kept.{part_of as target_of};
-ghost use Rattle.pager_book.specs.PagerLists.{part_of, IsPacketOf};
+ghost use Rattle.target_side.specs.Kept.{part_of as target_of};
+ghost use Rattle.target_side.specs.PagerLists.{part_of, IsPacketOf};
 ghost use Rattle.book_events.specs.Parts.{receiving, placing};
 ghost use Rattle.host_threads.specs.Tries.{exchange_tries, attend_tries, exchange_makes, attend_makes};
 ghost use Rattle.host_threads.specs.Rounds.{MakesAll};
@@ -25,9 +25,8 @@ use link_book::LinkBook;
 use migration_events::Event;
 use migration_types::{Geometry, PageNo, PagerRec};
 use page_stream::{Packet, fits};
-use pager_book::PagerBook;
 use std::sync::Wait;
-use target_book::TargetBook;
+use target_side::{PagerBook, TargetBook};
 
 /// Returns whether the packet is of the machine.
 fn is_packet_of(geometry: Geometry, packet: &Packet) -> bool

@@ -14,8 +14,8 @@ use active_push::SourceBook;
 use book_events::{Effect, EventFault};
 use link_book::LinkBook;
 use migration_events::Direction;
-use pager_book::PagerBook;
 use std::sync::{Mutex, Wait};
+use target_side::PagerBook;
 
 /// The books, in the order in which their locks are taken, and the bell that wakes the threads.
 #[derive(Drop)]

@@ -8,8 +8,7 @@ use book_events::EventFault;
 use book_events::halting::halt;
 use link_book::LinkBook;
 use std::mem::{self, drop};
-use target_book::TargetBook;
-use target_side::GuestBook;
+use target_side::{GuestBook, TargetBook};
 
 /// The guest's book until the halt, and the target's from then on.
 #[derive(Drop)]

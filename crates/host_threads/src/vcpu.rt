@@ -3,7 +3,7 @@
 ghost use Rattle.std.specs.Prelude.{◌≡◌, ◌≢◌, ◌≤◌, ◌++◌, ℕ, take, length, OnOk};
 ghost use Rattle.migration_events.specs.Ops.{OpFits};
 ghost use Rattle.target_side.specs.Guests.{part_of as guest_of};
-ghost use Rattle.target_book.specs.Kept.{geometry_of, part_of as target_of};
+ghost use Rattle.target_side.specs.Kept.{geometry_of, part_of as target_of};
 ghost use Rattle.host_threads.specs.Operations.{HasDone, IsGuestStep, IsTargetStep};
 
 use crate::bell::ThreadRole;
@@ -16,8 +16,7 @@ use migration_events::Op;
 use migration_types::Seq;
 use std::alloc::Global;
 use std::sync::Wait;
-use target_book::{Access, TargetBook};
-use target_side::GuestBook;
+use target_side::{Access, GuestBook, TargetBook};
 
 /// The result of an operation.
 enum OpResult {

@@ -44,10 +44,10 @@ use Rattle.std.proofs.Common.{Bool, List, None, Option, Some, [], ap, false, inl
 use Rattle.std.proofs.lemmas.Option.{slice_get_within}
 use Rattle.std.specs.List.{AllByRecursion}
 use Rattle.std.specs.Prelude.{is_some, slice_get}
-use Rattle.target_book.specs.TargetPart.{TargetPart}
-use Rattle.target_book.specs.declared.UntakenMiss.{UntakenMiss}
-use Rattle.pager_book.specs.PagerPart.{PagerPart}
-use Rattle.pager_book.specs.declared.Incoming.{Incoming}
+use Rattle.target_side.specs.TargetPart.{TargetPart}
+use Rattle.target_side.specs.declared.access.UntakenMiss.{UntakenMiss}
+use Rattle.target_side.specs.PagerPart.{PagerPart}
+use Rattle.target_side.specs.declared.incoming.Incoming.{Incoming}
 
 -- source record n is the state, or repeats it
 abbrev pub IsStateNumber : Recorded → ℕ → Type 0

@@ -31,11 +31,11 @@ use Rattle.residency.specs.Placements.{is_covered, is_resident}
 use Rattle.std.proofs.Common.{Bool, List, None, Option, Some, [], ap, arith, cond, false, length, subst, suc, true, ℕ, ◌+◌, ◌++◌, ◌||◌, ◌∷◌, ◌≡◌, ◌≤◌}
 use Rattle.std.specs.List.{range_with_len}
 use Rattle.std.specs.Prelude.{nat_lt, slice_get}
-use Rattle.target_book.specs.TargetPart.{Accessed, TargetPart, accesses, does, done_over, frees, lacks, looks, misses_page, resumes, settled as with_settled, target_access, with_misses}
-use Rattle.target_book.specs.declared.Access.TheVariants.{Missed, Waiting}
-use Rattle.target_book.specs.declared.UntakenMiss.{UntakenMiss}
-use Rattle.pager_book.specs.PagerPart.{Paged, PagerPart, Sent, deliver, delivers_by, delivers_next, fault_absent, fault_join, fault_new, faults, faults_by, first_absent, flushes, is_released, next_fault, pager_flush, pager_pop, pager_pull, pager_tick, places, pops_by, pulls_by, settles, takes, ticks, ticks_at, zeroes}
-use Rattle.pager_book.specs.declared.Incoming.{Incoming}
+use Rattle.target_side.specs.TargetPart.{Accessed, TargetPart, accesses, does, done_over, frees, lacks, looks, misses_page, resumes, settled as with_settled, target_access, with_misses}
+use Rattle.target_side.specs.declared.access.Access.TheVariants.{Missed, Waiting}
+use Rattle.target_side.specs.declared.access.UntakenMiss.{UntakenMiss}
+use Rattle.target_side.specs.PagerPart.{Paged, PagerPart, Sent, deliver, delivers_by, delivers_next, fault_absent, fault_join, fault_new, faults, faults_by, first_absent, flushes, is_released, next_fault, pager_flush, pager_pop, pager_pull, pager_tick, places, pops_by, pulls_by, settles, takes, ticks, ticks_at, zeroes}
+use Rattle.target_side.specs.declared.incoming.Incoming.{Incoming}
 
 -- at most two longer
 abbrev pub IsLittleMore : {A : Type 0} → List A → List A → Type 0

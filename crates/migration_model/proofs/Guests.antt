@@ -17,8 +17,8 @@ use Rattle.std.proofs.lemmas.Option.{slice_get_within}
 use Rattle.std.specs.List.{AllByRecursion}
 use Rattle.std.specs.Prelude.{slice_get, slice_set}
 use Rattle.migration_events.specs.Ops.{page_in}
-use Rattle.target_book.specs.TargetPart.{accesses, does, lacks, misses_page}
-use Rattle.target_book.specs.declared.Access.TheVariants.{Missed, Waiting as AccessWaiting}
+use Rattle.target_side.specs.TargetPart.{accesses, does, lacks, misses_page}
+use Rattle.target_side.specs.declared.access.Access.TheVariants.{Missed, Waiting as AccessWaiting}
 use Rattle.migration_events.specs.declared.ops.Op.{Op}
 use Rattle.migration_events.specs.declared.ops.Op.TheVariants.{Read as ReadCell, Release as ReleasePage, Write as WriteCell}
 

@@ -26,7 +26,7 @@ use Rattle.std.proofs.Common.{Bool, List, None, Option, Some, [], ap, cond, fals
 use Rattle.std.proofs.lemmas.Option.{slice_get_within}
 use Rattle.std.specs.List.{AllByRecursion}
 use Rattle.std.specs.Prelude.{slice_get}
-use Rattle.pager_book.specs.PagerPart.{flushes}
+use Rattle.target_side.specs.PagerPart.{flushes}
 
 -- the record that a packet's number names
 abbrev GoesDown : Recorded → ℕ → Type 0

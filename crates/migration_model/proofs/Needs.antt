@@ -18,7 +18,7 @@ use Rattle.page_stream.specs.declared.Packet.TheVariants.{All as AllPacket, Page
 use Rattle.std.proofs.Common.{List, ap, arith, length, subst, suc, sym, zero, ℕ, ◌+◌, ◌<◌, ◌∙◌, ◌≡◌}
 use Rattle.std.proofs.lemmas.List.FromFn.{length-map-range_with_len}
 use Rattle.std.specs.List.{AllByRecursion, range_with_len}
-use Rattle.pager_book.specs.PagerLists.{IsPacketOf}
+use Rattle.target_side.specs.PagerLists.{IsPacketOf}
 
 -- numbers from one on are below its sum with their count
 range_below : (from count bound : ℕ) → from + count ≡ bound → AllByRecursion (λ p. p < bound) (range_with_len from count)

@@ -40,10 +40,10 @@ use Rattle.std.proofs.lemmas.Option.{slice_get_within}
 use Rattle.std.specs.List.{AllByRecursion, filter, range_with_len}
 use Rattle.std.specs.Option.{option_map}
 use Rattle.std.specs.Prelude.{is_some, slice_get, slice_index, ◌+◌, ◌==◌}
-use Rattle.pager_book.specs.PagerPart.{PagerPart, deliver, delivers_at, delivers_by, delivers_next, fault_absent, fault_at, fault_join, fault_new, faults, faults_by, first_absent, is_listed, is_released, next_fault, oldest, places, pops_by, pops_first, pulls_by, takes, ticks, ticks_at, wants_page, zeroes}
-use Rattle.target_book.specs.TargetPart.{resumes}
-use Rattle.pager_book.specs.declared.Incoming.{Incoming}
-use Rattle.target_book.specs.declared.UntakenMiss.{UntakenMiss}
+use Rattle.target_side.specs.PagerPart.{PagerPart, deliver, delivers_at, delivers_by, delivers_next, fault_absent, fault_at, fault_join, fault_new, faults, faults_by, first_absent, is_listed, is_released, next_fault, oldest, places, pops_by, pops_first, pulls_by, takes, ticks, ticks_at, wants_page, zeroes}
+use Rattle.target_side.specs.TargetPart.{resumes}
+use Rattle.target_side.specs.declared.incoming.Incoming.{Incoming}
+use Rattle.target_side.specs.declared.access.UntakenMiss.{UntakenMiss}
 use Rattle.migration_types.specs.Contents.{IsContent}
 
 listed_released : (ledger : Pages) (xs : List ℕ) (p : ℕ) → is_listed p (filter ledger xs) ≡ true → ledger p ≡ true

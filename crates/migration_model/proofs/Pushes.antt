@@ -32,8 +32,8 @@ use Rattle.std.proofs.lemmas.Bool.{eqb-true, leb-true}
 use Rattle.std.proofs.lemmas.Option.{slice_get_within}
 use Rattle.std.specs.List.{AllByRecursion}
 use Rattle.std.specs.Prelude.{is_some, map, ◌==◌}
-use Rattle.target_book.specs.TargetPart.{TargetPart}
-use Rattle.target_book.specs.declared.UntakenMiss.{UntakenMiss}
+use Rattle.target_side.specs.TargetPart.{TargetPart}
+use Rattle.target_side.specs.declared.access.UntakenMiss.{UntakenMiss}
 use Rattle.migration_events.specs.declared.ops.Op.TheVariants.{Read as ReadCell, Release as ReleasePage, Write as WriteCell}
 
 pub with_vcpus : {o : List Name} (vcpus : List Vcpu) (a : BooksAfter) → AwayKept o a → VcpusKept a.version a.source.geometry vcpus → AwayKept o (record a { vcpus = vcpus })

@@ -15,8 +15,8 @@ use Rattle.std.proofs.Common.{Bool, List, [], cond, false, not, refl, subst, tru
 use Rattle.std.proofs.lemmas.Bool.{eqb-true}
 use Rattle.std.specs.List.{AllByRecursion}
 use Rattle.std.specs.Prelude.{is_some, ◌==◌}
-use Rattle.target_book.specs.TargetPart.{settled as with_settled}
-use Rattle.pager_book.specs.PagerPart.{PagerPart, settles}
+use Rattle.target_side.specs.TargetPart.{settled as with_settled}
+use Rattle.target_side.specs.PagerPart.{PagerPart, settles}
 use Rattle.migration_model.proofs.Facts.{Arrives, AwayKept, ChannelKept, DownFact, IsWaitedFor, LaneFact, LinkKept, PagerKept, UpFact, link_kept, released_of}
 
 pub with_link : {o : List Name} (link : LinkPart) (a : BooksAfter) → AwayKept o a → LinkKept (session_after a) (released_of a) link → AwayKept o (record a { link = record link { log = a.link.log; lane_log = a.link.lane_log } })

@@ -16,8 +16,8 @@ use Rattle.link_book.specs.LinkPart.{LinkPart}
 use Rattle.target_side.specs.GuestPart.{GuestPart}
 use Rattle.migration_events.specs.declared.ops.Op.{Op}
 use Rattle.migration_events.specs.Ops.{OpFits, LateOpFits}
-use Rattle.target_book.specs.TargetPart.{TargetPart}
-use Rattle.pager_book.specs.PagerPart.{PagerPart}
+use Rattle.target_side.specs.TargetPart.{TargetPart}
+use Rattle.target_side.specs.PagerPart.{PagerPart}
 
 -- what a virtual processor has left to do, before its move and after it
 pub record Vcpu : Type 0 where

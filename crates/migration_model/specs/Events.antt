@@ -11,10 +11,10 @@ use Rattle.link_book.specs.declared.Arrival.{Arrival}
 use Rattle.active_push.specs.SourcePart.{Offer, state_packet, halted_source, source_push, source_serve, source_tick}
 use Rattle.target_side.specs.GuestPart.{new_guest, guest_access}
 use Rattle.migration_events.specs.declared.ops.Op.{Op}
-use Rattle.target_book.specs.TargetPart.{Accessed, halted_target, target_access}
-use Rattle.target_book.specs.declared.Access.{Access}
-use Rattle.target_book.specs.declared.Access.TheVariants.{Done, Missed, Waiting}
-use Rattle.pager_book.specs.PagerPart.{Paged, Sent, new_pager, pager_pop, pager_pull, next_fault, pager_flush, deliver, pager_tick}
+use Rattle.target_side.specs.TargetPart.{Accessed, halted_target, target_access}
+use Rattle.target_side.specs.declared.access.Access.{Access}
+use Rattle.target_side.specs.declared.access.Access.TheVariants.{Done, Missed, Waiting}
+use Rattle.target_side.specs.PagerPart.{Paged, Sent, new_pager, pager_pop, pager_pull, next_fault, pager_flush, deliver, pager_tick}
 use Rattle.migration_events.specs.declared.events.Event.{Event}
 use Rattle.migration_events.specs.declared.events.Event.TheVariants.{GuestStep, Halt as HaltGuest, Push, Serve, SourceTick, LinkTurn, PagerPop, PagerPull, PagerFault, PagerFlush, PagerDeliver, PagerTick}
 use Rattle.migration_model.specs.Books.{Vcpu, Scripted, BooksBefore, BooksAfter, Books, Before, After, books_before, session_of, Recording, new_names}

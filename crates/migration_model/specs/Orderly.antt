@@ -1,7 +1,7 @@
 -- What the calls on the books require, which a reached core always has.
 use Rattle.std.specs.Prelude.{◌≡◌, Some, slice_get}
 use Rattle.link_book.specs.declared.Arrival.{Arrival}
-use Rattle.pager_book.specs.PagerLists.{IsPacketOf}
+use Rattle.target_side.specs.PagerLists.{IsPacketOf}
 use Rattle.migration_model.specs.Books.{BooksAfter, Books, Before, After}
 
 -- from the halt on, the packets that the pager takes next, from the link and from the lane, are packets of its machine

@@ -31,7 +31,7 @@ use Rattle.page_stream.specs.declared.Packet.{Packet}
 use Rattle.page_stream.specs.declared.Packet.TheVariants.{All as AllPacket, Page as PagePacket, Want as WantPacket}
 use Rattle.active_push.specs.SourcePart.{Offer, SourcePart, halted_source, source_push, source_serve, source_tick}
 use Rattle.target_side.specs.GuestPart.{new_guest}
-use Rattle.pager_book.specs.PagerPart.{deliver}
+use Rattle.target_side.specs.PagerPart.{deliver}
 use Rattle.migration_model.specs.Events.{run, start, step}
 use Rattle.migration_model.specs.Books.{After, Before, Books, Recording, Scripted, Vcpu, session_of}
 

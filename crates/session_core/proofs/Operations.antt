@@ -15,9 +15,9 @@ use Rattle.migration_events.specs.declared.ops.Op.{Op}
 use Rattle.guest_script.specs.declared.vcpus.Vcpu.{Vcpu as Scheduled}
 use Rattle.guest_script.specs.declared.script.Scenario.{Scenario}
 use Rattle.guest_script.specs.Scenarios.{IsScenario, LaneFits, VcpuFits as ScheduledFits}
-use Rattle.target_book.specs.TargetPart.{TargetPart, Accessed, target_access}
-use Rattle.target_book.specs.declared.Access.{Access}
-use Rattle.target_book.specs.declared.Access.TheVariants.{Done, Missed, Waiting}
+use Rattle.target_side.specs.TargetPart.{TargetPart, Accessed, target_access}
+use Rattle.target_side.specs.declared.access.Access.{Access}
+use Rattle.target_side.specs.declared.access.Access.TheVariants.{Done, Missed, Waiting}
 use Rattle.migration_model.specs.Books.{Vcpu, VcpuFits, BooksAfter, IsScript}
 use Rattle.migration_model.specs.Events.{away_step, away_ops, accessed}
 use Rattle.session_core.specs.States.{vcpu_of, scripted_of, LeftFits}

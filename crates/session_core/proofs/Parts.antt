@@ -4,7 +4,7 @@ use Rattle.std.specs.Prelude.{nat_le, Result, OnOk, OnErr}
 use Rattle.std.proofs.lemmas.Bool.{le-leb}
 use Rattle.std.proofs.lemmas.Bool.Decides.{nat_tests}
 use Rattle.migration_types.specs.Limits.{most_records}
-use Rattle.target_book.specs.TargetPart.{Accessed}
+use Rattle.target_side.specs.TargetPart.{Accessed}
 use Rattle.std.specs.Option.{option_map}
 use Rattle.active_push.specs.SourcePart.{SourcePart}
 use Rattle.link_book.specs.LinkPart.{LinkPart}

@@ -9,8 +9,8 @@ use Rattle.guest_script.specs.declared.vcpus.Vcpu.{Vcpu as Scheduled}
 use Rattle.active_push.specs.Books.{SourceKept, part_of as source_of}
 use Rattle.link_book.specs.Links.{Linked}
 use Rattle.target_side.specs.Guests.{GuestKept, part_of as guest_of}
-use Rattle.target_book.specs.Kept.{Kept, part_of as target_of, geometry_of}
-use Rattle.pager_book.specs.PagerLists.{PagerLists, part_of as pager_of}
+use Rattle.target_side.specs.Kept.{Kept, part_of as target_of, geometry_of}
+use Rattle.target_side.specs.PagerLists.{PagerLists, part_of as pager_of}
 use Rattle.migration_model.specs.Books.{Vcpu, Scripted, BooksBefore, BooksAfter, books_before}
 
 -- a virtual processor of the script, as the events see it

@@ -10,17 +10,16 @@ ghost use Rattle.session_core.specs.States.{away_of, IsAfter};
 use crate::CoreFault;
 use crate::remaining::Remaining;
 use active_push::SourceBook;
-use book_events::logs::{LentLogs, logs_of};
 use book_events::{Effect, paging, sending};
+use book_events::logs::{LentLogs, logs_of};
 use guest_script::Script;
 use link_book::LinkBook;
 use migration_events::Event;
 use migration_types::{InitPage, Seq, Session};
-use pager_book::PagerBook;
 use std::alloc::{AllocError, Global};
 use std::marker::Model;
 use std::mem::drop;
-use target_book::{Access, TargetBook};
+use target_side::{Access, PagerBook, TargetBook};
 
 /// A migration from its halt on: the books of the source, the link, the pager and the target, and what each virtual
 /// processor of a script has left to do. Contracts see the script, what is left, and the books.

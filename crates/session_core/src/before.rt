@@ -5,8 +5,8 @@ ghost use Rattle.migration_types.specs.Sessions.{IsSession};
 ghost use Rattle.migration_model.specs.Books.{Before, IsScript, session_of, session_before, session_after};
 ghost use Rattle.migration_model.specs.Events.{start, home_step, home_event, all_at_move, halted, has_room};
 ghost use Rattle.book_events.specs.Logs.{logs_in};
-ghost use Rattle.pager_book.specs.PagerLists.{part_of as pager_of};
-ghost use Rattle.pager_book.specs.PagerPart.{new_pager};
+ghost use Rattle.target_side.specs.PagerLists.{part_of as pager_of};
+ghost use Rattle.target_side.specs.PagerPart.{new_pager};
 ghost use Rattle.session_core.specs.States.{home_of, away_of, scripted_of, IsBefore};
 
 use crate::CoreFault;
@@ -18,11 +18,10 @@ use guest_script::Script;
 use link_book::LinkBook;
 use migration_events::Event;
 use migration_types::Session;
-use pager_book::PagerBook;
 use std::alloc::{AllocError, Global};
 use std::marker::Model;
 use std::mem::drop;
-use target_side::GuestBook;
+use target_side::{GuestBook, PagerBook};
 
 /// A migration before its halt: the guest's book, and what each virtual processor of a script has left to do. Contracts
 /// see the script, what is left, and the guest's book.

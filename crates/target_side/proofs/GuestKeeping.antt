@@ -14,8 +14,8 @@ use Rattle.audit_model.specs.Flat.{flat, in_ledger, cell_after, released_after}
 use Rattle.page_store.specs.Frames.{memory_of}
 use Rattle.flat_machine.specs.Machines.{IsAfter, memory_after, ledger_after}
 use Rattle.flat_machine.specs.declared.machine.Machine.{Machine}
-use Rattle.target_book.specs.History.{IsBeforeHalt}
-use Rattle.target_book.proofs.Logs.{before_end, each_push}
+use Rattle.target_side.specs.History.{IsBeforeHalt}
+use Rattle.target_side.proofs.Logs.{before_end, each_push}
 use Rattle.target_side.specs.GuestPart.{GuestPart, guest_access}
 use Rattle.target_side.specs.Guests.{GuestKept, part_of, guest_session, IsGuestBook}
 use Rattle.target_side.specs.inner.Records.{record_of}

@@ -10,7 +10,7 @@ use Rattle.migration_types.specs.declared.version.Version.TheVariants.{One}
 use Rattle.audit_model.specs.Flat.{flat, in_ledger}
 use Rattle.page_store.specs.Frames.{Frames, memory_of}
 use Rattle.balloon_ledger.specs.Released.{Marks, released}
-use Rattle.target_book.specs.History.{IsBeforeHalt}
+use Rattle.target_side.specs.History.{IsBeforeHalt}
 use Rattle.target_side.specs.GuestPart.{GuestPart}
 
 -- the log, the frames and the released pages

@@ -1,3 +1,9 @@
+pub mod TargetPart
+pub mod History
+pub mod Told
+pub mod Kept
+pub mod PagerPart
+pub mod PagerLists
 pub mod GuestPart
 pub mod Guests
 pub mod inner

@@ -1,1 +1,5 @@
+pub mod States
+pub mod Woven
+pub mod Sound
+pub mod Steps
 pub mod Records

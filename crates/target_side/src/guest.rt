@@ -10,11 +10,12 @@ ghost use Rattle.bubbling.specs.Bubbling.{most_pivots};
 ghost use Rattle.flat_machine.specs.Machines.{IsAfter};
 ghost use Rattle.active_push.specs.SourcePart.{halted_source, state_packet};
 ghost use Rattle.active_push.specs.Books.{part_of as source_of};
-ghost use Rattle.target_book.specs.TargetPart.{halted_target};
-ghost use Rattle.target_book.specs.Kept.{part_of as target_of, geometry_of};
+ghost use Rattle.target_side.specs.TargetPart.{halted_target};
+ghost use Rattle.target_side.specs.Kept.{part_of as target_of, geometry_of};
 ghost use Rattle.target_side.specs.GuestPart.{new_guest, guest_access};
 ghost use Rattle.target_side.specs.inner.Records.{record_of};
 
+use crate::{TargetBook, TargetFault};
 use active_push::SourceBook;
 use balloon_ledger::Ledger;
 use flat_machine::Machine;
@@ -24,7 +25,6 @@ use page_store::Store;
 use page_stream::Packet;
 use std::alloc::{AllocError, Global};
 use std::marker::Model;
-use target_book::{TargetBook, TargetFault};
 
 /// The guest's book: the machine as long as the guest is at the source, and the guest's log of its reads, writes and
 /// releases, at most 1,048,576. The frames are those of one machine that never moved, and the ledger has the pages that

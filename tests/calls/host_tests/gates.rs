@@ -3,7 +3,7 @@
 use host_threads::Gate;
 use migration_types::{GuestRec, PageNo};
 use std::sync::{Mutex, Wait};
-use target_book::TargetBook;
+use target_side::TargetBook;
 
 /// How often a gate looks before it gives up.
 const MOST_LOOKS: u32 = 50_000_000;

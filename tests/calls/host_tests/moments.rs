@@ -8,7 +8,7 @@ use std::alloc::Global;
 use std::net::{Net, TcpListener, TcpStream};
 use std::sync::{Mutex, Wait};
 use std::thread::Threads;
-use target_book::TargetBook;
+use target_side::TargetBook;
 
 /// Two virtual processors that use all of four pages at the target.
 const TWO_USERS: &str = "postcopy-script 1

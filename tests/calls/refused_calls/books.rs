@@ -10,11 +10,9 @@ use migration_events::{Direction, Event, Fate, Op};
 use migration_types::{Contents, Geometry, Logs, PageNo, Seq, Session, Shared, Version};
 use page_store::Store;
 use page_stream::Packet;
-use pager_book::PagerBook;
 use session_log::write_session;
 use std::alloc::Global;
-use target_book::{Access, TargetBook};
-use target_side::GuestBook;
+use target_side::{Access, GuestBook, PagerBook, TargetBook};
 
 /// What each virtual processor has done of its operations before its move, and of those after it.
 #[derive(Clone, Copy)]
@@ -250,7 +248,7 @@ impl<'a> Migration<'a> {
         );
         refuser.right(len == 0);
         let pager = refuser.each(
-            "pager_book::PagerBook::new",
+            "target_side::PagerBook::new",
             || PagerBook::new(alloc, geometry),
             |pager: &PagerBook| !pager.is_ready() && pager.geometry() == geometry,
         )?;
@@ -291,7 +289,7 @@ impl<'a> Migration<'a> {
         };
         let seen = there.seen();
         let access = self.refuser.each_on(
-            "target_book::TargetBook::access",
+            "target_side::TargetBook::access",
             there,
             |there: &mut AtTarget| there.target.access(vcpu, op),
             |there: &AtTarget| there.seen() == seen,
@@ -389,7 +387,7 @@ impl<'a> Migration<'a> {
         };
         let seen = there.seen();
         refuser.each_on(
-            "pager_book::PagerBook::pop",
+            "target_side::PagerBook::pop",
             there,
             |there: &mut AtTarget| there.pager.pop(number, packet),
             |there: &AtTarget| there.seen() == seen,
@@ -405,7 +403,7 @@ impl<'a> Migration<'a> {
     fn fault(&mut self, there: &mut AtTarget) -> Option<()> {
         let seen = there.seen();
         self.refuser.each_on(
-            "pager_book::PagerBook::next_fault",
+            "target_side::PagerBook::next_fault",
             there,
             |there: &mut AtTarget| there.pager.next_fault(&mut there.target),
             |there: &AtTarget| there.seen() == seen,
@@ -415,12 +413,12 @@ impl<'a> Migration<'a> {
     }
 
     fn deliver(&mut self, there: &mut AtTarget) -> Option<()> {
-        let page = self.refuser.none("pager_book::PagerBook::next_page", || {
+        let page = self.refuser.none("target_side::PagerBook::next_page", || {
             there.pager.next_page()
         });
         let seen = there.seen();
         let woken = self.refuser.each_on(
-            "pager_book::PagerBook::deliver",
+            "target_side::PagerBook::deliver",
             there,
             |there: &mut AtTarget| there.pager.deliver(&mut there.target),
             |there: &AtTarget| there.seen() == seen,
@@ -433,7 +431,7 @@ impl<'a> Migration<'a> {
     fn pager_tick(&mut self, there: &mut AtTarget) -> Option<()> {
         let seen = there.seen();
         let packet = self.refuser.each_on(
-            "pager_book::PagerBook::tick",
+            "target_side::PagerBook::tick",
             there,
             |there: &mut AtTarget| there.pager.tick(),
             |there: &AtTarget| there.seen() == seen,
@@ -446,7 +444,7 @@ impl<'a> Migration<'a> {
     }
 
     fn flush(&mut self, there: &mut AtTarget) -> Option<()> {
-        let name = "pager_book::PagerBook::flush";
+        let name = "target_side::PagerBook::flush";
         match self.refuser.none(name, || there.pager.flush()) {
             Some(packet) => offer_up(self.refuser, &mut self.link, packet),
             None => Some(()),
@@ -488,11 +486,11 @@ impl<'a> Migration<'a> {
 fn looked_at(refuser: Refuser, after: &After, link: &LinkBook) -> [usize; 4] {
     let AtTarget { pager, target } = &after.there;
     let guest = refuser.none(
-        "target_book::TargetBook::guest_log",
+        "target_side::TargetBook::guest_log",
         || target.guest_log().len(),
     );
     let pager = refuser.none(
-        "pager_book::PagerBook::pager_log",
+        "target_side::PagerBook::pager_log",
         || pager.pager_log().len(),
     );
     let source = refuser.none("active_push::SourceBook::source_log", || {
@@ -509,7 +507,7 @@ fn looked_at(refuser: Refuser, after: &After, link: &LinkBook) -> [usize; 4] {
         after.source.geometry()
     });
     refuser.right(geometry == target.geometry());
-    let geometry = refuser.none("target_book::TargetBook::geometry", || target.geometry());
+    let geometry = refuser.none("target_side::TargetBook::geometry", || target.geometry());
     refuser.right(geometry == after.there.pager.geometry());
     let link = refuser.none("link_book::LinkBook::link_log", || link.link_log().len());
     [guest, source, link, pager]
@@ -521,7 +519,7 @@ fn session_of(refuser: Refuser, script: &Script, after: After, link: LinkBook) -
     let lens = looked_at(refuser, &after, &link);
     let After { source, there } = after;
     let AtTarget { pager, target } = there;
-    let (guest, _frames) = refuser.none("target_book::TargetBook::into_parts", || {
+    let (guest, _frames) = refuser.none("target_side::TargetBook::into_parts", || {
         target.into_parts()
     });
     let (link, lane) = link.into_logs();
@@ -634,7 +632,7 @@ fn pulled(refuser: Refuser, link: &LinkBook) -> Option<()> {
     let len = pager.pager_log().len();
     let (number, packet) = link.peek_lane()?;
     refuser.each_on(
-        "pager_book::PagerBook::pull",
+        "target_side::PagerBook::pull",
         &mut pager,
         |pager: &mut PagerBook| pager.pull(number, packet),
         |pager: &PagerBook| pager.pager_log().len() == len && pager.next_page().is_none(),

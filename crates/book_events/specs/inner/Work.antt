@@ -1,7 +1,7 @@
 -- When there is something to do on the pager's and the target's books.
 use Rattle.std.specs.Prelude.{◌≡◌, ◌<◌, ◌⊎◌, true, false, length, is_some}
-use Rattle.target_book.specs.TargetPart.{TargetPart}
-use Rattle.pager_book.specs.PagerPart.{PagerPart}
+use Rattle.target_side.specs.TargetPart.{TargetPart}
+use Rattle.target_side.specs.PagerPart.{PagerPart}
 
 -- there is a page to cancel, or a miss that the pager may take
 abbrev pub HasFault : PagerPart → TargetPart → Type 0

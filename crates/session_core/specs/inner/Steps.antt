@@ -1,9 +1,9 @@
 -- The next operation of a virtual processor, with what is left after it.
 use Rattle.std.specs.Prelude.{ℕ, slice_set, List, [], ◌∷◌, Option, Some, None}
 use Rattle.migration_events.specs.declared.ops.Op.{Op}
-use Rattle.target_book.specs.declared.Access.{Access}
-use Rattle.target_book.specs.declared.Access.TheVariants.{Done, Missed, Waiting}
-use Rattle.target_book.specs.TargetPart.{Accessed}
+use Rattle.target_side.specs.declared.access.Access.{Access}
+use Rattle.target_side.specs.declared.access.Access.TheVariants.{Done, Missed, Waiting}
+use Rattle.target_side.specs.TargetPart.{Accessed}
 use Rattle.migration_model.specs.Books.{Vcpu, BooksAfter}
 
 pub record Next : Type 0 where

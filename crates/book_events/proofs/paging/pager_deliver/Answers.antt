@@ -1,7 +1,7 @@
 use Rattle.std.proofs.Common.{rules, ap, ◌∙◌}
-use Rattle.target_book.specs.Kept.{part_of as target_of}
-use Rattle.pager_book.specs.PagerLists.{part_of}
-use Rattle.pager_book.specs.PagerPart.{Paged}
+use Rattle.target_side.specs.Kept.{part_of as target_of}
+use Rattle.target_side.specs.PagerLists.{part_of}
+use Rattle.target_side.specs.PagerPart.{Paged}
 use Rattle.book_events.proofs.Done.{deliver_done}
 use Rattle.book_events.proofs.Machines.{deliver_on}
 use Rattle.book_events.proofs.paging.pager_deliver.Goals as goal

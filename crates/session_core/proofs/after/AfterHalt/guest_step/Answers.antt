@@ -1,9 +1,9 @@
 use Rattle.std.proofs.Common.{◌≡◌, ◌∙◌, inl, inr, ℕ, sym, ap}
 use Rattle.std.specs.Prelude.{slice_get}
-use Rattle.target_book.specs.declared.Access.{Access}
-use Rattle.target_book.specs.declared.Access.TheVariants.{Done, Missed}
-use Rattle.target_book.specs.TargetPart.{Accessed}
-use Rattle.target_book.specs.Kept.{part_of as target_of}
+use Rattle.target_side.specs.declared.access.Access.{Access}
+use Rattle.target_side.specs.declared.access.Access.TheVariants.{Done, Missed}
+use Rattle.target_side.specs.TargetPart.{Accessed}
+use Rattle.target_side.specs.Kept.{part_of as target_of}
 use Rattle.migration_model.specs.Books.{BooksAfter}
 use Rattle.migration_model.specs.Events.{away_step}
 use Rattle.session_core.specs.States.{AfterLists, away_of}

@@ -1,6 +1,6 @@
 use Rattle.std.proofs.Common.{◌≡◌, true, false, refl, sym, subst}
 use Rattle.std.specs.Prelude.{slice_get}
-use Rattle.target_book.specs.TargetPart.{target_access}
+use Rattle.target_side.specs.TargetPart.{target_access}
 use Rattle.migration_model.specs.Books.{BooksAfter, session_after}
 use Rattle.migration_model.specs.Events.{away_step, has_room}
 use Rattle.session_core.specs.States.{AfterLists, away_of}

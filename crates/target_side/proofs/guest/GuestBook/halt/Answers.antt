@@ -1,6 +1,6 @@
 use Rattle.std.proofs.Common.{◌≡◌, ◌∙◌, sym, ap, subst, arith}
 use Rattle.std.proofs.lemmas.Grind.{common_steps}
-use Rattle.target_book.specs.TargetPart.{TargetPart}
+use Rattle.target_side.specs.TargetPart.{TargetPart}
 use Rattle.target_side.specs.Guests.{IsGuestBook}
 use Rattle.target_side.proofs.guest.GuestBook.halt.Goals as goal
 

@@ -1,3 +1,0 @@
-pub mod inner
-pub mod PagerPart
-pub mod PagerLists

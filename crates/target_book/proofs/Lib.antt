@@ -1,7 +1,0 @@
-mod Parts
-mod Weaves
-pub mod Logs
-mod Histories
-mod TargetKeeping
-mod Targets
-mod Told

@@ -1,5 +1,0 @@
-pub mod inner
-pub mod TargetPart
-pub mod History
-pub mod Told
-pub mod Kept
