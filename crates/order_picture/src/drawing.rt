@@ -16,8 +16,8 @@ use crate::words::{LINES, push_records, push_title};
 use merge_runs::TakenCounts;
 use migration_types::LogName;
 use picture_plan::{ArrowKind, BoxKind, Label, Obstacle, Seat};
+use session_story::Name;
 use std::alloc::{AllocError, Global};
-use story_facts::Name;
 use text_lines::push_number;
 
 /// An arrow from one record to another.

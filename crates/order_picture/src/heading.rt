@@ -13,9 +13,9 @@ use crate::words::{push_facts, push_order};
 use audit_report::{OwnLines, Report, push_first_line};
 use migration_types::Session;
 use picture_plan::{OrderShown, Shape};
+use session_story::TopicStory;
 use std::alloc::{AllocError, Global};
 use story_sentences::told_first;
-use story_types::TopicStory;
 use story_words::{English, push_sentences};
 
 /// The number of first sentences of the story in a heading.

@@ -5,9 +5,8 @@ use crate::heading::Subject;
 use crate::words::RIGHT_VALUE;
 use migration_types::{Field, GuestRec, LogName, Session};
 use picture_plan::Label;
+use session_story::{Amended, Name, amended_by};
 use std::alloc::AllocError;
-use story_facts::Name;
-use story_types::{Amended, amended_by};
 use text_lines::push_number;
 
 /// Appends a field: a page as in " p1", a cell as in "[0]", a value as in " = 9", and a record as in " guest 5".

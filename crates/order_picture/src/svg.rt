@@ -17,8 +17,8 @@ use crate::style::{COLUMNS_LEFT, DARK_COLOURS, FONT, FONTS, LEGEND_GAP, PAPER, h
 use audit_report::{Report, push_first_line};
 use migration_types::{LOG_COUNT, Run, Session, Topic};
 use picture_plan::{Picture, Seat, Shape, Shown, picture_shapes};
+use session_story::TopicStory;
 use std::alloc::{AllocError, Global};
-use story_types::TopicStory;
 use text_lines::push_number;
 
 const OPENING: &[u8] = b"<svg ";

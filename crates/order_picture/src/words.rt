@@ -5,8 +5,8 @@ use crate::heading::Subject;
 use merge_runs::{TakenCounts, all_of};
 use migration_types::{Session, logs};
 use picture_plan::{Obstacle, OrderShown, Sign, tie_of};
+use session_story::Name;
 use std::alloc::{AllocError, Global};
-use story_facts::Name;
 use story_words::{push_record, push_wait};
 use text_lines::push_number;
 

@@ -13,7 +13,7 @@ use Rattle.merge_runs.proofs.Walking.{walks_front, walk_back, walks_run, spelled
 use Rattle.picture_plan.specs.declared.focus.Mark.TheVariants.{Faulty, Concerned, OfPage, Plain}
 use Rattle.picture_plan.specs.declared.focus.Focus.{Focus}
 use Rattle.picture_plan.specs.Rows.{is_faulty}
-use Rattle.story_facts.specs.Subjects.{page_of}
+use Rattle.session_story.specs.Subjects.{page_of}
 use Rattle.picture_plan.specs.Marks.{is_one, is_page, mark_of}
 
 -- one name more of a run

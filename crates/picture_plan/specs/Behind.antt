@@ -8,12 +8,12 @@ use Rattle.audit_model.specs.Names.{log_length, receipt}
 use Rattle.audit_model.specs.Mergings.{run_names}
 use Rattle.audit_model.specs.FoundOrder.{is_received}
 use Rattle.merge_runs.specs.Taken.{cursors_of}
-use Rattle.story_types.specs.declared.explaining.Explanation.TheVariants as explained
-use Rattle.story_types.specs.declared.topics.TopicStory.{TopicStory}
-use Rattle.story_types.specs.declared.topics.TopicStory.TheVariants as told
-use Rattle.story_types.specs.declared.waits.Knot.{Knot}
-use Rattle.story_types.specs.declared.waits.Waiting.{Waiting}
-use Rattle.story_types.specs.Waits.{next_in}
+use Rattle.session_story.specs.declared.explanations.Explanation.TheVariants as explained
+use Rattle.session_story.specs.declared.topic_stories.TopicStory.{TopicStory}
+use Rattle.session_story.specs.declared.topic_stories.TopicStory.TheVariants as told
+use Rattle.session_story.specs.declared.knots.Knot.{Knot}
+use Rattle.session_story.specs.declared.knots.Waiting.{Waiting}
+use Rattle.session_story.specs.Waits.{next_in}
 use Rattle.picture_plan.specs.declared.behind.Obstacle.{Obstacle}
 use Rattle.picture_plan.specs.declared.behind.Obstacle.TheVariants.{Waits, NotSent, Unhindered}
 use Rattle.picture_plan.specs.declared.behind.Tie.{Tie}

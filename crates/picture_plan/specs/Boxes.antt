@@ -4,7 +4,7 @@ use Rattle.std.specs.List.{enumerate_from}
 use Rattle.migration_types.specs.Receipts.{Name}
 use Rattle.migration_types.specs.Sessions.{Recorded, line_of}
 use Rattle.audit_model.specs.Names.{log_length}
-use Rattle.story_types.specs.declared.amends.Amended.{Amended}
+use Rattle.session_story.specs.declared.amends.Amended.{Amended}
 use Rattle.picture_plan.specs.declared.boxes.BoxKind.{BoxKind}
 use Rattle.picture_plan.specs.declared.boxes.BoxKind.TheVariants as kind
 use Rattle.picture_plan.specs.declared.behind.Obstacle.TheVariants.{Nothing}

@@ -2,9 +2,9 @@
 use Rattle.std.specs.Prelude.{ℕ, Option, Some, None, if◌then◌else◌}
 use Rattle.audit_report.specs.declared.report.Report.{Report}
 use Rattle.audit_report.specs.declared.report.Report.TheVariants as report
-use Rattle.story_types.specs.declared.topics.TopicStory.{TopicStory}
-use Rattle.story_types.specs.declared.topics.TopicStory.TheVariants as told
-use Rattle.story_types.specs.Amended.{is_always_wrong}
+use Rattle.session_story.specs.declared.topic_stories.TopicStory.{TopicStory}
+use Rattle.session_story.specs.declared.topic_stories.TopicStory.TheVariants as told
+use Rattle.session_story.specs.Amended.{is_always_wrong}
 use Rattle.picture_plan.specs.declared.headings.OrderShown.{OrderShown}
 use Rattle.picture_plan.specs.declared.headings.OrderShown.TheVariants.{EveryOrder, OneOrder, FirstFault, Found, FoundPart, Given, GivenPart}
 use Rattle.picture_plan.specs.declared.headings.Shown.{Shown}

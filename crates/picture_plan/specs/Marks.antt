@@ -3,7 +3,7 @@ use Rattle.std.specs.Prelude.{ℕ, Bool, false, Option, Some, None, ◌==◌, �
 use Rattle.migration_types.specs.Receipts.{Name}
 use Rattle.migration_types.specs.Sessions.{Recorded}
 use Rattle.audit_model.specs.Names.{same_log}
-use Rattle.story_facts.specs.Subjects.{page_of}
+use Rattle.session_story.specs.Subjects.{page_of}
 use Rattle.picture_plan.specs.declared.focus.Focus.{Focus}
 use Rattle.picture_plan.specs.declared.focus.Mark.{Mark}
 use Rattle.picture_plan.specs.declared.focus.Mark.TheVariants.{Faulty, Concerned, OfPage, Plain}

@@ -11,14 +11,14 @@ use Rattle.audit_model.specs.FoundOrder.{IsFoundOrder}
 use Rattle.audit_report.specs.declared.report.Report.{Report}
 use Rattle.audit_report.specs.declared.report.Report.TheVariants as report
 use Rattle.merge_runs.specs.Taken.{cursors_of}
-use Rattle.story_types.specs.declared.faults.FaultStory.{FaultStory}
-use Rattle.story_types.specs.declared.topics.FullPageStory.{FullPageStory}
-use Rattle.story_types.specs.declared.topics.TopicStory.{TopicStory}
-use Rattle.story_types.specs.declared.topics.TopicStory.TheVariants as told
+use Rattle.session_story.specs.declared.fault_stories.FaultStory.{FaultStory}
+use Rattle.session_story.specs.declared.topic_stories.FullPageStory.{FullPageStory}
+use Rattle.session_story.specs.declared.topic_stories.TopicStory.{TopicStory}
+use Rattle.session_story.specs.declared.topic_stories.TopicStory.TheVariants as told
 use Rattle.migration_types.specs.declared.topic.Topic.{Topic}
-use Rattle.story_types.specs.Concerned.{concerned_of}
-use Rattle.story_facts.specs.Subjects.{page_of}
-use Rattle.story_types.specs.Topics.{IsTold, fault_in, page_in}
+use Rattle.session_story.specs.Concerned.{concerned_of}
+use Rattle.session_story.specs.Subjects.{page_of}
+use Rattle.session_story.specs.Topics.{IsTold, fault_in, page_in}
 use Rattle.picture_plan.specs.declared.focus.Focus.{Focus}
 use Rattle.picture_plan.specs.declared.picture.Picture.{Picture}
 use Rattle.picture_plan.specs.Marks.{is_one, mark_of}

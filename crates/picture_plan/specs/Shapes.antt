@@ -5,7 +5,7 @@ use Rattle.migration_types.specs.declared.records.LogName.TheVariants.{Lane}
 use Rattle.migration_types.specs.Receipts.{Name, logs}
 use Rattle.migration_types.specs.Sessions.{Recorded}
 use Rattle.audit_report.specs.declared.report.Report.{Report}
-use Rattle.story_types.specs.Amended.{amended_by}
+use Rattle.session_story.specs.Amended.{amended_by}
 use Rattle.picture_plan.specs.declared.headings.Shown.{Shown}
 use Rattle.picture_plan.specs.declared.picture.Picture.{Picture}
 use Rattle.picture_plan.specs.declared.shapes.Shape.{Shape}

@@ -12,8 +12,8 @@ use crate::picture::{Picture, PictureRow, row_receipt};
 use crate::records::is_one;
 use crate::shapes::Shape;
 use migration_types::{LogName, Session};
+use session_story::Name;
 use std::alloc::AllocError;
-use story_facts::Name;
 
 /// The place of a record's box: its row, and its log's column.
 #[derive(Clone, Copy)]

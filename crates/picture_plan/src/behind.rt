@@ -8,9 +8,8 @@ use crate::boxes::BoxKind;
 use crate::picture::Picture;
 use crate::records::is_one;
 use migration_types::{LogName, Session, logs};
+use session_story::{Explanation, Knot, Name, TopicStory, Waiting};
 use std::alloc::{AllocError, Global};
-use story_facts::Name;
-use story_types::{Explanation, Knot, TopicStory, Waiting};
 
 /// A record that waits for another waiting record.
 #[derive(Clone, Copy)]

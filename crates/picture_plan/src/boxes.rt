@@ -9,9 +9,8 @@ use crate::focus::Mark;
 use crate::picture::{Picture, PictureRow};
 use crate::shapes::Shape;
 use migration_types::{Session, line_of};
+use session_story::{Amended, Name};
 use std::alloc::AllocError;
-use story_facts::Name;
-use story_types::Amended;
 
 /// What the box of a record says about it.
 #[derive(Clone, Copy)]

@@ -1,15 +1,14 @@
 //! What a picture is about: a faulty record, what its fault concerns, and a page.
 
 ghost use Rattle.std.specs.Prelude.{◌≡◌, option_and_then};
-ghost use Rattle.story_facts.specs.Subjects.{page_of};
+ghost use Rattle.session_story.specs.Subjects.{page_of};
 ghost use Rattle.picture_plan.specs.Marks.{is_page, mark_of};
 ghost use Rattle.picture_plan.specs.Pictures.{fault_for, fault_of, faulty_in, number_in, page_for, IsFocus};
 
 use crate::records::is_one;
 use audit_report::Report;
 use migration_types::{PageNo, Session};
-use story_facts::{Name, page_of};
-use story_types::{FaultStory, FullPageStory, TopicStory, concerned_of};
+use session_story::{FaultStory, FullPageStory, Name, TopicStory, concerned_of, page_of};
 
 /// Why a record stands out.
 #[derive(Clone, Copy)]

@@ -5,7 +5,7 @@ ghost use Rattle.picture_plan.specs.Headings.{faulty_order, found_order, given_o
 
 use crate::picture::Picture;
 use audit_report::Report;
-use story_types::{TopicStory, is_always_wrong};
+use session_story::{TopicStory, is_always_wrong};
 
 /// Which order a picture shows.
 #[derive(Clone, Copy)]

@@ -6,9 +6,8 @@
 use crate::focus::{Focus, Mark, mark_of};
 use crate::rows::Certain;
 use migration_types::{GuestRec, LOG_COUNT, LogName, Run, Session, logs};
+use session_story::{Name, TopicStory, tells_of};
 use std::alloc::{AllocError, Global};
-use story_facts::Name;
-use story_types::{TopicStory, tells_of};
 
 /// How many are kept at each end of the order.
 const MOST_AT_ENDS: usize = 8;

@@ -10,8 +10,8 @@ ghost use Rattle.picture_plan.specs.OrderParts.{IsOrderPart};
 use audit_model::mergings_are_walks;
 use merge_runs::{TakenCounts, first_bad_run};
 use migration_types::{LogName, Run, Session};
+use session_story::Name;
 use std::alloc::{AllocError, Global};
-use story_facts::Name;
 
 /// The records of an order, and how many of each log there are.
 #[derive(Drop)]

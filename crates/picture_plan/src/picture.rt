@@ -7,7 +7,7 @@ ghost use Rattle.picture_plan.specs.Marks.{is_one, mark_of};
 ghost use Rattle.picture_plan.specs.Rows.{Covers, HasCertain, is_row_of, row_receipt, sender_of, shows_fault};
 ghost use Rattle.picture_plan.specs.Pictures.{IsPictureOf};
 ghost use Rattle.picture_plan.specs.inner.Along.{AreRowsAlong};
-ghost use Rattle.story_types.specs.Topics.{IsTold};
+ghost use Rattle.session_story.specs.Topics.{IsTold};
 
 use crate::focus::{Focus, Mark, focus_of};
 use crate::keeping::{Keeping, kept_in};
@@ -17,9 +17,8 @@ use crate::rows::{Certain, rows_of};
 use audit_report::Report;
 use merge_runs::TakenCounts;
 use migration_types::{GuestRec, LogName, Run, Session};
+use session_story::{Name, TopicStory};
 use std::alloc::{AllocError, Global};
-use story_facts::Name;
-use story_types::TopicStory;
 
 /// The greatest number of rows in a picture.
 pub const MOST_ROWS: usize = 203;

@@ -3,7 +3,7 @@
 ghost use Rattle.std.specs.Prelude.{◌≡◌};
 ghost use Rattle.picture_plan.specs.Marks.{is_one};
 
-use story_facts::Name;
+use session_story::Name;
 
 /// Returns whether the name is this one, if there is one.
 pub(crate) fn is_one(one: Option<Name>, name: Name) -> bool

@@ -15,8 +15,8 @@ use crate::picture::PictureRow;
 use crate::records::is_one;
 use merge_runs::TakenCounts;
 use migration_types::{LogName, Session};
+use session_story::Name;
 use std::alloc::{AllocError, Global};
-use story_facts::Name;
 
 /// The greatest number of rows besides those of the faulty record, of its neighbours and of the record that its fault
 /// concerns, the folds before each of these, and the fold at the end.

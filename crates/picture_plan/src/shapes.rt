@@ -14,9 +14,8 @@ use crate::signs::{Sign, signs_in};
 use audit_report::Report;
 use merge_runs::TakenCounts;
 use migration_types::{LogName, Session, logs};
+use session_story::{Name, amended_by};
 use std::alloc::{AllocError, Global};
-use story_facts::Name;
-use story_types::amended_by;
 
 /// A shape of a picture. Rows count from 0.
 #[derive(Clone, Copy)]

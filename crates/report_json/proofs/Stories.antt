@@ -10,18 +10,18 @@ use Rattle.audit_model.specs.Names.{if_there}
 use Rattle.page_facts.specs.PageFaults.{page_at, IsClean}
 use Rattle.audit_report.specs.declared.report.Report.{Report}
 use Rattle.audit_report.specs.declared.report.Report.TheVariants as report
-use Rattle.story_types.specs.Explained.{IsExplanation}
-use Rattle.story_facts.specs.Subjects.{page_of}
-use Rattle.story_types.specs.Topics.{IsFirstFaultStory, IsTold, IsToldOfItsPage, IsToldOfLine, IsToldOfPage, fault_in, fault_of_page, fault_reported, page_of_line}
-use Rattle.story_types.specs.declared.explaining.Explanation.{Explanation}
-use Rattle.story_types.specs.declared.explaining.Explanation.TheVariants as explained
-use Rattle.story_types.specs.declared.faults.FaultStory.{FaultStory}
-use Rattle.story_types.specs.declared.topics.FullPageStory.{FullPageStory}
-use Rattle.story_types.specs.declared.topics.LineStory.{LineStory}
+use Rattle.session_story.specs.Explained.{IsExplanation}
+use Rattle.session_story.specs.Subjects.{page_of}
+use Rattle.session_story.specs.Topics.{IsFirstFaultStory, IsTold, IsToldOfItsPage, IsToldOfLine, IsToldOfPage, fault_in, fault_of_page, fault_reported, page_of_line}
+use Rattle.session_story.specs.declared.explanations.Explanation.{Explanation}
+use Rattle.session_story.specs.declared.explanations.Explanation.TheVariants as explained
+use Rattle.session_story.specs.declared.fault_stories.FaultStory.{FaultStory}
+use Rattle.session_story.specs.declared.topic_stories.FullPageStory.{FullPageStory}
+use Rattle.session_story.specs.declared.topic_stories.LineStory.{LineStory}
 use Rattle.migration_types.specs.declared.topic.Topic.{Topic}
 use Rattle.migration_types.specs.declared.topic.Topic.TheVariants as topic
-use Rattle.story_types.specs.declared.topics.TopicStory.{TopicStory}
-use Rattle.story_types.specs.declared.topics.TopicStory.TheVariants as told
+use Rattle.session_story.specs.declared.topic_stories.TopicStory.{TopicStory}
+use Rattle.session_story.specs.declared.topic_stories.TopicStory.TheVariants as told
 use Rattle.report_json.specs.inner.Faults.{IsFaultThere}
 
 record_there : {A : Type 0} (page_of : A → Option ℕ) (log : List A) (n p : ℕ) → if_there page_of (slice_get log n) ≡ Some p → n < length log

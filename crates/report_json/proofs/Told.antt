@@ -4,7 +4,7 @@ use Rattle.std.proofs.lemmas.Bool.{lt-ltb, le-ltb}
 use Rattle.std.proofs.lemmas.List.{append-nil}
 use Rattle.migration_types.specs.declared.records.LogName.{LogName}
 use Rattle.migration_types.specs.Sessions.{Recorded, line_of, log_length}
-use Rattle.story_facts.specs.Places.{IsAtLineOf}
+use Rattle.session_story.specs.Places.{IsAtLineOf}
 use Rattle.report_json.specs.declared.records.Role.{Role}
 use Rattle.report_json.specs.declared.records.ToldRecord.{ToldRecord}
 use Rattle.report_json.specs.RecordsText.{told}

@@ -2,9 +2,9 @@
 use Rattle.std.specs.Prelude.{ℕ, nat_lt, List, [], ◌++◌, Option, Some, None, codes, if◌then◌else◌}
 use Rattle.migration_types.specs.Receipts.{Name}
 use Rattle.migration_types.specs.Sessions.{Recorded, line_of, log_length}
-use Rattle.story_types.specs.Causes.{kind_word}
-use Rattle.story_types.specs.declared.causes.Cause.{Cause}
-use Rattle.story_types.specs.declared.causes.CauseKind.{CauseKind}
+use Rattle.session_story.specs.Causes.{kind_word}
+use Rattle.session_story.specs.declared.causes.Cause.{Cause}
+use Rattle.session_story.specs.declared.causes.CauseKind.{CauseKind}
 use Rattle.report_json.specs.JsonText.{opened, record_at, record_in}
 
 -- the line of a record, mapped, if the session has the record

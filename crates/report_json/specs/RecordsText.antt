@@ -5,18 +5,18 @@ use Rattle.migration_types.specs.declared.records.LogName.{LogName}
 use Rattle.migration_types.specs.declared.records.LogName.TheVariants.{Guest, Source, Link, Lane, Pager}
 use Rattle.migration_types.specs.Receipts.{log_word}
 use Rattle.migration_types.specs.Sessions.{Recorded, line_of, log_length}
-use Rattle.story_types.specs.declared.explaining.Explanation.{Explanation}
-use Rattle.story_types.specs.declared.explaining.Explanation.TheVariants as story
-use Rattle.story_types.specs.declared.faults.FaultStory.{FaultStory}
-use Rattle.story_types.specs.declared.faults.ShapeStory.{ShapeStory}
-use Rattle.story_facts.specs.declared.pages.Handover.{Handover}
-use Rattle.story_facts.specs.declared.pages.PageStory.{PageStory}
-use Rattle.story_types.specs.declared.topics.FullPageStory.{FullPageStory}
-use Rattle.story_types.specs.declared.topics.LineStory.{LineStory}
-use Rattle.story_types.specs.declared.topics.TopicStory.{TopicStory}
-use Rattle.story_types.specs.declared.topics.TopicStory.TheVariants as topic
-use Rattle.story_types.specs.declared.waits.Waiting.{Waiting}
-use Rattle.story_types.specs.Concerned.{resumed_by}
+use Rattle.session_story.specs.declared.explanations.Explanation.{Explanation}
+use Rattle.session_story.specs.declared.explanations.Explanation.TheVariants as story
+use Rattle.session_story.specs.declared.fault_stories.FaultStory.{FaultStory}
+use Rattle.session_story.specs.declared.fault_stories.ShapeStory.{ShapeStory}
+use Rattle.session_story.specs.declared.pages.Handover.{Handover}
+use Rattle.session_story.specs.declared.pages.PageStory.{PageStory}
+use Rattle.session_story.specs.declared.topic_stories.FullPageStory.{FullPageStory}
+use Rattle.session_story.specs.declared.topic_stories.LineStory.{LineStory}
+use Rattle.session_story.specs.declared.topic_stories.TopicStory.{TopicStory}
+use Rattle.session_story.specs.declared.topic_stories.TopicStory.TheVariants as topic
+use Rattle.session_story.specs.declared.knots.Waiting.{Waiting}
+use Rattle.session_story.specs.Concerned.{resumed_by}
 use Rattle.report_json.specs.declared.records.Role.{Role}
 use Rattle.report_json.specs.declared.records.Role.TheVariants as role
 use Rattle.report_json.specs.declared.records.ToldRecord.{ToldRecord}

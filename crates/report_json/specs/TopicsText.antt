@@ -4,14 +4,14 @@ use Rattle.migration_types.specs.Sessions.{Recorded, line_of}
 use Rattle.audit_model.specs.Reasons.{page_word}
 use Rattle.page_facts.specs.declared.page_fault.PageFault.{PageFault}
 use Rattle.audit_report.specs.declared.report.Report.{Report}
-use Rattle.story_types.specs.Causes.{cause_of}
-use Rattle.story_types.specs.Topics.{IsTold}
-use Rattle.story_types.specs.declared.faults.FaultStory.{FaultStory}
-use Rattle.story_types.specs.declared.topics.FullPageStory.{FullPageStory}
-use Rattle.story_types.specs.declared.topics.LineStory.{LineStory}
+use Rattle.session_story.specs.Causes.{cause_of}
+use Rattle.session_story.specs.Topics.{IsTold}
+use Rattle.session_story.specs.declared.fault_stories.FaultStory.{FaultStory}
+use Rattle.session_story.specs.declared.topic_stories.FullPageStory.{FullPageStory}
+use Rattle.session_story.specs.declared.topic_stories.LineStory.{LineStory}
 use Rattle.migration_types.specs.declared.topic.Topic.{Topic}
-use Rattle.story_types.specs.declared.topics.TopicStory.{TopicStory}
-use Rattle.story_types.specs.declared.topics.TopicStory.TheVariants as story
+use Rattle.session_story.specs.declared.topic_stories.TopicStory.{TopicStory}
+use Rattle.session_story.specs.declared.topic_stories.TopicStory.TheVariants as story
 use Rattle.report_json.specs.JsonText.{listed, number, opened, record_in, report_begun, word}
 use Rattle.report_json.specs.CausesText.{cause_told}
 use Rattle.report_json.specs.RecordsText.{records_of, told_record}

@@ -6,9 +6,8 @@ ghost use Rattle.report_json.specs.CausesText.{against_at, against_told, blamed_
 use crate::fields::{open, push_record, push_record_in};
 use audit_report::Lines;
 use migration_types::Session;
+use session_story::{Cause, CauseKind, Name, line_at};
 use std::alloc::AllocError;
-use story_facts::{Name, line_at};
-use story_types::{Cause, CauseKind};
 
 /// Returns the line number that is printed for a record, if the session has the record.
 fn line_shown<L: Lines>(lines: &L, session: &Session, name: Name) -> Option<u64>

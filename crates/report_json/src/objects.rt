@@ -17,9 +17,8 @@ use cert_check::{ShapeFault, Verdict};
 use completeness::Lack;
 use migration_types::{LogName, PageNo, Run, Session};
 use page_facts::{FaultyPage, PageFault};
+use session_story::{TopicStory, cause_of, page_at};
 use std::alloc::{AllocError, Global};
-use story_facts::page_at;
-use story_types::{TopicStory, cause_of};
 
 /// Appends the object of a verdict at a line of a text.
 fn push_at_line(out: &mut Vec<u8>, verdict: &[u8], line: u64) -> Result<(), AllocError>

@@ -7,11 +7,11 @@ use crate::fields::{push_number_under, push_word_under};
 use crate::lists::Item;
 use audit_report::Lines;
 use migration_types::{LogName, Session};
-use std::alloc::{AllocError, Global};
-use story_facts::{Handover, PageStory, line_at};
-use story_types::{
-    Explanation, FaultStory, FullPageStory, LineStory, ShapeStory, TopicStory, Waiting, resumed_by,
+use session_story::{
+    Explanation, FaultStory, FullPageStory, Handover, LineStory, PageStory, ShapeStory, TopicStory,
+    Waiting, line_at, resumed_by,
 };
+use std::alloc::{AllocError, Global};
 
 /// The role of a record in the story of a session.
 #[derive(Clone, Copy)]

@@ -2,7 +2,7 @@
 
 ghost use Rattle.std.specs.Prelude.{◌≡◌, ◌++◌, ◌<◌, OnOk};
 ghost use Rattle.migration_types.specs.Sessions.{log_length};
-ghost use Rattle.story_types.specs.Topics.{fault_in, fault_of_page, page_of_line};
+ghost use Rattle.session_story.specs.Topics.{fault_in, fault_of_page, page_of_line};
 ghost use Rattle.report_json.specs.TopicsText.{fault_of, first_fault, its_page, line_topic, page_topic, topic_of};
 ghost use Rattle.report_json.specs.inner.Faults.{IsFaultThere};
 
@@ -10,8 +10,8 @@ use crate::fields::{open, push_number_under, push_record_in, push_word_under};
 use audit_report::Lines;
 use migration_types::{Session, line_of};
 use page_facts::PageFault;
+use session_story::{FaultStory, FullPageStory, LineStory, TopicStory};
 use std::alloc::AllocError;
-use story_types::{FaultStory, FullPageStory, LineStory, TopicStory};
 
 /// Appends the first fault of a page.
 #[tactic(auto, unfolding(crate::specs::TopicsText::fault_of))]

@@ -13,9 +13,9 @@ use Rattle.judged_texts.specs.AuditedText.{wanted_text}
 use Rattle.judged_texts.specs.declared.audit_part.AuditPart.{AuditPart}
 use Rattle.report_json.specs.TopicsText.{told_object}
 use Rattle.session_answers.specs.Told.{IsRefusedText, IsToldText}
-use Rattle.story_types.specs.Topics.{IsTold}
+use Rattle.session_story.specs.Topics.{IsTold}
 use Rattle.migration_types.specs.declared.topic.Topic.{Topic}
-use Rattle.story_types.specs.declared.topics.TopicStory.{TopicStory}
+use Rattle.session_story.specs.declared.topic_stories.TopicStory.{TopicStory}
 use Rattle.session_answers.specs.Judged.{Judged, Refused, Reported}
 use Rattle.session_answers.specs.declared.forms.AnswerForm.{AnswerForm}
 use Rattle.session_answers.specs.declared.forms.AnswerForm.TheVariants.{Lines, AllFaults, Object, AllFaultsObject}

@@ -9,12 +9,12 @@ use Rattle.audit_report.specs.MissingText.{missing_text}
 use Rattle.audit_report.specs.RefusalText.{refusal_text}
 use Rattle.completeness.specs.declared.lack.Lack.{Lack}
 use Rattle.story_words.specs.declared.sentences.Sentence.{Sentence}
-use Rattle.story_types.specs.declared.topics.TopicStory.{TopicStory}
+use Rattle.session_story.specs.declared.topic_stories.TopicStory.{TopicStory}
 use Rattle.migration_types.specs.declared.topic.Topic.{Topic}
 use Rattle.migration_types.specs.declared.topic.Topic.TheVariants as topic
 use Rattle.story_sentences.specs.Lacks.{missing_told}
 use Rattle.story_sentences.specs.Sentences.{told_in_full}
-use Rattle.story_types.specs.Topics.{IsTold}
+use Rattle.session_story.specs.Topics.{IsTold}
 use Rattle.story_words.specs.Writing.{AreWritten, IsLine}
 
 -- these are the words of exactly the sentences of the story on this topic

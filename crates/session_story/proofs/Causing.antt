@@ -5,16 +5,16 @@ use Rattle.migration_types.specs.Sessions.{Recorded}
 use Rattle.page_facts.specs.Findings.{IsFindings}
 use Rattle.page_facts.specs.declared.findings.Findings.{Findings}
 use Rattle.page_facts.specs.Judged.{releases_at}
-use Rattle.story_types.specs.Amended.{is_number}
-use Rattle.story_types.specs.Explained.{IsExplained, IsGivenRight, IsLookBeforeTouch, IsMissing, IsPlacedOnce, IsPlacedOver, IsUnexplained, IsUnplaced, IsUsedEarly, IsWrong, first_placement, first_touch, is_unplaced, is_used_by}
+use Rattle.session_story.specs.Amended.{is_number}
+use Rattle.session_story.specs.Explained.{IsExplained, IsGivenRight, IsLookBeforeTouch, IsMissing, IsPlacedOnce, IsPlacedOver, IsUnexplained, IsUnplaced, IsUsedEarly, IsWrong, first_placement, first_touch, is_unplaced, is_used_by}
 use Rattle.session_story.specs.inner.Contents.{used_early}
-use Rattle.story_facts.specs.Giving.{IsGiver, is_unseen}
-use Rattle.story_facts.specs.Values.{IsOtherAtHalt}
-use Rattle.story_facts.proofs.Givers.{one_giver, unseen_follow}
-use Rattle.story_facts.specs.declared.looks.Look.{Look}
-use Rattle.story_facts.specs.declared.values.CellValue.{CellValue}
-use Rattle.story_types.specs.declared.faults.PageCause.{PageCause}
-use Rattle.story_types.specs.declared.faults.PageCause.TheVariants.{Sent, Placed, Zeroed, Again as PlacedAgain, Over as PlacedOver, Early as UsedEarly, Unplaced, Lost, Unrecorded}
+use Rattle.session_story.specs.Giving.{IsGiver, is_unseen}
+use Rattle.session_story.specs.Values.{IsOtherAtHalt}
+use Rattle.session_story.proofs.Givers.{one_giver, unseen_follow}
+use Rattle.session_story.specs.declared.looks.Look.{Look}
+use Rattle.session_story.specs.declared.values.CellValue.{CellValue}
+use Rattle.session_story.specs.declared.fault_stories.PageCause.{PageCause}
+use Rattle.session_story.specs.declared.fault_stories.PageCause.TheVariants.{Sent, Placed, Zeroed, Again as PlacedAgain, Over as PlacedOver, Early as UsedEarly, Unplaced, Lost, Unrecorded}
 
 -- a page that is found to be placed, or not to need it, is not one that is never placed
 pub is_placed : (s : Recorded) (page : ℕ) (f : Findings) → IsFindings s page f → is_unplaced f ≡ false → IsUnplaced s page → ⊥

@@ -32,10 +32,10 @@ use Rattle.cert_maker.specs.declared.order.FoundRuns.{FoundRuns}
 use Rattle.cert_maker.specs.declared.order.FirstLeft.{FirstLeft}
 use Rattle.cert_maker.specs.Orders.{IsTied}
 use Rattle.merge_runs.proofs.Logs.{some_left}
-use Rattle.story_types.specs.Waits.{IsCircle}
+use Rattle.session_story.specs.Waits.{IsCircle}
 use Rattle.session_story.specs.inner.Waits.{IsNext, AreWaits, AreFound, one_if_none, unfound, IsCircleAt}
-use Rattle.story_types.specs.declared.waits.Waiting.{Waiting}
-use Rattle.story_types.specs.declared.waits.Knot.{Knot}
+use Rattle.session_story.specs.declared.knots.Waiting.{Waiting}
+use Rattle.session_story.specs.declared.knots.Knot.{Knot}
 
 passes_there : {A : Type 0} (test : A → Bool) (log : List A) (n : ℕ) → passes test (slice_get log n) ≡ true → n < length log
 passes_there test log n e = go (slice_get log n) refl e

@@ -46,7 +46,7 @@ use Rattle.audit_report.specs.declared.report.Report.TheVariants.{Clean, Shape, 
 use Rattle.audit_report.specs.Reports.{IsReport}
 use Rattle.audit_report.specs.Dependence.{NeverBefore}
 use Rattle.audit_report.proofs.Depending.{delayed_above, never_before}
-use Rattle.story_types.specs.Explained.{IsInEveryOrder}
+use Rattle.session_story.specs.Explained.{IsInEveryOrder}
 use Rattle.session_story.specs.inner.Late.{late_for, before_placement, behind_touch}
 
 access_page : (page : ℕ) (r : GuestRec) → is_access_of page r ≡ true → guest_page r ≡ Some page

@@ -9,11 +9,11 @@ use Rattle.page_facts.specs.declared.page_fault.PageFault.{PageFault}
 use Rattle.page_facts.specs.PageFaults.{page_at, IsFirstFault}
 use Rattle.page_facts.specs.declared.faulty_pages.FaultyPage.{FaultyPage}
 use Rattle.page_facts.specs.FaultyPages.{AreFaultyPages}
-use Rattle.story_types.specs.declared.faults.FaultStory.{FaultStory}
-use Rattle.story_types.specs.declared.topics.FullPageStory.{FullPageStory}
-use Rattle.story_types.specs.Explained.{IsFaultStory}
+use Rattle.session_story.specs.declared.fault_stories.FaultStory.{FaultStory}
+use Rattle.session_story.specs.declared.topic_stories.FullPageStory.{FullPageStory}
+use Rattle.session_story.specs.Explained.{IsFaultStory}
 use Rattle.session_story.proofs.Paged.{fault_paged, page_below}
-use Rattle.story_types.specs.Topics.{IsFirstFaultStory, IsPageTold, IsToldOfItsPage}
+use Rattle.session_story.specs.Topics.{IsFirstFaultStory, IsPageTold, IsToldOfItsPage}
 
 module _ (s : Recorded) where
   pub is_fault : (page : ℕ) (f : PageFault) → IsFirstFault s page f → IsPageFault s f.reason (f.log, f.place)

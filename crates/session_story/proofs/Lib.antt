@@ -1,3 +1,11 @@
+pub mod Scanning
+pub mod Unasked
+pub mod Losses
+pub mod Looking
+pub mod Reaching
+pub mod Setting
+pub mod Absent
+pub mod Givers
 pub mod Paged
 pub mod Causing
 pub mod Firsts

@@ -6,9 +6,9 @@ ghost use Rattle.migration_types.specs.Follow.{ContentFits};
 ghost use Rattle.audit_model.specs.Names.{if_there};
 ghost use Rattle.session_story.specs.inner.Contents.{IsOtherAt};
 
+use crate::{CellValue, other_of};
 use migration_types::{PageNo, Record, Session};
 use std::alloc::{AllocError, Global};
-use story_facts::{CellValue, other_of};
 
 /// Returns the first cell in which the contents of a record, if it has any, differ from the page's at the halt.
 pub(crate) fn other_at<R: Record>(

@@ -4,17 +4,16 @@ ghost use Rattle.std.specs.Prelude.{◌≡◌, IfOk};
 ghost use Rattle.audit_model.specs.FirstFault.{IsFirstPageFault};
 ghost use Rattle.page_facts.specs.FaultyPages.{AreManyFaulty};
 ghost use Rattle.audit_report.specs.Reports.{IsReport};
-ghost use Rattle.story_facts.specs.Counted.{IsCounts};
-ghost use Rattle.story_types.specs.Explained.{AreMoreFaulty, IsExplanation};
+ghost use Rattle.session_story.specs.Counted.{IsCounts};
+ghost use Rattle.session_story.specs.Explained.{AreMoreFaulty, IsExplanation};
 
+use crate::{Counts, Explanation, counts_of};
 use crate::faults::{fault_at, shape_at};
 use crate::waits::circle_of;
 use audit_report::Report;
 use migration_types::{Cert, Session};
 use page_facts::PageFault;
 use std::alloc::{AllocError, Global};
-use story_facts::{Counts, counts_of};
-use story_types::Explanation;
 
 /// Returns the counts of a clean session.
 fn clean_counts(alloc: Global, session: &Session, cert: &Cert) -> Result<Counts, AllocError>

@@ -8,11 +8,16 @@ ghost use Rattle.audit_model.specs.FirstFault.{IsFirstPageFault};
 ghost use Rattle.page_facts.specs.PageFaults.{page_at, HasItsPage};
 ghost use Rattle.audit_report.specs.Reports.{IsReport};
 ghost use Rattle.cert_check.specs.Verdicts.{IsShapeFault};
-ghost use Rattle.story_facts.specs.Pages.{IsPageStory};
-ghost use Rattle.story_facts.specs.Giving.{IsGiver};
-ghost use Rattle.story_types.specs.Explained.{IsExplained, IsFaultStory, IsGivenRight, IsGivenWrong, IsLeft, IsLookBeforeTouch, IsMissing, IsReportedStory, IsSentRight, IsShapeStory, IsToldCause, IsUnexplained, IsWrong, IsWrongSend, first_placement, is_read, is_unplaced, is_zero};
+ghost use Rattle.session_story.specs.Pages.{IsPageStory};
+ghost use Rattle.session_story.specs.Giving.{IsGiver};
+ghost use Rattle.session_story.specs.Explained.{IsExplained, IsFaultStory, IsGivenRight, IsGivenWrong, IsLeft, IsLookBeforeTouch, IsMissing, IsReportedStory, IsSentRight, IsShapeStory, IsToldCause, IsUnexplained, IsWrong, IsWrongSend, first_placement, is_read, is_unplaced, is_zero};
 ghost use Rattle.session_story.specs.inner.Contents.{used_early};
 
+use crate::{
+    CellValue, FaultStory, Look, PageCause, PageStory, ShapeStory, Wrong, giver_of, greatest_look,
+    handover_of, is_number, is_unseen, is_used_by, lost_by, other_at_halt, sent_before, story_of,
+    value_at,
+};
 use crate::orders::in_every_order;
 use crate::reasons::{detail_of, is_read};
 use audit_model::PageReason;
@@ -21,11 +26,6 @@ use cert_check::ShapeFault;
 use migration_types::{LogName, PagerRec, Session};
 use page_facts::PageFault;
 use std::alloc::{AllocError, Global};
-use story_facts::{
-    CellValue, Look, PageStory, giver_of, greatest_look, handover_of, is_unseen, lost_by,
-    other_at_halt, sent_before, story_of,
-};
-use story_types::{FaultStory, PageCause, ShapeStory, Wrong, is_number, is_used_by, value_at};
 
 /// Returns the look before a page's first use at the target that reached furthest.
 pub(crate) fn look_before(session: &Session, page: &PageStory) -> Option<Look>

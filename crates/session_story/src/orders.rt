@@ -8,15 +8,15 @@ ghost use Rattle.audit_model.specs.Mergings.{IsMerging};
 ghost use Rattle.audit_model.specs.Shape.{IsRightShape};
 ghost use Rattle.page_facts.specs.PageFaults.{page_at};
 ghost use Rattle.audit_report.specs.Reports.{IsReport};
-ghost use Rattle.story_types.specs.Explained.{IsInEveryOrder};
-ghost use Rattle.story_facts.specs.Pages.{IsPageStory};
+ghost use Rattle.session_story.specs.Explained.{IsInEveryOrder};
+ghost use Rattle.session_story.specs.Pages.{IsPageStory};
 ghost use Rattle.session_story.specs.inner.Late.{late_for};
 
+use crate::PageStory;
 use audit_model::PageReason;
 use audit_report::{Report, depends_on};
 use migration_types::{LogName, Session};
 use page_facts::{Findings, PageFault};
-use story_facts::PageStory;
 
 /// Returns the use of a page, and the placement that must come before it, for a fault that an order shows if it does
 /// not: an early use of a page that is placed, or a placement over a release.

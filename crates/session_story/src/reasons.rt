@@ -3,16 +3,15 @@
 
 ghost use Rattle.std.specs.Prelude.{◌≡◌, ◌<◌, IfOk};
 ghost use Rattle.migration_types.specs.Sessions.{log_length};
-ghost use Rattle.story_facts.specs.Pages.{IsPageStory};
-ghost use Rattle.story_types.specs.Explained.{IsDetail, is_read};
+ghost use Rattle.session_story.specs.Pages.{IsPageStory};
+ghost use Rattle.session_story.specs.Explained.{IsDetail, is_read};
 
+use crate::{Detail, PageStory, greatest_look, instead_of};
 use crate::contents::other_at;
 use crate::faults::look_before;
 use audit_model::PageReason;
 use migration_types::{LogName, Session};
 use std::alloc::{AllocError, Global};
-use story_facts::{PageStory, greatest_look, instead_of};
-use story_types::Detail;
 
 /// Returns what the story says about a faulty record besides its page's story.
 pub(crate) fn detail_of(

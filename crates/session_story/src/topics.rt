@@ -3,18 +3,20 @@
 ghost use Rattle.std.specs.Prelude.{◌<◌, IfOk, MatchOption};
 ghost use Rattle.page_facts.specs.PageFaults.{IsClean};
 ghost use Rattle.audit_report.specs.Reports.{IsReport};
-ghost use Rattle.story_facts.specs.Pages.{IsPageStory};
-ghost use Rattle.story_facts.specs.Subjects.{page_of};
-ghost use Rattle.story_types.specs.Topics.{IsFirstFaultStory, IsPageTold, IsShapeTold, IsTold, IsToldOfItsPage, IsToldOfLine, IsToldOfPage};
+ghost use Rattle.session_story.specs.Pages.{IsPageStory};
+ghost use Rattle.session_story.specs.Subjects.{page_of};
+ghost use Rattle.session_story.specs.Topics.{IsFirstFaultStory, IsPageTold, IsShapeTold, IsTold, IsToldOfItsPage, IsToldOfLine, IsToldOfPage};
 
+use crate::{
+    FaultStory, FullPageStory, LineStory, PageStory, ShapeStory, TopicStory, handover_of, page_of,
+    record_on, story_of,
+};
 use crate::explaining::explain;
 use crate::faults::{shape_at, story_of_fault};
 use audit_report::Report;
 use migration_types::{LogName, PageNo, Session, Topic};
 use page_facts::fault_of;
 use std::alloc::{AllocError, Global};
-use story_facts::{PageStory, handover_of, page_of, record_on, story_of};
-use story_types::{FaultStory, FullPageStory, LineStory, ShapeStory, TopicStory};
 
 /// Returns a page's first fault, with its story, or `None` if the page has no fault.
 fn first_fault_of(

@@ -7,14 +7,14 @@ ghost use Rattle.audit_model.specs.Names.{log_length, receipt};
 ghost use Rattle.audit_model.specs.Shape.{IsRightShape};
 ghost use Rattle.audit_model.specs.FoundOrder.{first_ready};
 ghost use Rattle.cert_maker.specs.Orders.{IsTied};
-ghost use Rattle.story_types.specs.Waits.{IsCircle};
+ghost use Rattle.session_story.specs.Waits.{IsCircle};
 ghost use Rattle.session_story.specs.inner.Waits.{IsNext, IsCircleAt};
 
+use crate::{Knot, Waiting};
 use cert_maker::{FirstLeft, FoundRuns};
 use merge_runs::TakenCounts;
 use migration_types::{LogName, Session};
 use std::alloc::{AllocError, Global};
-use story_types::{Knot, Waiting};
 
 /// Returns the next record of a log, if it is a receipt.
 fn next_of(session: &Session, taken: &TakenCounts, log: LogName) -> Option<Waiting>

@@ -3,10 +3,10 @@ use Rattle.std.proofs.Common.{◌≡◌, ◌∙◌, ℕ, ◌+◌, ◌<◌, List,
 use Rattle.std.proofs.lemmas.List.{append_assoc, drop_more}
 use Rattle.story_words.specs.declared.sentences.Sentence.{Sentence}
 use Rattle.story_words.specs.declared.sentences.Sentence.TheVariants as say
-use Rattle.story_types.specs.declared.waits.Knot.{Knot}
-use Rattle.story_types.specs.declared.waits.Waiting.{Waiting}
+use Rattle.session_story.specs.declared.knots.Knot.{Knot}
+use Rattle.session_story.specs.declared.knots.Waiting.{Waiting}
 use Rattle.story_sentences.specs.Sentences.{waits_told}
-use Rattle.story_types.specs.Waits.{next_in}
+use Rattle.session_story.specs.Waits.{next_in}
 
 module _ (knot : Knot) where
   -- the sentences of the records from this index on

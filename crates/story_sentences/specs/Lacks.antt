@@ -8,9 +8,9 @@ use Rattle.completeness.specs.Complete.{is_all, is_back}
 use Rattle.completeness.specs.declared.lack.Lack.{Lack}
 use Rattle.completeness.specs.declared.lack.Lack.TheVariants as missing
 use Rattle.page_facts.specs.Tables.{first_before}
-use Rattle.story_facts.specs.Named.{furthest}
-use Rattle.story_facts.specs.Pages.{carries, lane_carries}
-use Rattle.story_facts.specs.Scans.{last_before}
+use Rattle.session_story.specs.Named.{furthest}
+use Rattle.session_story.specs.Pages.{carries, lane_carries}
+use Rattle.session_story.specs.Scans.{last_before}
 use Rattle.story_sentences.specs.Sentences.{listed}
 use Rattle.story_words.specs.declared.sentences.Sentence.{Sentence}
 use Rattle.story_words.specs.declared.sentences.Sentence.TheVariants as say

@@ -20,35 +20,35 @@ use Rattle.audit_model.specs.Shape.{delivery, passes}
 use Rattle.page_facts.specs.Tables.{first_before}
 use Rattle.audit_report.specs.declared.report.Report.{Report}
 use Rattle.audit_report.specs.declared.report.Report.TheVariants as report
-use Rattle.story_types.specs.Causes.{came_to}
-use Rattle.story_facts.specs.Named.{named_by}
-use Rattle.story_types.specs.Concerned.{resumed_by}
-use Rattle.story_facts.specs.Pages.{is_access_after}
-use Rattle.story_types.specs.Explained.{is_used_by}
-use Rattle.story_types.specs.Values.{value_at}
-use Rattle.story_types.specs.Waits.{next_in}
-use Rattle.story_facts.specs.declared.counting.Counts.{Counts}
-use Rattle.story_types.specs.declared.causes.CauseKind.TheVariants as kind
-use Rattle.story_types.specs.declared.explaining.Explanation.{Explanation}
-use Rattle.story_types.specs.declared.explaining.Explanation.TheVariants as explained
-use Rattle.story_types.specs.declared.faults.PageCause.{PageCause}
-use Rattle.story_types.specs.declared.faults.PageCause.TheVariants.{Sent, Placed, Zeroed, Again as PlacedAgain, Over as PlacedOver, Early as UsedEarly, Unplaced, Lost, Unrecorded}
-use Rattle.story_types.specs.declared.faults.Detail.{Detail}
-use Rattle.story_types.specs.declared.faults.Detail.TheVariants.{Instead, Seen, Other, Plain}
-use Rattle.story_types.specs.declared.faults.FaultStory.{FaultStory}
-use Rattle.story_types.specs.declared.faults.ShapeStory.{ShapeStory}
-use Rattle.story_facts.specs.declared.looks.Look.{Look}
-use Rattle.story_facts.specs.declared.pages.Handover.{Handover}
-use Rattle.story_facts.specs.declared.pages.PageStory.{PageStory}
+use Rattle.session_story.specs.Causes.{came_to}
+use Rattle.session_story.specs.Named.{named_by}
+use Rattle.session_story.specs.Concerned.{resumed_by}
+use Rattle.session_story.specs.Pages.{is_access_after}
+use Rattle.session_story.specs.Explained.{is_used_by}
+use Rattle.session_story.specs.RecordValues.{value_at}
+use Rattle.session_story.specs.Waits.{next_in}
+use Rattle.session_story.specs.declared.counting.Counts.{Counts}
+use Rattle.session_story.specs.declared.causes.CauseKind.TheVariants as kind
+use Rattle.session_story.specs.declared.explanations.Explanation.{Explanation}
+use Rattle.session_story.specs.declared.explanations.Explanation.TheVariants as explained
+use Rattle.session_story.specs.declared.fault_stories.PageCause.{PageCause}
+use Rattle.session_story.specs.declared.fault_stories.PageCause.TheVariants.{Sent, Placed, Zeroed, Again as PlacedAgain, Over as PlacedOver, Early as UsedEarly, Unplaced, Lost, Unrecorded}
+use Rattle.session_story.specs.declared.fault_stories.Detail.{Detail}
+use Rattle.session_story.specs.declared.fault_stories.Detail.TheVariants.{Instead, Seen, Other, Plain}
+use Rattle.session_story.specs.declared.fault_stories.FaultStory.{FaultStory}
+use Rattle.session_story.specs.declared.fault_stories.ShapeStory.{ShapeStory}
+use Rattle.session_story.specs.declared.looks.Look.{Look}
+use Rattle.session_story.specs.declared.pages.Handover.{Handover}
+use Rattle.session_story.specs.declared.pages.PageStory.{PageStory}
 use Rattle.story_words.specs.declared.sentences.Sentence.{Sentence}
 use Rattle.story_words.specs.declared.sentences.Sentence.TheVariants as say
-use Rattle.story_types.specs.declared.topics.LineStory.{LineStory}
-use Rattle.story_types.specs.declared.topics.FullPageStory.{FullPageStory}
-use Rattle.story_types.specs.declared.topics.TopicStory.{TopicStory}
-use Rattle.story_types.specs.declared.topics.TopicStory.TheVariants as told
-use Rattle.story_facts.specs.declared.values.CellValue.{CellValue}
-use Rattle.story_types.specs.declared.waits.Knot.{Knot}
-use Rattle.story_types.specs.declared.waits.Waiting.{Waiting}
+use Rattle.session_story.specs.declared.topic_stories.LineStory.{LineStory}
+use Rattle.session_story.specs.declared.topic_stories.FullPageStory.{FullPageStory}
+use Rattle.session_story.specs.declared.topic_stories.TopicStory.{TopicStory}
+use Rattle.session_story.specs.declared.topic_stories.TopicStory.TheVariants as told
+use Rattle.session_story.specs.declared.values.CellValue.{CellValue}
+use Rattle.session_story.specs.declared.knots.Knot.{Knot}
+use Rattle.session_story.specs.declared.knots.Waiting.{Waiting}
 
 abbrev pub listed : Option Sentence → List Sentence
 listed None = []

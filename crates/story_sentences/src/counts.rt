@@ -5,8 +5,8 @@ ghost use Rattle.story_sentences.specs.Sentences.{counts_told, lane_of, unplaced
 
 use crate::listing::push_if;
 use migration_types::Version;
+use session_story::Counts;
 use std::alloc::AllocError;
-use story_facts::Counts;
 use story_words::Sentence;
 
 /// Appends how many pages were not placed.

@@ -6,9 +6,11 @@ ghost use Rattle.story_sentences.specs.Sentences.{caused_told, contents_of, cont
 use crate::listing::push_if;
 use audit_model::{PageReason, delivery};
 use migration_types::{LogName, PagerRec, Session, SourceRec};
+use session_story::{
+    CauseKind, CellValue, Detail, FaultStory, Look, Name, PageCause, PageStory, came_to, is_used_by,
+    value_at,
+};
 use std::alloc::AllocError;
-use story_facts::{CellValue, Look, Name, PageStory};
-use story_types::{CauseKind, Detail, FaultStory, PageCause, came_to, is_used_by, value_at};
 use story_words::Sentence;
 
 /// Returns what the contents of a record have in a cell whose value in the page is another at the halt, if the record

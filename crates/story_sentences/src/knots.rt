@@ -3,8 +3,8 @@
 ghost use Rattle.std.specs.Prelude.{◌≡◌, ◌++◌, OnOk};
 ghost use Rattle.story_sentences.specs.Sentences.{knot_told, waits_told};
 
+use session_story::Knot;
 use std::alloc::AllocError;
-use story_types::Knot;
 use story_words::Sentence;
 
 /// Appends what each of the records waits for.

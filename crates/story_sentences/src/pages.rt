@@ -5,8 +5,8 @@ ghost use Rattle.story_sentences.specs.Sentences.{again_of, delivery_of, is_by_l
 
 use crate::listing::push_if;
 use migration_types::{LogName, PagerRec, Session};
+use session_story::{Handover, PageStory};
 use std::alloc::AllocError;
-use story_facts::{Handover, PageStory};
 use story_words::Sentence;
 
 /// Returns whether the story tells the lane's delivery of a page: the pager takes this one, or there is no other.

@@ -3,7 +3,7 @@
 ghost use Rattle.completeness.specs.Complete.{is_all, is_back};
 
 use migration_types::{PagerRec, Session, SourceRec};
-use story_facts::RecordQuestion;
+use session_story::RecordQuestion;
 
 /// Whether a record of the source starts the guest again.
 #[derive(Clone, Copy)]

@@ -6,9 +6,8 @@ ghost use Rattle.story_sentences.specs.Sentences.{both_told, names_of, rule_of, 
 use crate::listing::push_if;
 use audit_model::ShapeReason;
 use migration_types::Session;
+use session_story::{Name, ShapeStory, first_access, named_by, resumed_by};
 use std::alloc::AllocError;
-use story_facts::{Name, first_access, named_by};
-use story_types::{ShapeStory, resumed_by};
 use story_words::Sentence;
 
 /// Returns what a record names, if it names one.

@@ -11,9 +11,10 @@ use crate::pages::push_story;
 use crate::shapes::push_shape;
 use audit_report::Report;
 use migration_types::Session;
+use session_story::{
+    Explanation, FaultStory, FullPageStory, LineStory, Name, ShapeStory, TopicStory,
+};
 use std::alloc::{AllocError, Global};
-use story_facts::Name;
-use story_types::{Explanation, FaultStory, FullPageStory, LineStory, ShapeStory, TopicStory};
 use story_words::Sentence;
 
 /// Returns how many other pages have a fault, if there are some.

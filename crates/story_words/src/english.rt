@@ -20,9 +20,8 @@ use crate::sentences::Sentence;
 use crate::writing::Writer;
 use audit_report::{Lines, OwnLines};
 use migration_types::{LogName, Session};
+use session_story::{Name, Waiting};
 use std::alloc::AllocError;
-use story_facts::Name;
-use story_types::Waiting;
 
 /// A writer that puts sentences into English.
 #[derive(Clone, Copy)]

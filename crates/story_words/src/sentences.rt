@@ -4,9 +4,8 @@ use crate::english::{Teller, clean, faults, knots, lacks, pages};
 use audit_model::PageReason;
 use audit_report::Lines;
 use migration_types::{LogName, PageNo};
+use session_story::{CauseKind, CellValue, Handover, Name, Waiting};
 use std::alloc::AllocError;
-use story_facts::{CellValue, Handover, Name};
-use story_types::{CauseKind, Waiting};
 
 /// A sentence, with its records and numbers. If the log of a record is clear, the sentence has only the record's number
 /// there.

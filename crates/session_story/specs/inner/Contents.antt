@@ -1,10 +1,10 @@
 -- Contents of a record compared with those of a page at the halt.
 use Rattle.std.specs.Prelude.{◌≡◌, ℕ, Bool, false, not, ◌&&◌, List, Option, Some, None}
 use Rattle.migration_types.specs.Sessions.{Recorded}
-use Rattle.story_types.specs.Explained.{IsOtherIn}
-use Rattle.story_facts.specs.Giving.{is_unseen}
-use Rattle.story_facts.specs.declared.looks.Look.{Look}
-use Rattle.story_facts.specs.declared.values.CellValue.{CellValue}
+use Rattle.session_story.specs.Explained.{IsOtherIn}
+use Rattle.session_story.specs.Giving.{is_unseen}
+use Rattle.session_story.specs.declared.looks.Look.{Look}
+use Rattle.session_story.specs.declared.values.CellValue.{CellValue}
 
 -- the first cell in which the contents, if there are any, differ from the page's, if there is one
 abbrev pub IsOtherAt : Recorded → ℕ → Option (List ℕ) → Option CellValue → Type 0

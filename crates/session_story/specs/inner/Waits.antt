@@ -5,8 +5,8 @@ use Rattle.migration_types.specs.declared.records.LogName.TheVariants.{Guest, So
 use Rattle.migration_types.specs.Sessions.{Recorded}
 use Rattle.audit_model.specs.Names.{receipt}
 use Rattle.audit_model.specs.Mergings.{Cursors}
-use Rattle.story_types.specs.declared.waits.Waiting.{Waiting}
-use Rattle.story_types.specs.declared.waits.Knot.{Knot}
+use Rattle.session_story.specs.declared.knots.Waiting.{Waiting}
+use Rattle.session_story.specs.declared.knots.Knot.{Knot}
 
 -- the next record of a log, and the record that it is a receipt for
 pub record IsNext (s : Recorded) (c : Cursors) (log : LogName) (w : Waiting) : Type 0 where

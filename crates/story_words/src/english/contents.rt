@@ -3,8 +3,8 @@
 use super::Teller;
 use audit_report::Lines;
 use migration_types::LogName;
+use session_story::{CellValue, Name};
 use std::alloc::AllocError;
-use story_facts::{CellValue, Name};
 
 /// Appends a value as a record of the guest has it, and as contents have it.
 fn push_value(out: &mut String, value: u64) -> Result<(), AllocError> {

@@ -4,9 +4,8 @@ use super::Teller;
 use audit_model::PageReason;
 use audit_report::Lines;
 use migration_types::{GuestRec, LogName, PageNo, PagerRec};
+use session_story::{CauseKind, Name};
 use std::alloc::AllocError;
-use story_facts::Name;
-use story_types::CauseKind;
 
 pub(crate) const AT_SOURCE: &str =
     "The guest is at the source by then: the migration has no part in it.";

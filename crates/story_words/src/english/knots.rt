@@ -2,8 +2,8 @@
 
 use super::Teller;
 use audit_report::Lines;
+use session_story::Waiting;
 use std::alloc::AllocError;
-use story_types::Waiting;
 
 pub(crate) const NO_ORDER: &str =
     "No order of the records keeps the order of each log and puts each record after the record of another log that it names: each of these waits for the next, and the last for one of them.";

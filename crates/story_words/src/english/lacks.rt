@@ -3,8 +3,8 @@
 use super::Teller;
 use audit_report::Lines;
 use migration_types::{LogName, PageNo};
+use session_story::Name;
 use std::alloc::AllocError;
-use story_facts::Name;
 
 pub(crate) const NOT_WHOLE: &str =
     "Nothing in the logs is wrong, but they do not tell of a whole migration.";

@@ -3,8 +3,8 @@
 use super::Teller;
 use audit_report::Lines;
 use migration_types::{LogName, PageNo};
+use session_story::Name;
 use std::alloc::AllocError;
-use story_facts::Name;
 
 /// Appends that the machine has no page of this number, and how many it has.
 pub(crate) fn push_no_page(out: &mut String, number: u32, pages: u32) -> Result<(), AllocError> {

@@ -3,8 +3,8 @@
 use super::Teller;
 use audit_report::Lines;
 use migration_types::{GuestRec, LaneRec, LinkRec, LogName, PagerRec, SourceRec};
+use session_story::{Name, line_at};
 use std::alloc::AllocError;
-use story_facts::{Name, line_at};
 
 /// A record in words.
 trait Spoken {

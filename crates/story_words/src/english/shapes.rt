@@ -3,8 +3,8 @@
 use super::Teller;
 use audit_report::Lines;
 use migration_types::{GuestRec, LaneRec, LinkRec, LogName, PagerRec, Session, SourceRec, Version};
+use session_story::{Handover, Name};
 use std::alloc::AllocError;
-use story_facts::{Handover, Name};
 
 /// The rule for a halted guest.
 const IDLE: &str = "The guest does nothing between its halt and its resume.";

@@ -1,7 +1,7 @@
 use Rattle.std.proofs.Common.{Some, get_or}
 use Rattle.std.proofs.lemmas.List.{get_or_default}
 use Rattle.migration_types.specs.declared.records.LogName.TheVariants.{Guest}
-use Rattle.story_types.specs.declared.waits.Waiting.{Waiting}
+use Rattle.session_story.specs.declared.knots.Waiting.{Waiting}
 use Rattle.report_json.specs.declared.records.Role.TheVariants.{Waits}
 use Rattle.report_json.specs.RecordsText.{told}
 use Rattle.report_json.proofs.Growing.{next_added}

@@ -1,8 +1,8 @@
 use Rattle.std.proofs.Common.{sym, subst}
 use Rattle.audit_report.specs.declared.report.Report.{Report}
 use Rattle.audit_report.specs.Reports.{IsReport}
-use Rattle.story_types.specs.declared.explaining.Explanation.TheVariants as told
-use Rattle.story_types.specs.Explained.{IsExplanation}
+use Rattle.session_story.specs.declared.explanations.Explanation.TheVariants as told
+use Rattle.session_story.specs.Explained.{IsExplanation}
 use Rattle.session_story.proofs.explaining.explain.Goals as goal
 
 pub returns-in_ok-story-in-Faulty : goal.returns-in_ok-story-in-Faulty

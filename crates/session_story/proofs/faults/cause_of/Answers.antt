@@ -1,6 +1,6 @@
 use Rattle.std.proofs.Common.{inl, inr, sym, ◌∙◌}
 use Rattle.std.proofs.lemmas.Option.{MatchOption-at_none, MatchOption-at_some}
-use Rattle.story_types.specs.Explained.{IsExplained, IsUnexplained}
+use Rattle.session_story.specs.Explained.{IsExplained, IsUnexplained}
 use Rattle.session_story.proofs.faults.cause_of.Goals as goal
 
 pub returns-in-Some : goal.returns-in-Some

@@ -1,6 +1,6 @@
 use Rattle.std.proofs.Common.{◌≡◌, Option, ℕ, true, ap, sym, ◌∙◌}
 use Rattle.std.proofs.lemmas.Result.{IfOk-weaker}
-use Rattle.story_types.specs.Explained.{first_touch, is_used_by}
+use Rattle.session_story.specs.Explained.{first_touch, is_used_by}
 use Rattle.session_story.proofs.Causing.{explained, none_again, none_wrong, then_missing}
 use Rattle.session_story.proofs.faults.explained_by.Goals as goal
 

@@ -1,5 +1,5 @@
 use Rattle.std.proofs.Common.{ℕ, Some, sym, ap, ◌∙◌, subst}
-use Rattle.story_facts.specs.Pages.{IsPageStory}
+use Rattle.session_story.specs.Pages.{IsPageStory}
 use Rattle.session_story.proofs.Paged.{page_below}
 use Rattle.session_story.proofs.faults.fault_at.Goals as goal
 

@@ -1,6 +1,6 @@
 use Rattle.std.proofs.lemmas.Option.{MatchOption-at_none}
-use Rattle.story_facts.specs.Values.{IsOtherAtHalt}
-use Rattle.story_facts.specs.declared.values.CellValue.{CellValue}
+use Rattle.session_story.specs.Values.{IsOtherAtHalt}
+use Rattle.session_story.specs.declared.values.CellValue.{CellValue}
 use Rattle.session_story.proofs.Causing.{not_wrong}
 use Rattle.session_story.proofs.faults.given_first.Goals as goal
 

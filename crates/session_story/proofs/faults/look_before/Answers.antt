@@ -1,7 +1,7 @@
 use Rattle.std.proofs.Common.{◌≡◌, ℕ, length, Some, None, sym, subst, ◌∙◌, arith}
 use Rattle.page_facts.specs.Judged.{is_late_touch}
 use Rattle.page_facts.proofs.Before.{first_some}
-use Rattle.story_facts.specs.Looks.{IsFurthestLook}
+use Rattle.session_story.specs.Looks.{IsFurthestLook}
 use Rattle.session_story.proofs.faults.look_before.Goals as goal
 
 pub greatest_look-requires : goal.greatest_look-requires

@@ -5,7 +5,7 @@ use Rattle.audit_model.specs.declared.reasons.PageReason.{PageReason}
 use Rattle.audit_model.specs.declared.reasons.PageReason.TheVariants.{Read, Early, Given, Stale, Twice, Altered, Unfit, Over}
 use Rattle.audit_model.specs.Faults.{IsPageFault}
 use Rattle.audit_report.proofs.Showing.{fault_there}
-use Rattle.story_types.specs.Explained.{is_read}
+use Rattle.session_story.specs.Explained.{is_read}
 use Rattle.session_story.proofs.Paged.{page_below, guest_read, guest_early}
 use Rattle.session_story.proofs.faults.story_of_fault.Goals as goal
 

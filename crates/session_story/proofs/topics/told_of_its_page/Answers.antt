@@ -1,5 +1,5 @@
 use Rattle.std.proofs.Common.{sym, ◌∙◌}
-use Rattle.story_facts.proofs.Reaching.{within_below}
+use Rattle.session_story.proofs.Reaching.{within_below}
 use Rattle.session_story.proofs.topics.told_of_its_page.Goals as goal
 
 pub page_told-requires-clause-page : goal.page_told-requires-clause-page

@@ -1,8 +1,0 @@
-use Rattle.std.proofs.Common.{◌≡◌}
-use Rattle.page_facts.specs.Tables.{IsTable}
-use Rattle.story_facts.specs.Counted.{is_push, was_asked}
-use Rattle.story_facts.specs.Scans.{how_many}
-use Rattle.story_facts.proofs.asking.count_of_pushes.Given as goal
-
-abbrev pub invariant-loop-n : goal.invariant-loop-n
-invariant-loop-n l = IsTable l.session.geometry.pages l.asked (λ page. was_asked l.session page l.n) × (l.count ≡ how_many (is_push l.session) l.session.source l.n)

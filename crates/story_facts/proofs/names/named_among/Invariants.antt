@@ -1,6 +1,0 @@
-use Rattle.std.proofs.Common.{◌≡◌, drop}
-use Rattle.story_facts.specs.Named.{named_among}
-use Rattle.story_facts.proofs.names.named_among.Given as goal
-
-abbrev pub invariant-loop-field : goal.invariant-loop-field
-invariant-loop-field l = named_among (drop l.field-index l.fields) ≡ named_among l.fields

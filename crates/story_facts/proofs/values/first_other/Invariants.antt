@@ -1,6 +1,0 @@
-use Rattle.std.specs.Prelude.{slice_index}
-use Rattle.story_facts.specs.inner.Cells.{AreSame}
-use Rattle.story_facts.proofs.values.first_other.Given as goal
-
-abbrev pub invariant-loop-index : goal.invariant-loop-index
-invariant-loop-index l = AreSame l.contents (slice_index l.cells) l.index
