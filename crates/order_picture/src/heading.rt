@@ -1,7 +1,7 @@
 //! The heading of a picture as text.
 
 ghost use Rattle.std.specs.Prelude.{OnOk, string_bytes};
-ghost use Rattle.story_sentences.specs.Sentences.{told_first};
+ghost use Rattle.story_words.specs.Sentences.{told_first};
 ghost use Rattle.story_words.specs.Writing.{Adds, AreWritten, IsLine};
 
 use crate::elements::{begin_text, end_text, push, push_length};
@@ -15,8 +15,7 @@ use migration_types::Session;
 use picture_plan::{OrderShown, Shape};
 use session_story::TopicStory;
 use std::alloc::{AllocError, Global};
-use story_sentences::told_first;
-use story_words::{English, push_sentences};
+use story_words::{English, push_sentences, told_first};
 
 /// The number of first sentences of the story in a heading.
 const MOST_SENTENCES: usize = 2;

@@ -12,8 +12,8 @@ use Rattle.story_words.specs.declared.sentences.Sentence.{Sentence}
 use Rattle.session_story.specs.declared.topic_stories.TopicStory.{TopicStory}
 use Rattle.migration_types.specs.declared.topic.Topic.{Topic}
 use Rattle.migration_types.specs.declared.topic.Topic.TheVariants as topic
-use Rattle.story_sentences.specs.Lacks.{missing_told}
-use Rattle.story_sentences.specs.Sentences.{told_in_full}
+use Rattle.story_words.specs.Lacks.{missing_told}
+use Rattle.story_words.specs.Sentences.{told_in_full}
 use Rattle.session_story.specs.Topics.{IsTold}
 use Rattle.story_words.specs.Writing.{AreWritten, IsLine}
 

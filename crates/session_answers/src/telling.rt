@@ -12,8 +12,7 @@ use completeness::Lack;
 use migration_types::{Session, Topic};
 use session_story::tell;
 use std::alloc::{AllocError, Global};
-use story_sentences::{missing_told, told_in_full};
-use story_words::{English, Writer, push_sentences};
+use story_words::{English, Writer, missing_told, push_sentences, told_in_full};
 
 /// What it means that a text is refused.
 const NO_TEXT: &str =

@@ -1,1 +1,2 @@
+pub mod Knotting
 pub mod Wording

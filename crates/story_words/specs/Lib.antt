@@ -1,1 +1,3 @@
+pub mod Sentences
+pub mod Lacks
 pub mod Writing

@@ -1,10 +1,10 @@
 //! Lists of sentences.
 
 ghost use Rattle.std.specs.Prelude.{◌≡◌, ◌++◌, OnOk};
-ghost use Rattle.story_sentences.specs.Sentences.{listed};
+ghost use Rattle.story_words.specs.Sentences.{listed};
 
+use crate::Sentence;
 use std::alloc::AllocError;
-use story_words::Sentence;
 
 /// Appends a sentence, if there is one.
 pub(crate) fn push_if(out: &mut Vec<Sentence>, sentence: Option<Sentence>) -> Result<(), AllocError>

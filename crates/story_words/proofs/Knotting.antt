@@ -5,7 +5,7 @@ use Rattle.story_words.specs.declared.sentences.Sentence.{Sentence}
 use Rattle.story_words.specs.declared.sentences.Sentence.TheVariants as say
 use Rattle.session_story.specs.declared.knots.Knot.{Knot}
 use Rattle.session_story.specs.declared.knots.Waiting.{Waiting}
-use Rattle.story_sentences.specs.Sentences.{waits_told}
+use Rattle.story_words.specs.Sentences.{waits_told}
 use Rattle.session_story.specs.Waits.{next_in}
 
 module _ (knot : Knot) where

@@ -1,13 +1,13 @@
 //! The sentences of a page's story.
 
 ghost use Rattle.std.specs.Prelude.{◌≡◌, ◌++◌, OnOk};
-ghost use Rattle.story_sentences.specs.Sentences.{again_of, delivery_of, is_by_lane, story_told, use_told, way_told};
+ghost use Rattle.story_words.specs.Sentences.{again_of, delivery_of, is_by_lane, story_told, use_told, way_told};
 
+use crate::Sentence;
 use crate::listing::push_if;
 use migration_types::{LogName, PagerRec, Session};
 use session_story::{Handover, PageStory};
 use std::alloc::AllocError;
-use story_words::Sentence;
 
 /// Returns whether the story tells the lane's delivery of a page: the pager takes this one, or there is no other.
 fn is_by_lane(session: &Session, got: Option<u32>, delivered: Option<u32>) -> bool

@@ -1,8 +1,9 @@
 //! The sentences about a page's fault.
 
 ghost use Rattle.std.specs.Prelude.{◌≡◌, ◌++◌, OnOk};
-ghost use Rattle.story_sentences.specs.Sentences.{caused_told, contents_of, contents_told, early_told, fault_told, faulty_told, first_sending, order_of, origin_at, origin_by, origin_of, over_told, place_of, plain_told, never_told, source_of, unseen_told, wrong_told, wrongly_told};
+ghost use Rattle.story_words.specs.Sentences.{caused_told, contents_of, contents_told, early_told, fault_told, faulty_told, first_sending, order_of, origin_at, origin_by, origin_of, over_told, place_of, plain_told, never_told, source_of, unseen_told, wrong_told, wrongly_told};
 
+use crate::Sentence;
 use crate::listing::push_if;
 use audit_model::{PageReason, delivery};
 use migration_types::{LogName, PagerRec, Session, SourceRec};
@@ -11,7 +12,6 @@ use session_story::{
     value_at,
 };
 use std::alloc::AllocError;
-use story_words::Sentence;
 
 /// Returns what the contents of a record have in a cell whose value in the page is another at the halt, if the record
 /// has contents.

@@ -11,7 +11,7 @@ use Rattle.page_facts.specs.Tables.{first_before}
 use Rattle.session_story.specs.Named.{furthest}
 use Rattle.session_story.specs.Pages.{carries, lane_carries}
 use Rattle.session_story.specs.Scans.{last_before}
-use Rattle.story_sentences.specs.Sentences.{listed}
+use Rattle.story_words.specs.Sentences.{listed}
 use Rattle.story_words.specs.declared.sentences.Sentence.{Sentence}
 use Rattle.story_words.specs.declared.sentences.Sentence.TheVariants as say
 

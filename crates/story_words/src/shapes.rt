@@ -1,14 +1,14 @@
 //! The sentences about a record that does not have the right shape.
 
 ghost use Rattle.std.specs.Prelude.{◌≡◌, ◌++◌, OnOk};
-ghost use Rattle.story_sentences.specs.Sentences.{both_told, names_of, rule_of, second_of, shape_told};
+ghost use Rattle.story_words.specs.Sentences.{both_told, names_of, rule_of, second_of, shape_told};
 
+use crate::Sentence;
 use crate::listing::push_if;
 use audit_model::ShapeReason;
 use migration_types::Session;
 use session_story::{Name, ShapeStory, first_access, named_by, resumed_by};
 use std::alloc::AllocError;
-use story_words::Sentence;
 
 /// Returns what a record names, if it names one.
 fn names_of(session: &Session, name: Name) -> Option<Sentence>

@@ -3,16 +3,16 @@
 ghost use Rattle.std.specs.Prelude.{◌≡◌, ◌<◌, ◌++◌, IfOk, OnOk, length};
 ghost use Rattle.page_facts.specs.Tables.{first_before};
 ghost use Rattle.completeness.specs.Complete.{IsFirstMissing, is_all, is_back};
-ghost use Rattle.story_sentences.specs.Lacks.{came_to, halted_of, lack_told, missing_told, said_of, started_of};
+ghost use Rattle.story_words.specs.Lacks.{came_to, halted_of, lack_told, missing_told, said_of, started_of};
 ghost use Rattle.session_story.specs.Scans.{last_before};
 
+use crate::Sentence;
 use crate::listing::push_if;
 use crate::questions::{SaysAll, StartsAgain};
 use completeness::Lack;
 use migration_types::{PageNo, Session};
 use session_story::{Name, first_of, furthest, handover_of, last_of, story_of};
 use std::alloc::{AllocError, Global};
-use story_words::Sentence;
 
 /// Returns how far a page came.
 fn came_to(alloc: Global, session: &Session, page: PageNo) -> Result<Option<Name>, AllocError>

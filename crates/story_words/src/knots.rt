@@ -1,11 +1,11 @@
 //! The sentences about records that wait for one another.
 
 ghost use Rattle.std.specs.Prelude.{◌≡◌, ◌++◌, OnOk};
-ghost use Rattle.story_sentences.specs.Sentences.{knot_told, waits_told};
+ghost use Rattle.story_words.specs.Sentences.{knot_told, waits_told};
 
+use crate::Sentence;
 use session_story::Knot;
 use std::alloc::AllocError;
-use story_words::Sentence;
 
 /// Appends what each of the records waits for.
 fn push_waits(out: &mut Vec<Sentence>, knot: &Knot) -> Result<(), AllocError>

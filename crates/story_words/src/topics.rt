@@ -1,8 +1,9 @@
 //! The sentences about a report, a page, or the record at a line.
 
 ghost use Rattle.std.specs.Prelude.{◌≡◌, ◌++◌, IfOk, OnOk};
-ghost use Rattle.story_sentences.specs.Sentences.{explained_first, explained_told, fault_first, faulty_page_told, first_fault_told, is_shown, its_page_told, line_first, line_topic, more_of, page_first, page_told, page_topic, record_told, shown_of, told_first, told_in_full, verdict_of};
+ghost use Rattle.story_words.specs.Sentences.{explained_first, explained_told, fault_first, faulty_page_told, first_fault_told, is_shown, its_page_told, line_first, line_topic, more_of, page_first, page_told, page_topic, record_told, shown_of, told_first, told_in_full, verdict_of};
 
+use crate::Sentence;
 use crate::counts::push_counts;
 use crate::faults::{order_of, push_fault, push_faulty};
 use crate::knots::push_knot;
@@ -15,7 +16,6 @@ use session_story::{
     Explanation, FaultStory, FullPageStory, LineStory, Name, ShapeStory, TopicStory,
 };
 use std::alloc::{AllocError, Global};
-use story_words::Sentence;
 
 /// Returns how many other pages have a fault, if there are some.
 fn more_of(more: usize) -> Option<Sentence>

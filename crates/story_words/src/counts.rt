@@ -1,13 +1,13 @@
 //! The sentences about a clean session.
 
 ghost use Rattle.std.specs.Prelude.{◌≡◌, ◌++◌, OnOk};
-ghost use Rattle.story_sentences.specs.Sentences.{counts_told, lane_of, unplaced_told};
+ghost use Rattle.story_words.specs.Sentences.{counts_told, lane_of, unplaced_told};
 
+use crate::Sentence;
 use crate::listing::push_if;
 use migration_types::Version;
 use session_story::Counts;
 use std::alloc::AllocError;
-use story_words::Sentence;
 
 /// Appends how many pages were not placed.
 #[tactic(auto, unfolding(crate::specs::Sentences::unplaced_told))]
