@@ -18,7 +18,7 @@ from picture_lines import lines_of
 from picture_shapes import Drawing, looks_wrongly
 
 TOP = os.path.dirname(os.path.dirname(os.path.realpath(__file__)))
-SOURCES = f"{TOP}/crates/picture_plan/src"
+SOURCES = f"{TOP}/crates/order_picture/src"
 
 NAME = r"(?:guest|source|link|lane|pager) \d+"
 ROW = r"box \d+: line \d+, " + NAME
@@ -43,7 +43,7 @@ FORMS = {
     "behind.rt": {"Obstacle": {
         "Nothing": rf"{ROW}, [\w ]+: {DONE}", "Waits": rf"{ROW}, .*, behind: {DONE}; it has to come after line \d+ \({NAME}\)(?:, which .*)?",
         "NotSent": rf"{ROW}, .*, behind: {DONE}; cannot be taken: what it receives was not", "Unhindered": rf"{ROW}, .*, behind: {DONE}; not taken"}},
-    "headings.rt": {"OrderShown": {
+    "shown.rt": {"OrderShown": {
         "EveryOrder": "order: It goes wrong in every order, as in this one", "OneOrder": "order: In an order in which it goes wrong",
         "FirstFault": "order: In the order that shows the first fault of the session", "Found": "order: In the found order",
         "FoundPart": "order: In the found order, as far as it goes", "Given": "order: Along the given runs",

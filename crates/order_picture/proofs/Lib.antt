@@ -1,0 +1,4 @@
+pub mod Built
+pub mod Names
+pub mod Behinds
+pub mod Certain

@@ -1,1 +1,12 @@
+pub mod Marks
+pub mod OrderParts
+pub mod Rows
+pub mod Pictures
+pub mod Behind
+pub mod Shown
+pub mod Arrows
+pub mod Boxes
+pub mod Signs
+pub mod Shapes
+pub mod inner
 pub mod Svg

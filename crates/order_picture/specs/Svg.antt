@@ -4,8 +4,8 @@ use Rattle.migration_types.specs.declared.cert.Run.{Run}
 use Rattle.migration_types.specs.Sessions.{Recorded}
 use Rattle.audit_report.specs.declared.report.Report.{Report}
 use Rattle.migration_types.specs.declared.topic.Topic.{Topic}
-use Rattle.picture_plan.specs.declared.picture.Picture.{Picture}
-use Rattle.picture_plan.specs.Pictures.{IsPicture, IsPictureOf}
+use Rattle.order_picture.specs.declared.picture.Picture.{Picture}
+use Rattle.order_picture.specs.Pictures.{IsPicture, IsPictureOf}
 
 -- it begins like an element `svg`, and ends like one, followed by a line end
 abbrev pub IsSvg : List ℕ → Type 0

@@ -1,5 +1,8 @@
 //! The shapes of a picture as text: columns, boxes, folds and arrows, each at its place.
 
+use crate::arrows::{ArrowKind, Seat};
+use crate::behind::Obstacle;
+use crate::boxes::{BoxKind, Label};
 use crate::elements::{
     begin_at, begin_text, end_arrow, end_text, push, push_attribute, push_colours, push_ends,
     push_length, push_paint, push_path,
@@ -15,7 +18,6 @@ use crate::style::{
 use crate::words::{LINES, push_records, push_title};
 use merge_runs::TakenCounts;
 use migration_types::LogName;
-use picture_plan::{ArrowKind, BoxKind, Label, Obstacle, Seat};
 use session_story::Name;
 use std::alloc::{AllocError, Global};
 use text_lines::push_number;

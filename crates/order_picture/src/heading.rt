@@ -5,6 +5,8 @@ ghost use Rattle.story_words.specs.Sentences.{told_first};
 ghost use Rattle.story_words.specs.Writing.{Adds, AreWritten, IsLine};
 
 use crate::elements::{begin_text, end_text, push, push_length};
+use crate::shapes::Shape;
+use crate::shown::OrderShown;
 use crate::style::{
     HEADING_END, HEADING_LEFT, HEADING_LETTER, HEADING_LINE, HEADING_TOP, INK, TITLE_FONT,
     TITLE_TOP,
@@ -12,7 +14,6 @@ use crate::style::{
 use crate::words::{push_facts, push_order};
 use audit_report::{OwnLines, Report, push_first_line};
 use migration_types::Session;
-use picture_plan::{OrderShown, Shape};
 use session_story::TopicStory;
 use std::alloc::{AllocError, Global};
 use story_words::{English, push_sentences, told_first};

@@ -1,10 +1,10 @@
 //! The labels in the boxes of a picture: what the record did, to which cell of which page, and which record it names.
 
+use crate::boxes::Label;
 use crate::drawing::RecordBox;
 use crate::heading::Subject;
 use crate::words::RIGHT_VALUE;
 use migration_types::{Field, GuestRec, LogName, Session};
-use picture_plan::Label;
 use session_story::{Amended, Name, amended_by};
 use std::alloc::AllocError;
 use text_lines::push_number;

@@ -1,10 +1,10 @@
 //! The layout of a picture, in pixels: the columns, the rows, and the boxes in them.
 
+use crate::arrows::Seat;
 use crate::style::{
     BESIDE, COLUMNS_LEFT, GAP, LEAST_GUEST_HALF, LEAST_HALF, LETTER, RIGHT, ROW, ROWS_TOP,
 };
 use migration_types::{LOG_COUNT, LogName, logs};
-use picture_plan::Seat;
 
 /// The columns of a picture.
 #[derive(Clone, Copy)]

@@ -1,14 +1,16 @@
 //! The legend of a picture as text: each sign with its meaning.
 
+use crate::arrows::ArrowKind;
+use crate::boxes::BoxKind;
 use crate::elements::{
     begin_at, begin_text, end_arrow, end_text, push, push_ends, push_length, push_paint, push_path,
 };
+use crate::signs::Sign;
 use crate::style::{
     CORNER, CROSS, DIAMOND, ENTRY, INK, LEGEND_BESIDE, LEGEND_IN_LINE, LEGEND_LINE, MEANING_LEFT,
     MEANING_TOP, Paint, SIGN_HEIGHT, SIGN_WIDTH, STUB_LINE, arrow_paint, box_paint, head_of,
 };
 use crate::words::meaning_of;
-use picture_plan::{ArrowKind, BoxKind, Sign};
 use std::alloc::AllocError;
 
 /// Appends a box.

@@ -2,12 +2,12 @@
 
 ghost use Rattle.std.specs.Prelude.{IfOk};
 ghost use Rattle.audit_report.specs.Reports.{IsReport};
-ghost use Rattle.picture_plan.specs.Pictures.{IsPicture, IsPictureOf};
+ghost use Rattle.order_picture.specs.Pictures.{IsPicture, IsPictureOf};
 
+use crate::picture::{Picture, plan_told};
 use audit_report::Report;
 use cert_maker::found_runs;
 use migration_types::{Run, Session, Topic};
-use picture_plan::{Picture, plan_told};
 use session_story::tell;
 use std::alloc::{AllocError, Global};
 

@@ -1,7 +1,8 @@
 //! How a picture looks: each size, in pixels, and each colour. The colours for a dark page are in [`DARK_COLOURS`], by
 //! the classes of the others.
 
-use picture_plan::{ArrowKind, BoxKind};
+use crate::arrows::ArrowKind;
+use crate::boxes::BoxKind;
 
 /// The left end of the heading's lines.
 pub(crate) const HEADING_LEFT: u64 = 20;

@@ -4,6 +4,7 @@ ghost use Rattle.std.specs.Prelude.{◌≡◌, ◌++◌, ℕ, List, IfOk, OnOk};
 ghost use Rattle.audit_report.specs.Reports.{IsReport};
 ghost use Rattle.order_picture.specs.Svg.{IsPictureText, IsPictureTextAlong, IsSvg};
 
+use crate::arrows::Seat;
 use crate::drawing::{
     Arrow, RecordBox, push_arrow, push_column, push_fold, push_margin_name, push_record, push_stub,
 };
@@ -12,11 +13,13 @@ use crate::heading::{Heading, Subject, heading_of};
 use crate::labels::push_label;
 use crate::layout::{Columns, top_of};
 use crate::legend::{legend_height, push_entry};
+use crate::picture::Picture;
 use crate::planning::{plan_along, plan_on};
+use crate::shapes::{Shape, picture_shapes};
+use crate::shown::Shown;
 use crate::style::{COLUMNS_LEFT, DARK_COLOURS, FONT, FONTS, LEGEND_GAP, PAPER, heads};
 use audit_report::{Report, push_first_line};
 use migration_types::{LOG_COUNT, Run, Session, Topic};
-use picture_plan::{Picture, Seat, Shape, Shown, picture_shapes};
 use session_story::TopicStory;
 use std::alloc::{AllocError, Global};
 use text_lines::push_number;

@@ -1,10 +1,12 @@
 //! The words of a picture: how many records there are, what the heading says, and what the signs mean.
 
+use crate::behind::{Obstacle, tie_of};
 use crate::elements::push;
 use crate::heading::Subject;
+use crate::shown::OrderShown;
+use crate::signs::Sign;
 use merge_runs::{TakenCounts, all_of};
 use migration_types::{Session, logs};
-use picture_plan::{Obstacle, OrderShown, Sign, tie_of};
 use session_story::Name;
 use std::alloc::{AllocError, Global};
 use story_words::{push_record, push_wait};

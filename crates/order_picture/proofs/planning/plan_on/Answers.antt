@@ -1,7 +1,7 @@
 use Rattle.std.proofs.Common.{IfOk, sym, subst}
 use Rattle.std.proofs.lemmas.Result.{IfOk-weaker}
 use Rattle.audit_report.specs.declared.report.Report.{Report}
-use Rattle.picture_plan.specs.Pictures.{IsPicture, IsPictureOf}
+use Rattle.order_picture.specs.Pictures.{IsPicture, IsPictureOf}
 use Rattle.order_picture.proofs.planning.plan_on.Goals as goal
 
 pub returns-in-Knot : goal.returns-in-Knot

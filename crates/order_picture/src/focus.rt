@@ -1,0 +1,133 @@
+//! What a picture is about: a faulty record, what its fault concerns, and a page.
+
+ghost use Rattle.std.specs.Prelude.{◌≡◌, option_and_then};
+ghost use Rattle.session_story.specs.Subjects.{page_of};
+ghost use Rattle.order_picture.specs.Marks.{is_page, mark_of};
+ghost use Rattle.order_picture.specs.Pictures.{fault_for, fault_of, faulty_in, number_in, page_for, IsFocus};
+
+use crate::records::is_one;
+use audit_report::Report;
+use migration_types::{PageNo, Session};
+use session_story::{FaultStory, FullPageStory, Name, TopicStory, concerned_of, page_of};
+
+/// Why a record stands out.
+#[derive(Clone, Copy)]
+pub enum Mark {
+    /// It is the faulty record that the picture is about.
+    Faulty,
+    /// It is the record that the fault concerns.
+    Concerned,
+    /// It is about the page that the picture is about.
+    OfPage,
+    Plain,
+}
+
+/// What a picture is about.
+#[derive(Clone, Copy)]
+pub struct Focus {
+    /// The faulty record: the report's, or that of the first fault of the story's page.
+    pub fault: Option<Name>,
+    /// The record that the fault concerns.
+    pub concerned: Option<Name>,
+    /// The page of the report's faulty record, or the page of the story.
+    pub page: Option<PageNo>,
+}
+
+/// Returns whether both are the same page.
+fn is_page(page: Option<PageNo>, other: Option<PageNo>) -> bool
+    ensures { result ≡ is_page page other }
+{
+    match (page, other) {
+        (Some(page), Some(other)) => page.number() == other.number(),
+        _ => false,
+    }
+}
+
+/// Returns the mark of a record.
+pub(crate) fn mark_of(session: &Session, focus: &Focus, name: Name) -> Mark
+    ensures { result ≡ mark_of session.now focus.now name }
+{
+    if is_one(focus.fault, name) {
+        return Mark::Faulty;
+    }
+    if is_one(focus.concerned, name) {
+        return Mark::Concerned;
+    }
+    if focus.page.is_some() && is_page(focus.page, page_of(session, name)) {
+        return Mark::OfPage;
+    }
+    Mark::Plain
+}
+
+/// Returns the faulty record of a report.
+fn fault_of(report: &Report) -> Option<Name>
+    ensures { result ≡ fault_of report.now }
+{
+    match report {
+        Report::Shape(fault) => Some((fault.log, fault.place)),
+        Report::Faulty { fault, .. } => Some((fault.log, fault.place)),
+        Report::Knot { .. } => None,
+        Report::Clean(_) => None,
+    }
+}
+
+/// Returns the record of a fault of a page, if there is one.
+fn faulty_in(fault: &Option<FaultStory>) -> Option<Name>
+    ensures { result ≡ faulty_in fault.now }
+{
+    match fault {
+        Some(story) => Some((story.fault.log, story.fault.place)),
+        None => None,
+    }
+}
+
+/// Returns the faulty record that a picture is about, given the story.
+fn fault_for(report: &Report, told: &TopicStory) -> Option<Name>
+    ensures { result ≡ fault_for report.now told.now }
+{
+    match told {
+        TopicStory::Report(_) => fault_of(report),
+        _ => faulty_in(&told.fault()),
+    }
+}
+
+/// Returns the page that the report's faulty record is about, if there is one.
+fn page_of_fault(session: &Session, report: &Report) -> Option<PageNo>
+    ensures { result ≡ option_and_then (page_of session.now) (fault_of report.now) }
+{
+    match fault_of(report) {
+        Some(name) => page_of(session, name),
+        None => None,
+    }
+}
+
+/// Returns the page of the story, if there is one.
+fn number_in(page: &Option<FullPageStory>) -> Option<PageNo>
+    ensures { result ≡ number_in page.now }
+{
+    match page {
+        Some(told) => Some(told.story.page),
+        None => None,
+    }
+}
+
+/// Returns the page that a picture is about, given the story.
+fn page_for(session: &Session, report: &Report, told: &TopicStory) -> Option<PageNo>
+    ensures { result ≡ page_for session.now report.now told.now }
+{
+    match told {
+        TopicStory::Report(_) => page_of_fault(session, report),
+        _ => number_in(&told.page()),
+    }
+}
+
+/// Returns what a picture is about, given the story.
+pub(crate) fn focus_of(session: &Session, report: &Report, told: &TopicStory) -> Focus
+    ensures { IsFocus session.now report.now told.now result }
+{
+    Focus {
+        fault: fault_for(report, told),
+        concerned: concerned_of(session, told),
+        page: page_for(session, report, told),
+    }
+}

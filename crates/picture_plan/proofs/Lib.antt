@@ -1,4 +1,0 @@
-pub mod Built
-pub mod Names
-pub mod Behinds
-pub mod Certain
