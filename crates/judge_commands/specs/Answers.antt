@@ -5,7 +5,7 @@ use Rattle.judged_texts.specs.Checked.{IsTextVerdict}
 use Rattle.cert_check.specs.declared.verdict.Verdict.{Verdict}
 use Rattle.cert_check.specs.declared.verdict.Verdict.TheVariants.{SessionText, CertText, Shape, Pages, Runs, Page, Yes}
 use Rattle.audit_report.specs.ReportText.{shape_line}
-use Rattle.report_json.specs.JsonText.{verdict_object}
+use Rattle.session_answers.specs.JsonText.{verdict_object}
 use Rattle.judged_texts.specs.declared.audit_part.AuditPart.{AuditPart}
 use Rattle.judge_commands.specs.Misfits.{AddsMisfit}
 use Rattle.command_texts.specs.Answers.{IsAnswer, numbered}

@@ -5,7 +5,7 @@ use Rattle.completeness.specs.declared.lack.Extent.{Extent}
 use Rattle.audit_report.specs.ToldLines.{line_by}
 use Rattle.command_texts.specs.Answers.{numbered}
 use Rattle.windows.specs.Tables.{SpellsTable}
-use Rattle.report_json.specs.JsonText.{table_object}
+use Rattle.session_answers.specs.JsonText.{table_object}
 use Rattle.session_answers.specs.declared.forms.Story.{Story}
 use Rattle.session_answers.specs.declared.forms.LackForm.{LackForm}
 use Rattle.session_answers.specs.declared.forms.LackForm.TheVariants.{Line, Words, Object}

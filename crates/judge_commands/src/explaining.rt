@@ -24,8 +24,7 @@ use command_texts::{
 };
 use completeness::Extent;
 use migration_types::{Seq, Session};
-use report_json::push_refused_table;
-use session_answers::{LackForm, Story, print_story, print_story_refusal};
+use session_answers::{LackForm, Story, print_story, print_story_refusal, push_refused_table};
 use session_log::session_texts_are_unambiguous;
 use std::alloc::{AllocError, Global};
 use std::thread::Threads;

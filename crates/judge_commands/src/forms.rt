@@ -7,7 +7,7 @@ use crate::checking::push_verdict;
 use cert_check::Verdict;
 use command_texts::Telling;
 use command_words::VerdictForm;
-use report_json::push_verdict as push_verdict_object;
+use session_answers::push_verdict as push_verdict_object;
 use session_answers::LackForm;
 use std::alloc::AllocError;
 

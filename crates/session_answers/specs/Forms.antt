@@ -8,10 +8,10 @@ use Rattle.audit_report.specs.FaultyPagesText.{all_faults_text}
 use Rattle.audit_report.specs.Reports.{JudgesPages}
 use Rattle.audit_report.specs.RefusalText.{refusal_text}
 use Rattle.audit_report.specs.ToldLines.{own}
-use Rattle.report_json.specs.JsonText.{all_faults_object, at_line, report_object}
+use Rattle.session_answers.specs.JsonText.{all_faults_object, at_line, report_object}
 use Rattle.judged_texts.specs.AuditedText.{wanted_text}
 use Rattle.judged_texts.specs.declared.audit_part.AuditPart.{AuditPart}
-use Rattle.report_json.specs.TopicsText.{told_object}
+use Rattle.session_answers.specs.TopicsText.{told_object}
 use Rattle.session_answers.specs.Told.{IsRefusedText, IsToldText}
 use Rattle.session_story.specs.Topics.{IsTold}
 use Rattle.migration_types.specs.declared.topic.Topic.{Topic}

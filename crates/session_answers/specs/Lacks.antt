@@ -5,7 +5,7 @@ use Rattle.completeness.specs.Complete.{Lacks}
 use Rattle.completeness.specs.declared.lack.Extent.{Extent}
 use Rattle.completeness.specs.declared.lack.Lack.{Lack}
 use Rattle.audit_report.specs.MissingText.{missing_text}
-use Rattle.report_json.specs.JsonText.{missing_object}
+use Rattle.session_answers.specs.JsonText.{missing_object}
 use Rattle.session_answers.specs.Told.{IsLackingText}
 use Rattle.session_answers.specs.declared.forms.AnswerForm.{AnswerForm}
 use Rattle.session_answers.specs.declared.forms.AnswerForm.TheVariants as form

@@ -1,3 +1,8 @@
+pub mod JsonText
+pub mod RecordsText
+pub mod CausesText
+pub mod TopicsText
+pub mod inner
 pub mod Judged
 pub mod Forms
 pub mod Lacks

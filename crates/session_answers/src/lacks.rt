@@ -9,7 +9,7 @@ use crate::telling::print_missing;
 use audit_report::{Lines, push_missing};
 use completeness::{Extent, Lack, first_missing};
 use migration_types::Session;
-use report_json::push_missing as push_missing_object;
+use crate::push_missing as push_missing_object;
 use std::alloc::{AllocError, Global};
 
 /// Returns the line that says that a session lacks this, with its line numbers from `lines`. Fails only if memory runs

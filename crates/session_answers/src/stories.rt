@@ -5,11 +5,11 @@ ghost use Rattle.audit_report.specs.Reports.{IsReport};
 ghost use Rattle.session_answers.specs.Judged.{Refused, Reported};
 ghost use Rattle.session_answers.specs.Forms.{TellsRecords, TellsRefusalObject, TellsStory};
 
+use crate::{push_refused, push_told};
 use crate::forms::Story;
 use crate::telling::{print_refused, print_topic};
 use audit_report::{Lines, Report};
 use migration_types::{Session, Topic};
-use report_json::{push_refused, push_told};
 use session_story::tell;
 use std::alloc::{AllocError, Global};
 

@@ -1,5 +1,5 @@
 use Rattle.std.proofs.Common.{ℕ, List, ◌++◌, ap, ◌∙◌}
-use Rattle.report_json.specs.JsonText.{all_faults_object}
+use Rattle.session_answers.specs.JsonText.{all_faults_object}
 use Rattle.session_answers.proofs.reports.all_faults_object.Goals as goal
 
 pub returns : goal.returns

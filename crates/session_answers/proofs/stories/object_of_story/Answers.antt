@@ -1,5 +1,5 @@
 use Rattle.std.proofs.Common.{ℕ, List, ◌++◌, ap, ◌∙◌}
-use Rattle.report_json.specs.TopicsText.{told_object}
+use Rattle.session_answers.specs.TopicsText.{told_object}
 use Rattle.session_answers.proofs.stories.object_of_story.Goals as goal
 
 pub push_told-requires : goal.push_told-requires

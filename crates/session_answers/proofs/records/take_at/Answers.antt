@@ -1,7 +1,7 @@
 use Rattle.std.proofs.Common.{◌++◌, List, ◌∙◌, ap, sym}
-use Rattle.report_json.specs.declared.records.ToldRecord.{ToldRecord}
-use Rattle.report_json.proofs.Told.{told_past, told_there}
-use Rattle.report_json.proofs.records.take_at.Goals as goal
+use Rattle.session_answers.specs.declared.records.ToldRecord.{ToldRecord}
+use Rattle.session_answers.proofs.Told.{told_past, told_there}
+use Rattle.session_answers.proofs.records.take_at.Goals as goal
 
 pub returns-in_ok-push-in-Some : goal.returns-in_ok-push-in-Some
 returns-in_ok-push-in-Some g c = c.in_ok-push-in-Some.ensures.items ∙ ap (λ (t : List ToldRecord). c.args.records.now.items ++ t) (sym (told_there (g.L.Lines.tell c.args.lines.now) c.args.session.now c.args.role c.args.log c.args.place c.in-Some.line c.line.result c.in-Some.ensures c.line.ensures))

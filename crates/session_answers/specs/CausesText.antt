@@ -5,7 +5,7 @@ use Rattle.migration_types.specs.Sessions.{Recorded, line_of, log_length}
 use Rattle.session_story.specs.Causes.{kind_word}
 use Rattle.session_story.specs.declared.causes.Cause.{Cause}
 use Rattle.session_story.specs.declared.causes.CauseKind.{CauseKind}
-use Rattle.report_json.specs.JsonText.{opened, record_at, record_in}
+use Rattle.session_answers.specs.JsonText.{opened, record_at, record_in}
 
 -- the line of a record, mapped, if the session has the record
 abbrev pub line_shown : (ℕ → ℕ) → Recorded → Name → Option ℕ

@@ -2,10 +2,10 @@ use Rattle.std.proofs.Common.{Some, get_or}
 use Rattle.std.proofs.lemmas.List.{get_or_default}
 use Rattle.migration_types.specs.declared.records.LogName.TheVariants.{Guest}
 use Rattle.session_story.specs.declared.knots.Waiting.{Waiting}
-use Rattle.report_json.specs.declared.records.Role.TheVariants.{Waits}
-use Rattle.report_json.specs.RecordsText.{told}
-use Rattle.report_json.proofs.Growing.{next_added}
-use Rattle.report_json.proofs.records.take_waits.Goals as goal
+use Rattle.session_answers.specs.declared.records.Role.TheVariants.{Waits}
+use Rattle.session_answers.specs.RecordsText.{told}
+use Rattle.session_answers.proofs.Growing.{next_added}
+use Rattle.session_answers.proofs.records.take_waits.Goals as goal
 
 -- what stands in the place of a record that waits past the last one
 abbrev no_wait : Waiting

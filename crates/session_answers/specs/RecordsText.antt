@@ -17,10 +17,10 @@ use Rattle.session_story.specs.declared.topic_stories.TopicStory.{TopicStory}
 use Rattle.session_story.specs.declared.topic_stories.TopicStory.TheVariants as topic
 use Rattle.session_story.specs.declared.knots.Waiting.{Waiting}
 use Rattle.session_story.specs.Concerned.{resumed_by}
-use Rattle.report_json.specs.declared.records.Role.{Role}
-use Rattle.report_json.specs.declared.records.Role.TheVariants as role
-use Rattle.report_json.specs.declared.records.ToldRecord.{ToldRecord}
-use Rattle.report_json.specs.JsonText.{number, word}
+use Rattle.session_answers.specs.declared.records.Role.{Role}
+use Rattle.session_answers.specs.declared.records.Role.TheVariants as role
+use Rattle.session_answers.specs.declared.records.ToldRecord.{ToldRecord}
+use Rattle.session_answers.specs.JsonText.{number, word}
 
 abbrev pub role_word : Role → List ℕ
 role_word role.Faulty = codes "faulty"

@@ -1,7 +1,7 @@
 //! The records that the story of a session names, each with its role.
 
 ghost use Rattle.std.specs.Prelude.{◌≡◌, ◌++◌, Some, IfOk, OnOk};
-ghost use Rattle.report_json.specs.RecordsText.{fault_records, faulty_record, first_records, full_records, later_records, line_records, misshapen_records, page_records, records_of, report_records, role_word, sent_records, shape_records, told, told_record, waiting_records};
+ghost use Rattle.session_answers.specs.RecordsText.{fault_records, faulty_record, first_records, full_records, later_records, line_records, misshapen_records, page_records, records_of, report_records, role_word, sent_records, shape_records, told, told_record, waiting_records};
 
 use crate::fields::{push_number_under, push_word_under};
 use crate::lists::Item;

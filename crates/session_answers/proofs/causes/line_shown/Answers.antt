@@ -1,7 +1,7 @@
 use Rattle.std.proofs.Common.{ℕ, Bool, cond, Some, None, sym, ap, ◌∙◌}
 use Rattle.std.proofs.lemmas.Bool.{lt-ltb, le-ltb}
 use Rattle.migration_types.specs.Sessions.{line_of, log_length}
-use Rattle.report_json.proofs.causes.line_shown.Goals as goal
+use Rattle.session_answers.proofs.causes.line_shown.Goals as goal
 
 pub returns-in-Some : goal.returns-in-Some
 returns-in-Some g c =

@@ -1,5 +1,5 @@
-use Rattle.report_json.proofs.Stories.{fault_there}
-use Rattle.report_json.proofs.objects.push_told.Goals as goal
+use Rattle.session_answers.proofs.Stories.{fault_there}
+use Rattle.session_answers.proofs.objects.push_told.Goals as goal
 
 pub push_topic-requires : goal.push_topic-requires
 push_topic-requires g c = fault_there c.args.session.now c.args.report.now c.requires.0 c.args.told.now c.requires.1

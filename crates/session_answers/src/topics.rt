@@ -3,8 +3,8 @@
 ghost use Rattle.std.specs.Prelude.{◌≡◌, ◌++◌, ◌<◌, OnOk};
 ghost use Rattle.migration_types.specs.Sessions.{log_length};
 ghost use Rattle.session_story.specs.Topics.{fault_in, fault_of_page, page_of_line};
-ghost use Rattle.report_json.specs.TopicsText.{fault_of, first_fault, its_page, line_topic, page_topic, topic_of};
-ghost use Rattle.report_json.specs.inner.Faults.{IsFaultThere};
+ghost use Rattle.session_answers.specs.TopicsText.{fault_of, first_fault, its_page, line_topic, page_topic, topic_of};
+ghost use Rattle.session_answers.specs.inner.Faults.{IsFaultThere};
 
 use crate::fields::{open, push_number_under, push_record_in, push_word_under};
 use audit_report::Lines;

@@ -1,7 +1,7 @@
 //! Objects and their fields. Each field begins with its comma, because the verdict comes before it.
 
 ghost use Rattle.std.specs.Prelude.{◌≡◌, [], ◌++◌, codes, OnOk};
-ghost use Rattle.report_json.specs.JsonText.{begun, number, object, opened, opening, page_of, record_at, record_in, word};
+ghost use Rattle.session_answers.specs.JsonText.{begun, number, object, opened, opening, page_of, record_at, record_in, word};
 
 use migration_types::{LogName, PageNo};
 use std::alloc::AllocError;

@@ -2,8 +2,8 @@
 
 ghost use Rattle.std.specs.Prelude.{◌≡◌, ◌++◌, codes, OnOk};
 ghost use Rattle.completeness.specs.Complete.{IsFirstMissing};
-ghost use Rattle.report_json.specs.JsonText.{all_faults_object, at_line, begun, fault_told, missing_object, missing_told, number, pages_told, record_at, report_begun, report_object, shape_object, shape_told, table_object, verdict_object, word};
-ghost use Rattle.report_json.specs.TopicsText.{IsStory, told_object};
+ghost use Rattle.session_answers.specs.JsonText.{all_faults_object, at_line, begun, fault_told, missing_object, missing_told, number, pages_told, record_at, report_begun, report_object, shape_object, shape_told, table_object, verdict_object, word};
+ghost use Rattle.session_answers.specs.TopicsText.{IsStory, told_object};
 
 use crate::causes::push_cause;
 use crate::fields::{

@@ -5,9 +5,9 @@ use Rattle.std.proofs.lemmas.List.{append-nil}
 use Rattle.migration_types.specs.declared.records.LogName.{LogName}
 use Rattle.migration_types.specs.Sessions.{Recorded, line_of, log_length}
 use Rattle.session_story.specs.Places.{IsAtLineOf}
-use Rattle.report_json.specs.declared.records.Role.{Role}
-use Rattle.report_json.specs.declared.records.ToldRecord.{ToldRecord}
-use Rattle.report_json.specs.RecordsText.{told}
+use Rattle.session_answers.specs.declared.records.Role.{Role}
+use Rattle.session_answers.specs.declared.records.ToldRecord.{ToldRecord}
+use Rattle.session_answers.specs.RecordsText.{told}
 
 module _ (tell : ℕ → ℕ) (s : Recorded) (role : Role) (log : LogName) (n : ℕ) where
   abbrev at_line : ℕ → ToldRecord

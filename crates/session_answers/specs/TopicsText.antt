@@ -12,9 +12,9 @@ use Rattle.session_story.specs.declared.topic_stories.LineStory.{LineStory}
 use Rattle.migration_types.specs.declared.topic.Topic.{Topic}
 use Rattle.session_story.specs.declared.topic_stories.TopicStory.{TopicStory}
 use Rattle.session_story.specs.declared.topic_stories.TopicStory.TheVariants as story
-use Rattle.report_json.specs.JsonText.{listed, number, opened, record_in, report_begun, word}
-use Rattle.report_json.specs.CausesText.{cause_told}
-use Rattle.report_json.specs.RecordsText.{records_of, told_record}
+use Rattle.session_answers.specs.JsonText.{listed, number, opened, record_in, report_begun, word}
+use Rattle.session_answers.specs.CausesText.{cause_told}
+use Rattle.session_answers.specs.RecordsText.{records_of, told_record}
 
 -- the first fault of a page, as in ,"fault":{"line":13,"log":"guest","record":6,"reason":"early"}
 unfoldable pub fault_of : (ℕ → ℕ) → Recorded → PageFault → List ℕ

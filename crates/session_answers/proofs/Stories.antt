@@ -22,7 +22,7 @@ use Rattle.migration_types.specs.declared.topic.Topic.{Topic}
 use Rattle.migration_types.specs.declared.topic.Topic.TheVariants as topic
 use Rattle.session_story.specs.declared.topic_stories.TopicStory.{TopicStory}
 use Rattle.session_story.specs.declared.topic_stories.TopicStory.TheVariants as told
-use Rattle.report_json.specs.inner.Faults.{IsFaultThere}
+use Rattle.session_answers.specs.inner.Faults.{IsFaultThere}
 
 record_there : {A : Type 0} (page_of : A → Option ℕ) (log : List A) (n p : ℕ) → if_there page_of (slice_get log n) ≡ Some p → n < length log
 record_there {A} page_of log n p e = go (slice_get log n) refl e

@@ -1,7 +1,7 @@
 //! The cause of a fault of a page.
 
 ghost use Rattle.std.specs.Prelude.{◌≡◌, ◌++◌, OnOk};
-ghost use Rattle.report_json.specs.CausesText.{against_at, against_told, blamed_at, blamed_told, cause_told, kind_told, line_shown};
+ghost use Rattle.session_answers.specs.CausesText.{against_at, against_told, blamed_at, blamed_told, cause_told, kind_told, line_shown};
 
 use crate::fields::{open, push_record, push_record_in};
 use audit_report::Lines;

@@ -1,7 +1,7 @@
 //! Lists, with commas between their items.
 
 ghost use Rattle.std.specs.Prelude.{◌≡◌, ◌++◌, ℕ, List, codes, OnOk};
-ghost use Rattle.report_json.specs.JsonText.{after_commas, faulty_page, listed, run, runs, with_commas};
+ghost use Rattle.session_answers.specs.JsonText.{after_commas, faulty_page, listed, run, runs, with_commas};
 
 use crate::fields::{open, push_number_under, push_word_under};
 use migration_types::Run;
