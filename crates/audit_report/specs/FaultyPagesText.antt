@@ -4,7 +4,7 @@ use Rattle.std.specs.Fmt.{decimal}
 use Rattle.text_lines.specs.Text.{ended}
 use Rattle.text_lines.specs.Counted.{counted}
 use Rattle.audit_model.specs.Reasons.{page_word}
-use Rattle.page_facts.specs.declared.faulty_pages.FaultyPage.{FaultyPage}
+use Rattle.page_facts.specs.declared.faulty.FaultyPage.{FaultyPage}
 use Rattle.audit_report.specs.declared.report.Report.{Report}
 use Rattle.audit_report.specs.declared.report.Report.TheVariants.{Clean, Shape, Knot, Faulty}
 use Rattle.audit_report.specs.ReportText.{first_line}

@@ -8,7 +8,7 @@ use Rattle.migration_types.specs.Limits.{most_pages}
 use Rattle.migration_types.specs.Sessions.{Recorded, line_of}
 use Rattle.page_facts.specs.declared.page_fault.PageFault.{PageFault}
 use Rattle.page_facts.specs.PageFaults.{IsClean, IsFirstFault}
-use Rattle.page_facts.specs.declared.faulty_pages.FaultyPage.{FaultyPage}
+use Rattle.page_facts.specs.declared.faulty.FaultyPage.{FaultyPage}
 use Rattle.page_facts.specs.FaultyPages.{AreFaultyBelow, AreFaultyFrom, AreManyFrom, IsFaultyPage}
 
 -- ---- lists one behind the other

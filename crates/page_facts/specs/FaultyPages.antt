@@ -3,7 +3,7 @@ use Rattle.std.specs.Prelude.{◌≡◌, ◌≢◌, ℕ, ◌+◌, ◌<◌, ◌�
 use Rattle.std.specs.List.{All, AllPairs}
 use Rattle.migration_types.specs.Sessions.{Recorded, IsSession, line_of}
 use Rattle.page_facts.specs.PageFaults.{IsClean, IsFirstFault}
-use Rattle.page_facts.specs.declared.faulty_pages.FaultyPage.{FaultyPage}
+use Rattle.page_facts.specs.declared.faulty.FaultyPage.{FaultyPage}
 
 -- a page's first fault, with its line
 pub record IsFaultyPage (s : Recorded) (f : FaultyPage) : Type 0 where

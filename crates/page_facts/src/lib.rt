@@ -11,7 +11,7 @@
 
 mod entries;
 mod facts;
-mod faulty_pages;
+mod faulty;
 mod findings;
 mod judges;
 mod looks;
@@ -26,7 +26,7 @@ mod range_start;
 mod right_entry;
 
 pub use facts::{PageFacts, facts_of};
-pub use faulty_pages::{
+pub use faulty::{
     Faults, FaultyPage, HowMany, clean_sessions_have_no_faulty_page, faulty_pages,
     many_of_pages_are_many,
 };

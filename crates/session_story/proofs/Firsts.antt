@@ -7,7 +7,7 @@ use Rattle.audit_model.specs.declared.reasons.PageReason.{PageReason}
 use Rattle.audit_model.specs.Faults.{IsPageFault}
 use Rattle.page_facts.specs.declared.page_fault.PageFault.{PageFault}
 use Rattle.page_facts.specs.PageFaults.{page_at, IsFirstFault}
-use Rattle.page_facts.specs.declared.faulty_pages.FaultyPage.{FaultyPage}
+use Rattle.page_facts.specs.declared.faulty.FaultyPage.{FaultyPage}
 use Rattle.page_facts.specs.FaultyPages.{AreFaultyPages}
 use Rattle.session_story.specs.declared.fault_stories.FaultStory.{FaultStory}
 use Rattle.session_story.specs.declared.topic_stories.FullPageStory.{FullPageStory}

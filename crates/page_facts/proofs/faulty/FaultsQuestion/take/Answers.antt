@@ -1,8 +1,8 @@
 use Rattle.std.proofs.Common.{◌+◌, List, sym, subst}
-use Rattle.page_facts.specs.declared.faulty_pages.FaultyPage.{FaultyPage}
+use Rattle.page_facts.specs.declared.faulty.FaultyPage.{FaultyPage}
 use Rattle.page_facts.specs.FaultyPages.{AreFaultyFrom}
 use Rattle.page_facts.proofs.MorePages.{more_clean, more_faulty}
-use Rattle.page_facts.proofs.faulty_pages.FaultsQuestion.take.Goals as goal
+use Rattle.page_facts.proofs.faulty.FaultsQuestion.take.Goals as goal
 
 pub returns-in_ok-push-in-Some : goal.returns-in_ok-push-in-Some
 returns-in_ok-push-in-Some c = λ first count here old.

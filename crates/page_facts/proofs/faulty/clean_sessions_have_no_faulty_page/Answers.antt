@@ -1,8 +1,8 @@
 use Rattle.std.proofs.Common.{◌<◌, arith}
 use Rattle.std.proofs.lemmas.List.Elements.{All-nil}
-use Rattle.page_facts.specs.declared.faulty_pages.FaultyPage.{FaultyPage}
+use Rattle.page_facts.specs.declared.faulty.FaultyPage.{FaultyPage}
 use Rattle.page_facts.specs.FaultyPages.{IsFaultyPage}
-use Rattle.page_facts.proofs.faulty_pages.clean_sessions_have_no_faulty_page.Goals as goal
+use Rattle.page_facts.proofs.faulty.clean_sessions_have_no_faulty_page.Goals as goal
 
 pub returns : goal.returns
 returns c = λ s clean. record {
