@@ -7,8 +7,7 @@ use crate::checking::push_verdict;
 use cert_check::Verdict;
 use command_texts::Telling;
 use command_words::VerdictForm;
-use session_answers::push_verdict as push_verdict_object;
-use session_answers::LackForm;
+use session_answers::{LackForm, push_verdict as push_verdict_object};
 use std::alloc::AllocError;
 
 /// Appends the text of a verdict in this form. Fails only if memory runs out.

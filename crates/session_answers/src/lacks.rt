@@ -5,11 +5,11 @@ ghost use Rattle.completeness.specs.Complete.{IsComplete, IsFirstMissing};
 ghost use Rattle.session_answers.specs.Lacks.{IsLack, TellsLack, object_of, line_of};
 
 use crate::forms::LackForm;
+use crate::push_missing as push_missing_object;
 use crate::telling::print_missing;
 use audit_report::{Lines, push_missing};
 use completeness::{Extent, Lack, first_missing};
 use migration_types::Session;
-use crate::push_missing as push_missing_object;
 use std::alloc::{AllocError, Global};
 
 /// Returns the line that says that a session lacks this, with its line numbers from `lines`. Fails only if memory runs

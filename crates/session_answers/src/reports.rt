@@ -6,9 +6,9 @@ ghost use Rattle.audit_report.specs.Reports.{IsReport, JudgesPages, ReportFits};
 ghost use Rattle.session_answers.specs.Judged.{Refused, Reported};
 ghost use Rattle.session_answers.specs.Forms.{ArePagesFor, Tells, TellsAllFaults, TellsAllFaultsObject, TellsObject};
 
-use crate::{push_all_faults, push_report};
 use crate::forms::AnswerForm;
 use crate::stories::{object_of_refusal, print_story, print_story_refusal};
+use crate::{push_all_faults, push_report};
 use audit_report::{OwnLines, Report, print_all_faults, print_refused_session};
 use judged_texts::print_wanted;
 use migration_types::Session;

@@ -5,9 +5,9 @@ ghost use Rattle.audit_report.specs.Reports.{IsReport};
 ghost use Rattle.session_answers.specs.Judged.{Refused, Reported};
 ghost use Rattle.session_answers.specs.Forms.{TellsRecords, TellsRefusalObject, TellsStory};
 
-use crate::{push_refused, push_told};
 use crate::forms::Story;
 use crate::telling::{print_refused, print_topic};
+use crate::{push_refused, push_told};
 use audit_report::{Lines, Report};
 use migration_types::{Session, Topic};
 use session_story::tell;

@@ -6,11 +6,11 @@ ghost use Rattle.audit_model.specs.Names.{if_there};
 ghost use Rattle.session_story.specs.Amended.{amended_by, amended_for, amended_with, cause_in, held_in, is_always_wrong, is_number, tells_for, tells_in, tells_of, tells_on};
 ghost use Rattle.session_story.specs.RecordValues.{cell_in, read_value, value_at};
 
-use crate::{CellValue, Name};
 use crate::concerned::given_in;
 use crate::explanations::Explanation;
 use crate::fault_stories::{Detail, FaultStory, PageCause};
 use crate::topic_stories::{FullPageStory, TopicStory};
+use crate::{CellValue, Name};
 use migration_types::{GuestRec, LogName, PageNo, Record, Session};
 
 /// A wrong value of a cell, and the right one.

@@ -4,10 +4,10 @@ ghost use Rattle.std.specs.Prelude.{◌≡◌};
 ghost use Rattle.session_story.specs.Causes.{against_for, against_of, blamed_of, came_to, cause_by, cause_for, cause_of, kind_for, kind_of, kind_word, own_cause};
 ghost use Rattle.session_story.specs.Explained.{is_used_by};
 
-use crate::{Name, PageStory, furthest, named_in};
 use crate::concerned::{concerned_by, given_in};
 use crate::fault_stories::{FaultStory, PageCause};
 use crate::topic_stories::TopicStory;
+use crate::{Name, PageStory, furthest, named_in};
 use audit_model::PageReason;
 use migration_types::LogName;
 

@@ -3,8 +3,8 @@
 ghost use Rattle.std.specs.Prelude.{◌≡◌};
 ghost use Rattle.session_story.specs.Concerned.{concerned_by, given_in};
 
-use crate::{Name, named_in};
 use crate::fault_stories::{Detail, FaultStory};
+use crate::{Name, named_in};
 use audit_model::PageReason;
 use migration_types::LogName;
 

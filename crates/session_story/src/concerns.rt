@@ -3,11 +3,11 @@
 ghost use Rattle.std.specs.Prelude.{◌≡◌, slice_get};
 ghost use Rattle.session_story.specs.Concerned.{concerned_in, concerned_of, heeded, is_number, resumed_by, shape_concerned_by};
 
-use crate::{Handover, Name, named_by, named_in};
 use crate::concerned::concerned_by;
 use crate::explanations::Explanation;
 use crate::fault_stories::{FaultStory, ShapeStory};
 use crate::topic_stories::TopicStory;
+use crate::{Handover, Name, named_by, named_in};
 use audit_model::ShapeReason;
 use migration_types::{GuestRec, LogName, Session};
 

@@ -7,9 +7,9 @@ ghost use Rattle.audit_report.specs.Reports.{IsReport};
 ghost use Rattle.session_story.specs.Counted.{IsCounts};
 ghost use Rattle.session_story.specs.Explained.{AreMoreFaulty, IsExplanation};
 
-use crate::{Counts, Explanation, counts_of};
 use crate::faults::{fault_at, shape_at};
 use crate::waits::circle_of;
+use crate::{Counts, Explanation, counts_of};
 use audit_report::Report;
 use migration_types::{Cert, Session};
 use page_facts::PageFault;

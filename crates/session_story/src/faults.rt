@@ -13,13 +13,13 @@ ghost use Rattle.session_story.specs.Giving.{IsGiver};
 ghost use Rattle.session_story.specs.Explained.{IsExplained, IsFaultStory, IsGivenRight, IsGivenWrong, IsLeft, IsLookBeforeTouch, IsMissing, IsReportedStory, IsSentRight, IsShapeStory, IsToldCause, IsUnexplained, IsWrong, IsWrongSend, first_placement, is_read, is_unplaced, is_zero};
 ghost use Rattle.session_story.specs.inner.Contents.{used_early};
 
+use crate::orders::in_every_order;
+use crate::reasons::{detail_of, is_read};
 use crate::{
     CellValue, FaultStory, Look, PageCause, PageStory, ShapeStory, Wrong, giver_of, greatest_look,
     handover_of, is_number, is_unseen, is_used_by, lost_by, other_at_halt, sent_before, story_of,
     value_at,
 };
-use crate::orders::in_every_order;
-use crate::reasons::{detail_of, is_read};
 use audit_model::PageReason;
 use audit_report::Report;
 use cert_check::ShapeFault;

@@ -6,9 +6,9 @@ ghost use Rattle.migration_types.specs.Sessions.{log_length};
 ghost use Rattle.session_story.specs.Pages.{IsPageStory};
 ghost use Rattle.session_story.specs.Explained.{IsDetail, is_read};
 
-use crate::{Detail, PageStory, greatest_look, instead_of};
 use crate::contents::other_at;
 use crate::faults::look_before;
+use crate::{Detail, PageStory, greatest_look, instead_of};
 use audit_model::PageReason;
 use migration_types::{LogName, Session};
 use std::alloc::{AllocError, Global};

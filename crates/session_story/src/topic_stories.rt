@@ -3,9 +3,9 @@
 ghost use Rattle.std.specs.Prelude.{◌≡◌};
 ghost use Rattle.session_story.specs.Topics.{fault_in, fault_reported, page_in};
 
-use crate::{Handover, PageStory};
 use crate::explanations::Explanation;
 use crate::fault_stories::{FaultStory, ShapeStory};
+use crate::{Handover, PageStory};
 use migration_types::LogName;
 
 /// The story of a page, with its fault.

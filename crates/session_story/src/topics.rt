@@ -7,12 +7,12 @@ ghost use Rattle.session_story.specs.Pages.{IsPageStory};
 ghost use Rattle.session_story.specs.Subjects.{page_of};
 ghost use Rattle.session_story.specs.Topics.{IsFirstFaultStory, IsPageTold, IsShapeTold, IsTold, IsToldOfItsPage, IsToldOfLine, IsToldOfPage};
 
+use crate::explaining::explain;
+use crate::faults::{shape_at, story_of_fault};
 use crate::{
     FaultStory, FullPageStory, LineStory, PageStory, ShapeStory, TopicStory, handover_of, page_of,
     record_on, story_of,
 };
-use crate::explaining::explain;
-use crate::faults::{shape_at, story_of_fault};
 use audit_report::Report;
 use migration_types::{LogName, PageNo, Session, Topic};
 use page_facts::fault_of;

@@ -8,8 +8,8 @@ use crate::listing::push_if;
 use audit_model::{PageReason, delivery};
 use migration_types::{LogName, PagerRec, Session, SourceRec};
 use session_story::{
-    CauseKind, CellValue, Detail, FaultStory, Look, Name, PageCause, PageStory, came_to, is_used_by,
-    value_at,
+    CauseKind, CellValue, Detail, FaultStory, Look, Name, PageCause, PageStory, came_to,
+    is_used_by, value_at,
 };
 use std::alloc::AllocError;
 

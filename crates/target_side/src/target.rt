@@ -11,8 +11,8 @@ ghost use Rattle.residency.specs.Placements.{is_resident};
 ghost use Rattle.migration_events.specs.Ops.{OpFits};
 ghost use Rattle.target_side.specs.Kept.{part_of, geometry_of, HaveGrown};
 
-use crate::{Access, TargetFault, UntakenMiss};
 use crate::state::TargetState;
+use crate::{Access, TargetFault, UntakenMiss};
 use migration_events::{Op, look_for_room};
 use migration_types::{Contents, Geometry, GuestRec, PageNo};
 use page_store::Store;

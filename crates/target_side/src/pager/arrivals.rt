@@ -8,9 +8,9 @@ ghost use Rattle.target_side.specs.PagerPart.{pager_pop, pager_pull, pops_first,
 ghost use Rattle.target_side.specs.PagerLists.{part_of, IsPacketOf};
 
 use super::PagerBook;
-use crate::{Incoming, TargetFault};
 use crate::log::append;
 use crate::marks::mark_all;
+use crate::{Incoming, TargetFault};
 use migration_events::{look_for_room, make_room};
 use migration_types::{Contents, PageNo, PagerRec, Shared};
 use page_stream::Packet;

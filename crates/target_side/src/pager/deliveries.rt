@@ -11,8 +11,8 @@ ghost use Rattle.target_side.specs.PagerLists.{part_of};
 ghost use Rattle.target_side.specs.inner.Steps.{skips, places_next};
 
 use super::PagerBook;
-use crate::{TargetBook, TargetFault};
 use crate::log::append;
+use crate::{TargetBook, TargetFault};
 use migration_events::{look_for_room, make_room};
 use migration_types::{PagerRec, Seq};
 use std::alloc::Global;

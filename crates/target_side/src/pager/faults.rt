@@ -10,8 +10,8 @@ ghost use Rattle.target_side.specs.PagerLists.{part_of};
 ghost use Rattle.target_side.specs.inner.Steps.{learned, asks};
 
 use super::{PagerBook, want_page};
-use crate::{TargetBook, TargetFault, UntakenMiss};
 use crate::log::append;
+use crate::{TargetBook, TargetFault, UntakenMiss};
 use fault_queue::Asked;
 use migration_events::{look_for_room, make_room};
 use migration_types::PagerRec;

@@ -8,8 +8,8 @@ ghost use Rattle.target_side.specs.PagerPart.{is_listed};
 ghost use Rattle.target_side.specs.PagerLists.{part_of, IsKept};
 
 use super::PagerBook;
-use crate::{TargetBook, TargetFault};
 use crate::marks::mark_all;
+use crate::{TargetBook, TargetFault};
 use fault_queue::FaultQueue;
 
 impl PagerBook {
