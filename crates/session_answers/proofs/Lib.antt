@@ -1,3 +1,3 @@
 pub mod Growing
-pub mod Stories
+pub mod Standing
 pub mod Told

@@ -1,4 +1,4 @@
-use Rattle.session_answers.proofs.Stories.{fault_there}
+use Rattle.session_answers.proofs.Standing.{fault_there}
 use Rattle.session_answers.proofs.objects.push_told.Goals as goal
 
 pub push_topic-requires : goal.push_topic-requires
