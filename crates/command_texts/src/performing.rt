@@ -2,7 +2,7 @@
 //! command, and the system takes back all its memory at once. So what was found in the texts is forgotten, and not
 //! freed piece by piece.
 
-ghost use Rattle.std.specs.Prelude.{◌≡◌, ⊤, ◌<◌, ◌⊎◌, ℕ, Bool, List, [], None, IfOk, IfErr, IfSome, OnOk};
+ghost use Rattle.std.specs.Prelude.{◌≡◌, ⊤, ◌<◌, ◌⊎◌, ℕ, Bool, false, List, [], None, IfOk, IfErr, IfSome, OnOk};
 ghost use Rattle.command_texts.specs.Answers.{IsListStop, IsTextFault};
 ghost use Rattle.command_texts.specs.Fields.{IsAnswerTold};
 ghost use Rattle.command_texts.specs.Reasons.{IsFirstRefused, IsWhy, TellsBeside, TellsWhyOf};
@@ -37,11 +37,11 @@ pub trait OnOne {
     /// This is the command's answer to a text, with its status.
     ghost is_answer: { Self → List ℕ → List ℕ → ℕ → Type 0 };
 
-    /// How much the command says about a text that is refused.
-    ghost how_much: { Self → HowMuch };
+    /// How much the command says about a text that is refused: many say one line.
+    ghost how_much: { Self → HowMuch } = { λ _. HowMuch.Short };
 
-    /// These are the words of a note on this text, for an answer with this status.
-    ghost has_note: { Self → List ℕ → ℕ → List ℕ → Type 0 };
+    /// These are the words of a note on this text, for an answer with this status. Many commands have no note.
+    ghost has_note: { Self → List ℕ → ℕ → List ℕ → Type 0 } = { λ _ _ _ _. ⊥ };
 
     /// Returns how much the command says about a text that is refused.
     fn telling(&self) -> Telling
@@ -83,27 +83,30 @@ pub trait OnTwo {
     /// This is the command's answer to two texts, with its status.
     ghost is_answer: { Self → List ℕ × List ℕ → List ℕ → ℕ → Type 0 };
 
-    /// This is what the command's answer to two texts says.
-    ghost is_said: { Self → List ℕ × List ℕ → Self.Said → Type 0 };
+    /// This is what the command's answer to two texts says, as far as more words need it.
+    ghost is_said: { Self → List ℕ × List ℕ → Self.Said → Type 0 } = { λ _ _ _. ⊤ };
 
     /// These words were added about two texts: given the name of the second, what was there before, and what is there
-    /// now.
-    ghost adds_more: { Self → List ℕ × List ℕ → List ℕ → List ℕ → List ℕ → Type 0 };
+    /// now. Many commands add nothing.
+    ghost adds_more: { Self → List ℕ × List ℕ → List ℕ → List ℕ → List ℕ → Type 0 } = { λ _ _ _ before after. after ≡ before };
 
-    /// How much the command says about a text that is refused.
-    ghost how_much: { Self → HowMuch };
+    /// How much the command says about a text that is refused: many say one line.
+    ghost how_much: { Self → HowMuch } = { λ _. HowMuch.Short };
 
-    /// The answer is about the second text if both are refused.
-    ghost about_second: { Self → Bool };
+    /// The answer is about the second text if both are refused. Many answers are about the first.
+    ghost about_second: { Self → Bool } = { λ _. false };
 
-    /// These are the words of a note on these texts, for an answer with this status.
-    ghost has_note: { Self → List ℕ × List ℕ → ℕ → List ℕ → Type 0 };
+    /// These are the words of a note on these texts, for an answer with this status. Many commands have no note.
+    ghost has_note: { Self → List ℕ × List ℕ → ℕ → List ℕ → Type 0 } = { λ _ _ _ _. ⊥ };
 
     /// Returns how much the answer says about a text that is refused, besides one line.
     fn telling(&self) -> Telling
-        ensures { result ≡ HowMuch.Fields → how_much self.now ≡ HowMuch.Fields };
+        ensures { result ≡ HowMuch.Fields → how_much self.now ≡ HowMuch.Fields }
+    {
+        Telling::Short
+    }
 
-    /// Returns whether the answer is about the second text if both are refused. Many answers are about the first.
+    /// Returns whether the answer is about the second text if both are refused.
     fn is_about_second(&self) -> bool
         ensures { result ≡ about_second self.now };
 
@@ -121,8 +124,8 @@ pub trait OnTwo {
         ensures said { (texts : List ℕ × List ℕ) → Self.First.is_found texts.0 first.now → Self.Second.is_found texts.1 second.now → IfOk result (λ given. is_said self.now texts given.1) }
         ensures fault { IfErr result (λ fault. fault ≡ Fault.Memory) };
 
-    /// Appends more words for people about what the answer says. `name` is the name of the second text, as shown. Many
-    /// commands append nothing. Fails only if memory runs out.
+    /// Appends more words for people about what the answer says. `name` is the name of the second text, as shown. Fails
+    /// only if memory runs out.
     fn push_more(
         &self,
         out: &mut Vec<u8>,

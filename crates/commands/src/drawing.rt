@@ -1,12 +1,11 @@
 //! The picture of a session, as a text and a status.
 
-ghost use Rattle.std.specs.Prelude.{◌≡◌, ℕ, List, IfOk, ⊤, false};
+ghost use Rattle.std.specs.Prelude.{ℕ, List, IfOk};
 ghost use Rattle.std.specs.Thread.{IsSync};
 ghost use Rattle.text_lines.specs.Answer.{IsRead};
 ghost use Rattle.session_log.specs.Grammar.{SpellsSession};
 ghost use Rattle.cert_text.specs.Order.{SpellsOrder};
 ghost use Rattle.audit_report.specs.RefusalText.{refusal_text};
-ghost use Rattle.command_texts.specs.declared.why.Telling.TheVariants.{Short};
 ghost use Rattle.command_texts.specs.Answers.{Says};
 ghost use Rattle.commands.specs.Drawings.{IsDrawAnswer, IsDrawAlongAnswer, IsDrawn, IsDrawnAlong};
 
@@ -122,10 +121,6 @@ impl<R: Threads + Sync> OnOne for DrawCommand<'_, R> {
 
     ghost is_answer = { λ self. IsDrawAnswer self.topic };
 
-    ghost how_much = { λ _. Short };
-
-    ghost has_note = { λ _ _ _ _. ⊥ };
-
     fn telling(&self) -> Telling {
         Telling::Short
     }
@@ -162,20 +157,6 @@ impl<R: Threads + Sync> OnTwo for DrawAlongCommand<'_, R> {
     ghost ready = { IsSync R.row };
 
     ghost is_answer = { λ self. IsDrawAlongAnswer self.topic };
-
-    ghost is_said = { λ _ _ _. ⊤ };
-
-    ghost adds_more = { λ _ _ _ before after. after ≡ before };
-
-    ghost how_much = { λ _. Short };
-
-    ghost about_second = { λ _. false };
-
-    ghost has_note = { λ _ _ _ _. ⊥ };
-
-    fn telling(&self) -> Telling {
-        Telling::Short
-    }
 
     fn is_about_second(&self) -> bool {
         false

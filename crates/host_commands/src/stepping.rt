@@ -1,18 +1,15 @@
 //! The session that events record from a script, as a text and a status.
 
-ghost use Rattle.std.specs.Prelude.{◌≡◌, ℕ, List, IfOk, ⊤, false};
+ghost use Rattle.std.specs.Prelude.{ℕ, List, IfOk};
 ghost use Rattle.text_lines.specs.Answer.{IsRead};
 ghost use Rattle.text_lines.specs.Text.{ended, IsSpelling};
 ghost use Rattle.session_log.specs.Grammar.{session_lines};
 ghost use Rattle.guest_script.specs.Events.{SpellsEvents};
 ghost use Rattle.guest_script.specs.Scripts.{SpellsScript};
 ghost use Rattle.command_texts.specs.Answers.{Says};
-ghost use Rattle.command_texts.specs.declared.why.Telling.TheVariants.{Short};
 ghost use Rattle.host_commands.specs.Steps.{IsStepsAnswer};
 
-use command_texts::{
-    ACCEPTED, Answer, Fault, Gathered, OnTwo, Telling, given_alone, refused, remark,
-};
+use command_texts::{ACCEPTED, Answer, Fault, Gathered, OnTwo, given_alone, refused, remark};
 use guest_script::{EventParts, Script, ScriptParts};
 use migration_events::Event;
 use migration_types::{Seq, Session};
@@ -82,20 +79,6 @@ impl OnTwo for StepsCommand {
     type Said = ();
 
     ghost is_answer = { λ _ texts. IsStepsAnswer texts.0 texts.1 };
-
-    ghost is_said = { λ _ _ _. ⊤ };
-
-    ghost adds_more = { λ _ _ _ before after. after ≡ before };
-
-    ghost how_much = { λ _. Short };
-
-    ghost about_second = { λ _. false };
-
-    ghost has_note = { λ _ _ _ _. ⊥ };
-
-    fn telling(&self) -> Telling {
-        Telling::Short
-    }
 
     fn is_about_second(&self) -> bool {
         false

@@ -1,6 +1,6 @@
 //! The verdict on a session and its certificate, as a line and a status.
 
-ghost use Rattle.std.specs.Prelude.{◌≡◌, ◌++◌, ℕ, List, IfOk, OnOk, false};
+ghost use Rattle.std.specs.Prelude.{◌≡◌, ◌++◌, ℕ, List, IfOk, OnOk};
 ghost use Rattle.std.specs.Thread.{IsSync};
 ghost use Rattle.text_lines.specs.Answer.{IsRead};
 ghost use Rattle.session_log.specs.Grammar.{SpellsSession};
@@ -124,8 +124,6 @@ impl<R: Threads + Sync> OnTwo for CheckCommand<'_, R> {
     ghost adds_more = { λ _. AddsMisfitOf };
 
     ghost how_much = { λ command. verdict_telling command.form };
-
-    ghost about_second = { λ _. false };
 
     ghost has_note = { λ command texts. IsBeside command.complete texts.0 };
 

@@ -1,6 +1,6 @@
 //! Stories of sessions whose line numbers come from a table.
 
-ghost use Rattle.std.specs.Prelude.{◌≡◌, ℕ, List, IfOk, ⊤, true};
+ghost use Rattle.std.specs.Prelude.{ℕ, List, IfOk, true};
 ghost use Rattle.std.specs.Thread.{IsSync};
 ghost use Rattle.text_lines.specs.Answer.{IsRead};
 ghost use Rattle.session_log.specs.Grammar.{SpellsSession};
@@ -149,10 +149,6 @@ impl<R: Threads + Sync> OnTwo for ExplainByTable<'_, R> {
     ghost ready = { IsSync R.row };
 
     ghost is_answer = { λ command. IsExplainedByTable command.story command.complete };
-
-    ghost is_said = { λ _ _ _. ⊤ };
-
-    ghost adds_more = { λ _ _ _ before after. after ≡ before };
 
     ghost how_much = { λ command. story_telling command.story };
 

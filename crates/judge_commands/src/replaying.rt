@@ -1,17 +1,16 @@
 //! The outcome of a replay of a session along runs, as a line and a status.
 
-ghost use Rattle.std.specs.Prelude.{◌≡◌, ◌++◌, ℕ, List, IfOk, OnOk, false};
+ghost use Rattle.std.specs.Prelude.{◌≡◌, ◌++◌, ℕ, List, IfOk, OnOk};
 ghost use Rattle.std.specs.Thread.{IsSync};
 ghost use Rattle.text_lines.specs.Answer.{IsRead};
 ghost use Rattle.session_log.specs.Grammar.{SpellsSession};
 ghost use Rattle.cert_text.specs.Order.{SpellsOrder};
-ghost use Rattle.command_texts.specs.declared.why.Telling.TheVariants.{Short};
 ghost use Rattle.judge_commands.specs.Replayed.{AddsReason, AddsReasonOf, IsReplayAnswer, outcome_line, outcome_status};
 ghost use Rattle.judged_texts.specs.Replayed.{IsOutcome};
 
 use audit_report::{push_refused_session, push_shape};
 use cert_text::OrderReader;
-use command_texts::{Answer, Fault, OnTwo, SessionTaker, Telling, given, status_where};
+use command_texts::{Answer, Fault, OnTwo, SessionTaker, given, status_where};
 use judged_texts::{Outcome, find_outcome};
 use migration_types::{Run, Seq, Session};
 use std::alloc::{AllocError, Global};
@@ -101,16 +100,6 @@ impl<R: Threads + Sync> OnTwo for ReplayCommand<'_, R> {
     ghost is_said = { λ _ texts outcome. IsOutcome texts.0 texts.1 outcome };
 
     ghost adds_more = { λ _. AddsReasonOf };
-
-    ghost how_much = { λ _. Short };
-
-    ghost about_second = { λ _. false };
-
-    ghost has_note = { λ _ _ _ _. ⊥ };
-
-    fn telling(&self) -> Telling {
-        Telling::Short
-    }
 
     fn is_about_second(&self) -> bool {
         false
