@@ -11,7 +11,7 @@ MAN1, MAN5 = "share/man/man1/postcopy.1", "share/man/man5/postcopy.5"
 
 # The words that have to be explained.
 TERMS = ("merging", "receipt", "knot", "cycle", "halt", "owed page", "cancelled", "look", "guard", "sum", "flat machine", "pivot",
-         "delivery outcome", "lane", "certificate", "cut", "run", "party", "channel", "mutant", "pool of workers")
+         "delivery outcome", "lane", "certificate", "cut", "run", "party", "channel", "mutant")
 
 # Sentences that were untrue, by the pages that may not have them (or all), and what is true.
 UNTRUE = (
