@@ -590,10 +590,15 @@ def test_archive(release, room):
         same("the paths that pkg-config tells", found, [f"{at}/include", f"{at}/lib"])
 
 
-@pytest.mark.cases(4)
+@pytest.mark.cases(7)
 def test_packages(release, room):
-    """The packages for Debian: lintian, an installation into a folder, and its removal."""
+    """The packages for Debian: who keeps them, lintian, an installation into a folder, and its removal."""
     packages = sorted(glob.glob(f"{release}/*.deb"))
+    project = read("bindings/python/pyproject.toml")
+    name, mail = re.search(r'^maintainers = \[\{ name = "(.*)", email = "(.*)" \}\]$', project, re.M).groups()
+    homepage = re.search(r'^Homepage = "(.*)"$', project, re.M)[1]
+    for it in packages:
+        same(f"who keeps {os.path.basename(it)}, and where", ran("dpkg-deb", "-f", it, "Maintainer", "Homepage"), (f"Maintainer: {name} <{mail}>\nHomepage: {homepage}\n", 0))
     if shutil.which("lintian"):
         same("lintian", ran("lintian", "--allow-root", "--tag-display-limit", "0", "--fail-on", "error,warning", *packages), ("", 0))
     else:

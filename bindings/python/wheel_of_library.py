@@ -58,7 +58,7 @@ def build_wheel(wheel_directory, config_settings=None, metadata_directory=None, 
         files[f"{info}/LICENSE"] = file.read()
     files[f"{info}/METADATA"] = (
         f"Metadata-Version: 2.1\nName: {name}\nVersion: {version}\nSummary: {project('description')}\n"
-        f"Requires-Python: {project('requires-python')}\nLicense: {project('license')}\nLicense-File: LICENSE\nAuthor: the Tingaro authors\n"
+        f"Requires-Python: {project('requires-python')}\nLicense: {project('license')}\nLicense-File: LICENSE\nAuthor: the Tingaro authors\nHome-page: {project('Homepage')}\n"
         f"Description-Content-Type: text/markdown\n\n{read(project('readme'))}"
     ).encode()
     files[f"{info}/WHEEL"] = f"Wheel-Version: 1.0\nGenerator: {name}\nRoot-Is-Purelib: false\nTag: {tag}\n".encode()
