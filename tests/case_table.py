@@ -6,7 +6,8 @@
 A case begins with a line 'case NAME' and ends with an empty one. 'what' says in a line what it shows, 'args' has the program's words, quoted
 as a shell wants them, and 'status' the status that is wanted. Below 'file NAME' the lines of a file of the case follow, each behind a bar and a
 space. 'file NAME CASE/FILE' is the file of a case above, 'file NAME examples/..' one of examples/, and 'file NAME TEXT' one of tests/cases/texts, whose
-bytes are no lines of ASCII, or too many. 'stdout', 'stderr', 'stdin' and 'checked' are such files; tests/test_examples.py says what these are.
+bytes are no lines of ASCII, or too many. Below such a line, 'at LINE COUNT' puts the lines that follow in the place of so many of that file, from a line
+on. 'stdout', 'stderr', 'stdin' and 'checked' are such files; tests/test_examples.py says what these are.
 A folder in tests/cases/ is a case too, and is copied.
 """
 import atexit
@@ -33,18 +34,27 @@ def place_of(text, folder):
     return TOP if text.startswith("examples/") else folder if "/" in text else f"{TABLES}/texts"
 
 
+def put_into(name, changes):
+    """Puts lines into a file, in the place of others: each change has the first line, how many there are, and the new ones."""
+    with open(name, encoding="utf-8", newline="\n") as file:
+        lines = file.readlines()
+    for first, count, new in reversed(changes):
+        lines[first - 1 : first - 1 + count] = new
+    with open(name, "w", encoding="utf-8") as file:
+        file.writelines(lines)
+
+
 def lay_out_case(folder, lines):
     """Makes the folder of a case of these lines."""
-    open_text = None
+    # The files that are made of the lines below, each with its changes, and the last of them.
+    changed, name = {}, None
     for line in lines:
         word, _, rest = (f"file {line}" if line in LINES else line).partition(" ")
         if word == "|":
-            open_text.write(f"{rest}\n")
-            continue
-        if open_text:
-            open_text.close()
-            open_text = None
-        if word == "case":
+            changed[name][-1][2].append(f"{rest}\n")
+        elif word == "at":
+            changed[name].append((*map(int, rest.split(" ")), []))
+        elif word == "case":
             at = f"{folder}/{rest}"
             os.mkdir(at)
         elif word == "args":
@@ -52,16 +62,19 @@ def lay_out_case(folder, lines):
         elif word in ("what", "status"):
             write(f"{at}/{word}", f"{rest}\n")
         elif word == "file":
-            name, _, text = rest.partition(" ")
-            os.makedirs(os.path.dirname(f"{at}/{name}"), exist_ok=True)
+            file, _, text = rest.partition(" ")
+            name = f"{at}/{file}"
             if text:
-                shutil.copyfile(f"{place_of(text, folder)}/{text}", f"{at}/{name}")
+                os.makedirs(os.path.dirname(name), exist_ok=True)
+                shutil.copyfile(f"{place_of(text, folder)}/{text}", name)
             else:
-                open_text = open(f"{at}/{name}", "x", encoding="utf-8")
+                write(name, "")
+            changed[name] = [] if text else [(1, 0, [])]
         else:
             raise ValueError(f"this is no line of a case: {line}")
-    if open_text:
-        open_text.close()
+    for name, changes in changed.items():
+        if changes:
+            put_into(name, changes)
 
 
 def lay_out(folder):
