@@ -33,8 +33,8 @@ def pytest_addoption(parser):
 
 
 def pytest_collection_modifyitems(items):
-    """What needs the toolchain is left out where there is none, and what compiles for minutes begins first."""
-    items.sort(key=lambda item: not item.get_closest_marker("first"))
+    """What needs the toolchain is left out where there is none. What compiles for minutes begins first, and what waits for it last."""
+    items.sort(key=lambda item: 0 if item.get_closest_marker("first") else 2 if item.get_closest_marker("last") else 1)
     if not shutil.which("rt"):
         for item in items:
             if item.get_closest_marker("toolchain"):
@@ -137,7 +137,7 @@ def program(pytestconfig):
 
 @pytest.fixture(scope="session")
 def made_once(tmp_path_factory):
-    """What is made once for all processes, those too that run tests for planted_bodies.py."""
+    """What is made once for all processes, those too that run tests for test_planted.py."""
     if MADE_ONCE not in os.environ:
         folder = tmp_path_factory.getbasetemp()
         os.environ[MADE_ONCE] = str(folder.parent if "PYTEST_XDIST_WORKER" in os.environ else folder)

@@ -12,7 +12,7 @@ whole crate. Try all of a crate, here, once its sources, its specifications or a
 NAME.edit at least, which 'rt must-fail' reads as it is.
 
 Those in tests/planted/CRATE.edits no clause refuses, and those in outside.edits are of files in no crate. Each has a line
-'test: TEST', as pytest names a test: planted.py shows that it finds the body. Here they are looked at by --check alone.
+'test: TEST', as pytest names a test: test_planted.py shows that it finds the body. Here they are looked at by --check alone.
 
 --few takes some of those that 'rt ci' does not try. The commit's hash chooses which, so that over many commits each is
 likely to be tried. All that it takes are of one crate, whose whole proof is paid once. Run it after 'rt ci', whose libraries it uses.

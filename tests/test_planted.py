@@ -1,10 +1,13 @@
 """Whether a test finds each wrong body of tests/planted: it has to fail with the wrong body, and to pass as far where the program has none.
 
 Nothing is proved. All bodies of crates stand in two programs, each behind its number (planted_programs.py), which are compiled before other
-tests run. Those of outside.edits are of files in no crate, such as a recorder's, and are put into a copy of the tree.
+tests run. Those of outside.edits are of files in no crate, such as a recorder's or a model's, and are put into a copy of the tree.
+
+    tests/pytest -n auto --dist loadgroup tests/test_planted.py -k "NAME or NAME"     tries some alone
 """
 import os
 import re
+import resource
 import shutil
 import signal
 import sys
@@ -22,8 +25,11 @@ TOP = os.path.dirname(os.path.dirname(os.path.realpath(__file__)))
 OF_CALLS = ("tests/test_calls.py", "tests/test_refused_calls.py")
 # Of a test that failed, the line that says so, and the one that says with which case.
 FAILED, CASE = re.compile("^FAILED .*$", re.M), re.compile(r"^case (\d+) failed", re.M)
-# How long a test may take, in seconds by the clock: a wrong body may wait for ever.
-LIMIT = 900
+# What is said where the test as a whole was left out, as where there is no node.
+LEFT_OUT = re.compile(r"^left out: [^ ]+: (.*)\n(?:.*\n)*0 passed, 0 failed, 1 left out", re.M)
+# How long a test may take, in seconds by the clock, and each program that it runs, in seconds of processor: a wrong body may wait for ever, or
+# go round and round.
+LIMIT, MOST = 900, 20
 
 pytestmark = [pytest.mark.toolchain, pytest.mark.slow]
 
@@ -48,6 +54,9 @@ def run_in_fork(words, tree, said):
         if tree != TOP:
             os.chdir(tree)
             os.execv(sys.executable, [sys.executable, "-m", "pytest", *words])
+        # (this process may take longer: what it runs has no handler)
+        signal.signal(signal.SIGXCPU, lambda *_: None)
+        resource.setrlimit(resource.RLIMIT_CPU, (MOST, resource.getrlimit(resource.RLIMIT_CPU)[1]))
         status = int(pytest.main(words))
     except BaseException:
         traceback.print_exc()
@@ -126,12 +135,16 @@ def found_by(made_once, test, right, ran):
     """Whether a test has found a wrong body, and does not fail for another reason."""
     status, said = ran
     print(said[-3000:])
+    left_out = LEFT_OUT.search(said)
+    if left_out:
+        pytest.skip(f"its test is left out: {left_out[1]}")
     assert status is not None, f"{test} does not end"
     assert status, f"{test} does not find it"
     assert FAILED.search(said), "the test was not run"
     require_right(made_once, test, right, CASE.search(said))
 
 
+@pytest.mark.last
 @pytest.mark.parametrize("name", NUMBERS)
 def test_planted(made_once, room, name):
     test = BODIES[name].test
@@ -140,6 +153,7 @@ def test_planted(made_once, room, name):
     found_by(made_once, test, right, run_test(test, TOP, program))
 
 
+@pytest.mark.last
 @pytest.mark.xdist_group("copy of the tree")
 @pytest.mark.parametrize("name", [it for it in BODIES if it not in NUMBERS])
 def test_outside(made_once, program, planted, name):
