@@ -7,7 +7,7 @@ import sys
 from case_table import case_files
 
 TOP = os.path.dirname(os.path.dirname(os.path.abspath(__file__)))
-RECORDS = (1 << 18) + 1  # of a log, which grows by doubling: it has room for nearly twice as many then
+RECORDS = (1 << 17) + 1  # of a log, which grows by doubling: it has room for nearly twice as many then
 
 
 def texts():

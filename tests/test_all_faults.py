@@ -1,7 +1,7 @@
 """Compares the pages that `audit --all` says have a fault with those of a slow model, and what `explain` says of a page and of a
 line that are named with both.
 
-The sessions are those of test_explained.py. Of one that is clean or faulty, `audit --all` has to write its first line, how many
+The sessions are those of test_explained.py, but for large ones. Of one that is clean or faulty, `audit --all` has to write its first line, how many
 pages have a fault, and each with its first one; and the same pages as an object. Of another it writes the first line alone.
 `explain --page` has to name the faulty record of the page just where it has one, and `explain --line` the record at the line.
 """
@@ -14,7 +14,7 @@ import pytest
 from cases import same
 from check_model import Session as Judged
 from session_text import LOGS, SessionText
-from test_explained import made_texts
+from test_explained import is_large, made_texts
 from world_model import page_faults
 
 TOP = os.path.dirname(os.path.dirname(os.path.abspath(__file__)))
@@ -64,9 +64,9 @@ class Tests:
 
 
 @pytest.mark.slow
-@pytest.mark.cases(3970)
+@pytest.mark.cases(4500)
 def test_all_faults(program):
     tests = Tests(program)
-    for file, text in made_texts()[1::3]:
+    for file, text in [it for it in made_texts() if not is_large(it[1])][1::3]:
         tests.session(os.path.relpath(file, TOP), text)
     same("sessions with faults on more than one page", tests.most > 1, True)

@@ -1,8 +1,8 @@
 """Checks certificates that were changed in small ways, and compares each verdict with that of a slow checker.
 
 The slow checker is check_model.py. Each certificate is cut after each byte, has each byte changed and a byte more before
-each, and has each number of each entry and the length of each run replaced by small ones, and its log by the others: half of these are
-tried, the same in each run, and all with --all. And each session meets the certificates of the others.
+each, and has each number of each entry and the length of each run replaced by small ones, and its log by the others: a quarter of these
+is tried, the same in each run, and all with --all. And each session meets the certificates of the others.
 """
 import itertools
 import os
@@ -56,7 +56,13 @@ def entries(session, entry):
         yield ["balloon", place, *seen]
 
 
+# Of a page that comes back as zeros, and that was written after its release: with no such write it would be right.
+OF_A_WRITE = b"\n".join((
+    b"postcopy-certificate 1", b"pages 2", b"page 0 none", b"page 1 balloon 3 6 5", b"runs 7", b"run guest 3", b"run source 2", b"run link 1", b"run pager 2",
+    b"run guest 2", b"run pager 2", b"run guest 2", b"end", b""))
+
 CERTIFICATES = (
+    ("tests/cases/audit-zeros-over-a-write/session", OF_A_WRITE),
     ("examples/handover/session", "examples/handover/certificate"),
     ("examples/released-page/session", "examples/released-page/certificate"),
     ("examples/initial-memory/session", "examples/initial-memory/certificate"),
@@ -70,25 +76,36 @@ CERTIFICATES = (
 )
 
 
+def text_of(certificate):
+    """A certificate, which stands here or in a file."""
+    if isinstance(certificate, bytes):
+        return certificate
+    with open(case_file(certificate), "rb") as text:
+        return text.read()
+
+
+def test_two_wrong_reads(program):
+    """Of two pages that are misread, and are judged by different threads, the lower one is named."""
+    with open(case_file("tests/cases/audit-least-line-first/session"), "rb") as text:
+        session = text.read()
+    pages = b"".join(b"page %d none\n" % page for page in range(4096))
+    certificate = b"postcopy-certificate 1\npages 4096\n%sruns 1\nrun guest 2\nend\n" % pages
+    ran = subprocess.run([program], input=session + certificate, capture_output=True)
+    assert (ran.stdout, ran.returncode) == (b"page line 6\n", 1)
+
+
 @pytest.mark.slow
-@pytest.mark.cases(11950)
+@pytest.mark.cases(6600)
 def test_changed_certificates(program, pytestconfig):
-    found = set()
-    others = []
-    for _, certificate in CERTIFICATES:
-        with open(case_file(certificate), "rb") as text:
-            others.append(text.read())
+    found, others = set(), [text_of(certificate) for _, certificate in CERTIFICATES]
     with ThreadPoolExecutor(os.cpu_count()) as pool:
         for path, certificate in CERTIFICATES:
-            path, certificate = case_file(path), case_file(certificate)
-            with open(path, "rb") as text:
+            with open(case_file(path), "rb") as text:
                 recorded = text.read()
-            session = Session(recorded.decode())
-            with open(certificate, "rb") as text:
-                right = text.read()
+            session, right = Session(recorded.decode()), text_of(certificate)
             changed = changes(session, right)
             if not pytestconfig.getoption("--all"):
-                changed = random.Random(right).sample(changed, len(changed) // 2)
+                changed = random.Random(right).sample(changed, len(changed) // 4)
             texts = list(dict.fromkeys(others + changed))
 
             def answer(text):

@@ -18,7 +18,8 @@ from cases import count, right
 from session_text import LOGS, SessionText
 from small_sessions import every_order_shows, small_session
 
-CHANGES = 12
+# How many are made of a session, and of one with so many lines, in which a slow model takes seconds: one.
+CHANGES, LARGE = 12, 1000
 SMALL = 600
 NAMED = re.compile(rf"[Ll]ine ([0-9]+) \(({'|'.join(LOGS)}) ([0-9]+)\)")
 
@@ -72,6 +73,10 @@ def wrong_of(program, text):
     return None, first
 
 
+def is_large(text):
+    return text.count("\n") >= LARGE
+
+
 def made_texts():
     """The sessions of the folders, and those made from them: the file of each, and its text."""
     files = case_files("session")
@@ -84,7 +89,7 @@ def made_texts():
             Session(text)
         except (IndexError, ValueError):
             continue
-        for _ in range(CHANGES):
+        for _ in range(1 if is_large(text) else CHANGES):
             session = Session(text)
             for _ in range(rng.randrange(1, 4)):
                 session.changed(rng)

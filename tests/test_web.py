@@ -1,8 +1,8 @@
 """Tests the page, crates/postcopy_c/out/postcopy.html, and what it is made of.
 
-The module in the page has to answer what the program answers, byte for byte, to every session of examples/ and tests/cases/, of
+The module in the page has to answer what the program answers, byte for byte, to every session of examples/ and tests/cases/, on
 some of its pages and lines too, and to each certificate beside its session: in node, where one is there that knows 64-bit memories.
-What the page finds in the records is compared there with the text, the program's orders and a slow model. The module's heap is tried
+What the page finds in the records is compared in node with the text, the program's orders and a slow model. The module's heap is tried
 natively, by random calls under sanitizers, and its product, beside that of the machine. The build of the page has to stop at a module
 with anything that it does not know. postcopy-report has to put into the page what it is given, or to say what it leaves out. And in a
 headless Chromium the page is handed sessions of each verdict, one and several at a time, certificates, files that are none or cannot be
@@ -162,11 +162,11 @@ def tests_of_calls(room, program):
     words = node_for(module) if can_have("node:nodejs") else None
     if not words:
         pytest.skip("there is no node that knows 64-bit memories")
-    tests_of_records(program, words, sorted({session for session, _ in sessions()}))
     jobs = []
-    for session, certificate in sessions():
+    for number, (session, certificate) in enumerate(sessions()):
         jobs += [([call, [session], None], [call, session]) for call in CALLS]
-        jobs += [([it.call, [session], it.number], it.words) for it in topics_of(session)]
+        # (every second topic, of the next session the others)
+        jobs += [([it.call, [session], it.number], it.words) for it in [*topics_of(session)][number % 2::2]]
         jobs += [(["check", [session, certificate], None], ["check", session, certificate])] if certificate else []
     given = "\n".join(json.dumps(asked) for asked, _ in jobs).encode()
     ran = subprocess.run([*words, f"{TOP}/tests/web_calls.js", module], input=given, stdout=subprocess.PIPE)
@@ -479,8 +479,15 @@ def test_text(page):
     tests_of_text()
 
 
+@pytest.mark.cases(10000)
+def test_records(program):
+    if not can_have("node:nodejs"):
+        pytest.skip("there is no node")
+    tests_of_records(program, ["node"], sorted({session for session, _ in sessions()}))
+
+
 @pytest.mark.slow
-@pytest.mark.cases(14299)
+@pytest.mark.cases(4000)
 def test_calls(page, program, room):
     tests_of_calls(room, program)
 
