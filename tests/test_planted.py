@@ -28,8 +28,8 @@ FAILED, CASE = re.compile("^FAILED .*$", re.M), re.compile(r"^case (\d+) failed"
 # What is said where the test as a whole was left out, as where there is no node.
 LEFT_OUT = re.compile(r"^left out: [^ ]+: (.*)\n(?:.*\n)*0 passed, 0 failed, 1 left out", re.M)
 # How long a test may take, in seconds by the clock, and each program that it runs, in seconds of processor: a wrong body may wait for ever, or
-# go round and round.
-LIMIT, MOST = 900, 20
+# go round and round. One program makes all calls of a kind that are refused growths.
+LIMIT, MOST, MOST_OF_REFUSED = 900, 30, 300
 
 pytestmark = [pytest.mark.toolchain, pytest.mark.slow]
 
@@ -38,8 +38,9 @@ def program_of(test):
     return "calls" if test.partition("::")[0] in OF_CALLS else "postcopy"
 
 
-def run_in_fork(words, tree, said):
-    """Has a fork of this process, which has read pytest and the modules of tests, run them with these words. Another tree's are read anew."""
+def run_in_fork(words, tree, said, most):
+    """Has a fork of this process, which has read pytest and the modules of tests, run them with these words. Another tree's are read anew. What
+    a test runs may take so many seconds of processor."""
     child = os.fork()
     if child:
         return child
@@ -56,7 +57,7 @@ def run_in_fork(words, tree, said):
             os.execv(sys.executable, [sys.executable, "-m", "pytest", *words])
         # (this process may take longer: what it runs has no handler)
         signal.signal(signal.SIGXCPU, lambda *_: None)
-        resource.setrlimit(resource.RLIMIT_CPU, (MOST, resource.getrlimit(resource.RLIMIT_CPU)[1]))
+        resource.setrlimit(resource.RLIMIT_CPU, (most, resource.getrlimit(resource.RLIMIT_CPU)[1]))
         status = int(pytest.main(words))
     except BaseException:
         traceback.print_exc()
@@ -83,7 +84,8 @@ def run_test(test, tree, program, most=None):
     words = ["-q", "--first", "-p", "no:cacheprovider", "-p", "no:xdist", f"--{'calls' if program_of(test) == 'calls' else 'program'}={program}"]
     words += [f"--up-to={most}"] if most else []
     with tempfile.TemporaryFile() as said:
-        status = status_of(run_in_fork([*words, f"{tree}/{test}"], tree, said))
+        seconds = MOST_OF_REFUSED if test.startswith("tests/test_refused_calls.py") else MOST
+        status = status_of(run_in_fork([*words, f"{tree}/{test}"], tree, said, seconds))
         said.seek(0)
         return status, said.read().decode(errors="replace")
 
