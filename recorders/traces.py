@@ -4,7 +4,6 @@ A trace is kept as runs of accesses of one processor to one page, so that one wi
 """
 import re
 from array import array
-from collections import namedtuple
 
 KINDS = "rwz"
 PAGE_SHIFT = 12
@@ -13,12 +12,12 @@ MOST_VCPUS, VCPU_SHIFT, PAGE_AT = 64, 2, 8
 MOST_PAGES = 1 << 56
 
 LACKEY = re.compile(rb"(?:I | L| S| M) {1,2}[0-9a-f]+,\d+$")
+# Of a line with as many digits as an offset has, what stands in front of these.
+OFFSET_DIGITS, HEAD = PAGE_SHIFT // 4, re.compile(rb"(?:I | L| S| M) {1,2}[0-9a-f]*$")
 KIND_OF = {b"I ": "r", b" L": "r", b" S": "w", b" M": "w"}
 # What Valgrind itself says, beside the accesses.
 VALGRIND = re.compile(rb"(==|--)\d+(==|--)|$")
 PLAIN = re.compile(rb"(\d+) ([rwz]) (\d+)$")
-
-Run = namedtuple("Run", "vcpu kind page count")
 
 
 class BadTrace(Exception):
@@ -50,8 +49,11 @@ class Trace:
         self.total += 1
 
     def runs(self):
+        """Each run: the number of its first access, how many there are, and their processor, kind and page. None goes over the move."""
+        number = 0
         for key, count in zip(self.keys, self.counts):
-            yield Run(key >> VCPU_SHIFT & MOST_VCPUS - 1, KINDS[key & 3], key >> PAGE_AT, count)
+            yield number, count, key >> VCPU_SHIFT & MOST_VCPUS - 1, KINDS[key & 3], key >> PAGE_AT
+            number += count
 
 
 def read_trace(lines):
@@ -109,20 +111,32 @@ def add(trace, number, *access):
 def read_lackey(lines):
     """One processor. An access that goes over the end of a page is one to each page; a modify is a write."""
     trace = Trace()
-    code_of = {head: KINDS.index(kind) for head, kind in KIND_OF.items()}
+    # What lines begin with up to the page's number, as the key of its access, and what they end with, as the pages that it goes on for.
+    keys, spans = {}, {}
     for _, line in lines:
-        code, comma = code_of.get(line[:2]), line.find(b",")
-        if code is None or comma < 0 or not LACKEY.match(line):
+        at = line.find(b",") - OFFSET_DIGITS
+        key, span = keys.get(line[:at]), spans.get(line[at:])
+        if key is None or span is None:
             # (of Valgrind's own lines nothing is told; the program that is traced may write to the same file, which is)
-            trace.others += not VALGRIND.match(line)
-            continue
-        first, size = int(line[2:comma], 16), int(line[comma + 1:])
-        low, high = first >> PAGE_SHIFT, (first + size - 1) >> PAGE_SHIFT
-        trace.append(low << PAGE_AT | code)
-        if high > low:
-            for page in range(low + 1, high + 1):
-                trace.append(page << PAGE_AT | code)
+            if not LACKEY.match(line):
+                trace.others += not VALGRIND.match(line)
+                continue
+            key, span = access_of(line)
+            if HEAD.match(line[:at]):
+                keys[line[:at]], spans[line[at:]] = key, span
+        trace.append(key)
+        if span:
+            for page in range(1, span + 1):
+                trace.append(key + (page << PAGE_AT))
     return trace
+
+
+def access_of(line):
+    """The key of a line's access, and how many pages it goes on for behind the first."""
+    comma = line.index(b",")
+    first, size = int(line[2:comma], 16), int(line[comma + 1:])
+    page = first >> PAGE_SHIFT
+    return page << PAGE_AT | KINDS.index(KIND_OF[line[:2]]), (first + size - 1 >> PAGE_SHIFT) - page
 
 
 def read_session(lines):
