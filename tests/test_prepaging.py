@@ -31,12 +31,14 @@ def run(*words, given=None):
 # Scripts of traces.
 
 
-def model(trace, move, thin, first, taken, pages, gap):
+def model(trace, move, thin, first, taken, pages, gap, vcpus):
     """The script of a trace of (vcpu, kind, page) and at most one "halt", slowly: each rule goes through the whole trace."""
     place = trace.index("halt") if "halt" in trace else None
     numbered = [(number, it, place is not None and number >= place) for number, it in enumerate(it for it in trace if it != "halt")]
     low, high = pages or (0, 10 ** 9)
-    left = [it for it in numbered if low <= it[1][2] <= high][first:][:taken]
+    left = [it for it in numbered if low <= it[1][2] <= high and (vcpus is None or it[1][0] in vcpus)][first:][:taken]
+    if vcpus:
+        left = [(number, (vcpus.index(it[0]), *it[1:]), is_after) for number, it, is_after in left]
     if move is not None or place is None:
         share = len(left) * (move if move is not None else Fraction(1, 2))
         left = [(number, it, at >= int(share)) for at, (number, it, _) in enumerate(left)]
@@ -85,14 +87,16 @@ def test_scripts_of_traces(tmp_path):
         trace = random_trace(rng)
         move, thin, first = rng.choice((None, None, Fraction(9, 10))), rng.choice((1, 1, 2, 7)), rng.choice((0, 0, 5))
         taken, pages, gap = rng.choice((None, 15)), rng.choice((None, None, (3, 30))), rng.choice((0, 2))
+        vcpus = rng.choice((None, None, [1], [2, 0]))
         (tmp_path / "trace").write_text("".join("halt\n" if it == "halt" else f"{it[0]} {it[1]} {it[2]}\n" for it in trace))
         words = ["--thin", f"{thin}", "--from", f"{first}", "--gap", f"{gap}"]
         words += ["--move", f"{move}"] * (move is not None)
         words += ["--count", f"{taken}"] * (taken is not None)
         words += ["--pages", f"{pages[0]}-{pages[1]}"] if pages else []
+        words += ["--vcpus", ",".join(map(str, vcpus))] if vcpus else []
         words = [it for it in words if it]
         made = run(f"{TOP}/recorders/script", f"{tmp_path}/trace", *words)
-        same(f"seed {seed}, {words}: {made.stderr}", (made.returncode, made.stdout), (0, model(trace, move, thin, first, taken, pages, gap)))
+        same(f"seed {seed}, {words}: {made.stderr}", (made.returncode, made.stdout), (0, model(trace, move, thin, first, taken, pages, gap, vcpus)))
 
 
 LACKEY = """==1== Lackey, an example Valgrind tool
@@ -120,6 +124,14 @@ def test_session():
     assert made.returncode == 0, made.stderr
     assert made.stdout == ("postcopy-script 1\npages 2\ncells 1\ninit 2\npage 0 0000000000000001\npage 1 0000000000000002\npivots 4\nwindow 16\n"
                            "down -\nup -\nvcpus 1\nvcpu 1 1\nz 1\nr 1 0\nend\n")
+
+
+def test_gap_of_a_session():
+    """Of a session, too, --gap numbers the pages as they are used: of pages 2 and 9 of ten, with one that is kept between them, it makes three."""
+    given = "postcopy-session 1\npages 10\ncells 1\ninit 0\nguest 4\nhalt\nresume 0\nr 0 2 0 0\nw 0 9 0 5\nsource 0\n"
+    for words, pages, operations in (((), 10, ["r 2 0", "w 9 0 2"]), (("--gap", "1"), 3, ["r 0 0", "w 2 0 2"])):
+        lines = run(f"{TOP}/recorders/script", "-", *words, given=given).stdout.splitlines()
+        same(f"{words}", (lines[1], lines[-3:-1]), (f"pages {pages}", operations))
 
 
 def test_folder():
