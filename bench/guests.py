@@ -57,19 +57,28 @@ def by_rule():
     yield made("three streams", "three places of 250 pages, in turns of 1 to 4 pages", streams(chance))
 
 
-# How they were made, with the busybox of Debian 12, where `source` is what assignments.awk writes:
+# How they were made, on Debian 12: by its busybox, where `source` is what assignments.awk writes; its ls; its tcc; and its kernel 6.1 under its
+# QEMU 7.2, where vmlinuz and initrd are what recorders/qemu/linux leaves in the folder of a run without these two words.
 #     valgrind --tool=lackey --trace-mem=yes --log-file=trace busybox awk -f compile.awk source
 #     head -n 2000007 trace | recorders/script - --move 1/4 --thin 60
-# Of the accesses of a program one in 60 is kept, and the first of each page; a program makes some 1,000 in a microsecond.
+#     valgrind --tool=lackey --trace-mem=yes --log-file=trace tcc -c -o words.o words.c
+#     recorders/script trace --move 1/4 --thin 1000
+#     recorders/qemu/linux boot --kernel vmlinuz --initrd initrd --memory 128 --append loglevel=7 --ready 'devtmpfs: initialized' --recorded 0 \
+#         --pre-pages 0 --run-on 20
+#     recorders/script boot --vcpus 0 --thin 400 --gap 8
+# Of the accesses one in so many is kept, and the first of each page; a program makes some 1,000 in a microsecond.
+Recorded = namedtuple("Recorded", "what thin")
+A_MICROSECOND = 1000
 RECORDED = {
-    "awk": "busybox's awk, which compiles assignments to code for a stack: its first 2,000,000 accesses, a quarter of them before the move",
-    "ls": "Debian's ls of a folder: all of its 767,798 accesses, a quarter of them before the move",
+    "awk": Recorded("busybox's awk, which compiles assignments to code for a stack: its first 2,000,000 accesses, a quarter of them before the move", 60),
+    "ls": Recorded("Debian's ls of a folder: all of its 767,798 accesses, a quarter of them before the move", 60),
+    "tcc": Recorded("Debian's tcc, which compiles a program of 39 lines: all of its 13,595,999 accesses, a quarter of them before the move", 1000),
+    "linux": Recorded("Debian's kernel, which boots in 128 MiB: 2,880,798 accesses from `devtmpfs: initialized` on, all but 189 of them after the move; of each gap between its pages 8 are left", 400),
 }
-WORK = Fraction(60, 1000)
 
 
 def recorded():
-    """Programs that Valgrind's lackey traced, whose scripts are kept as recorders/script wrote them."""
-    for name, what in RECORDED.items():
+    """Programs that Valgrind's lackey traced, and a Linux that QEMU recorded, whose scripts are kept as recorders/script wrote them."""
+    for name, (what, thin) in RECORDED.items():
         with lzma.open(f"{HERE}/scripts/{name}.script.xz", "rt", encoding="ascii") as file:
-            yield Guest(name, what, file.read(), WORK)
+            yield Guest(name, what, file.read(), Fraction(thin, A_MICROSECOND))

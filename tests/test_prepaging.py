@@ -1,15 +1,17 @@
 """What pre-paging brings: scripts that are made of traces, and schedules of links that take time.
 
 `recorders/script` makes the script of a trace at random that a slow model makes, which is written here of its words alone; and refuses
-what does not fit or is no trace. Of scripts at random, over links that are slow or far or lose packets, bench/schedule makes events
+what does not fit or is no trace. The two pictures show what the table of all settings has. Of scripts at random, over links that are slow or far or lose packets, bench/schedule makes events
 whose session the program finds clean and complete, and which has the records that the schedule counts; events that lack one, and a rule
 that is not the host's, are found.
 """
 import gzip
 import os
 import random
+import re
 import subprocess
 import sys
+import xml.etree.ElementTree as ElementTree
 from fractions import Fraction
 
 import pytest
@@ -273,3 +275,70 @@ def test_command(program, tmp_path):
     count(said[0].stdout == said[1].stdout and said[0].stdout.startswith("used "), said[0].stderr)
     assert (tmp_path / "a").read_text() == (tmp_path / "b").read_text()
     assert run(f"{TOP}/bench/schedule", f"{TOP}/examples/handover/session", "--program", program).returncode == 2
+
+
+# The pictures.
+
+SVG = "{http://www.w3.org/2000/svg}"
+
+
+def table_of_results():
+    """By guest, link and setting, the pages that were asked for and used, and the milliseconds that were waited."""
+    found = {}
+    with open(f"{TOP}/bench/results/prepaging.md", encoding="utf-8") as file:
+        for line in file:
+            if line.startswith("### "):
+                guest, link = line[4:].strip().split(", ")
+            match = re.fullmatch(r"\| (.+?) \| (\d+) of (\d+) \| ([\d.,]+) \| .*\n", line)
+            if match:
+                found[guest, link, match[1]] = int(match[2]), int(match[3]), float(match[4].replace(",", ""))
+    return found
+
+
+def row_of(table, guest, link, pattern):
+    return next(row for (one, other, name), row in table.items() if (one, other) == (guest, link) and re.fullmatch(pattern, name))
+
+
+def told_of(picture):
+    """What a picture tells in words: by link and guest, the percentages of what is drawn."""
+    found = {}
+    for line in picture.find(f"{SVG}desc").text.splitlines():
+        link, guest, shown = re.fullmatch(r"(\w+), (.+?): (.+ %)", line).groups()
+        found[link, guest] = {name: int(share) for name, share in re.findall(r"(\S.*?) (\d+) %(?:, |$)", shown)}
+    return found
+
+
+def picture(name):
+    return ElementTree.parse(f"{TOP}/docs/prepaging-{name}.svg").getroot()
+
+
+def test_picture_of_asked():
+    """Each bar is as long as its share of the pages, which stands beside it and in the description."""
+    table, drawn = table_of_results(), picture("asked")
+    told = told_of(drawn)
+    shares = []
+    for link in ("near", "slow", "far"):
+        for guest in dict.fromkeys(it[0] for it in table):
+            for name, value in told[link, guest].items():
+                asked, used, _ = row_of(table, guest, link, name.replace(", a", r", window \d+, a").replace("*", r"\*"))
+                shares.append((100 * asked / used, value))
+    assert all(abs(share - value) <= 0.5 for share, value in shares)
+    bars = [float(it.get("width")) for it in drawn.iter(f"{SVG}rect") if it.get("height") == "9"]
+    same("bars", len(bars), len(shares))
+    longest = max(bars)
+    assert all(abs(width - max(0.5, longest * share / 100)) < 0.2 for width, (share, _) in zip(bars, shares))
+
+
+def test_picture_of_windows():
+    """A line for each guest and link, with a mark for each window, at the waits of the table."""
+    table, drawn = table_of_results(), picture("window")
+    told = told_of(drawn)
+    guests = {it[0] for it in table}
+    same("guests", set(told), {(link, guest) for link in ("near", "slow", "far") for guest in guests})
+    for (link, guest), shown in told.items():
+        demand = table[guest, link, "demand only"][2]
+        for window, share in shown.items():
+            waited = row_of(table, guest, link, rf"4 pivots, {window}(, a round trip)?")[2]
+            assert abs(share - 100 * waited / demand) <= 1 + share / 50, (link, guest, window)
+    lines = [it for it in drawn.iter(f"{SVG}path") if it.get("class").startswith("guest-")]
+    same("lines", sorted(it.get("d").count("L") + 1 for it in lines), sorted(map(len, told.values())))
