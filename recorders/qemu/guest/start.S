@@ -51,12 +51,13 @@ trampoline:
     .word 0xff00, 0xf000
 
 /*
- * An access is to the word at ecx, which is cell edi of page esi, and its value is in mm0. It tells a look, touches the word, which waits
- * if the page is absent, tells the other look and what it does, and is one instruction of 64 bits (MMX's move, which KVM can emulate
- * too). From the touch on it is one run of instructions without a jump and within one page of code. Older QEMUs (5.2, 7.2)
- * translate it as one block, and TCG stops a processor only between blocks: all of it is on one side of the halt. Newer ones (10.0,
- * 11.1) end a block behind each `out`, and KVM stops a processor anywhere: there the halt may come into an access. What was told of it
- * by then says on which side a read is: it stands right before the value's first byte. A write stands right before the last byte.
+ * An access is to the word at ecx, which is cell edi of page esi, and its value is in ebx and edx. It tells a look, touches the word, which
+ * waits if the page is absent, and tells the other look and what it does. A write is one instruction: MMX's move, the only one of MMX that
+ * KVM emulates, as it does with this whole guest on some machines. A read is two, since nobody else writes meanwhile. From the touch on it is
+ * one run of instructions without a jump and within one page of code. Older QEMUs (5.2, 7.2) translate it as one block, and TCG stops a
+ * processor only between blocks: all of it is on one side of the halt. Newer ones (10.0, 11.1) end a block behind each `out`, and KVM stops a
+ * processor anywhere: there the halt may come into an access. What was told of it by then says on which side a read is: it stands right
+ * before the value's first byte. A write stands right before the last byte.
  * Nothing else in memory is written.
  */
     .macro tell byte
@@ -80,10 +81,6 @@ trampoline:
     .endm
 
     .macro tell_value
-    movd %mm0, %ebx
-    movq %mm0, %mm1
-    psrlq $32, %mm1
-    movd %mm1, %edx
     .rept 11
     tell_bits
     shrdl $6, %edx, %ebx
@@ -107,16 +104,20 @@ trampoline:
     tell_number %edi, 2
     .endm
 
-    .macro read_here
+    .macro read_here keep:vararg
     begin_access $0xc2
-    movq (%ecx), %mm0
+    movl (%ecx), %ebx
+    movl 4(%ecx), %edx
+    \keep
     tell_value
     .endm
 
-    .macro write_here
+    .macro write_here low, high, write:vararg
     begin_access $0xc3
+    movl \low, %ebx
+    movl \high, %edx
     tell_value
-    movq %mm0, (%ecx)
+    \write
     tell $0xc4
     .endm
 
@@ -146,16 +147,14 @@ read_word:
 write_word:
     enter_access
     movq 28(%esp), %mm0
-    write_here
+    write_here 28(%esp), 32(%esp), movq %mm0, (%ecx)
     leave_access
 
 /*
- * write_hot_pages(word, page, end, cpu, flush): adds 1 to the first word of each page from `page` to `end`, over and over, and writes
+ * write_hot_pages(word, page, end, cpu, flush): adds 1 to the first 32 bits of each page from `page` to `end`, over and over, and writes
  * nothing else: no stack, no lock. `word` is the first word of `page`.
  */
 write_hot_pages:
-    movl $1, %eax
-    movd %eax, %mm2
     xorl %edi, %edi
 first_page:
     movl 4(%esp), %ecx
@@ -164,12 +163,12 @@ next_page:
     cmpl $0, 20(%esp)
     je 1f
     invlpg (%ecx)
-1:  .irp what, read_here, write_here
+1:  tell $0xc0
+    tell_number 16(%esp), 1
+    read_here leal 1(%ebx), %ebp
     tell $0xc0
     tell_number 16(%esp), 1
-    \what
-    paddd %mm2, %mm0
-    .endr
+    write_here %ebp, 4(%ecx), movl %ebp, (%ecx)
     addl $4096, %ecx
     incl %esi
     cmpl 12(%esp), %esi
