@@ -27,6 +27,7 @@ import linux_test
 import page_server_test
 import records_test
 import relay_test
+import report_test
 import roots_test
 import shows_test
 import stream_test
@@ -35,7 +36,7 @@ import versions_test
 
 # How many cases each has at least.
 LEAST = {
-    records_test: 12, roots_test: 28, stream_test: 35, relay_test: 56, folders_test: 106, campaign_test: 56, versions_test: 57, shows_test: 44, axes_test: 150, build_test: 26, facts_test: 175,
+    records_test: 12, roots_test: 28, stream_test: 35, relay_test: 56, folders_test: 106, campaign_test: 56, report_test: 30, versions_test: 57, shows_test: 44, axes_test: 150, build_test: 26, facts_test: 175,
     accesses_test: 32, linux_test: 74, linux_command_test: 73, page_server_test: 151, criu_campaign_test: 36, criu_programs_test: 13, criu_waiting_test: 33, criu_test: 87,
 }
 

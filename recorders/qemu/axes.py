@@ -4,7 +4,7 @@ import itertools
 
 from build import Missing
 from kinds import MEMORIES
-from results import markdown, versions_of
+from results import GOOD, markdown, versions_of
 
 DROPS, KEEPS, HOT, PAUSED = "drops translations", "keeps translations", "writes hot pages", "is paused"  # the guest, in pre-copy
 UNCUT, EARLY, LATE = "no", "early", "at the last pages"  # where the connection is cut
@@ -23,8 +23,6 @@ AXES = {
 
 # Pairs with which QEMU was found to lose memory, or to run the guest on both sides.
 FOUND = ((("memory", "one"), ("guest", HOT)), (("guest", DROPS), ("cut", LATE)), (("memory", "uneven"), ("guest", KEEPS)), (("memory", "numa"), ("guest", KEEPS)))
-
-GOOD = ("clean", "cut not reached", "nothing lost in pre-copy")  # words of results that are no fault
 
 
 def pairs_of(row, values=AXES):
@@ -119,11 +117,16 @@ def order(part):
     return len(part), str(part)
 
 
+def gave(results):
+    """Returns the versions, and what each value and each pair gave by each of them: [(part, [words of a version])]."""
+    versions, found = versions_of(results), counted(results)
+    return versions, [(part, [", ".join(f"{count} {word}" for word, count in found[part][version].most_common()) for version in versions]) for part in sorted(found, key=order)]
+
+
 def table(results):
     """Returns the table of what each value and each pair gave, by version."""
-    versions, found = versions_of(results), counted(results)
-    lines = [[in_words(part), *(", ".join(f"{count} {word}" for word, count in found[part][version].most_common()) for version in versions)] for part in sorted(found, key=order)]
-    return markdown([["Of the migrations with", *versions], *lines])
+    versions, found = gave(results)
+    return markdown([["Of the migrations with", *versions], *([in_words(part), *cells] for part, cells in found)])
 
 
 def in_common(results):

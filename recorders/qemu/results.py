@@ -32,17 +32,33 @@ ENDS = (
 
 # Why a recording is not judged, and the word for it.
 NO_POSTCOPY = "there was no post-copy"
+NOT_MADE = "not made"
 UNFINISHED = "the migration did not come to its end: "  # and how it ended
 UNJUDGED = (("lost pages in pre-copy", r"; pre-copy lost \d"), ("nothing lost in pre-copy", "; pre-copy lost none"), ("no post-copy", NO_POSTCOPY), ("lost stack", "are no event"), ("unknown stream", "the stream has what is not known here"),
             ("refused{}", "cannot migrate with [^:]*(?P<words>: .*)"), ("machine not there", "has no machine"))
 
 
+# Whose an end is, by the word of a result. The first that fits is the owner; of what fits none it is not known.
+NOBODY, NOT_KNOWN = "nobody", "not known"
+GOOD = ("clean", "cut not reached", "nothing lost in pre-copy")  # words of results that are no fault
+OWNERS = (
+    (NOBODY, "|".join(GOOD)),
+    ("the machine", BUSY),
+    ("the plan", "no post-copy|pre-copy came to its end|machine not there|refused: .*"),
+    ("the source", "both ran.*|returned.*|source .*"),
+    ("the target", "target .*"),
+    ("QEMU", "`.*`|lost pages in pre-copy|pre-copy failed.*"),
+    ("the recorder", "not judged|unknown stream"),
+)
+
+
 # The sections of docs/FOUND.md by what shows them: the word of a result, and what its plan has. The first that fits is the one.
+LOST = "`(read|altered)`|lost pages in pre-copy"
 KNOWN = (
     ("the-source-aborts-in-pre-copy", r"source aborted: Assertion `block == qemu_get_ram_block", lambda plan: plan.memory != "one"),
-    ("lost-writes-to-each-ram-block-but-the-first", "`read`|lost pages in pre-copy", lambda plan: plan.memory != "one" and not plan.flush),
-    ("lost-writes-to-pages-not-sent-yet", "`read`|lost pages in pre-copy", lambda plan: plan.hot),
-    ("others-of-qemu", "`read`|lost pages in pre-copy", lambda plan: not plan.flush),
+    ("lost-writes-to-each-ram-block-but-the-first", LOST, lambda plan: plan.memory != "one" and not plan.flush),
+    ("lost-writes-to-pages-not-sent-yet", LOST, lambda plan: plan.hot),
+    ("others-of-qemu", LOST, lambda plan: not plan.flush),
     ("the-guest-runs-on-both-sides", "both ran", lambda plan: plan.cuts),
     ("the-target-hangs-with-preempt", "(returned and )?target hangs", lambda plan: plan.preempt and not plan.multifd),
     ("a-lost-answer", "returned$|source waits forever", lambda plan: plan.cuts and not plan.multifd),
@@ -131,6 +147,18 @@ class Result:
         return self.is_clean and not self.is_put_in
 
     @property
+    def test(self):
+        """Returns what it is as a test: passed (nothing), a `failure`, or an `error` if it was not judged."""
+        return "" if self.is_clean else "error" if self.verdict.startswith("not judged") else "failure"
+
+    @property
+    def owner(self):
+        """Returns whose its end is."""
+        if self.is_put_in:
+            return "the fault that was put in"
+        return next((owner for owner, form in OWNERS if re.fullmatch(form, self.in_a_word)), NOT_KNOWN)
+
+    @property
     def known(self):
         """Returns the section of docs/FOUND.md that it looks like, or nothing. (What a fault that was put in gave is none.)"""
         return "" if self.is_put_in else next((section for section, form, fits in KNOWN if re.match(form, self.in_a_word) and fits(self.plan)), "")
@@ -141,7 +169,7 @@ class Result:
             return "-" if self.plan.flush else "no flush"
         return self.plan.fault if self.is_put_in else f"{self.plan.fault}, not reached"
 
-    def line(self):
+    def plan_in_words(self):
         plan = self.plan
         parts = [plan.kind, f"{plan.pages} pages of {plan.words}", f"{plan.cpus} processors"]
         parts += [f"cut at {' '.join(map(str, plan.cuts))}"] if plan.cuts else []
@@ -149,9 +177,16 @@ class Result:
         parts += [f"{what} {value}" for what, value in (("memory", plan.memory), ("machine", plan.machine), ("transport", plan.transport)) if value not in ("one", "pc", "unix")]
         parts += [*plan.further, *(f"{name} {value}" for name, value in plan.parameters.items())]
         parts += [what for what in ("hot", "paused", "preempt", "multifd") if getattr(plan, what) and what not in plan.kind]
+        return ", ".join(parts)
+
+    def told(self):
+        """Returns the verdict, which pages it lost, and what QEMU says."""
         more = len(self.pages) - LONGEST_LIST
-        lost = [f"lost page{'s' if len(self.pages) > 1 else ''} {' '.join(map(str, self.pages[:LONGEST_LIST]))}{f' and {more} more' if more > 0 else ''}"] if self.pages else []
-        return "; ".join([f"{', '.join(parts)}: {self.verdict}", *([self.restart] if self.restart else []), *lost, self.outcome])
+        lost = f"lost page{'s' if len(self.pages) > 1 else ''} {' '.join(map(str, self.pages[:LONGEST_LIST]))}{f' and {more} more' if more > 0 else ''}" if self.pages else ""
+        return "; ".join(filter(None, [self.verdict, self.restart, lost, self.outcome]))
+
+    def line(self):
+        return f"{self.plan_in_words()}: {self.told()}"
 
 
 def named(names, words):
@@ -265,9 +300,9 @@ def junit(found, count):
         case = ElementTree.SubElement(suite, "testcase", classname=result.version if result else "", name=f"{number:05}")
         if result and result.is_clean:
             continue
-        what = "failure" if result and not result.verdict.startswith("not judged") else "error"
+        what = result.test if result else "error"
         counts[what] += 1
-        words = (result.in_a_word, result.line()) if result else ("not made", "it was not made")
+        words = (result.in_a_word, result.line()) if result else (NOT_MADE, f"it was {NOT_MADE}")
         ElementTree.SubElement(case, what, dict(zip(("type", "message"), map(printable, words))))
     suite.attrib.update(failures=str(counts["failure"]), errors=str(counts["error"]))
     return ElementTree.tostring(suite, encoding="unicode") + "\n"

@@ -94,9 +94,9 @@ def of_campaigns(tests):
     tests.wants("the values that a QEMU can have", (found["capability"], found["machine"], found["memory"], refused),
                 (("none", "auto-converge", "xbzrle"), ("pc",), tuple(kinds.MEMORIES), {("capability", "multifd"): "it cannot", ("machine", "q35"): "it cannot"}))
     lacking = SimpleNamespace(path="one", require=lambda plan, library: requires(axes.row_of(plan) | {"machine": ""}), machine_for=lambda emulator, name: name)
-    with contextlib.redirect_stdout(io.StringIO()) as said:
-        tests.wants("of each", campaign.possible([lacking], "library")["one"]["capability"], ("none", "auto-converge", "xbzrle"))
-    tests.wants("what is left out is told", said.getvalue(), "left out, capability multifd: it cannot\n")
+    its, left_out = campaign.possible([lacking], "library")
+    tests.wants("of each", its["one"]["capability"], ("none", "auto-converge", "xbzrle"))
+    tests.wants("what is left out is told", left_out, ["left out, capability multifd: it cannot"])
     drawn = random.Random(5)
     tests.wants("the others are drawn as without axes", [plan for plan, _ in made[::2]], [plans.random_plan(drawn) for _ in range(60)])
     tests.wants("by each QEMU in turn", [its for _, its in made[::2]], emulators * 30)

@@ -259,8 +259,7 @@ def of_the_table(tests):
     old, new = Result(plan, "", ""), Result(plan, "", "")
     old.path, old.version_text, new.path, new.version_text = "/old", "7.2.22", "/new", "10.0.13"
     found = {("live", "/old"): "it lacks something", ("live", "/new"): [results[0], results[1], results[0]]}
-    tests.wants("the table", compare.table(["live"], [old, new], found).splitlines(),
-                ["| | 7.2.22 | 10.0.13 |", "| --- | --- | --- |", "| none | not there | 2 clean, 1 both ran |"])
+    tests.wants("the table", compare.table(["live"], [old, new], found), [["", "7.2.22", "10.0.13"], ["none", "not there", "2 clean, 1 both ran"]])
 
 
 def of_comparisons(tests, room):
