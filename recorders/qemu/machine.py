@@ -25,6 +25,11 @@ def seconds_waited(path):
         return 0.0  # it has ended, or the kernel does not count this
 
 
+def longest_wait(process):
+    """Returns how many seconds the threads of a process have waited for a processor: the longest of them."""
+    return max(map(seconds_waited, glob.glob(f"/proc/{process}/task/*")), default=0.0)
+
+
 def last_words(status, errors):
     """Returns the assertion that failed, or the last line of what a QEMU said, by the file of its errors; or its status."""
     with open(errors, encoding="utf-8", errors="replace") as file:
@@ -148,7 +153,7 @@ class Machine:
 
     def waited(self):
         """Returns how many seconds its threads have waited for a processor: the longest of them."""
-        return max(map(seconds_waited, glob.glob(f"/proc/{self.process.pid}/task/*")), default=0.0)
+        return longest_wait(self.process.pid)
 
     def wait_for_accesses(self, count, seconds):
         """Waits until the guest has recorded this many more accesses. Returns whether it did."""

@@ -8,7 +8,7 @@ from dataclasses import asdict, dataclass, field, replace
 import build
 import folders
 from dialect import ENDS, IN_POSTCOPY, IN_RECOVERY
-from machine import DEAD, Machine
+from machine import DEAD, Machine, longest_wait
 from qmp import Gone, Refused
 from relay import ANY_PORT, PRECOPY_ENDED, CutPlan, Relay, Window, connected_to
 
@@ -40,6 +40,7 @@ class Outcome:
     requests: int = 0
     seconds: float = 0.0
     waited: float = 0.0  # seconds for which a thread of a QEMU has waited for a processor
+    late: list = field(default_factory=list)  # of the part that took too long: its seconds, and those for which a thread had no processor
     remarks: list = field(default_factory=list)
     deaths: list = field(default_factory=list)  # which of them ended by itself, and how, in its words
     lost: list = field(default_factory=list)  # why something of what they recorded is in no file
@@ -70,8 +71,13 @@ class Outcome:
 
     @property
     def is_held_up(self):
-        """Returns whether it took too long, on a machine that gave it no processor for half of the time or more."""
-        return any(remark.startswith(TOO_LONG) for remark in self.remarks) and self.waited >= self.seconds / 2
+        """Returns whether it took too long, on a machine that gave it no processor for half of the time or more, or of that of the late part."""
+        return any(remark.startswith(TOO_LONG) for remark in self.remarks) and any(waited >= seconds / 2 for seconds, waited in self.times)
+
+    @property
+    def times(self):
+        """Returns how many seconds it took, and its late part, each with those for which a thread had no processor."""
+        return [(self.seconds, self.waited), *([tuple(self.late)] if self.late else [])]
 
     def line(self):
         parts = [f"source {self.source}", f"target {self.target}"]
@@ -85,6 +91,7 @@ class Migration:
     source and of the target."""
 
     files, machine_class, seconds_between_lines = folders.FILES, Machine, 1
+    machines, part = (), (0.0, 0.0)
 
     def __init__(self, plan, folder, say, emulators):
         self.source_emulator, self.target_emulator = emulators
@@ -110,7 +117,8 @@ class Migration:
             self.remark(self.relay.complaint)
         self.outcome.seconds = round(time.monotonic() - began, 1)
         if self.outcome.is_held_up:
-            self.remark(f"the machine was busy: QEMU had no processor for {self.outcome.waited:.0f} of {self.outcome.seconds:.0f} s")
+            seconds, waited = self.outcome.times[-1]
+            self.remark(f"the machine was busy: QEMU or the recorder had no processor for {waited:.0f} of {seconds:.0f} s")
         folders.write(f"{self.folder}/outcome.json", json.dumps(asdict(self.outcome), indent=1))
         return self.outcome
 
@@ -178,6 +186,16 @@ class Migration:
     def remark(self, words):
         self.outcome.remarks.append(words)
         self.say(words)
+        if words.startswith(TOO_LONG):
+            self.outcome.late = [round(now - then, 1) for now, then in zip(self.times(), self.part)]
+
+    def begin_part(self):
+        """Begins a part of the migration that has a limit of its own."""
+        self.part = self.times()
+
+    def times(self):
+        """Returns the time, and for how many seconds a thread of a QEMU, or of the recorder between them, has waited for a processor: the longest."""
+        return time.monotonic(), max([longest_wait("self"), *(machine.waited() for machine in self.machines)])
 
     def migrate(self):
         plan = self.plan
@@ -255,11 +273,13 @@ class Migration:
 
     def warm_up(self):
         """Waits until the guest has done its accesses before the migration."""
+        self.begin_part()
         if not self.source.wait_for_accesses(self.plan.pages * 3 // 4 + self.plan.warm, self.plan.limit):
             raise Gone("the guest does not walk")
 
     def run_on(self):
         """Waits until the guest has done its accesses at the target, after the end."""
+        self.begin_part()
         if not self.target.wait_for_accesses(self.plan.after, self.plan.limit / 4):
             self.outcome.stands_still = True
             self.remark(f"it took more than {self.plan.limit / 4:.0f} s for {self.plan.after} accesses at the target")
@@ -311,6 +331,7 @@ class Migration:
 
     def wait_with_progress(self):
         """Waits for an end, for a cut, or for a failure of the target."""
+        self.begin_part()
         until, told = time.monotonic() + self.plan.limit, time.monotonic()
         while True:
             status, there = self.source.migration(), self.target.migration()
@@ -363,6 +384,7 @@ class Migration:
         except (Refused, Gone) as fault:
             self.remark(f"no recovery: {fault}")
             return False
+        self.begin_part()
         status = self.source.wait_for(("postcopy-active", "completed", "failed"), self.plan.limit)
         if status not in ("postcopy-active", "completed"):
             self.remark(f"no recovery: source {status}")

@@ -192,17 +192,21 @@ def of_a_busy_machine(tests):
     for wanted, outcome in ((True, Outcome(seconds=40, waited=20, remarks=late)), (False, Outcome(seconds=40, waited=19, remarks=late)),
                             (True, Outcome(seconds=40, waited=20, remarks=[*ended, "gave up: the guest does not walk"])),
                             (True, Outcome(seconds=40, waited=20, remarks=["no recovery: source postcopy-recover"])),
+                            (True, Outcome(seconds=40, waited=9, remarks=late, late=[8, 4])), (False, Outcome(seconds=40, waited=9, remarks=late, late=[8, 3])),
                             (False, Outcome(seconds=40, waited=39, remarks=ended))):
         tests.wants(f"held up: {outcome}", outcome.is_held_up, wanted)
 
 
 def of_a_guest_that_stands_still(tests):
     """Both QEMUs say that they came to the end, and the guest does not go on at the target: that is no success."""
+    waits = iter((3.0, 2.0, 7.0))  # seconds for which a QEMU had no processor: where each part begins, and where it is late
     for goes_on, is_success, remarks in ((True, True, []), (False, False, ["it took more than 10 s for 3000 accesses at the target"])):
         one = Migration.__new__(Migration)
         one.plan, one.say, one.outcome = Plan(), lambda line: None, Outcome("completed", "completed")
         one.target = SimpleNamespace(wait_for_accesses=lambda count, seconds, goes_on=goes_on: goes_on)
+        one.machines = [SimpleNamespace(waited=lambda: 1e6 + next(waits))]
         one.run_on()
+        tests.wants("how long it had no processor, where it is late", one.outcome.late[1:], [] if goes_on else [5.0])
         tests.wants(f"a guest that goes on: {goes_on}", (one.outcome.is_whole, one.outcome.is_success, one.outcome.remarks), (True, is_success, remarks))
         words = "completed" if is_success else f"source completed, target completed; {remarks[0]}"
         tests.wants("in words", outcome_in_words(asdict(one.outcome)), words)
