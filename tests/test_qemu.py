@@ -52,13 +52,15 @@ AXES = [
     ("numa", ["live", "--flush", "--memory", "numa"], CLEAN, DONE),
     ("dimm", ["recovery", "--flush", "--memory", "dimm"], CLEAN, DONE),
     ("numa-lost-write", ["lost-write", "--memory", "numa"], f"faulty line [0-9]+ read|{LOST_IN_PRECOPY}", DONE),
-    ("hot-pages", ["hot-pages"], f"{CLEAN}|faulty line [0-9]+ read", DONE),
+    ("hot-pages", ["hot-pages"], f"{CLEAN}|faulty line [0-9]+ (read|altered)", DONE),
     ("hot-pages-flush", ["hot-pages", "--flush"], CLEAN, DONE),
     ("virtio-mem", ["live", "--flush", "--memory", "virtio-mem"], CLEAN, DONE),
     ("tcp", ["preempt", "--flush", "--transport", "tcp"], CLEAN, DONE),
     ("fd", ["recovery", "--flush", "--transport", "fd"], CLEAN, DONE),
     ("uneven-lost-write", ["lost-write", "--memory", "uneven"], "faulty line [0-9]+ read", DONE),
     ("q35", ["live", "--flush", "--machine", "q35"], CLEAN, DONE),
+    ("kvm", ["kvm"], CLEAN, DONE),
+    ("dirty-ring", ["dirty-ring"], CLEAN, DONE),
     ("xbzrle", ["left", "--flush", "--capability", "xbzrle"], CLEAN, DONE),
     ("auto-converge", ["preempt", "--flush", "--capability", "auto-converge", "--parameter", "cpu-throttle-initial=5"], CLEAN, DONE),
 ]
@@ -95,8 +97,9 @@ NEWER = {
     "cut-behind-package": [((11, 1), AGAIN, "source failed, target (HANGS|ENDED|failed|postcopy-paused)")],
     "started-after-failed-load": [((11, 1), AGAIN, "source failed, target (ENDED|failed|postcopy-paused)")],
 }
-# Kinds that only some versions can have: since. (10.0 refuses multifd with post-copy.)
-SINCE = {"suspended": (9, 0), "multifd-preempt": (11, 0)}
+# Kinds that only some versions can have: since. (10.0 refuses multifd with post-copy.) And those that need KVM.
+SINCE = {"suspended": (9, 0), "multifd-preempt": (11, 0), "dirty-ring": (6, 1)}
+BY_KVM = ("kvm", "dirty-ring")
 # A fault that recorders/qemu/shows shows, and the versions that have it: since, and up to, which is not included.
 SHOWN = [("lost-write", (0, 0), (10, 0)), ("uneven", (10, 0), (100, 0)), ("both-ran", (10, 0), (100, 0)), ("source-waits", (0, 0), (10, 0)), ("syncs", (11, 0), (100, 0))]
 # What the name of each folder ends with: QEMU's options are cut at commas, its log's name has a percent sign for the process,
@@ -184,6 +187,8 @@ def test_qemu(qemu, program, pytestconfig, monkeypatch, case):
     monkeypatch.setenv("POSTCOPY", program)
     if Emulator(qemu).version < SINCE.get(case[0], (0, 0)):
         pytest.skip(f"a QEMU of this version cannot have {case[0]}, or lacks it")
+    if case[0] in BY_KVM and not os.access("/dev/kvm", os.R_OK | os.W_OK):
+        pytest.skip("there is no /dev/kvm that this user may open")
     room = tempfile.mkdtemp(prefix="qemu-")
     is_right, line = run(case, qemu, room, not pytestconfig.getoption("--all"))
     assert is_right, line

@@ -3,10 +3,11 @@ import collections
 import itertools
 
 from build import Missing
-from kinds import MEMORIES
+from kinds import ENTRIES, MEMORIES
 from results import GOOD, markdown, versions_of
 
 DROPS, KEEPS, HOT, PAUSED = "drops translations", "keeps translations", "writes hot pages", "is paused"  # the guest, in pre-copy
+TCG, KVM, RING = "tcg", "kvm", "kvm with a dirty ring"
 UNCUT, EARLY, LATE = "no", "early", "at the last pages"  # where the connection is cut
 
 # The values of each axis, by its name. The first is what a plan has that is drawn without axes.
@@ -19,6 +20,7 @@ AXES = {
     "preempt": ("no", "yes"),
     "cut": (UNCUT, EARLY, LATE),
     "processors": (1, 2, 4),
+    "accelerator": (TCG, KVM, RING),
 }
 
 # Pairs with which QEMU was found to lose memory, or to run the guest on both sides.
@@ -83,7 +85,8 @@ def fields_of(row):
     """Returns what a row sets in a plan, but for its cuts."""
     return {"memory": row["memory"], "machine": row["machine"], "further": [row["capability"]] if row["capability"] not in ("none", "multifd") else [],
             "multifd": 2 if row["capability"] == "multifd" else 0, "transport": row["transport"], "flush": row["guest"] in (DROPS, PAUSED),
-            "hot": 32 if row["guest"] == HOT else 0, "paused": row["guest"] == PAUSED, "preempt": row["preempt"] == "yes", "cpus": row["processors"]}
+            "hot": 32 if row["guest"] == HOT else 0, "paused": row["guest"] == PAUSED, "preempt": row["preempt"] == "yes", "cpus": row["processors"],
+            "kvm": row["accelerator"] != TCG, "dirty_ring": ENTRIES if row["accelerator"] == RING else 0}
 
 
 def row_of(plan):
@@ -91,7 +94,7 @@ def row_of(plan):
     return {"memory": plan.memory, "machine": plan.machine, "capability": "multifd" if plan.multifd else plan.further[0] if plan.further else "none",
             "transport": plan.transport, "guest": PAUSED if plan.paused else HOT if plan.hot else DROPS if plan.flush else KEEPS,
             "preempt": "yes" if plan.preempt else "no", "cut": UNCUT if not plan.cuts else LATE if plan.cuts[0] * 2 > moved(plan) else EARLY,
-            "processors": plan.cpus}
+            "processors": plan.cpus, "accelerator": RING if plan.dirty_ring else KVM if plan.kvm else TCG}
 
 
 def moved(plan):

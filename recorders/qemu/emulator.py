@@ -93,7 +93,10 @@ class Emulator:
                   "arguments": {"capabilities": [{"capability": name, "state": True} for name in names]}},
                  *[{"execute": "migrate-set-parameters", "arguments": plan.parameters}] * bool(plan.parameters)]
         text = "".join(json.dumps(one) + "\n" for one in [*asked, {"execute": "quit"}])
-        done = self.ask("-machine", "none", "-nodefaults", "-no-user-config", "-display", "none", "-qmp", "stdio", text=text)
+        accelerator = ["-accel", plan.accelerator] if plan.kvm else []
+        done = self.ask("-machine", "none", *accelerator, "-nodefaults", "-no-user-config", "-display", "none", "-qmp", "stdio", text=text)
+        if plan.dirty_ring and (warned := re.search("dirty ring not available.*", done.stderr)):  # it would take the bitmap
+            raise Missing(f"{self} ({self.path}) says of this machine's KVM: {warned[0]}: left out")
         for line in done.stdout.splitlines():
             if refused := json.loads(line).get("error"):
                 raise Missing(f"{self} ({self.path}) cannot migrate with {', '.join([*names, *plan.parameters])}: {refused['desc']}")

@@ -5,6 +5,7 @@ from dataclasses import asdict, dataclass, field, replace
 from dialect import FRONT, KEPT, PC_RAM
 
 BASE = 0x400000
+ENTRIES = 4096  # of a ring of dirty pages
 MEMORIES = {
     "one": "one RAM block",
     "numa": "two NUMA nodes: the window is in the second RAM block, and the first is longer",
@@ -50,6 +51,7 @@ class Plan:
     preempt: bool = False
     multifd: int = 0          # separate connections for the pages of pre-copy, which the relay does not read
     kvm: bool = False         # the guest runs on the real processor, not on an emulated one
+    dirty_ring: int = 0       # entries of the ring by which KVM tells the pages that each processor dirtied; 0: by a bitmap
     huge: bool = False        # the guest's memory has pages of 2 MiB
     paused: bool = False      # the guest is stopped first, and resumes at the target after the end
     cuts: list = field(default_factory=list)  # the connection is cut after this many pages; -1: after the package
@@ -71,6 +73,16 @@ class Plan:
     base: int = BASE
     source_version: str = KEPT  # of QEMU; whoever makes the migration fills it in
     target_version: str = KEPT
+
+    @property
+    def keeps(self):
+        """Returns whether the guest is emulated, and keeps a page's translation from one access to the next."""
+        return not (self.flush or self.kvm)
+
+    @property
+    def accelerator(self):
+        """Returns what QEMU runs the guest by, as its option -accel has it."""
+        return f"{'kvm' if self.kvm else 'tcg'}{f',dirty-ring-size={self.dirty_ring}' if self.dirty_ring else ''}"
 
     def capabilities(self):
         """Returns the capabilities that both QEMUs are asked for."""
@@ -113,6 +125,8 @@ KINDS = {
                   {"pages": 512, "suspended": True, "post_bandwidth": 1_000_000}),
     "kvm": ("the guest runs on the processor, where /dev/kvm is",
             {"pages": 64, "kvm": True, "warm": 50, "after": 100, "bandwidth": 200_000, "post_bandwidth": 200_000}),
+    "dirty-ring": ("the same, and KVM tells dirty pages by a ring, where it has one: QEMU 6.1",
+                   {"pages": 64, "kvm": True, "dirty_ring": ENTRIES, "warm": 50, "after": 100, "bandwidth": 200_000, "post_bandwidth": 200_000}),
     "multifd": ("pre-copy goes over two more connections", {"pages": 1024, "multifd": 2, "post_bandwidth": 1_000_000}),
     "multifd-preempt": ("the same, and pages that are asked for have a connection of their own",
                         {"pages": 1024, "multifd": 2, "preempt": True, "post_bandwidth": 1_000_000}),

@@ -130,7 +130,7 @@ class Machine:
 
     def hardware(self, machine, plan):
         """Returns QEMU's options for the machine, its processors and its memory."""
-        return ["-machine", f"{machine},accel={'kvm' if plan.kvm else 'tcg'}"]
+        return ["-machine", machine, "-accel", plan.accelerator]
 
     def guest(self, plan):
         """Returns QEMU's options for the guest and its record of what it does."""

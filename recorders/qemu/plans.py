@@ -16,6 +16,7 @@ COMPARED = {
                          {"pages": 256, "warm": 200, "after": 500, "cuts": [100]}),
     "multifd": ("none, with multifd", "multifd", {"pages": 256, "warm": 200, "after": 500}),
     "kvm": ("none, by KVM", "kvm", {}),
+    "dirty-ring": ("none, by KVM with a dirty ring", "dirty-ring", {}),
     "lost-write": ("64 pages without `--flush`: lost writes", "lost-write", {}),
     "hot-pages": ("the guest goes over to writing pages that are not sent yet", "hot-pages", {}),
     "second-block": ("the same in the second RAM block", "lost-write", {"memory": "numa"}),
@@ -80,6 +81,10 @@ def plan_by_axes(drawn, row):
         plan.pages, plan.ram, plan.words, plan.writes, plan.bandwidth, plan.pre_pages, plan.limit = 8192, 64, 1, 15, 1_300_000, 15360, 150.0
     elif plan.hot:
         plan.pages, plan.bandwidth, plan.pre_pages = 512, 1_000_000, 448
+    if plan.kvm:
+        # A KVM that emulates this guest, as on some machines, makes some hundred accesses a second.
+        plan.pages, plan.ram, plan.warm, plan.after, plan.bandwidth, plan.post_bandwidth, plan.limit = 128 if plan.hot else 64, 16, 50, 100, 200_000, 200_000, 40.0
+        plan.pre_pages = plan.pages * 7 // 8 if plan.hot else min(plan.pre_pages, plan.pages // 2)
     moved = axes.moved(plan)
     # (A cut that is earlier ends the targets of old versions. One at the last pages loses up to 22 of them.)
     plan.cuts = {axes.UNCUT: [], axes.EARLY: [drawn.randrange(moved // 8, moved // 4)], axes.LATE: [moved - drawn.randrange(5, 14)]}[row["cut"]]

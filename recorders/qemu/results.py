@@ -56,9 +56,9 @@ OWNERS = (
 LOST = "`(read|altered)`|lost pages in pre-copy"
 KNOWN = (
     ("the-source-aborts-in-pre-copy", r"source aborted: Assertion `block == qemu_get_ram_block", lambda plan: plan.memory != "one"),
-    ("lost-writes-to-each-ram-block-but-the-first", LOST, lambda plan: plan.memory != "one" and not plan.flush),
-    ("lost-writes-to-pages-not-sent-yet", LOST, lambda plan: plan.hot),
-    ("others-of-qemu", LOST, lambda plan: not plan.flush),
+    ("lost-writes-to-each-ram-block-but-the-first", LOST, lambda plan: plan.memory != "one" and plan.keeps),
+    ("lost-writes-to-pages-not-sent-yet", LOST, lambda plan: plan.hot and plan.keeps),
+    ("others-of-qemu", LOST, lambda plan: plan.keeps),
     ("the-guest-runs-on-both-sides", "both ran", lambda plan: plan.cuts),
     ("the-target-hangs-with-preempt", "(returned and )?target hangs", lambda plan: plan.preempt and not plan.multifd),
     ("a-lost-answer", "returned$|source waits forever", lambda plan: plan.cuts and not plan.multifd),

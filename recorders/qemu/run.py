@@ -202,7 +202,7 @@ class Migration:
         self.set_up()
         self.relay.target = self.incoming("migrate-incoming", "target")
         versions = " to ".join(dict.fromkeys([plan.source_version, plan.target_version]))
-        self.say(f"QEMU {versions}, {'KVM' if plan.kvm else 'TCG'}")
+        self.say(f"QEMU {versions}, {'KVM' if plan.kvm else 'TCG'}{' with a dirty ring' if plan.dirty_ring else ''}")
         self.say(self.guest_line())
         self.warm_up()
         if plan.paused:

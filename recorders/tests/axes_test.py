@@ -48,6 +48,9 @@ def of_rows(tests):
         made = [plans.plan_by_axes(random.Random(seed), row) for row in rows]
         tests.wants("a plan has the values of its row", [axes.row_of(plan) for plan in made], rows)
         tests.wants("a plan's text and back", [plan_from_text(plan.to_text()) for plan in made], made)
+    of_kvm = [plans.plan_by_axes(random.Random(seed), row) for seed in range(20) for row in axes.rows(random.Random(seed), axes.AXES) if row["accelerator"] != axes.TCG]
+    tests.wants("KVM's windows fit the memory, and its switches can be reached", [plan for plan in of_kvm if plan.base + plan.pages * 4096 > plan.ram << 20 or plan.pre_pages > plan.pages or plan.hot > plan.pages // 4], [])
+    tests.wants("and both ways in which KVM tells dirty pages are drawn", {plan.dirty_ring for plan in of_kvm}, {0, kinds.ENTRIES})
     tests.wants("a plan that is drawn without axes has the first value of each", [value for value in axes.row_of(plan_of("live")).values()], [values[0] for values in axes.AXES.values()])
 
 
@@ -61,8 +64,8 @@ def of_results(tests):
     made = [result("clean, yes"), result("clean, yes", memory="numa"), *[result("faulty line 7 read", memory="numa", guest=axes.KEEPS)] * 2,
             *[result("faulty line 7 read", "7.2.22", guest=axes.KEEPS)] * 2, result("faulty line 9 read", memory="dimm")]
     tests.wants("what all have in common of which it became", list(axes.in_common(made)), [
-        "10.0.13: 3 `read`; 3 of 5 with machine pc, capability none, transport unix, preempt no, cut no, processors 1",
-        "7.2.22: 2 `read`; 2 of 2 with memory one, machine pc, capability none, transport unix, guest keeps translations, preempt no, cut no, processors 1"])
+        "10.0.13: 3 `read`; 3 of 5 with machine pc, capability none, transport unix, preempt no, cut no, processors 1, accelerator tcg",
+        "7.2.22: 2 `read`; 2 of 2 with memory one, machine pc, capability none, transport unix, guest keeps translations, preempt no, cut no, processors 1, accelerator tcg"])
     apart = [result("faulty line 1 read", **{axis: values[-1] for axis, values in axes.AXES.items()}), result("faulty line 1 read")]
     tests.wants("where that is nothing", list(axes.in_common(apart)), ["10.0.13: 2 `read`; 2 of 2 with nothing in common"])
     tests.wants("of one alone, and of what is no fault, nothing is said", list(axes.in_common(made[:2] + made[-1:])), [])
@@ -137,6 +140,24 @@ def of_machines(tests, room):
     tests.wants("in a word", Result(plan, f"not judged: the recorder ended with build.Missing: {said}", "").in_a_word, "machine not there")
 
 
+def of_accelerators(tests, room):
+    """What QEMU runs the guest by, and what is told where there is no dirty ring: QEMU's words."""
+    for kind, options in (("live", "tcg"), ("kvm", "kvm"), ("dirty-ring", "kvm,dirty-ring-size=4096")):
+        tests.wants(f"the options of {kind}", machine.Machine.hardware(None, "q35", plan_of(kind)), ["-machine", "q35", "-accel", options])
+    tests.wants("who keeps translations", [plan_of(kind, flush=flush).keeps for kind in ("live", "kvm") for flush in (False, True)], [True, False, False, False])
+    answers = ['case "$*" in', "*version*) echo 'QEMU emulator version 10.0.13' ;;", f"*) cat > {room}/asked; echo \"$*\" > {room}/options; echo 'qemu: warning: KVM dirty ring not available, using bitmap method' >&2; echo '{{}}' ;;", "esac"]
+    emulator, library = Emulator(program(f"{room}/warns", *answers)), program(f"{room}/library")
+    with mock.patch("os.access", lambda *_: True):
+        said = tests.refuses("a KVM without a dirty ring", build.Missing, lambda: emulator.require(plan_of("dirty-ring"), library))
+        tests.wants("it is told in QEMU's words", "says of this machine's KVM: dirty ring not available, using bitmap method: left out" in said, True)
+        tests.wants("QEMU was asked for it", "-machine none -accel kvm,dirty-ring-size=4096 " in read(f"{room}/options"), True)
+        said = tests.refuses("a library that is none, with KVM's bitmap", build.Missing, lambda: emulator.require(plan_of("kvm"), library))
+        tests.wants("there is nothing to warn of", "does not take the preloaded library" in said, True)
+        refusing = Emulator(qemu_like(room, "11.1.3", [], "Postcopy is not compatible with the dirty ring"))
+        said = tests.refuses("a QEMU that refuses it with post-copy", build.Missing, lambda: refusing.require(plan_of("dirty-ring"), library))
+    tests.wants("that is told too", said.endswith("cannot migrate with postcopy-ram, postcopy-blocktime: Postcopy is not compatible with the dirty ring"), True)
+
+
 def of_words(tests):
     migrate = command("migrate")
     parser = migrate.words()
@@ -144,11 +165,13 @@ def of_words(tests):
                                           "--parameter", "a=5", "--parameter", "b=zlib", "--parameter", "c=true"])
     plan = migrate.plan_of_words(parser, asked)
     tests.wants("the plan", (plan.memory, plan.machine, plan.transport, plan.hot, plan.further, plan.parameters), ("numa", "q35", "tcp", 64, ["xbzrle", "auto-converge"], {"a": 5, "b": "zlib", "c": True}))
+    plan = migrate.plan_of_words(parser, parser.parse_intermixed_args(["live", "x", "--kvm", "--dirty-ring", "2048"]))
+    tests.wants("a dirty ring", (plan.kvm, plan.dirty_ring), (True, 2048))
     for words, pages in (([], 0), (["--fault", "stale"], 320), (["--fault", "keep-drop", "--pages", "512"], 640), (["--fault", "stale", "--pre-pages", "7"], 7), (["--fault", "flip"], 0)):
         plan = migrate.plan_of_words(parser, parser.parse_intermixed_args(["live", "x", *words]))
         tests.wants(f"pages of pre-copy before the switch: {' '.join(words)}", plan.pre_pages, pages)
     for words, said in ((["--capability", "release-ram"], "'release-ram' cannot be recorded: "), (["--parameter", "a"], "'a' is not NAME=VALUE"), (["--memory", "two"], "invalid choice"), (["--transport", "rdma"], "invalid choice"),
-                        (["--hot", "65"], "at most a quarter of --pages")):
+                        (["--hot", "65"], "at most a quarter of --pages"), (["--dirty-ring", "4096"], "--dirty-ring needs --kvm")):
         done = subprocess.run([sys.executable, "-B", f"{QEMU}/migrate", "x", *words], capture_output=True, text=True)
         tests.wants(f"the words {' '.join(words)}", (done.returncode, said in done.stderr), (2, True))
 
@@ -317,10 +340,11 @@ def of_what_is_known(tests, room):
     aborted = "source aborted: qemu-system-x86_64: ../system/physmem.c:872: it: Assertion `block == qemu_get_ram_block(end - 1)' failed."
     found = [result("faulty line 7 read", guest=axes.HOT), result("faulty line 7 read", memory="numa", guest=axes.KEEPS), result("faulty line 7 read", guest=axes.KEEPS),
              result("not judged: there was no post-copy", f"source ENDED, target ENDED; {aborted}", death=aborted, memory="uneven"),
-             result("shape line 9 both", "source failed, target postcopy-paused", "both ran: 7 accesses", cut=axes.LATE), result("faulty line 7 read"), result("clean, yes", cut=axes.LATE)]
-    sections = ["lost-writes-to-pages-not-sent-yet", "lost-writes-to-each-ram-block-but-the-first", "others-of-qemu", "the-source-aborts-in-pre-copy", "the-guest-runs-on-both-sides", "", ""]
+             result("shape line 9 both", "source failed, target postcopy-paused", "both ran: 7 accesses", cut=axes.LATE), result("faulty line 7 read"), result("clean, yes", cut=axes.LATE),
+             result("faulty line 7 altered", guest=axes.HOT), result("faulty line 7 read", guest=axes.HOT, accelerator=axes.KVM)]
+    sections = ["lost-writes-to-pages-not-sent-yet", "lost-writes-to-each-ram-block-but-the-first", "others-of-qemu", "the-source-aborts-in-pre-copy", "the-guest-runs-on-both-sides", "", "", "lost-writes-to-pages-not-sent-yet", ""]
     tests.wants("the sections", [one.known for one in found], sections)
-    tests.wants("in lines", list(results.known(found)), [f"11.1.3: 1 as docs/FOUND.md#{section}: {number:05}" for number, section in enumerate(sections) if section])
+    tests.wants("in lines", list(results.known(found[:7])), [f"11.1.3: 1 as docs/FOUND.md#{section}: {number:05}" for number, section in enumerate(sections[:7]) if section])
     tests.wants("the pages", found[0].line().split("; ")[-2], "lost pages 0 1 2 3 4 5 6 7 and 1 more")
     with open(f"{QEMU}/../../docs/FOUND.md", encoding="utf-8") as page:
         titles = {line.lstrip("# ").strip().lower().replace(" ", "-") for line in page if line.startswith("#")}
@@ -371,6 +395,6 @@ def run(tests):
     of_hot_pages(tests)
     of_failed_recoveries(tests)
     of_owners(tests)
-    for of_them in (of_machines, of_transports, of_broken_recoveries, of_suspended_guests, of_what_is_known, of_the_end_of_precopy):
+    for of_them in (of_machines, of_accelerators, of_transports, of_broken_recoveries, of_suspended_guests, of_what_is_known, of_the_end_of_precopy):
         with tempfile.TemporaryDirectory() as room:
             of_them(tests, room)
