@@ -571,6 +571,55 @@ def test_workflows(tree, room):
     same("the container's sources", os.listdir(f"{room}/Dockerfile"), ["local"])
 
 
+@pytest.mark.cases(3)
+def test_workflows_as_yaml():
+    """Each workflow is YAML, and has lines for a shell."""
+    try:
+        import yaml
+    except ImportError:
+        return leave_out("whether the workflows are YAML (there is no PyYAML)")
+    for name in sorted(it for it in os.listdir(f"{TOP}/share/ci") if it.endswith(".yml")):
+        read_as = yaml.safe_load(read(f"share/ci/{name}"))
+        same(f"the lines of {name} for a shell", sorted(lines_below(read_as)), sorted("".join(it) for it in shell_lines(name)))
+
+
+def lines_below(part):
+    """The lines that the parts of a workflow have a shell run, as a parser of YAML reads them."""
+    if isinstance(part, list):
+        return [line for it in part for line in lines_below(it)]
+    if not isinstance(part, dict):
+        return []
+    own = [line for key, its in part.items() if key in ("run", "script", "before_script", "after_script") for line in ([its] if isinstance(its, str) else its)]
+    return own + [line for its in part.values() for line in lines_below(its)]
+
+
+@pytest.mark.qemu
+@pytest.mark.slow
+@pytest.mark.cases(6)
+def test_workflow_of_qemu(tree, room, program):
+    """The workflow for a tree of QEMU makes migrations by what was built, and has its reports where it says that they are. This machine's
+    QEMU takes the place of the one that would be built."""
+    qemu = shutil.which("qemu-system-x86_64")
+    if not qemu or not shutil.which("make"):
+        pytest.skip("there is no QEMU here, or no make")
+    os.mkdir(f"{room}/work")
+    with open(f"{room}/work/configure", "w") as file:
+        file.write(f"#!/bin/sh\nmkdir build\nprintf 'qemu-system-x86_64:\\n\\tln -s {qemu} build/\\n' > Makefile\n")
+    os.chmod(file.name, 0o755)
+    text = read("share/ci/qemu.yml")
+    variables = {**dict(re.findall(r'(\w+): "([^"]*)"', re.search("^variables: (.*)$", text, re.M)[1])), "TINGARO": f"file://{tree}", "MIGRATIONS": "2", "CI_PIPELINE_ID": "4711"}
+    lines = [re.sub("/tmp/tingaro", f"{room}/tingaro", "".join(it)) for it in shell_lines("qemu.yml") if "apt-get" not in "".join(it)]
+    said = [ran("bash", "-e", "-c", line, cwd=f"{room}/work", env={**os.environ, **variables, "POSTCOPY": program}) for line in lines]
+    if said[-1][1] == 3 and "not made" not in said[-1][0]:
+        pytest.skip(said[-1][0])
+    same("what comes before the migrations", said[:-1], [("", 0), (f"ln -s {qemu} build/\n", 0), ("", 0)])
+    right(None if said[-1][1] in (0, 1) else said[-1], "the migrations")
+    same("what GitLab keeps", re.findall(r"^    (?:reports|paths): (.*)$", text, re.M), ["{junit: migrations.xml}", "[migrations.html, migrations]"])
+    same("the JUnit report", ' tests="2"' in read(f"{room}/work/migrations.xml"), True)
+    same("the page", [f'id="run-0000{number}"' in read(f"{room}/work/migrations.html") for number in (0, 1, 2)], [True, True, False])
+    same("the folder", len(read(f"{room}/work/migrations/results").splitlines()), 2)
+
+
 @pytest.mark.cases(4)
 def test_archive(release, room):
     """The archive, unpacked anywhere."""
