@@ -21,8 +21,8 @@ p.of { color: var(--quiet); margin-top: 0; }
 ul.counts { display: flex; flex-wrap: wrap; gap: .8rem; list-style: none; padding: 0; }
 ul.counts li { border: 1px solid var(--line); border-radius: .5rem; padding: .4rem .9rem; } ul.counts b { display: block; font-size: 1.5rem; line-height: 1.3; }
 .wide { overflow-x: auto; } table { border-collapse: collapse; width: 100%; font-size: .93rem; }
-th, td { border-bottom: 1px solid var(--line); padding: .3rem .7rem .3rem 0; text-align: left; vertical-align: top; }
-th { background: var(--head); padding-left: .3rem; } td:first-child { padding-left: .3rem; white-space: nowrap; }
+th, td { border-bottom: 1px solid var(--line); padding: .3rem .5rem; text-align: left; vertical-align: top; }
+th { background: var(--head); white-space: nowrap; } td:first-child { white-space: nowrap; }
 .failure .word, li.failure b { color: var(--failure); } .error .word, li.error b { color: var(--error); } .passed .word, li.passed b { color: var(--passed); }
 .word { font-weight: 600; } .said { overflow-wrap: anywhere; min-width: 18rem; }
 details { margin: .5rem 0; } summary { cursor: pointer; } pre { white-space: pre-wrap; font: inherit; border-left: 3px solid var(--line); padding-left: .9rem; }
@@ -93,17 +93,18 @@ def links(runs):
 
 
 def faults(runs, titles):
-    """Returns the table of what was not clean: each fault with its page or its word, whose it is, and what QEMU said in the first of these."""
+    """Returns the table of what was not clean, first what has a page: each fault with its page or its word, whose it is, and what QEMU said in the
+    first of these."""
     found = collections.defaultdict(list)
     for run in runs:
         if run.result and run.result.test:
             found[run.fault].append(run)
     rows = []
-    for (version, section, word, owner), of_it in sorted(found.items(), key=lambda one: (one[0][0], -len(one[1]), one[0])):
+    for (version, section, word, owner), of_it in sorted(found.items(), key=lambda one: (not one[0][1], one[0][0], -len(one[1]), one[0])):
         title, _ = titles.get(section, (f"docs/FOUND.md#{section}", ""))
         name = node("a", title, href=f"#{section}", of="word") if section in titles else node("span", word or title, of="word")
         rows.append(node("tr", node("td", version), node("td", name), node("td", owner), node("td", str(len(of_it))), node("td", *links(of_it)),
-                         node("td", of_it[0].result.outcome, of="said"), of="failure"))
+                         node("td", of_it[0].result.outcome, of="said"), of=of_it[0].kind))
     return table(["QEMU", "What", "Whose", "How often", "Migrations", "QEMU says of the first"], rows, id="faults") if rows else node("p", "Nothing.")
 
 
@@ -133,7 +134,7 @@ def by_axes(results):
 def untold(runs, left_out):
     """Returns what this report says nothing of: what was left out or not made, and what the recorder does not see."""
     unseen = collections.Counter(unseen for run in runs if run.result for unseen in run.result.plan.not_looked_at())
-    items = [*left_out, *(f"in {count} migrations: {what}" for what, count in unseen.items())]
+    items = [*left_out, *(f"{what} ({count} of {len(runs)} migrations)" for what, count in unseen.items())]
     if missed := [run for run in runs if run.result and run.result.is_cut_missed]:
         items.append(node("span", "a cut was not reached: ", *links(missed)))
     if without := sum(not run.result for run in runs):

@@ -45,8 +45,8 @@ OWNERS = (
     (NOBODY, "|".join(GOOD)),
     ("the machine", BUSY),
     ("the plan", "no post-copy|pre-copy came to its end|machine not there|refused: .*"),
+    ("the target", "(.* and )?target .*"),
     ("the source", "both ran.*|returned.*|source .*"),
-    ("the target", "target .*"),
     ("QEMU", "`.*`|lost pages in pre-copy|pre-copy failed.*"),
     ("the recorder", "not judged|unknown stream"),
 )

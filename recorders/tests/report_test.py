@@ -2,6 +2,7 @@
 import html.parser
 import json
 import os
+import random
 import re
 import tempfile
 from dataclasses import replace
@@ -67,7 +68,6 @@ def results_of_all():
     first = {axis: values[0] for axis, values in axes.AXES.items()}
 
     def of_row(number, **values):
-        import random
         return plans.plan_by_axes(random.Random(number), {**first, **values})
 
     aborted = "source aborted: qemu-system-x86_64: ../system/physmem.c:872: it: Assertion `block == qemu_get_ram_block(end - 1)' failed."
@@ -129,7 +129,7 @@ def of_campaigns(tests, room):
     tests.wants("the values of axes", [row.cells for row in page.tables["values"][1:]] + [row.cells for row in page.tables["pairs"][1:]],
                 [[axes.in_words(part), *cells] for part, cells in axes.gave(kept[1::2])[1]])
     tests.wants("pairs that were not made", [page.texts["missing"].count(axes.in_words(pair)) > 0 for pair in axes.not_made(kept[1::2])].count(False), 0)
-    told = ["left out, machine q35: ", "in 3 migrations: the RAM block", "in 1 migrations: what pre-copy sent over the connections of multifd", "a cut was not reached: 00006", "3 of 12 migrations were not made"]
+    told = ["left out, machine q35: ", "is judged (3 of 12 migrations)", "what pre-copy sent over the connections of multifd (1 of 12 migrations)", "a cut was not reached: 00006", "3 of 12 migrations were not made"]
     tests.wants("what is left out", [line in page.texts["untold"] for line in told], [True] * 5)
     tests.wants("how it was made", "campaign 12 --minutes 7 --qemu one" in page.texts[None], True)
     of_a_whole_page(tests, page)
@@ -146,6 +146,7 @@ def of_faults(tests, page, cases, titles):
     tests.wants("how many", sum(int(row.cells[3]) for row in rows), len(wrong))
     tests.wants("their sections", sorted(row.cells[1] for row in rows if row.cells[1] in titles), sorted(titles))
     tests.wants("QEMU's words", [("Assertion `block == qemu_get_ram_block(end - 1)' failed." in row.cells[5]) == (row.cells[1] == "The source aborts in pre-copy") for row in rows], [True] * len(rows))
+    tests.wants("what has a page comes first", [row.cells[1] in titles for row in rows], sorted([row.cells[1] in titles for row in rows], reverse=True))
     for name, (title, text) in report.sections().items():
         tests.wants(f"the section {name} is there where it is needed", text in page.texts.get(name, ""), title in titles)
 
@@ -183,10 +184,10 @@ def of_compared(tests, room):
 def of_owners(tests):
     """Each name of an end, and each word of what is not judged, has an owner."""
     named = [name for name, _ in (*results.ENDS, *results.UNJUDGED)]
-    owners = {name: next((owner for owner, form in results.OWNERS if re.fullmatch(form, name.format(": it"))), results.NOT_KNOWN) for name in named}
+    owners = {name: next((owner for owner, form in results.OWNERS if re.fullmatch(form, name.format(": it"))), results.NOT_KNOWN) for name in [*named, "returned and target hangs"]}
     tests.wants("of whom it is not known", sorted(name for name, owner in owners.items() if owner == results.NOT_KNOWN), ["lost stack", "not at its end within its limit"])
-    tests.wants("some of them", [owners[name] for name in ("source waits forever", "target hangs", results.BUSY, "refused{}", "pre-copy failed{}", "lost pages in pre-copy", "nothing lost in pre-copy")],
-                ["the source", "the target", "the machine", "the plan", "QEMU", "QEMU", "nobody"])
+    tests.wants("some of them", [owners[name] for name in ("source waits forever", "target hangs", "returned and target hangs", results.BUSY, "refused{}", "pre-copy failed{}", "lost pages in pre-copy", "nothing lost in pre-copy")],
+                ["the source", "the target", "the target", "the machine", "the plan", "QEMU", "QEMU", "nobody"])
 
 
 def run(tests):
