@@ -1,5 +1,4 @@
 """One of the two QEMUs, with a pipe for everything that it records."""
-import glob
 import os
 import select
 import signal
@@ -11,23 +10,10 @@ from dialect import FRONT, PC_RAM
 from files import write
 from qmp import Gone, Hangs, Qmp, Refused
 from roots import die_with_parent
+from waits import longest, waits_of
 
 DEAD = ("ended", "hangs")  # what `migration` returns if QEMU cannot say it itself
 EVENT_BYTES = 27  # of an access
-
-
-def seconds_waited(path):
-    """Returns how many seconds a thread, given its folder in /proc, has waited for a processor."""
-    try:
-        with open(f"{path}/schedstat", encoding="ascii") as file:
-            return int(file.read().split()[1]) / 1e9
-    except (OSError, IndexError):
-        return 0.0  # it has ended, or the kernel does not count this
-
-
-def longest_wait(process):
-    """Returns how many seconds the threads of a process have waited for a processor: the longest of them."""
-    return max(map(seconds_waited, glob.glob(f"/proc/{process}/task/*")), default=0.0)
 
 
 def last_words(status, errors):
@@ -144,7 +130,7 @@ class Machine:
             if self.hangs:
                 raise Hangs("it does not answer")
             if not self.qmp:
-                self.qmp = Qmp(self.socket, self.is_running, waited=lambda: seconds_waited(f"/proc/{self.process.pid}"))
+                self.qmp = Qmp(self.socket, self.is_running, waits=lambda: waits_of(self.process.pid))
             try:
                 return self.qmp(command, **arguments)
             except Hangs:
@@ -153,7 +139,7 @@ class Machine:
 
     def waited(self):
         """Returns how many seconds its threads have waited for a processor: the longest of them."""
-        return longest_wait(self.process.pid)
+        return longest(waits_of(self.process.pid))
 
     def wait_for_accesses(self, count, seconds):
         """Waits until the guest has recorded this many more accesses. Returns whether it did."""

@@ -6,9 +6,10 @@ import threading
 import time
 
 from build import Missing
-from machine import how_it_ended, last_words, seconds_waited
+from machine import how_it_ended, last_words
 from qmp import Gone, Hangs, Qmp
 from roots import die_with_parent
+from waits import waits_of
 
 SECONDS = 10  # for each wait, and each answer
 PACKAGED = b"\x08\x00\x07\x00\x04"  # a command, of the kind package, with 4 bytes: the length of what follows
@@ -33,7 +34,7 @@ class Running:
             self.process = subprocess.Popen([*words, "-qmp", f"unix:{monitor},server=on,wait=off"], stderr=errors, stdin=subprocess.DEVNULL,
                                             preexec_fn=die_with_parent, env={**os.environ, **environment})
         try:
-            self.qmp = Qmp(monitor, lambda: self.process.poll() is None, SECONDS, lambda: seconds_waited(f"/proc/{self.process.pid}"), self.hear)
+            self.qmp = Qmp(monitor, lambda: self.process.poll() is None, SECONDS, lambda: waits_of(self.process.pid), self.hear)
         except Gone as fault:
             self.process.kill()
             self.process.wait()

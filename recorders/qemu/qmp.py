@@ -4,6 +4,8 @@ import json
 import socket
 import time
 
+from waits import longest
+
 
 class Refused(Exception):
     """QEMU refuses a command. The message is its answer."""
@@ -18,14 +20,15 @@ class Hangs(Gone):
 
 
 class Qmp:
-    """`waited` returns how many seconds QEMU's main thread, which answers, has waited for a processor. If it waited for half of the time
-    or more, it gets the same time again, TIMES in all. `hear` takes each event that comes before an answer."""
+    """`waits` returns for how many seconds each thread of QEMU has waited for a processor: the main one, which answers, may need a lock that
+    another one has. If one waited for half of the time or more, QEMU gets the same time again, TIMES in all. `hear` takes each event that
+    comes before an answer."""
 
     TIMES = 10
 
-    def __init__(self, path, is_running, seconds=20, waited=lambda: 0.0, hear=lambda event: None):
+    def __init__(self, path, is_running, seconds=20, waits=dict, hear=lambda event: None):
         self.socket = socket.socket(socket.AF_UNIX)
-        self.seconds, self.waited, self.hear, self.begun = seconds, waited, hear, b""
+        self.seconds, self.waits, self.hear, self.begun = seconds, waits, hear, b""
         self.socket.settimeout(seconds)
         self.connect(path, is_running)
         self.line()
@@ -33,14 +36,14 @@ class Qmp:
 
     def connect(self, path, is_running):
         for _ in range(self.TIMES):
-            before, until = self.waited(), time.monotonic() + self.seconds
+            before, until = self.waits(), time.monotonic() + self.seconds
             while is_running() and time.monotonic() <= until:
                 try:
                     self.socket.connect(path)
                     return
                 except OSError:
                     time.sleep(0.02)
-            if not is_running() or self.waited() - before < self.seconds / 2:
+            if not is_running() or longest(self.waits(), before) < self.seconds / 2:
                 break
         raise Gone("it did not start")
 
@@ -54,11 +57,11 @@ class Qmp:
 
     def received(self):
         for _ in range(self.TIMES):
-            before = self.waited()
+            before = self.waits()
             try:
                 return self.socket.recv(1 << 16)
             except socket.timeout:  # (a TimeoutError only from Python 3.10 on)
-                if self.waited() - before < self.seconds / 2:
+                if longest(self.waits(), before) < self.seconds / 2:
                     break
             except OSError as fault:
                 raise Gone(str(fault)) from None

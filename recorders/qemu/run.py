@@ -8,9 +8,10 @@ from dataclasses import asdict, dataclass, field, replace
 import build
 import folders
 from dialect import ENDS, IN_POSTCOPY, IN_RECOVERY
-from machine import DEAD, Machine, longest_wait
+from machine import DEAD, Machine
 from qmp import Gone, Refused
 from relay import ANY_PORT, PRECOPY_ENDED, CutPlan, Relay, Window, connected_to
+from waits import longest, waits_of
 
 GAVE_UP = "gave up: "
 TOO_LONG = ("it took more than", f"{GAVE_UP}the guest does not walk", "no recovery: source postcopy-")  # the beginnings of messages about a time limit
@@ -91,7 +92,7 @@ class Migration:
     source and of the target."""
 
     files, machine_class, seconds_between_lines = folders.FILES, Machine, 1
-    machines, part = (), (0.0, 0.0)
+    machines, part = (), (0.0, {})
 
     def __init__(self, plan, folder, say, emulators):
         self.source_emulator, self.target_emulator = emulators
@@ -187,15 +188,16 @@ class Migration:
         self.outcome.remarks.append(words)
         self.say(words)
         if words.startswith(TOO_LONG):
-            self.outcome.late = [round(now - then, 1) for now, then in zip(self.times(), self.part)]
+            began, before = self.part
+            self.outcome.late = [round(time.monotonic() - began, 1), round(longest(self.waits(), before), 1)]
 
     def begin_part(self):
         """Begins a part of the migration that has a limit of its own."""
-        self.part = self.times()
+        self.part = time.monotonic(), self.waits()
 
-    def times(self):
-        """Returns the time, and for how many seconds a thread of a QEMU, or of the recorder between them, has waited for a processor: the longest."""
-        return time.monotonic(), max([longest_wait("self"), *(machine.waited() for machine in self.machines)])
+    def waits(self):
+        """Returns for how many seconds each thread has waited for a processor: those of the QEMUs, and of the recorder, which hands on what they send."""
+        return waits_of("self", *(machine.process.pid for machine in self.machines))
 
     def migrate(self):
         plan = self.plan

@@ -204,7 +204,7 @@ def of_a_guest_that_stands_still(tests):
         one = Migration.__new__(Migration)
         one.plan, one.say, one.outcome = Plan(), lambda line: None, Outcome("completed", "completed")
         one.target = SimpleNamespace(wait_for_accesses=lambda count, seconds, goes_on=goes_on: goes_on)
-        one.machines = [SimpleNamespace(waited=lambda: 1e6 + next(waits))]
+        one.waits = lambda: {"a thread": next(waits)}
         one.run_on()
         tests.wants("how long it had no processor, where it is late", one.outcome.late[1:], [] if goes_on else [5.0])
         tests.wants(f"a guest that goes on: {goes_on}", (one.outcome.is_whole, one.outcome.is_success, one.outcome.remarks), (True, is_success, remarks))

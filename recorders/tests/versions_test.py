@@ -26,6 +26,7 @@ import plain
 import qmp
 import releases
 import run as migration
+import waits
 from emulator import Emulator
 from files import lines_of
 from kinds import plan_of
@@ -178,7 +179,7 @@ def qmp_of_a_late_one(path, waited):
         thread = threading.Thread(target=answer, daemon=True)
         thread.start()
         try:
-            return qmp.Qmp(path, lambda: True, 0.2, lambda: next(waited))("stop")
+            return qmp.Qmp(path, lambda: True, 0.2, lambda: {"main": 7.0, "other": next(waited)})("stop")
         finally:
             time.sleep(0.7)  # in which it answers one that is still there
             is_over.set()
@@ -203,14 +204,16 @@ def of_one_that_hangs(tests, room):
     for step, is_given in ((0.2, True), (0.01, False)):
         waited, tries = itertools.count(0.0, step), itertools.count()
         one = qmp.Qmp.__new__(qmp.Qmp)
-        one.seconds, one.waited = 0.1, lambda waited=waited: next(waited)
+        one.seconds, one.waits = 0.1, lambda waited=waited: {"main": 7.0, "other": next(waited)}
         one.socket = mock.Mock(connect=mock.Mock(side_effect=lambda path, tries=tries: None if next(tries) > 7 else one.socket.refuse()), refuse=mock.Mock(side_effect=FileNotFoundError))
         if is_given:
             tests.wants("one that starts late, and had no processor, is given more time", one.connect("", lambda: True), None)
         else:
             tests.refuses("one that had, and is as late", qmp.Gone, lambda: one.connect("", lambda: True))
-    tests.wants("a thread that ran", 0 <= machine.seconds_waited("/proc/self") < 1e6, True)
-    tests.wants("one that is not there", machine.seconds_waited(room), 0.0)
+    tests.wants("a thread that ran", 0 <= waits.seconds_waited("/proc/self") < 1e6, True)
+    tests.wants("one that is not there", waits.seconds_waited(room), 0.0)
+    tests.wants("all threads of two processes", set(waits.waits_of("self", os.getppid())), {f"/proc/{process}/task/{task}" for process in ("self", os.getppid()) for task in os.listdir(f"/proc/{process}/task")})
+    tests.wants("the longest of all, and since a time", [waits.longest({"a": 9.0, "b": 5.0}), waits.longest({"a": 9.0, "b": 5.0}, {"a": 8.0}), waits.longest({"a": 9.0, "b": 5.0}, {"a": 8.0, "b": 3.0}), waits.longest({})], [9.0, 5.0, 2.0, 0.0])
     hanging = machine.Machine.__new__(machine.Machine)
     hanging.name, hanging.qmp, hanging.lock, hanging.hangs = "target", Silent(), threading.Lock(), False
     hanging.is_running = lambda: True
