@@ -59,6 +59,7 @@ AXES = [
     ("fd", ["recovery", "--flush", "--transport", "fd"], CLEAN, DONE),
     ("uneven-lost-write", ["lost-write", "--memory", "uneven"], "faulty line [0-9]+ read", DONE),
     ("q35", ["live", "--flush", "--machine", "q35"], CLEAN, DONE),
+    ("microvm", ["live", "--flush", "--machine", "microvm"], CLEAN, DONE),
     ("kvm", ["kvm"], CLEAN, DONE),
     ("dirty-ring", ["dirty-ring"], CLEAN, DONE),
     ("xbzrle", ["left", "--flush", "--capability", "xbzrle"], CLEAN, DONE),
