@@ -21,11 +21,13 @@ BUSYBOX = "busybox-static"
 TOOLS = ("apt-get", "apt-cache", "dpkg-deb")
 SECONDS = 600  # to download a package
 TRIES = 3
-FILES = {"vmlinuz": re.compile(r"\./boot/vmlinuz-[^/]*"), "busybox": re.compile(r"\./(usr/)?bin/busybox")}
+BALLOON = "virtio_ring", "virtio", "virtio_pci_legacy_dev", "virtio_pci_modern_dev", "virtio_pci", "virtio_balloon"  # each needs some before it
+OF_KERNEL = {"vmlinuz": re.compile(r"\./boot/vmlinuz-[^/]*"), **{f"{name}.ko": re.compile(rf"\./(usr/)?lib/modules/.*/{name}\.ko") for name in BALLOON}}
+OF_BUSYBOX = {"busybox": re.compile(r"\./(usr/)?bin/busybox")}
 
 
 def top():
-    return cache("linux")
+    return cache("debian")
 
 
 def require_tools():
@@ -65,19 +67,19 @@ def download(package, folder):
     return glob.glob(f"{glob.escape(folder)}/{package}_*.deb")[0]
 
 
-def take_out(package, name, folder):
-    """Extracts a file from a package."""
+def take_out(package, files, folder):
+    """Extracts files from a package: for each, its name in the folder, and what matches its path."""
     with opened(package) as archive:
         for member in archive:
-            if FILES[name].fullmatch(member.name) and member.isreg():
+            for name in (name for name, path in files.items() if path.fullmatch(member.name) and member.isreg()):
                 with naming(f"{folder}/{name}"), open(f"{folder}/{name}", "wb") as out:
                     shutil.copyfileobj(archive.extractfile(member), out)
-    if not os.path.exists(f"{folder}/{name}"):
-        raise Missing(f"{os.path.basename(package)} has no {name}")
+    if lacks := [name for name in files if not os.path.exists(f"{folder}/{name}")]:
+        raise Missing(f"{os.path.basename(package)} has no {lacks[0]}")
 
 
 def get(say):
-    """Returns where the kernel and busybox are. Downloads them if they are missing, both or none."""
+    """Returns where the kernel, modules of it and busybox are. Downloads them if they are missing, all or none."""
     folder = top()
     os.makedirs(os.path.dirname(folder), exist_ok=True)
     with open(f"{folder}.lock", "w", encoding="ascii") as lock:
@@ -89,12 +91,11 @@ def get(say):
         os.makedirs(f"{folder}.new")
         with tempfile.TemporaryDirectory() as room:
             os.chmod(room, 0o755)
-            names = {"vmlinuz": kernel_package(), "busybox": BUSYBOX}
-            for name, package in names.items():
+            for package, files in ((kernel_package(), OF_KERNEL), (BUSYBOX, OF_BUSYBOX)):
                 say(f"download: {package}")
                 file = download(package, room)
                 say(f"unpack: {os.path.basename(file)}, {os.path.getsize(file) >> 10} KiB")
-                take_out(file, name, f"{folder}.new")
+                take_out(file, files, f"{folder}.new")
                 write(f"{folder}.new/packages", f"{os.path.basename(file)}\n", "a")
         os.rename(f"{folder}.new", folder)
     return folder
@@ -119,10 +120,11 @@ def read(path):
         return file.read()
 
 
-def build_initramfs(busybox, path):
-    """Makes the initramfs from busybox, the workload and the first process."""
+def build_initramfs(busybox, path, modules=()):
+    """Makes the initramfs from busybox, the workload, the first process, and modules of the kernel in the order in which that process loads them."""
     program, folder = stat.S_IFREG | 0o755, (stat.S_IFDIR | 0o755, b"")
+    numbered = {f"module-{number}.ko": (program, read(f"{os.path.dirname(busybox)}/{name}.ko")) for number, name in enumerate(modules)}
     with naming(path), open(path, "wb") as out:
         out.write(initramfs({
             "bin": folder, "dev": folder, "bin/busybox": (program, read(busybox)), "bin/sh": (stat.S_IFLNK | 0o777, b"busybox"),
-            "init": (program, read(f"{HERE}/init")), "work": (program, read(build.build_work()))}))
+            "init": (program, read(f"{HERE}/init")), "work": (program, read(build.build_work())), **numbered}))

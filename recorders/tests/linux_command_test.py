@@ -246,16 +246,17 @@ def of_packages(tests, room):
     os.makedirs(f"{room}/bin")
     os.environ.update(PATH=f"{room}/bin:{os.environ['PATH']}", XDG_CACHE_HOME=f"{room}/cache")
     try:
-        deb(f"{room}/linux-image-9_1_amd64.deb", "./boot/config-9", "./boot/vmlinuz-9", "./boot/vmlinuz-9/x")
+        modules = {f"{name}.ko": f"./lib/modules/9/kernel/drivers/virtio/{name}.ko" for name in debian.BALLOON}
+        deb(f"{room}/linux-image-9_1_amd64.deb", "./boot/config-9", "./boot/vmlinuz-9", "./boot/vmlinuz-9/x", *modules.values(), "./lib/modules/9/kernel/other.ko")
         deb(f"{room}/busybox-static_1_amd64.deb", "./usr/share/doc/busybox", "./bin/busybox")
         program(f"{room}/bin/dpkg-deb", 'cat "$2"')
         program(f"{room}/bin/apt-cache", "echo 'Package: any'; echo 'Depends: linux-image-9 (= 1)'")
         program(f"{room}/bin/apt-get", "echo 'E: no network' >&2; exit 100")
         said = tests.refuses("where there is no network", Missing, lambda: debian.get(lambda line: None))
-        tests.wants("why, and nothing is left of it", ("no network" in said, os.path.exists(f"{room}/cache/postcopy/linux")), (True, False))
+        tests.wants("why, and nothing is left of it", ("no network" in said, os.path.exists(f"{room}/cache/postcopy/debian")), (True, False))
         program(f"{room}/bin/apt-get", f'echo "$*" >> {room}/asked', f'[ -e {room}/tried ] || {{ touch {room}/tried; exit 100; }}', f'cp {room}/"$3"_*.deb .')
         os.makedirs(f"{room}/full")
-        for name, act in (("vmlinuz", lambda path: debian.take_out(f"{room}/linux-image-9_1_amd64.deb", "vmlinuz", os.path.dirname(path))),
+        for name, act in (("vmlinuz", lambda path: debian.take_out(f"{room}/linux-image-9_1_amd64.deb", debian.OF_KERNEL, os.path.dirname(path))),
                           ("guest.bin", lambda path: build.rom_for(plan_of("live"), f"{room}/linux-image-9_1_amd64.deb", path))):
             os.symlink("/dev/full", f"{room}/full/{name}")
             said = tests.refuses(f"a full disk for {name}", OSError, lambda name=name, act=act: act(f"{room}/full/{name}"))
@@ -263,7 +264,7 @@ def of_packages(tests, room):
         told = []
         folder = debian.get(told.append)
         tests.wants("what is there", {name: read(f"{folder}/{name}") for name in os.listdir(folder)},
-                    {"vmlinuz": "./boot/vmlinuz-9", "busybox": "./bin/busybox", "packages": "linux-image-9_1_amd64.deb\nbusybox-static_1_amd64.deb\n"})
+                    {"vmlinuz": "./boot/vmlinuz-9", **modules, "busybox": "./bin/busybox", "packages": "linux-image-9_1_amd64.deb\nbusybox-static_1_amd64.deb\n"})
         tests.wants("what was told", [line.split(",")[0] for line in told], [
             "download: linux-image-9", "unpack: linux-image-9_1_amd64.deb", "download: busybox-static", "unpack: busybox-static_1_amd64.deb"])
         tests.wants("how often apt was asked", len(read(f"{room}/asked").splitlines()), 3)
