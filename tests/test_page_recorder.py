@@ -3,6 +3,8 @@
 Most cases are of a process, recorders/tests/guarded.c, that has blocks of memory and guards them as a target's QEMU does. The hash is
 computed here once more, by its definition. The migrations are left out where QEMU is not there and may not be installed.
 """
+import collections
+import json
 import os
 import re
 import shutil
@@ -78,14 +80,14 @@ class Sides:
         environment = {**os.environ, **page_target.prepare(self.target, key, is_tracking)}
         return subprocess.run([self.guarded, "target", str(LEFT), *words], env=environment, capture_output=True, text=True, timeout=60, **how)
 
-    def start_source(self):
-        process = subprocess.Popen([self.guarded, "source"], stdin=subprocess.PIPE, stdout=subprocess.PIPE, text=True)
+    def start_source(self, *words):
+        process = subprocess.Popen([self.guarded, "source", *words], stdin=subprocess.PIPE, stdout=subprocess.PIPE, text=True)
         process.stdout.readline()
         return process
 
-    def run_source(self, words=("end",), key=KEY, do=lambda process: None):
+    def run_source(self, words=("end",), key=KEY, do=lambda process: None, of=()):
         """Records the source, to which `do` happens before the words come. Returns what the observer told."""
-        told, process = self.told, self.start_source()
+        told, process = self.told, self.start_source(*of)
         try:
             observer = page_source.Observer(self.source, key, process.pid)
             do(process)
@@ -96,6 +98,21 @@ class Sides:
         return told
 
     def judged(self):
+    def run_stopped(self, do=lambda process: None):
+        """Records a process that has all pages as the target of a pre-copy. Returns what the observer told."""
+        process = self.start_source()
+        try:
+            do(process)
+            done = run("target", self.target, "--key", self.put_key(), "--pid", str(process.pid))
+        finally:
+            process.kill()
+            process.wait()
+        return done
+
+    def put_key(self):
+        page_target.write(f"{self.room}/key", KEY)
+        return f"{self.room}/key"
+
         return page_verdict.judged(self.target, self.source)
 
 
@@ -229,6 +246,27 @@ def test_fault_in_tracked(sides):
 
 
 # What goes wrong
+def test_precopy(sides):
+    """Pre-copy alone: the stopped target is hashed as the source is."""
+    sides.run_source()
+    done = sides.run_stopped()
+    same("told", (re.findall("^[a-z]+", done.stdout, re.MULTILINE), done.returncode), (["hashed", "recorded"], 0))
+    verdict = sides.judged()
+    same("verdict", (verdict.word, verdict.is_whole, verdict.told, verdict.pages), ("clean", True, [], PAGES))
+
+
+def test_precopy_with_a_fault(sides):
+    sides.run_source()
+    sides.run_stopped(lambda process: poke(process, 7))
+    same("told", sides.judged().told, ["page 7, block 0 + 0x7000: altered"])
+
+
+def test_precopy_to_a_target_that_runs():
+    with pytest.raises(page_source.Lost, match="not stopped"):
+        page_source.require_stopped(False)
+    page_source.require_stopped(True)
+
+
 
 def test_page_that_never_came(sides):
     """It is never read: it stays absent, and nobody waits. No answer is clean."""
@@ -275,6 +313,39 @@ def test_library_is_not_loaded(sides, capfd):
 
 
 def test_another_key(sides):
+def test_secure_execution(sides):
+    """A program with more rights than its user: the loader drops the path of the library, and says nothing."""
+    if os.geteuid() != 0 or os.statvfs("/var/tmp").f_flag & os.ST_NOSUID:
+        pytest.skip("no program can be given more rights than its user here")
+    with tempfile.TemporaryDirectory(dir="/var/tmp") as room:
+        os.chmod(room, 0o755)
+        shutil.copy(sides.guarded, f"{room}/guarded")
+        os.chmod(f"{room}/guarded", 0o4755)
+        folder = f"{room}/target"
+        done = subprocess.run([f"{room}/guarded", "target", "100"], env={**os.environ, **page_target.prepare(folder, KEY, False)}, user=65534, capture_output=True, text=True)
+        same("the process", (done.returncode, done.stderr), (0, ""))
+        same("waited for", run("wait", folder, "--seconds", "0.1").returncode, 1)
+        sides.run_source()
+        with pytest.raises(build.Missing, match="nothing was recorded at the target"):
+            page_verdict.judged(folder, sides.source)
+
+
+def test_block_that_is_added(sides):
+    """A block that comes once others are guarded: nothing is recorded, and the process goes on."""
+    done = sides.run_target("plug")
+    same("the process", (done.returncode, "a block was added" in done.stderr, "is not recorded" in done.stderr), (0, True, True))
+    sides.run_source()
+    with pytest.raises(build.Missing, match="nothing was recorded at the target"):
+        sides.judged()
+
+
+def test_process_of_another_guest(sides):
+    sides.run_target()
+    sides.run_source(of=["plug"])
+    with pytest.raises(build.Missing, match="different blocks of memory, of so many pages: target 600 40; source 600 40 8"):
+        sides.judged()
+
+
     sides.run_target()
     sides.run_source(key=page_target.new_key())
     with pytest.raises(build.Missing, match="(?s)recording"):
@@ -503,7 +574,7 @@ def migrated(qemu, room, program, *words):
 
 
 @pytest.mark.qemu
-@pytest.mark.parametrize("words", [[], ["--track"], ["--kvm"], ["--tls", "psk"], ["--tls", "x509", "--cut", "500"], ["--cut", "500", "--cut", "500"], ["--memory", "numa"], ["--huge"]], ids=" ".join)
+@pytest.mark.parametrize("words", [[], ["--track"], ["--kvm"], ["--tls", "psk"], ["--tls", "x509", "--cut", "500"], ["--cut", "500", "--cut", "500"], ["--memory", "numa"], ["--huge"], ["--precopy"]], ids=" ".join)
 def test_clean_migration(qemu, tmp_path, program, words):
     said, status = migrated(qemu, tmp_path, program, *words)
     same("said", (said[:2], status), (["source completed, target completed", "clean"], 0))

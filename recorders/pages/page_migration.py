@@ -7,12 +7,13 @@ from dataclasses import dataclass
 
 import build
 import debian
+import faults
 import folders
 import page_tls
 from kinds import Plan
 from linux_run import BOOTED, PANIC, WORDS
 from machine import memory
-from page_source import Lost, Monitor, Observer, words_of_qmp
+from page_source import STOPPED, Lost, Monitor, Observer, words_of_qmp
 from page_target import BLOCKS, new_key, prepare
 from plain import Forwarder, Running, wait_until, words_of_test_guest
 from relay import CutPlan, Relay, Window
@@ -25,6 +26,7 @@ ENDED = ("completed", "failed", "cancelled", "ended", "hangs")
 FAULTS = ("flip", "stale", "swap", "drop", "preflip", "keep-drop")
 PAUSED = "postcopy-paused"
 SIDES = ("target", "source")
+LONGEST_DOWNTIME = 10000  # milliseconds, for a pre-copy that is to come to its end
 
 
 @dataclass
@@ -36,6 +38,7 @@ class Settings(Plan):
     seconds: float = 1.0  # before the migration
     is_linux: bool = False
     is_tracking: bool = False
+    has_balloon: bool = False  # Linux reports free pages, and gives a quarter of its memory back in pre-copy
     tls: str = ""  # one of page_tls.KINDS, or nothing
     is_bare: bool = False  # neither observer is there, and nothing is recorded
     command: tuple = ()  # the words that start the QEMU of another guest
@@ -71,7 +74,7 @@ class Migration:
     def make_guest(self):
         if self.settings.is_linux:
             self.guest = debian.get(self.say)
-            debian.build_initramfs(f"{self.guest}/busybox", f"{self.folder}/initrd")
+            debian.build_initramfs(f"{self.guest}/busybox", f"{self.folder}/initrd", debian.BALLOON if self.settings.has_balloon else ())
         elif not self.settings.command:
             self.guest = f"{self.folder}/guest.bin"
             build.rom_for(self.settings, build.build()[0], self.guest)
@@ -82,7 +85,7 @@ class Migration:
         accelerator = "kvm" if settings.kvm else "tcg"
         if settings.is_linux:
             return [self.emulator.path, "-machine", f"pc,accel={accelerator}", *memory(settings), "-smp", "2", "-nodefaults",
-                    "-no-user-config", "-display", "none", "-device", "VGA", "-device", "virtio-balloon-pci", "-device", "virtio-rng-pci",
+                    "-no-user-config", "-display", "none", "-device", "VGA", "-device", f"virtio-balloon-pci,free-page-reporting={'on' if settings.has_balloon else 'off'}", "-device", "virtio-rng-pci",
                     "-serial", f"file:{told}", "-kernel", f"{self.guest}/vmlinuz", "-initrd", f"{self.folder}/initrd", "-append", f"{WORDS} {settings.workload}"]
         return settings.command or [*words_of_test_guest(self.emulator, self.guest, accelerator, told), *memory(settings)]
 
@@ -94,8 +97,8 @@ class Migration:
         settings = self.settings
         if settings.tls:
             page_tls.make(settings.tls, self.room.path)
-        self.start("target", "-incoming", "defer", *page_tls.words(settings.tls, self.room.path, "server"),
-                   **({} if settings.is_bare else prepare(f"{self.folder}/target", key, settings.is_tracking)))
+        self.start("target", "-incoming", "defer", *["-S"] * settings.is_precopy, *page_tls.words(settings.tls, self.room.path, "server"),
+                   **({} if settings.is_bare or settings.is_precopy else prepare(f"{self.folder}/target", key, settings.is_tracking)))
         self.start("source", "-qmp", f"unix:{self.room.name('watch')},server=on,wait=off", *page_tls.words(settings.tls, self.room.path, "client"))
         if settings.is_bare:
             return self.move()
@@ -110,7 +113,10 @@ class Migration:
         if faults:
             raise faults[0]
         if not os.path.exists(f"{self.folder}/target/{BLOCKS}"):
-            raise build.Missing(f"{outcome}: pre-copy came to its end before the switch, and there was no post-copy")
+        if settings.is_precopy and self.stands("target") == "completed":
+            Observer(f"{self.folder}/target", key, self.machines["target"].process.pid, STOPPED).watch((), self.say)
+            self.machines["target"]("cont")
+            raise build.Missing(f"{outcome}: " + ("nothing was recorded" if settings.is_precopy else "pre-copy came to its end before the switch, and there was no post-copy"))
         return outcome
 
     def begin_to_watch(self, key, faults):
@@ -125,7 +131,7 @@ class Migration:
     def move(self):
         settings, (source, target) = self.settings, (self.machines[side].qmp for side in ("source", "target"))
         for qmp, end in ((target, "server"), (source, "client")):
-            qmp("migrate-set-capabilities", capabilities=[{"capability": name, "state": True} for name in ("postcopy-ram", *settings.further)])
+            qmp("migrate-set-capabilities", capabilities=[{"capability": name, "state": True} for name in (*["postcopy-ram"] * (not settings.is_precopy), *settings.further)])
             if settings.tls:
                 qmp("migrate-set-parameters", **page_tls.parameters(settings.tls, end))
         source("migrate-set-parameters", **{"max-bandwidth": settings.bandwidth, "downtime-limit": 1})
@@ -134,13 +140,29 @@ class Migration:
         source("migrate", uri=f"unix:{self.way()}")
         wait_until(lambda: self.stands("source") not in ("none", "setup"))
         time.sleep(settings.pre)
+        if settings.has_balloon:
+            self.blow_up()
         source("migrate-start-postcopy")
+        if settings.is_precopy:
+            source("migrate-set-parameters", **{"max-bandwidth": 0, "downtime-limit": LONGEST_DOWNTIME})
+            return self.follow()
         if settings.tls and self.relay:
             self.relay.cut_after(settings.cuts[0] * PAGE)
         return self.follow()
 
     def warm_up(self):
         """Lets the guest run: the test guest until it has filled its pages, and Linux until it has booted."""
+    def blow_up(self):
+        """Asks the guest for a quarter of its memory, and waits until it gives some."""
+        def left():
+            return source("query-balloon")["actual"]
+
+        source, before = self.machines["source"].qmp, self.machines["source"]("query-balloon")["actual"]
+        source("balloon", value=before * 3 // 4)
+        if not wait_until(lambda: left() < before, seconds=SECONDS_FOR_LAST):
+            raise build.Missing("the guest's balloon does not move")
+        self.say(f"the guest has given {before - left() >> 10} KiB of its memory back")
+
         time.sleep(self.settings.seconds)
         if not self.settings.command and not wait_until(self.is_warm, pause=0.2, seconds=SECONDS):
             raise build.Missing("the guest does not come to its work")
@@ -149,6 +171,8 @@ class Migration:
         path = f"{self.folder}/source.console"
         if not self.settings.is_linux:
             return os.path.getsize(path) > self.settings.pages * BYTES_OF_ACCESS
+        if self.machines["source"].stands()[1] == "internal-error":
+            raise build.Missing("the guest has stopped by itself: this machine's KVM cannot run it")
         with open(path, encoding="utf-8", errors="replace") as console:
             told = console.read()
         if PANIC in told:

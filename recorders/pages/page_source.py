@@ -17,6 +17,7 @@ from roots import die_with_parent
 SECONDS_BETWEEN_QUESTIONS = 0.05
 SWITCHED = ("postcopy-active", "postcopy-paused", "postcopy-recover", "postcopy-recover-setup", "completed")
 NEVER = ("failed", "cancelled")
+STOPPED = "stopped"  # the observer's word for the target of a pre-copy
 NAMES = "names"  # the file of the names that QEMU has for its blocks
 
 
@@ -122,14 +123,23 @@ def process_of_domain(name):
         raise Lost(f"{path} names no process: is '{name}' a domain that runs here, of qemu:///system?") from None
 
 
-class Observer:
-    """Stands beside a process from here on. Raises Lost if it cannot."""
+def state_of_domain(name):
+    return subprocess.run(["virsh", "domstate", name], stdout=subprocess.PIPE, text=True).stdout.strip()
 
-    def __init__(self, folder, key, process):
+
+def require_stopped(is_stopped):
+    if not is_stopped:
+        raise Lost("the guest is not stopped there: migrate with --suspend, or start the target with -S, and let it go on afterwards")
+
+
+class Observer:
+    """Stands beside a process from here on; or records what it holds if it is the `stopped` target of a pre-copy. Raises Lost if it cannot."""
+
+    def __init__(self, folder, key, process, *how):
         program = build.build_observer("source")
         take_folder(folder)
         self.folder, self.watched = folder, process
-        self.process = subprocess.Popen([program, str(process), folder], stdin=subprocess.PIPE, stdout=subprocess.PIPE, stderr=subprocess.PIPE,
+        self.process = subprocess.Popen([program, str(process), folder, *how], stdin=subprocess.PIPE, stdout=subprocess.PIPE, stderr=subprocess.PIPE,
                                         text=True, preexec_fn=die_with_parent, env={**os.environ, KEY_VARIABLE: key})
         self.fault = None
         line = self.process.stdout.readline().split()

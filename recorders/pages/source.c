@@ -1,7 +1,8 @@
 /*
  * Stands beside the QEMU that a guest moves from: records the contents of its memory at the halt.
  *
- *     source PID FOLDER     the key is in POSTCOPY_PAGES_KEY
+ *     source PID FOLDER             the key is in POSTCOPY_PAGES_KEY
+ *     source PID FOLDER stopped     of the QEMU that a guest has moved to by pre-copy, and that is stopped: records what its memory holds
  *
  * It attaches to the process's main thread, so that a QEMU that ends, even by SIGKILL, keeps its memory until that is hashed. Nothing is
  * stopped before. Standard input has what the monitor tells, a word on each line:
@@ -169,20 +170,52 @@ static const struct look *compared(void)
 
 /* Records. */
 
-static postcopy_log *opened(const char *party)
+static postcopy_log *opened(const char *party, uint32_t first)
 {
-    postcopy_log *log = postcopy_log_open(folder, party, 0);
+    postcopy_log *log = postcopy_log_open(folder, party, first);
     if (!log)
         refuse(folder, errno);
     return log;
 }
 
-static void record(const struct look *look, int is_back)
+/* Refuses a look that was not made. Otherwise writes the blocks, and returns 0 or an errno. */
+static int begin_to_record(const struct look *look)
 {
     if (!look->hashes || look->error)
         refuse("its memory cannot be read", look->error == ENDED ? ESRCH : look->error);
-    int error = write_blocks(folder, &look->blocks);
-    postcopy_log *machine = opened("machine"), *guest = opened("guest"), *source = opened("source");
+    return write_blocks(folder, &look->blocks);
+}
+
+static void end_recording(int error)
+{
+    if (error)
+        refuse(folder, error);
+    tell("recorded");
+}
+
+/* What pre-copy has left: all pages are there before the guest goes on. */
+static void record_target(const struct look *look)
+{
+    int error = begin_to_record(look);
+    postcopy_log *pager = opened("pager", 0), *guest = opened("guest", RESUME);
+    postcopy_record_got_sent(pager, STATE);
+    uint32_t ready = postcopy_record_ready(pager), placed = 0;
+    for (uint64_t page = 0; page < look->blocks.pages; page++)
+        placed = postcopy_record_place(pager, (uint32_t)page, postcopy_record_got_sent(pager, SENDS + (uint32_t)page), &look->hashes[page], 1);
+    postcopy_record_all(pager);
+    postcopy_record_resume(guest, ready);
+    postcopy_record_see(guest, placed);
+    if (!error)
+        error = postcopy_log_error(pager) ? postcopy_log_error(pager) : postcopy_log_error(guest);
+    postcopy_log_close(pager);
+    postcopy_log_close(guest);
+    end_recording(error);
+}
+
+static void record(const struct look *look, int is_back)
+{
+    int error = begin_to_record(look);
+    postcopy_log *machine = opened("machine", 0), *guest = opened("guest", HALT), *source = opened("source", 0);
     postcopy_record_machine(machine, (uint32_t)look->blocks.pages, 1);
     for (uint64_t page = 0; page < look->blocks.pages; page++)
         if (look->hashes[page])
@@ -198,9 +231,7 @@ static void record(const struct look *look, int is_back)
     postcopy_log_close(machine);
     postcopy_log_hand_over(guest);
     postcopy_log_close(source);
-    if (error)
-        refuse(folder, error);
-    tell("recorded");
+    end_recording(error);
 }
 
 /* The monitor's words. */
@@ -309,12 +340,13 @@ static int watch(void)
 int main(int count, char **words)
 {
     char path[64], name[NAME_LENGTH + 1];
-    if (count != 3 || take_key())
+    if ((count != 3 && (count != 4 || strcmp(words[3], "stopped"))) || take_key())
         return 2;
     process = atoi(words[1]);
     folder = words[2];
     sprintf(path, "/proc/%d/mem", process);
     name_of_key(name);
+    int is_target = count == 4;
     signal(SIGPIPE, SIG_IGN);
     signal(SIGCHLD, note_child);
     sigset_t blocked;
@@ -330,10 +362,16 @@ int main(int count, char **words)
     int error = find_blocks(process, &blocks);
     if (error)
         refuse(error == ENOENT ? "it has no guest's memory: is it a QEMU?" : "its memory cannot be found", error == ENOENT ? 0 : error);
-    if (ptrace(PTRACE_SEIZE, process, 0, PTRACE_O_TRACEEXIT))
+    if (!is_target && ptrace(PTRACE_SEIZE, process, 0, PTRACE_O_TRACEEXIT))
         refuse("it cannot be attached to", errno);
     sprintf(path, "ready %u %lu", blocks.count, blocks.pages);
     tell(path);
+    if (is_target) {
+        begin_to_look(&at_end);
+        end_look();
+        record_target(&at_end);
+        return 0;
+    }
     int is_back = watch();
     let_go();
     record(is_back ? &at_halt : compared(), is_back);

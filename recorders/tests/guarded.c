@@ -1,7 +1,7 @@
 /*
  * A process with two blocks of memory like a QEMU's: 600 private pages, and 40 of a memory file. Its words say what it does.
  *
- *     guarded source        fills the pages, and waits for the end of standard input
+ *     guarded source ..     fills the pages, and waits for the end of standard input
  *     guarded target N ..   fills the first N pages of each block, at most 20 of the second, guards both by userfaultfd, puts the other pages in place, and takes the
  *                           guards away. Each further word is done once, with page P of all pages, the first block's first:
  *
@@ -10,6 +10,7 @@
  *         twice=P    it is put in place twice
  *         write=P    it is written to when all pages are there
  *         die=P      the process is killed before it
+ *         plug       a third block comes: at the source at the beginning, and at the target once the others are guarded
  *         show       the second block's pages are put into the file, and shown two by two by UFFDIO_CONTINUE
  *
  * A page whose number is 3 more than a multiple of 4 is zeros. The last line tells which pages are absent in the end.
@@ -78,6 +79,13 @@ static void put(char *at, long page)
     check(answer == 0 || page == number("twice="), "UFFDIO_COPY");
 }
 
+static struct uffdio_range plugged(void)
+{
+    char *block = mmap(NULL, 8 * PAGE, PROT_READ | PROT_WRITE, MAP_PRIVATE | MAP_ANONYMOUS, -1, 0);
+    check(block != MAP_FAILED && madvise(block, 8 * PAGE, MADV_DONTFORK) == 0, "mmap");
+    return (struct uffdio_range){(uintptr_t)block, 8 * PAGE};
+}
+
 static void migrate(long left)
 {
     struct uffdio_api api = {.api = UFFD_API, .features = is_shown ? UFFD_FEATURE_MINOR_SHMEM : 0};
@@ -88,6 +96,8 @@ static void migrate(long left)
         struct uffdio_register guard = {{(uintptr_t)memory[block], pages_of[block] * PAGE}, mode, 0};
         check(ioctl(uffd, UFFDIO_REGISTER, &guard) == 0, "UFFDIO_REGISTER");
     }
+    if (number("plug") >= 0)
+        check(ioctl(uffd, UFFDIO_REGISTER, &(struct uffdio_register){plugged(), UFFDIO_REGISTER_MODE_MISSING, 0}) == 0, "UFFDIO_REGISTER");
     for (long block = 0, page = 0; block < 2; block++)
         for (long at = 0; at < (long)pages_of[block]; at++, page++) {
             if (page == number("die="))
@@ -133,6 +143,8 @@ int main(int count, char **word)
             if (is_source || at < (block && left > 20 ? 20 : left))
                 fill(memory[block] + (uint64_t)at * PAGE, page);
     if (is_source) {
+        if (number("plug") >= 0)
+            plugged();
         puts("filled");
         fflush(stdout);
         while (getchar() != EOF) {
