@@ -22,6 +22,7 @@ sys.path[:0] = [f"{TOP}/recorders/pages", f"{TOP}/recorders/qemu", f"{TOP}/recor
 import axes
 import build
 import page_campaign
+import page_migration
 import page_source
 import page_target
 import page_tls
@@ -97,7 +98,6 @@ class Sides:
             process.wait()
         return told
 
-    def judged(self):
     def run_stopped(self, do=lambda process: None):
         """Records a process that has all pages as the target of a pre-copy. Returns what the observer told."""
         process = self.start_source()
@@ -113,6 +113,7 @@ class Sides:
         page_target.write(f"{self.room}/key", KEY)
         return f"{self.room}/key"
 
+    def judged(self):
         return page_verdict.judged(self.target, self.source)
 
 
@@ -245,7 +246,6 @@ def test_fault_in_tracked(sides):
     same("told", sides.judged().told, ["page 200, block 0 + 0xc8000: read"])
 
 
-# What goes wrong
 def test_precopy(sides):
     """Pre-copy alone: the stopped target is hashed as the source is."""
     sides.run_source()
@@ -267,6 +267,7 @@ def test_precopy_to_a_target_that_runs():
     page_source.require_stopped(True)
 
 
+# What goes wrong
 
 def test_page_that_never_came(sides):
     """It is never read: it stays absent, and nobody waits. No answer is clean."""
@@ -312,7 +313,6 @@ def test_library_is_not_loaded(sides, capfd):
     same("waited for", page_target.wait_for_process(sides.target, 0.1), None)
 
 
-def test_another_key(sides):
 def test_secure_execution(sides):
     """A program with more rights than its user: the loader drops the path of the library, and says nothing."""
     if os.geteuid() != 0 or os.statvfs("/var/tmp").f_flag & os.ST_NOSUID:
@@ -346,6 +346,7 @@ def test_process_of_another_guest(sides):
         sides.judged()
 
 
+def test_another_key(sides):
     sides.run_target()
     sides.run_source(key=page_target.new_key())
     with pytest.raises(build.Missing, match="(?s)recording"):
@@ -504,17 +505,49 @@ def test_command_with_xml():
                                                   "POSTCOPY_PAGES_TRACK": "1"}))
 
 
-def test_campaign():
+def test_campaign(tmp_path):
     """The migrations without a fault have each pair of values, a fault is put in where the relay can read, and the table counts what came of each."""
-    drawn = list(page_campaign.drawn(200, 1, page_campaign.AXES))
+    drawn = list(page_campaign.drawn(400, 1, page_campaign.AXES))
     without = [axes.pairs_of(row, page_campaign.AXES) for row, fault in drawn if not fault]
     same("pairs that are not there", axes.all_pairs(page_campaign.AXES).difference(*without), set())
-    same("faults", {fault: {row["way"] for row, its in drawn if its == fault} for fault in page_campaign.FAULTS}, dict.fromkeys(page_campaign.FAULTS, {"plain", "preempt"}))
+    same("faults", collections.Counter(fault for _, fault in drawn), {"": 200, **dict.fromkeys(page_migration.FAULTS, 200 // len(page_migration.FAULTS))})
+    with_fault = {fault: [row for row, its in drawn if its == fault] for fault in page_migration.FAULTS}
+    same("ways", {fault: {row["way"] for row in rows} for fault, rows in with_fault.items()}, {**dict.fromkeys(page_migration.FAULTS, {"plain", "preempt"}), "forget": {"cut"}})
+    same("TLS", {row["TLS"] for rows in with_fault.values() for row in rows}, {"none"})
     row = {axis: values[0] for axis, values in page_campaign.AXES.items()}
-    table = page_campaign.table([(row, "", page_campaign.CLEAN), (row, "", "faulty, 1 pages, 0 put in; completed"), (row, "flip", page_campaign.TOLD),
-                                 (row, "flip", "clean, 0 pages, 1 put in; completed"), (row, "flip", page_campaign.NOT_PUT_IN)])
-    same("table", [line for line in table.splitlines() if "TCG" in line or "flip" in line],
-         ["| guest test, TCG | 1 of 2 clean |", "| flip | 1 of 2 told by its pages, and no other |"])
+    words = [("", page_campaign.CLEAN), ("", "faulty, 1 pages, 0 put in; completed"), ("", page_campaign.FAILED), ("flip", page_campaign.TOLD), ("flip", "clean, 0 pages, 1 put in; completed"),
+             ("flip", page_campaign.NOT_PUT_IN), ("twice", page_campaign.FAILED)]
+    folder = f"{tmp_path}/{page_campaign.RESULTS}"
+    for fault, word in words:
+        page_campaign.write(folder, json.dumps(page_campaign.Result(row, fault, word, "QEMU 7.2.22", 3.4)._asdict()) + "\n", "a")
+    table = page_campaign.table(page_campaign.results_of(tmp_path)).splitlines()
+    same("conditions", table[0], "7 migrations of QEMU 7.2.22, at a load of 3 to 3:")
+    same("table", [line for line in table if re.match(r"\| (all|guest|flip|twice)", line)], [
+        *(f"| {part} | 1 of 3 clean, 1 not clean, and QEMU says so itself |" for part in ("all", "guest test, TCG")), "| flip: a bit of a page's first word is flipped | 1 of 2 told by its pages, and no other |",
+        "| twice: a page comes twice | 1 of 1 not clean, and QEMU says so itself |"])
+
+
+def test_pages_of_a_fault(tmp_path):
+    """The pages that the relay has put a fault in, but for those that it has handed on again since."""
+    migration = page_migration.Migration(page_migration.Settings(fault="keep-drop"), tmp_path, None, None)
+    page_target.write(f"{tmp_path}/relay.pages", "".join(contents * 4096 for contents in "abcdeeb"))
+    page_target.write(f"{tmp_path}/relay.log", """open 0 main new
+down 0 page pre pc.ram 4096 0 0
+fault preflip 1
+down 0 page pre pc.ram 4096 1 2
+fault preflip 2
+down 0 page pre pc.ram 8192 3 4
+down 0 state 100
+down 0 page post front 4096 5 5
+down 0 page post pc.ram 8192 5 5
+fault keep-drop 3 4 5
+lost 0 page post pc.ram 12288 6 -
+down 0 page pre pc.ram 16384 1 1
+lost 0 page post pc.ram 16384 6 -
+down 0 page pre pc.ram 20480 1 0
+lost 0 page post pc.ram 20480 6 -
+""")
+    same("pages", migration.put_in(), [1, 3, 5])
 
 
 @pytest.mark.parametrize("words, status, says", [
@@ -522,6 +555,10 @@ def test_campaign():
     (["target", "{}/t", "--key", "/dev/null"], 3, "has no key"),
     (["target", "{}/a b", "--key", "{}/key"], 3, "a space or a colon"),
     (["target", "{}/t", "--key", "{}/key", "--xml", "--", "qemu"], 2, "without --xml"),
+    (["target", "{}/t", "--key", "{}/key", "--xml", "--pid", "1"], 2, "a target that is there already"),
+    (["target", "{}/t", "--key", "{}/key", "--domain", "none"], 1, "is not stopped"),
+    (["migrate", "{}/m", "--precopy", "--track"], 2, "--precopy goes without"),
+    (["migrate", "{}/m", "--balloon"], 2, "--balloon goes with --linux"),
     (["source", "{}/s", "--key", "{}/key"], 2, "one of the arguments"),
     (["source", "{}/s", "--key", "{}/key", "--qmp", "{}/none"], 3, "No such file"),
     (["source", "{}/s", "--key", "{}/key", "--domain", "none"], 1, "names no process"),

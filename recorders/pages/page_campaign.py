@@ -1,40 +1,57 @@
 """Many migrations on this machine, recorded by page contents: with guests, memories and ways in rows that have each pair of them, and every second
-one with a fault."""
+one with a fault. What came of each is kept in a file, so that several campaigns of one folder have one table."""
 import collections
+import concurrent.futures
+import json
 import os
 import random
-import re
 import shutil
 import time
 
 import axes
 import build
+import faults
 import page_tls
 import page_verdict
 from dialect import PC_RAM
+from files import lines_of, write
 from kinds import MEMORIES
-from page_migration import PAGE, Migration, Settings
+from page_migration import FAULTS, PAGE, Migration, Settings
 from page_source import Lost
 from results import markdown
 
+BALLOON = "Linux with a balloon, TCG"
 # The values of each axis, by its name. The first is what any QEMU has.
 AXES = {
-    "guest": ("test, TCG", "test, KVM", "Linux, TCG"),
-    "memory": tuple(MEMORIES),
+    "guest": ("test, TCG", "test, KVM", "Linux, TCG", BALLOON),
+    "memory": tuple(memory for memory in MEMORIES if memory != "virtio-mem"),  # whose pages come only where the guest has plugged them
     "pages": ("4 KiB", "2 MiB"),
     "way": ("plain", "preempt", "cut"),
     "TLS": ("none", *page_tls.KINDS),
     "writes": ("not tracked", "tracked"),
 }
-FAULTS = ("flip", "stale", "swap", "drop")  # in turn, over ways that the relay can read and that do not heal them
-CLEAN, TOLD, NOT_PUT_IN = "clean", "told by its pages", "not put in"
+RESULTS = "results"  # the file of a folder, with a line for each migration
+CLEAN, TOLD, FAILED, NOT_PUT_IN = "clean", "told by its pages", "not clean, and QEMU says so itself", "not put in"
+SLOWLY = 20000  # that pages which pre-copy has sent are not all written to again
+SILENT = "source completed, target completed"  # as QEMU has it
+
+Result = collections.namedtuple("Result", "row fault word version load")  # of one migration
 
 
 def settings_of(row, fault=""):
-    is_linux = "Linux" in row["guest"]
+    is_linux, has_balloon = "Linux" in row["guest"], row["guest"] == BALLOON
     return Settings(ram=160 if is_linux else 64, memory=row["memory"], huge=row["pages"] == "2 MiB", kvm="KVM" in row["guest"], is_linux=is_linux, workload="work=200:100",
-                    further=["postcopy-preempt"] if row["way"] == "preempt" else [], tls=row["TLS"] if row["TLS"] in page_tls.KINDS else "", cuts=[600] if row["way"] == "cut" else [],
-                    is_tracking=row["writes"] == "tracked", fault=fault)
+                    has_balloon=has_balloon, pre=2.5 if has_balloon else 0.5,
+                    further=["postcopy-preempt"] if row["way"] == "preempt" else [], tls=row["TLS"] if row["TLS"] in page_tls.KINDS else "", cuts=[640] if row["way"] == "cut" else [],
+                    is_tracking=row["writes"] == "tracked", fault=fault, pace=SLOWLY if fault == "preflip" else 0)
+
+
+def fit_for(row, fault):
+    """Returns a row as a fault needs it: a way that the relay can read and that does not heal it, and pages that can be lost or kept one by one."""
+    if not fault:
+        return row
+    way = "cut" if fault in faults.NEED_CUT else "plain" if row["way"] == "cut" else row["way"]
+    return {**row, "TLS": "none", "way": way, "pages": row["pages"] if fault in ("flip", "flip-end", "stale", "swap") else "4 KiB"}
 
 
 def drawn(count, seed, values):
@@ -42,9 +59,8 @@ def drawn(count, seed, values):
     random_one, left = random.Random(seed), []
     for number in range(count):
         left = left or axes.rows(random_one, values)
-        row = left.pop()
         fault = FAULTS[number // 2 % len(FAULTS)] if number % 2 else ""
-        yield ({**row, "TLS": "none", "way": "plain" if row["way"] == "cut" else row["way"]} if fault else row), fault
+        yield fit_for(left.pop(), fault), fault
 
 
 def made(row, fault, folder, emulator):
@@ -56,40 +72,67 @@ def made(row, fault, folder, emulator):
     except (Lost, build.Missing) as why:
         return f"not recorded: {why}"
     put_in = migration.put_in() if fault else []
-    places = [match[1] for line in verdict.told if (match := re.match(r"page \d+, (.*):", line))]
-    if put_in and not verdict.is_clean and sorted(places) == sorted(f"{PC_RAM} + {page * PAGE:#x}" for page in put_in):
+    if put_in and not verdict.is_clean and sorted(verdict.places) == sorted(f"{PC_RAM} + {page * PAGE:#x}" for page in put_in):
         return TOLD
+    if not verdict.is_clean and outcome != SILENT and (not fault or put_in and fault in faults.FOUND_BY_QEMU):
+        return FAILED
     if verdict.is_clean and not put_in:
         return NOT_PUT_IN if fault else CLEAN
-    return f"{verdict.word}, {len(places)} pages, {len(put_in)} put in; {outcome}"
+    return f"{verdict.word}, {len(verdict.places)} pages, {len(put_in)} put in; {outcome}"
+
+
+def in_words(count):
+    failed = f", {count[FAILED]} {FAILED}" if count[FAILED] else ""
+    return f"{count[CLEAN]} of {count.total()} clean{failed}"
 
 
 def table(found):
-    """Returns the table of how many were clean of those without a fault, by each value of each axis, and how many faults were told."""
+    """Returns the table of how many were clean of those without a fault, in all and by each value of each axis, and how many faults were told."""
     clean, told = collections.defaultdict(collections.Counter), collections.defaultdict(collections.Counter)
-    for row, fault, word in found:
-        for part in row.items() if not fault else ():
-            clean[part][word == CLEAN] += 1
-        if fault and word != NOT_PUT_IN:
-            told[fault][word == TOLD] += 1
-    lines = [[axes.in_words([part]), f"{clean[part][True]} of {clean[part].total()} clean"] for axis, values in AXES.items() for part in ((axis, value) for value in values) if part in clean]
-    return markdown([["Migrations", ""], *lines, *([fault, f"{count[True]} of {count.total()} told by its pages, and no other"] for fault, count in told.items())])
+    for one in found:
+        for part in [("all", ""), *one.row.items()] if not one.fault else ():
+            clean[part][one.word if one.word in (CLEAN, FAILED) else "other"] += 1
+        if one.fault and one.word != NOT_PUT_IN:
+            told[one.fault][one.word] += 1
+    values = [(axis, value) for axis, of_axis in [("all", ("",)), *AXES.items()] for value in of_axis]
+    lines = [[axes.in_words([part]).strip(), in_words(clean[part])] for part in values if part in clean]
+    for fault in (fault for fault in FAULTS if fault in told):
+        word = FAILED if told[fault][FAILED] > told[fault][TOLD] else TOLD
+        lines.append([f"{fault}: {faults.KINDS[fault].split(':')[0]}", f"{told[fault][word]} of {told[fault].total()} {word}{', and no other' if word == TOLD else ''}"])
+    loads = sorted(one.load for one in found)
+    told_first = f"{len(found)} migrations of {' and '.join(sorted({one.version for one in found}))}, at a load of {loads[0]:.0f} to {loads[-1]:.0f}:"
+    return f"{told_first}\n\n{markdown([['Migrations', ''], *lines])}"
 
 
-def run(count, seed, minutes, folder, emulator, say):
-    """Makes so many migrations, as long as there are minutes left. Returns (row, fault, what came of it) of each. Folders with something to look at
-    are kept."""
-    found, until = [], time.monotonic() + 60 * minutes
-    values, refused = axes.possible(lambda row: emulator.require(settings_of(row), build.build()[1]), AXES)
+def results_of(folder):
+    """Returns the Result of each migration that the campaigns of a folder have made."""
+    return lines_of(f"{folder}/{RESULTS}", lambda line: Result(**json.loads(line)), "result of a campaign")
+
+
+def run(count, seed, minutes, jobs, guests, folder, emulator, say):
+    """Makes so many migrations, as long as there are minutes left, several at once. Returns how many were made, and whether each was as it should be.
+    Folders with something to look at are kept."""
+    until = time.monotonic() + 60 * minutes
+    values, refused = axes.possible(lambda row: emulator.require(settings_of(row), build.build()[1]), {**AXES, "guest": tuple(guests)})
     for part, why in refused.items():
         say(f"left out, {axes.in_words([part])}: {why}")
     os.makedirs(folder, exist_ok=True)
-    for number, (row, fault) in enumerate(drawn(count, seed, values)):
+
+    def make(one):
+        number, (row, fault) = one
         if time.monotonic() > until:
-            break
-        place = f"{folder}/{number:03}"
-        found.append((row, fault, made(row, fault, place, emulator)))
-        say(f"{number:03} {axes.in_words(row.items())}{f', {fault}' if fault else ''}: {found[-1][2]}")
-        if found[-1][2] in (CLEAN, TOLD, NOT_PUT_IN):
+            return None
+        place = f"{folder}/{seed}-{number:03}"
+        word = made(row, fault, place, emulator)
+        write(f"{folder}/{RESULTS}", json.dumps(Result(row, fault, word, str(emulator), os.getloadavg()[0])._asdict()) + "\n", "a")
+        if is_well := word in (CLEAN, TOLD, FAILED, NOT_PUT_IN):
             shutil.rmtree(place)
-    return found
+        say(f"{number:03} {axes.in_words(row.items())}{f', {fault}' if fault else ''}: {word}")
+        return is_well
+
+    pool = concurrent.futures.ThreadPoolExecutor(jobs)  # whose threads stay, as the processes end with those that started them
+    try:
+        found = [is_well for is_well in pool.map(make, enumerate(drawn(count, seed, values))) if is_well is not None]
+    finally:
+        pool.shutdown(cancel_futures=True)  # where somebody ends it
+    return len(found), all(found)

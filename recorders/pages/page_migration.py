@@ -10,6 +10,7 @@ import debian
 import faults
 import folders
 import page_tls
+from dialect import PC_RAM
 from kinds import Plan
 from linux_run import BOOTED, PANIC, WORDS
 from machine import memory
@@ -23,10 +24,10 @@ SECONDS = 300  # for each part
 SECONDS_FOR_LAST = 20  # once nothing moves: a target that lacks pages may wait for ever
 BYTES_OF_ACCESS = 20  # that the test guest tells, and more
 ENDED = ("completed", "failed", "cancelled", "ended", "hangs")
-FAULTS = ("flip", "stale", "swap", "drop", "preflip", "keep-drop")
+FAULTS = [kind for kind in faults.KINDS if kind != "early"]  # which is of another recorder's library
 PAUSED = "postcopy-paused"
-SIDES = ("target", "source")
 LONGEST_DOWNTIME = 10000  # milliseconds, for a pre-copy that is to come to its end
+SIDES = ("target", "source")
 
 
 @dataclass
@@ -37,8 +38,8 @@ class Settings(Plan):
     bandwidth: int = 2 << 20
     seconds: float = 1.0  # before the migration
     is_linux: bool = False
-    is_tracking: bool = False
     has_balloon: bool = False  # Linux reports free pages, and gives a quarter of its memory back in pre-copy
+    is_tracking: bool = False
     tls: str = ""  # one of page_tls.KINDS, or nothing
     is_bare: bool = False  # neither observer is there, and nothing is recorded
     command: tuple = ()  # the words that start the QEMU of another guest
@@ -112,10 +113,10 @@ class Migration:
             watching.join()
         if faults:
             raise faults[0]
-        if not os.path.exists(f"{self.folder}/target/{BLOCKS}"):
         if settings.is_precopy and self.stands("target") == "completed":
             Observer(f"{self.folder}/target", key, self.machines["target"].process.pid, STOPPED).watch((), self.say)
             self.machines["target"]("cont")
+        if not os.path.exists(f"{self.folder}/target/{BLOCKS}"):
             raise build.Missing(f"{outcome}: " + ("nothing was recorded" if settings.is_precopy else "pre-copy came to its end before the switch, and there was no post-copy"))
         return outcome
 
@@ -139,19 +140,18 @@ class Migration:
         self.warm_up()
         source("migrate", uri=f"unix:{self.way()}")
         wait_until(lambda: self.stands("source") not in ("none", "setup"))
-        time.sleep(settings.pre)
         if settings.has_balloon:
             self.blow_up()
-        source("migrate-start-postcopy")
+        time.sleep(settings.pre)
         if settings.is_precopy:
             source("migrate-set-parameters", **{"max-bandwidth": 0, "downtime-limit": LONGEST_DOWNTIME})
             return self.follow()
+        source("migrate-start-postcopy")
         if settings.tls and self.relay:
+            wait_until(lambda: self.stands("source") != "active", pause=0.001)  # a page of 2 MiB may be on its way
             self.relay.cut_after(settings.cuts[0] * PAGE)
         return self.follow()
 
-    def warm_up(self):
-        """Lets the guest run: the test guest until it has filled its pages, and Linux until it has booted."""
     def blow_up(self):
         """Asks the guest for a quarter of its memory, and waits until it gives some."""
         def left():
@@ -163,16 +163,18 @@ class Migration:
             raise build.Missing("the guest's balloon does not move")
         self.say(f"the guest has given {before - left() >> 10} KiB of its memory back")
 
+    def warm_up(self):
+        """Lets the guest run: the test guest until it has filled its pages, and Linux until it has booted."""
         time.sleep(self.settings.seconds)
         if not self.settings.command and not wait_until(self.is_warm, pause=0.2, seconds=SECONDS):
             raise build.Missing("the guest does not come to its work")
 
     def is_warm(self):
         path = f"{self.folder}/source.console"
-        if not self.settings.is_linux:
-            return os.path.getsize(path) > self.settings.pages * BYTES_OF_ACCESS
         if self.machines["source"].stands()[1] == "internal-error":
             raise build.Missing("the guest has stopped by itself: this machine's KVM cannot run it")
+        if not self.settings.is_linux:
+            return os.path.getsize(path) > self.settings.pages * BYTES_OF_ACCESS
         with open(path, encoding="utf-8", errors="replace") as console:
             told = console.read()
         if PANIC in told:
@@ -224,9 +226,21 @@ class Migration:
         return path
 
     def put_in(self):
-        """Returns the pages of the fault that the relay has put in."""
-        with open(f"{self.folder}/relay.log", encoding="ascii") as log:
-            return [int(page) for line in log if line.startswith("fault ") for page in line.split()[2:]]
+        """Returns the pages of the fault that the relay has put in and that are wrong since: it has not handed them on again, and the contents that
+        were lost are not those that were kept."""
+        found, given = {}, {}  # how often each was handed on since; and by page, where its contents are that were handed on last
+        with open(f"{self.folder}/relay.log", encoding="ascii") as log, open(f"{self.folder}/relay.pages", "rb") as contents:
+            for line in map(str.split, log):
+                if line[0] == "fault":
+                    found.update(dict.fromkeys(map(int, line[2:]), 0))
+                elif line[2:3] == ["page"] and line[4] == PC_RAM:
+                    page = int(line[5]) // PAGE
+                    if line[0] == "down":
+                        given[page] = line[7]
+                        found.update({page: found[page] + 1} if page in found else {})
+                    elif line[0] == "lost" and self.settings.fault == "keep-drop" and contents_at(contents, line[6]) == contents_at(contents, given.get(page)):
+                        found.pop(page, None)
+        return [page for page, count in found.items() if count < 2]
 
     def stands(self, side):
         return self.machines[side].stands()[0]
@@ -251,6 +265,14 @@ class Migration:
     def left(self):
         ram = {} if self.is_over() else self.machines["source"].qmp("query-migrate").get("ram", {})
         return f", {ram['remaining'] >> 20} of {ram['total'] >> 20} MiB are left" if ram else ""
+
+
+def contents_at(file, place):
+    """Returns the contents of a page that the relay has kept at a place of its file, or the place if that is none."""
+    if not place or not place.isdigit():
+        return place
+    file.seek(int(place) * PAGE)
+    return file.read(PAGE)
 
 
 def watch(observer, words, say, faults):

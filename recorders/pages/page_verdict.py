@@ -61,10 +61,11 @@ def ask(*words):
 
 @dataclass
 class Verdict:
-    """What was found: the program's verdict, the pages that it tells of, and whether both recordings were whole."""
+    """What was found: the program's verdict, what it tells, whether both recordings were whole, and the places of the pages that it tells of."""
     word: str
     told: list
     is_whole: bool
+    places: tuple = ()
     pages: int = 0
     unwritten: int = -1  # -1: writes were not tracked
 
@@ -102,17 +103,17 @@ def verdict_of(session, blocks, is_whole, said):
     if status not in (0, 1):
         raise build.Missing(error.strip())
     found = json.loads(answer)
-    word, told = found["verdict"], list(said)
+    word, wrong = found["verdict"], [(page["page"], page["reason"]) for page in found.get("pages", [])]
     if word != "faulty":
         answer, _, _ = ask("audit", "--complete-pages", "--quiet", session)
         word = answer.strip()
         if word.startswith("incomplete page"):
-            told.append(f"page {word.split()[-1]}, {place_of(int(word.split()[-1]), blocks)}: it never came")
-    for page in found.get("pages", [])[:MOST_TOLD]:
-        told.append(f"page {page['page']}, {place_of(page['page'], blocks)}: {page['reason']}")
-    if (more := len(found.get("pages", [])) - MOST_TOLD) > 0:
-        told.append(f"and {more} more pages")
-    return Verdict(word, told, is_whole, sum(block.pages for block in blocks), unwritten_in(session))
+            wrong.insert(0, (int(word.split()[-1]), "it never came"))
+    places = [place_of(page, blocks) for page, _ in wrong]
+    told = [*said, *(f"page {page}, {place}: {reason}" for (page, reason), place in zip(wrong[:MOST_TOLD], places))]
+    if len(wrong) > MOST_TOLD:
+        told.append(f"and {len(wrong) - MOST_TOLD} more pages")
+    return Verdict(word, told, is_whole, tuple(places), sum(block.pages for block in blocks), unwritten_in(session))
 
 
 def unwritten_in(session):
