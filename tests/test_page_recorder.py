@@ -516,12 +516,12 @@ def test_campaign(tmp_path):
     same("TLS", {row["TLS"] for rows in with_fault.values() for row in rows}, {"none"})
     row = {axis: values[0] for axis, values in page_campaign.AXES.items()}
     words = [("", page_campaign.CLEAN), ("", "faulty, 1 pages, 0 put in; completed"), ("", page_campaign.FAILED), ("flip", page_campaign.TOLD), ("flip", "clean, 0 pages, 1 put in; completed"),
-             ("flip", page_campaign.NOT_PUT_IN), ("twice", page_campaign.FAILED)]
+             ("flip", page_campaign.NOT_PUT_IN), ("flip", f"{page_campaign.NOT_RECORDED}: why"), ("twice", page_campaign.FAILED)]
     folder = f"{tmp_path}/{page_campaign.RESULTS}"
     for fault, word in words:
         page_campaign.write(folder, json.dumps(page_campaign.Result(row, fault, word, "QEMU 7.2.22", 3.4)._asdict()) + "\n", "a")
     table = page_campaign.table(page_campaign.results_of(tmp_path)).splitlines()
-    same("conditions", table[0], "7 migrations of QEMU 7.2.22, at a load of 3 to 3:")
+    same("conditions", table[0], "8 migrations of QEMU 7.2.22, at a load of 3 to 3; 1 were not recorded:")
     same("table", [line for line in table if re.match(r"\| (all|guest|flip|twice)", line)], [
         *(f"| {part} | 1 of 3 clean, 1 not clean, and QEMU says so itself |" for part in ("all", "guest test, TCG")), "| flip: a bit of a page's first word is flipped | 1 of 2 told by its pages, and no other |",
         "| twice: a page comes twice | 1 of 1 not clean, and QEMU says so itself |"])

@@ -31,7 +31,7 @@ AXES = {
     "writes": ("not tracked", "tracked"),
 }
 RESULTS = "results"  # the file of a folder, with a line for each migration
-CLEAN, TOLD, FAILED, NOT_PUT_IN = "clean", "told by its pages", "not clean, and QEMU says so itself", "not put in"
+CLEAN, TOLD, FAILED, NOT_PUT_IN, NOT_RECORDED = "clean", "told by its pages, and no other", "not clean, and QEMU says so itself", "not put in", "not recorded"
 SLOWLY = 20000  # that pages which pre-copy has sent are not all written to again
 SILENT = "source completed, target completed"  # as QEMU has it
 
@@ -70,7 +70,7 @@ def made(row, fault, folder, emulator):
         outcome = migration.run()
         verdict = page_verdict.judged(f"{folder}/target", f"{folder}/source")
     except (Lost, build.Missing) as why:
-        return f"not recorded: {why}"
+        return f"{NOT_RECORDED}: {why}"
     put_in = migration.put_in() if fault else []
     if put_in and not verdict.is_clean and sorted(verdict.places) == sorted(f"{PC_RAM} + {page * PAGE:#x}" for page in put_in):
         return TOLD
@@ -87,9 +87,11 @@ def in_words(count):
 
 
 def table(found):
-    """Returns the table of how many were clean of those without a fault, in all and by each value of each axis, and how many faults were told."""
+    """Returns the table of how many were clean of those without a fault, in all and by each value of each axis, and how many faults were told, of
+    those that were recorded."""
+    recorded = [one for one in found if not one.word.startswith(NOT_RECORDED)]
     clean, told = collections.defaultdict(collections.Counter), collections.defaultdict(collections.Counter)
-    for one in found:
+    for one in recorded:
         for part in [("all", ""), *one.row.items()] if not one.fault else ():
             clean[part][one.word if one.word in (CLEAN, FAILED) else "other"] += 1
         if one.fault and one.word != NOT_PUT_IN:
@@ -97,10 +99,11 @@ def table(found):
     values = [(axis, value) for axis, of_axis in [("all", ("",)), *AXES.items()] for value in of_axis]
     lines = [[axes.in_words([part]).strip(), in_words(clean[part])] for part in values if part in clean]
     for fault in (fault for fault in FAULTS if fault in told):
-        word = FAILED if told[fault][FAILED] > told[fault][TOLD] else TOLD
-        lines.append([f"{fault}: {faults.KINDS[fault].split(':')[0]}", f"{told[fault][word]} of {told[fault].total()} {word}{', and no other' if word == TOLD else ''}"])
+        parts = [f"{told[fault][word]} of {told[fault].total()} {word}" for word in (TOLD, FAILED) if told[fault][word] or word == TOLD and not told[fault][FAILED]]
+        lines.append([f"{fault}: {faults.KINDS[fault].split(':')[0]}", "; ".join(parts)])
     loads = sorted(one.load for one in found)
-    told_first = f"{len(found)} migrations of {' and '.join(sorted({one.version for one in found}))}, at a load of {loads[0]:.0f} to {loads[-1]:.0f}:"
+    told_first = (f"{len(found)} migrations of {' and '.join(sorted({one.version for one in found}))}, at a load of {loads[0]:.0f} to {loads[-1]:.0f}; "
+                  f"{len(found) - len(recorded)} were not recorded:")
     return f"{told_first}\n\n{markdown([['Migrations', ''], *lines])}"
 
 
