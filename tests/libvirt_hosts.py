@@ -14,7 +14,7 @@ import build  # noqa: E402
 import debian  # noqa: E402
 from kinds import Plan  # noqa: E402
 from linux_run import BOOTED, WORDS  # noqa: E402
-from relay import Relay, Window  # noqa: E402
+from relay import CutPlan, Relay, Window  # noqa: E402
 
 PACKAGES = {
     "libvirtd": "libvirt-daemon-system", "virsh": "libvirt-clients", "virtlogd": "libvirt-daemon-system", "qemu-system-x86_64": "qemu-system-x86", "gcc": "gcc,libc6-dev", "ld": "binutils",
@@ -73,10 +73,12 @@ def lines_of_page():
     with open(f"{TOP}/docs/GUESTS.md", encoding="utf-8") as file:
         section = file.read().split("\n## Two hosts, with libvirt\n")[1].split("\n## ")[0]
     found = [text.strip() for text in re.findall(r"^ *```(?:sh|console)\n *(?:\$ )?(.*?)^ *```$", section, re.M | re.S)]
+    *found, precopy = found
     names = "key", "xml", "source", "migrate", "audit"
-    if len(found) != len(names):
-        sys.exit(f"{hosts.NAME}: docs/GUESTS.md has {len(found)} blocks of lines for libvirt, and not {len(names)}")
-    return dict(zip(names, found))
+    of_precopy = "suspend", "stopped", "resume"
+    if len(found) != len(names) or len(precopy.splitlines()) != len(of_precopy):
+        sys.exit(f"{hosts.NAME}: docs/GUESTS.md has other lines for libvirt than {', '.join(names + of_precopy)}")
+    return dict(zip(names + of_precopy, [*found, *precopy.splitlines()]))
 
 
 def make_store(room):
@@ -133,30 +135,42 @@ class Migrations(Trials):
             wait_until("a guest that has booted", lambda: BOOTED in text_of(console), 300)
         time.sleep(2)
 
-    def migrate(self, name, *words, here="a", there="b", fault=""):
-        """Records a migration by the page's lines, with these words of `virsh migrate`, and has it judged. Returns the status of virsh, that of
-        the audit, and what the audit says."""
+    def migrate(self, name, *words, here="a", there="b", fault="", cut=0, is_lost=False, is_precopy=False):
+        """Records a migration by the page's lines, with these words of `virsh migrate`, and has it judged. It may be cut after so many pages of
+        post-copy, or the target's host may lose its network for a while, and then it is resumed. Returns the status of virsh, that of the audit,
+        and what the audit says."""
         began, source, target = time.monotonic(), self.hosts[here], self.hosts[there]
         at = f"{self.room}/{name}"
         os.mkdir(at)
+        words += self.way(name, target, fault, cut)
         os.symlink(f"{TOP}/recorders", f"{at}/recorders")
 
-        def line(host, of, **how):
+        def line(host, of, *further):
             text = self.lines[of].replace("ssh://SOURCE", f"tcp://{here}").replace("ssh://TARGET", f"tcp://{there}").replace("/var/tmp/", f"{at}/")
-            text = text.replace("--postcopy-after-precopy", " ".join(words + self.way(name, target, fault)) if of == "migrate" else "")
-            said = open(f"{at}/{of}.said", "w", encoding="ascii")
+            text = text.replace("--postcopy-after-precopy", " ".join(words + further))
+            said = open(f"{at}/{of}{''.join(further)}.said", "w", encoding="ascii")
             return subprocess.Popen([*host.inside(), "bash", "-c", f"cd {at}; {text}"], stdin=subprocess.DEVNULL, stdout=said, stderr=said)
 
         line(source, "key").wait()
-        line(target, "xml").wait()
+        if not is_precopy:
+            line(target, "xml").wait()
+            self.virsh(source, "migrate-setmaxdowntime", "guest", "1")
         watching = line(source, "source")
         wait_until("an observer that is ready", lambda: "ready" in text_of(f"{at}/source.said"))
-        self.virsh(source, "migrate-setmaxdowntime", "guest", "1")
-        migrating = line(source, "migrate")
-        while "--postcopy-after-precopy" not in words and migrating.poll() is None and self.virsh(source, "migrate-postcopy", "guest")[0]:
+        migrating = line(source, "suspend" if is_precopy else "migrate")
+        while not is_precopy and "--postcopy-after-precopy" not in words and migrating.poll() is None and self.virsh(source, "migrate-postcopy", "guest")[0]:
             time.sleep(0.5)
+        if is_lost:
+            self.lose_network(source, target, migrating)
         status = migrating.wait(100)
+        if cut or is_lost:
+            self.tell_cut(name, status, source, target)
+            if self.relay:
+                self.relay.recover(self.relay.target)
+            status = line(source, "migrate", "--postcopy-resume").wait(100)
         watching.wait(100)
+        for of in ("stopped", "resume") if is_precopy else ():
+            line(target, of).wait()
         judged = line(target, "audit").wait()
         if self.relay:
             self.relay.end()
@@ -165,13 +179,31 @@ class Migrations(Trials):
         say(f"{name}: virsh {status}, {told[0]}, {time.monotonic() - began:.0f} s")
         return status, judged, told
 
-    def way(self, name, target, fault):
-        """Returns the words for a way over a relay that puts a fault in."""
-        if not fault:
+    def lose_network(self, source, target, migrating):
+        """Cuts the target's wire, and has libvirt at the source give the migration up. The wire is mended once virsh has ended, by its keepalive after
+        half a minute; only then the target's QEMU can hear that the connection is closed."""
+        wait_until("a guest that runs at the target", lambda: self.virsh(target, "domstate", "guest")[1].startswith("running"))
+        run("ip", "-n", target.name, "link", "set", "eth0", "down")
+        time.sleep(2)
+        self.same("domjobabort --postcopy", self.virsh(source, "domjobabort", "guest", "--postcopy")[0], 0)
+        migrating.wait(100)
+        run("ip", "-n", target.name, "link", "set", "eth0", "up")
+        run("ip", "-n", target.name, "route", "add", "default", "via", f"10.77.{target.number}.1")
+        wait_until("a post-copy that has failed at the target", lambda: "post-copy failed" in self.virsh(target, "domstate", "guest", "--reason")[1], 150)
+
+    def tell_cut(self, name, status, source, target):
+        """Tells what virsh says of a migration that was cut, and how libvirt has the domain on both hosts."""
+        said = text_of(f"{self.room}/{name}/migrate.said").strip()
+        states = [self.virsh(host, "domstate", "guest", "--reason")[1].strip() for host in (source, target)]
+        say(f"  cut: virsh {status}, {said.splitlines()[-1] if said else 'silent'}; {states[0]} at the source, and {states[1]} at the target")
+
+    def way(self, name, target, fault, cut):
+        """Returns the words for a way over a relay that puts a fault in, or cuts."""
+        if not fault and not cut:
             return ()
         self.made += 1
         port = 49200 + self.made
-        self.relay = Relay(f"{self.room}/{name}", None, Window(0, MIB << 8), (target.address, port), fault, 3, path=(RELAY, port))
+        self.relay = Relay(f"{self.room}/{name}", None, Window(0, MIB << 8), (target.address, port), fault, 3, [CutPlan(cut)] * bool(cut), path=(RELAY, port))
         return "--migrateuri", f"tcp:{RELAY}:{port}", "--listen-address", target.address
 
     def put_in(self, name):
@@ -181,12 +213,29 @@ class Migrations(Trials):
         self.begin(ROM)
         self.same("clean", self.migrate("first", "--bandwidth 30")[:2], (0, 0))
         self.same("clean on the way back, with the XML that the domain has since", self.migrate("back", "--bandwidth 30", here="b", there="a")[:2], (0, 0))
+        self.same("clean by pre-copy alone", self.migrate("precopy", here="a", there="b", is_precopy=True)[:2], (0, 0))
+        self.same("the guest goes on", self.virsh(self.hosts["b"], "domstate", "guest")[1].strip(), "running")
+        self.begin(ROM)
         self.same("clean by TLS", self.migrate("tls", "--tls", "--bandwidth 30")[:2], (0, 0))
         for fault, reason in ("flip", "altered"), ("swap", "altered"), ("drop", "it never came"):
             self.begin(ROM)
             status, judged, told = self.migrate(fault, "--bandwidth 30", fault=fault)
             found = [match.groups() for it in told if (match := re.fullmatch(r"  page (\d+), .*: (.*)", it))]
             self.same(f"what virsh says, and the pages {self.put_in(fault)}", (status, judged, found), (0, 1, [(str(page), reason) for page in sorted(self.put_in(fault))]))
+        self.begin(ROM)
+        self.same("clean after a cut and a recovery", self.migrate("cut", "--bandwidth 30", cut=100)[:2], (0, 0))
+        self.begin(ROM)
+        self.same("clean after the target's host was lost for a while", self.migrate("outage", "--bandwidth 30 --postcopy-bandwidth 1", is_lost=True)[:2], (0, 0))
+        self.begin(ROM)
+        self.same("clean over a UNIX socket, where a tunnel of one's own may be", self.migrate("unix", f"--bandwidth 30 --migrateuri unix://{self.room}/store/way")[:2], (0, 0))
+        self.begin(ROM)
+        status, said = self.virsh(self.hosts["a"], "migrate", "--live", "--postcopy", "--p2p", "--tunnelled", "guest", "qemu+tcp://b/system")
+        say(f"  libvirt's own tunnel: {said.strip().splitlines()[-1]}")
+        self.same("libvirt has no tunnel for post-copy", (status, "unnel" in said), (1, True))
+        status, judged, told = self.migrate("parallel", "--parallel --bandwidth 30")
+        is_there = self.virsh(self.hosts["b"], "domstate", "guest")[1].startswith("running")
+        say(f"  after --parallel the guest is {'there' if is_there else 'gone: this QEMU cannot'}")
+        self.same("clean by --parallel, where QEMU can", not is_there or (status, judged) == (0, 0), True)
         self.begin(LINUX)
         status, judged, told = self.migrate("after-precopy", "--postcopy-after-precopy", "--bandwidth 100")
         time.sleep(5)
@@ -195,6 +244,9 @@ class Migrations(Trials):
         self.same("what the guest finds wrong is told", not wrong or judged == 1, True)
         if os.path.exists("/dev/kvm"):
             self.begin(ROM, "kvm")
+            if (stands := self.virsh(self.hosts["a"], "domstate", "guest", "--reason")[1].strip()) != "running (booted)":
+                say(f"left out, KVM: this machine's cannot run the test guest, which is {stands}")
+                return
             self.same("clean by KVM", self.migrate("kvm", "--bandwidth 5")[:2], (0, 0))
 
 
