@@ -14,7 +14,7 @@ import build  # noqa: E402
 import debian  # noqa: E402
 from kinds import Plan  # noqa: E402
 from linux_run import BOOTED, WORDS  # noqa: E402
-from relay import CutPlan, Relay, Window  # noqa: E402
+from relay import Relay, Window  # noqa: E402
 
 PACKAGES = {
     "libvirtd": "libvirt-daemon-system", "virsh": "libvirt-clients", "virtlogd": "libvirt-daemon-system", "qemu-system-x86_64": "qemu-system-x86", "gcc": "gcc,libc6-dev", "ld": "binutils",
@@ -23,6 +23,7 @@ PACKAGES = {
 NAMES = "a", "b"
 MIB = 256  # of the guest
 RELAY = "10.77.0.1"
+CONNECTION, NETWORK = "connection", "network"  # what may be lost
 USERFAULTFD = "/proc/sys/vm/unprivileged_userfaultfd"
 
 # The first process of a host, with folders of libvirt that are its own.
@@ -135,14 +136,14 @@ class Migrations(Trials):
             wait_until("a guest that has booted", lambda: BOOTED in text_of(console), 300)
         time.sleep(2)
 
-    def migrate(self, name, *words, here="a", there="b", fault="", cut=0, is_lost=False, is_precopy=False):
-        """Records a migration by the page's lines, with these words of `virsh migrate`, and has it judged. It may be cut after so many pages of
-        post-copy, or the target's host may lose its network for a while, and then it is resumed. Returns the status of virsh, that of the audit,
-        and what the audit says."""
+    def migrate(self, name, *words, here="a", there="b", fault="", lost="", is_precopy=False):
+        """Records a migration by the page's lines, with these words of `virsh migrate`, and has it judged. Its connection may be `lost`, or the target's
+        network for a while, and then it is resumed. Returns the status of virsh, that of the audit, and what the audit says."""
         began, source, target = time.monotonic(), self.hosts[here], self.hosts[there]
         at = f"{self.room}/{name}"
         os.mkdir(at)
-        words += self.way(name, target, fault, cut)
+        words += self.way(name, target, fault) if fault or lost == CONNECTION else ()
+        words += ("--postcopy-bandwidth 1",) if lost else ()
         os.symlink(f"{TOP}/recorders", f"{at}/recorders")
 
         def line(host, of, *further):
@@ -160,10 +161,10 @@ class Migrations(Trials):
         migrating = line(source, "suspend" if is_precopy else "migrate")
         while not is_precopy and "--postcopy-after-precopy" not in words and migrating.poll() is None and self.virsh(source, "migrate-postcopy", "guest")[0]:
             time.sleep(0.5)
-        if is_lost:
-            self.lose_network(source, target, migrating)
+        if lost:
+            self.lose(lost, source, target, migrating)
         status = migrating.wait(100)
-        if cut or is_lost:
+        if lost:
             self.tell_cut(name, status, source, target)
             if self.relay:
                 self.relay.recover(self.relay.target)
@@ -179,10 +180,14 @@ class Migrations(Trials):
         say(f"{name}: virsh {status}, {told[0]}, {time.monotonic() - began:.0f} s")
         return status, judged, told
 
-    def lose_network(self, source, target, migrating):
-        """Cuts the target's wire, and has libvirt at the source give the migration up. The wire is mended once virsh has ended, by its keepalive after
-        half a minute; only then the target's QEMU can hear that the connection is closed."""
+    def lose(self, what, source, target, migrating):
+        """Once the guest runs at the target, cuts the connection; or cuts the target's wire, and has libvirt at the source give the migration up. The
+        wire is mended once virsh has ended, by its keepalive after half a minute; only then the target's QEMU can hear that the connection is closed."""
         wait_until("a guest that runs at the target", lambda: self.virsh(target, "domstate", "guest")[1].startswith("running"))
+        if what == CONNECTION:
+            with self.relay.lock:
+                self.relay.cut()
+            return
         run("ip", "-n", target.name, "link", "set", "eth0", "down")
         time.sleep(2)
         self.same("domjobabort --postcopy", self.virsh(source, "domjobabort", "guest", "--postcopy")[0], 0)
@@ -197,13 +202,11 @@ class Migrations(Trials):
         states = [self.virsh(host, "domstate", "guest", "--reason")[1].strip() for host in (source, target)]
         say(f"  cut: virsh {status}, {said.splitlines()[-1] if said else 'silent'}; {states[0]} at the source, and {states[1]} at the target")
 
-    def way(self, name, target, fault, cut):
-        """Returns the words for a way over a relay that puts a fault in, or cuts."""
-        if not fault and not cut:
-            return ()
+    def way(self, name, target, fault):
+        """Returns the words for a way over a relay, which may put a fault in."""
         self.made += 1
         port = 49200 + self.made
-        self.relay = Relay(f"{self.room}/{name}", None, Window(0, MIB << 8), (target.address, port), fault, 3, [CutPlan(cut)] * bool(cut), path=(RELAY, port))
+        self.relay = Relay(f"{self.room}/{name}", None, Window(0, MIB << 8), (target.address, port), fault, 3, path=(RELAY, port))
         return "--migrateuri", f"tcp:{RELAY}:{port}", "--listen-address", target.address
 
     def put_in(self, name):
@@ -223,9 +226,9 @@ class Migrations(Trials):
             found = [match.groups() for it in told if (match := re.fullmatch(r"  page (\d+), .*: (.*)", it))]
             self.same(f"what virsh says, and the pages {self.put_in(fault)}", (status, judged, found), (0, 1, [(str(page), reason) for page in sorted(self.put_in(fault))]))
         self.begin(ROM)
-        self.same("clean after a cut and a recovery", self.migrate("cut", "--bandwidth 30", cut=100)[:2], (0, 0))
+        self.same("clean after a cut and a recovery", self.migrate("cut", "--bandwidth 30", lost=CONNECTION)[:2], (0, 0))
         self.begin(ROM)
-        self.same("clean after the target's host was lost for a while", self.migrate("outage", "--bandwidth 30 --postcopy-bandwidth 1", is_lost=True)[:2], (0, 0))
+        self.same("clean after the target's host was lost for a while", self.migrate("outage", "--bandwidth 30", lost=NETWORK)[:2], (0, 0))
         self.begin(ROM)
         self.same("clean over a UNIX socket, where a tunnel of one's own may be", self.migrate("unix", f"--bandwidth 30 --migrateuri unix://{self.room}/store/way")[:2], (0, 0))
         self.begin(ROM)
