@@ -157,7 +157,7 @@ class Migrations(Trials):
             line(target, "xml").wait()
             self.virsh(source, "migrate-setmaxdowntime", "guest", "1")
         watching = line(source, "source")
-        wait_until("an observer that is ready", lambda: "ready" in text_of(f"{at}/source.said"))
+        wait_until("an observer that is ready", lambda: "ready" in text_of(f"{at}/source.said"), 300)
         migrating = line(source, "suspend" if is_precopy else "migrate")
         while not is_precopy and "--postcopy-after-precopy" not in words and migrating.poll() is None and self.virsh(source, "migrate-postcopy", "guest")[0]:
             time.sleep(0.5)
