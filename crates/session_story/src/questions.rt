@@ -4,6 +4,7 @@ ghost use Rattle.std.specs.Prelude.{◌≡◌};
 ghost use Rattle.session_story.specs.Values.{sets};
 ghost use Rattle.session_story.specs.Giving.{puts};
 ghost use Rattle.session_story.specs.Losing.{gives};
+ghost use Rattle.session_story.specs.Counted.{is_read_after, is_used};
 ghost use Rattle.session_story.specs.Pages.{changes, carries, lane_carries, is_access_after};
 ghost use Rattle.session_story.specs.inner.Questions.{asks_guest, asks_source, asks_link, asks_lane, asks_pager, asks_entry, knows_behind};
 
@@ -26,6 +27,8 @@ pub(crate) enum GuestQuestion {
     Gives { page: PageNo, cell: u16, value: u64 },
     /// Whether it reads or writes some page after the record of this number.
     AccessAfter(u32),
+    /// Whether it reads some page after the record of this number.
+    ReadAfter(u32),
 }
 
 /// A question about a record of the source.
@@ -57,6 +60,7 @@ pub(crate) enum LaneQuestion {
 pub(crate) enum PagerQuestion {
     /// Whether it takes the page's `send`, or a repeat of it.
     Gets(PageNo),
+    Want,
     Join,
     Skip,
     /// Whether it places the page, and comes no later than this record.
@@ -81,6 +85,7 @@ pub(crate) enum EntryQuestion {
     Fresh,
     Sent,
     Zeroed,
+    Used,
 }
 
 /// Returns whether a record writes or releases the page.
@@ -137,6 +142,13 @@ fn is_access_after(rec: &GuestRec, n: usize, resume: u32) -> bool
     }
 }
 
+/// Returns whether the record of this number reads some page after another record.
+fn is_read_after(rec: &GuestRec, n: usize, resume: u32) -> bool
+    ensures { result ≡ is_read_after resume n rec.now }
+{
+    matches!(rec, GuestRec::Read { .. }) && is_access_after(rec, n, resume)
+}
+
 /// Returns whether a record of the link delivers the page's `send`, or a repeat of it.
 fn carries(session: &Session, rec: &LinkRec, page: PageNo) -> bool
     ensures { result ≡ carries session.now page rec.now }
@@ -187,6 +199,17 @@ fn knows_behind(rec: &PagerRec, n: u32) -> bool
     }
 }
 
+/// Returns whether the page was read, written or released at the target.
+fn is_used(entry: &Entry) -> bool
+    ensures { result ≡ is_used entry.now }
+{
+    match entry {
+        Entry::Nothing => false,
+        Entry::Fresh { .. } => true,
+        Entry::Source { first, .. } | Entry::Balloon { first, .. } => first.is_some(),
+    }
+}
+
 impl RecordQuestion for GuestQuestion {
     type Record = GuestRec;
 
@@ -202,6 +225,7 @@ impl RecordQuestion for GuestQuestion {
             GuestQuestion::Sets(page, cell) => sets(rec, page, cell),
             GuestQuestion::Gives { page, cell, value } => gives(rec, page, cell, value),
             GuestQuestion::AccessAfter(resume) => is_access_after(rec, n, resume),
+            GuestQuestion::ReadAfter(resume) => is_read_after(rec, n, resume),
         }
     }
 }
@@ -252,6 +276,7 @@ impl RecordQuestion for PagerQuestion {
     fn holds(&self, session: &Session, n: usize, rec: &PagerRec) -> bool {
         match *self {
             PagerQuestion::Gets(page) => delivers_send(session, page, n as u32),
+            PagerQuestion::Want => matches!(rec, PagerRec::Want { .. }),
             PagerQuestion::Join => matches!(rec, PagerRec::Join { .. }),
             PagerQuestion::Skip => matches!(rec, PagerRec::Skip { .. }),
             PagerQuestion::PlacesUpTo(page, last) => {
@@ -281,6 +306,7 @@ impl RecordQuestion for EntryQuestion {
             EntryQuestion::Fresh => matches!(entry, Entry::Fresh { .. }),
             EntryQuestion::Sent => matches!(entry, Entry::Source { .. }),
             EntryQuestion::Zeroed => matches!(entry, Entry::Balloon { .. }),
+            EntryQuestion::Used => is_used(entry),
         }
     }
 }

@@ -236,8 +236,9 @@ lane_of n = if nat_lt 0 n then Some (say.LanePackets n) else None
 
 unfoldable pub counts_told : Version → Counts → List Sentence
 counts_told version c =
-    say.Clean ∷ say.SentPages c.sent ∷ say.ZeroedPages c.zeroed ∷ [] ++ unplaced_told version c ++ (say.Sendings c.sends c.pushes ∷ say.Repeats c.repeats ∷ [])
-    ++ listed (lane_of c.by_lane) ++ (say.DroppedPackets c.dropped ∷ say.Misses c.misses c.waits ∷ [])
+    say.Clean ∷ say.SentPages c.sent ∷ say.ZeroedPages c.zeroed ∷ [] ++ unplaced_told version c
+    ++ (say.ReleasedPages c.released ∷ say.LeftPages c.left ∷ say.UsedPages c.used ∷ say.Reads c.reads ∷ say.Sendings c.sends c.pushes ∷ say.Repeats c.repeats ∷ say.UndeliveredPackets c.undelivered ∷ [])
+    ++ listed (lane_of c.by_lane) ++ (say.DroppedPackets c.dropped ∷ say.Requests c.requests c.unheard ∷ say.Misses c.misses c.waits ∷ [])
 
 -- ---- the report
 

@@ -54,15 +54,24 @@ pub(crate) fn push_counts(
     ])?;
     push_unplaced(out, version, counts)?;
     out.extend_from_slice(&[
+        Sentence::ReleasedPages(counts.released),
+        Sentence::LeftPages(counts.left),
+        Sentence::UsedPages(counts.used),
+        Sentence::Reads(counts.reads),
         Sentence::Sendings {
             sends: counts.sends,
             pushes: counts.pushes,
         },
         Sentence::Repeats(counts.repeats),
+        Sentence::UndeliveredPackets(counts.undelivered),
     ])?;
     push_if(out, lane_of(counts.by_lane))?;
     out.extend_from_slice(&[
         Sentence::DroppedPackets(counts.dropped),
+        Sentence::Requests {
+            requests: counts.requests,
+            unheard: counts.unheard,
+        },
         Sentence::Misses {
             misses: counts.misses,
             waits: counts.waits,

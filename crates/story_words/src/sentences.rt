@@ -151,6 +151,14 @@ pub enum Sentence {
     FreshPages(u32),
     /// This many other pages were not placed.
     OtherPages(u32),
+    /// This many pages were released at the halt, and so not sent.
+    ReleasedPages(u32),
+    /// This many owed pages never came.
+    LeftPages(u32),
+    /// The guest read, wrote or released this many pages at the target.
+    UsedPages(u32),
+    /// This many reads of the guest were recorded at the target.
+    Reads(u32),
     /// A page was sent this many times, and this many of them unasked.
     Sendings {
         sends: u32,
@@ -158,10 +166,17 @@ pub enum Sentence {
     },
     /// A packet was repeated this many times.
     Repeats(u32),
+    /// This many packets were sent and not delivered.
+    UndeliveredPackets(u32),
     /// This many packets were delivered by the lane.
     LanePackets(u32),
     /// This many packets were dropped by the pager.
     DroppedPackets(u32),
+    /// The pager asked for a page this many times, and this many of its requests were not delivered.
+    Requests {
+        requests: u32,
+        unheard: u32,
+    },
     /// The guest missed a page this many times, and this many misses waited for a page that was already asked for.
     Misses {
         misses: u32,
@@ -278,10 +293,18 @@ impl<L: Lines> Teller<'_, L> {
             Sentence::UnplacedPages(n) => clean::push_unplaced(out, n),
             Sentence::FreshPages(n) => clean::push_fresh(out, n),
             Sentence::OtherPages(n) => clean::push_other(out, n),
+            Sentence::ReleasedPages(n) => clean::push_released(out, n),
+            Sentence::LeftPages(n) => clean::push_left(out, n),
+            Sentence::UsedPages(n) => clean::push_used(out, n),
+            Sentence::Reads(n) => clean::push_reads(out, n),
             Sentence::Sendings { sends, pushes } => clean::push_sendings(out, sends, pushes),
             Sentence::Repeats(n) => clean::push_repeats(out, n),
+            Sentence::UndeliveredPackets(n) => clean::push_undelivered(out, n),
             Sentence::LanePackets(n) => clean::push_by_lane(out, n),
             Sentence::DroppedPackets(n) => clean::push_dropped(out, n),
+            Sentence::Requests { requests, unheard } => {
+                clean::push_requests(out, requests, unheard)
+            }
             Sentence::Misses { misses, waits } => clean::push_misses(out, misses, waits),
             Sentence::NoPage { number, pages } => pages::push_no_page(out, number, pages),
             Sentence::Verdict { page, is_faulty } => pages::push_verdict(out, page, is_faulty),

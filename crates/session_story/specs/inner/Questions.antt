@@ -10,12 +10,12 @@ use Rattle.migration_types.specs.declared.records.PagerRec.{PagerRec}
 use Rattle.migration_types.specs.declared.records.PagerRec.TheVariants.{Fault}
 use Rattle.migration_types.specs.Sessions.{Recorded}
 use Rattle.audit_model.specs.Certificates.{is_fresh}
-use Rattle.audit_model.specs.Shape.{is_halt, is_resume, is_miss, is_send_of, is_placement_of, delivers}
+use Rattle.audit_model.specs.Shape.{is_halt, is_resume, is_miss, is_send_of, is_placement_of, is_want, delivers}
 use Rattle.session_story.specs.Pages.{changes, carries, lane_carries, is_access_after}
 use Rattle.session_story.specs.Values.{sets}
 use Rattle.session_story.specs.Giving.{is_unseen, puts}
 use Rattle.session_story.specs.Losing.{gives}
-use Rattle.session_story.specs.Counted.{is_unmoved, is_sent, is_zeroed, is_send, is_again, is_join, is_skip}
+use Rattle.session_story.specs.Counted.{is_unmoved, is_sent, is_zeroed, is_used, is_send, is_again, is_join, is_skip, is_read_after}
 use Rattle.session_story.specs.declared.looks.Look.{Look}
 use Rattle.session_story.specs.declared.questions.GuestQuestion.{GuestQuestion}
 use Rattle.session_story.specs.declared.questions.GuestQuestion.TheVariants as guest
@@ -38,6 +38,7 @@ asks_guest (guest.Changes page) s n = changes page
 asks_guest (guest.Sets page cell) s n = sets page cell
 asks_guest (guest.Gives page cell value) s n = gives page cell value
 asks_guest (guest.AccessAfter resume) s n = is_access_after resume n
+asks_guest (guest.ReadAfter resume) s n = is_read_after resume n
 
 abbrev pub asks_source : SourceQuestion → Recorded → ℕ → SourceRec → Bool
 asks_source (source.SendOf page) s n = is_send_of page
@@ -57,6 +58,7 @@ knows_behind n _ = false
 
 abbrev pub asks_pager : PagerQuestion → Recorded → ℕ → PagerRec → Bool
 asks_pager (pager.Gets page) s n = λ r. delivers s (is_send_of page) n
+asks_pager pager.Want s n = is_want
 asks_pager pager.Join s n = is_join
 asks_pager pager.Skip s n = is_skip
 asks_pager (pager.PlacesUpTo page last) s n = λ r. is_placement_of page r && nat_le n last
@@ -68,6 +70,7 @@ asks_entry entry.Unmoved s n = is_unmoved
 asks_entry entry.Fresh s n = is_fresh
 asks_entry entry.Sent s n = is_sent
 asks_entry entry.Zeroed s n = is_zeroed
+asks_entry entry.Used s n = is_used
 
 -- the look that reaches further: this one, or the one before it
 abbrev pub further : Look → Option Look → Option Look

@@ -33,6 +33,32 @@ pub(crate) fn push_other(out: &mut String, n: u32) -> Result<(), AllocError> {
     write!(out, "Other pages that were not placed: {n}")
 }
 
+/// Appends how many pages were released at the halt.
+pub(crate) fn push_released(out: &mut String, n: u32) -> Result<(), AllocError> {
+    write!(
+        out,
+        "Pages that were released at the halt, and so not sent: {n}"
+    )
+}
+
+/// Appends how many owed pages never came.
+pub(crate) fn push_left(out: &mut String, n: u32) -> Result<(), AllocError> {
+    write!(out, "Owed pages that never came: {n}")
+}
+
+/// Appends how many pages were used at the target.
+pub(crate) fn push_used(out: &mut String, n: u32) -> Result<(), AllocError> {
+    write!(
+        out,
+        "Pages that the guest read, wrote or released at the target: {n}"
+    )
+}
+
+/// Appends how many reads were recorded at the target.
+pub(crate) fn push_reads(out: &mut String, n: u32) -> Result<(), AllocError> {
+    write!(out, "Reads that were recorded at the target: {n}")
+}
+
 /// Appends how many sendings there are, and how many of them were unasked.
 pub(crate) fn push_sendings(out: &mut String, sends: u32, pushes: u32) -> Result<(), AllocError> {
     write!(
@@ -46,6 +72,11 @@ pub(crate) fn push_repeats(out: &mut String, n: u32) -> Result<(), AllocError> {
     write!(out, "Repeats of a packet: {n}")
 }
 
+/// Appends how many packets were not delivered.
+pub(crate) fn push_undelivered(out: &mut String, n: u32) -> Result<(), AllocError> {
+    write!(out, "Packets that were sent and not delivered: {n}")
+}
+
 /// Appends how many packets the lane delivered.
 pub(crate) fn push_by_lane(out: &mut String, n: u32) -> Result<(), AllocError> {
     write!(out, "Packets that the lane delivered: {n}")
@@ -54,6 +85,18 @@ pub(crate) fn push_by_lane(out: &mut String, n: u32) -> Result<(), AllocError> {
 /// Appends how many packets the pager dropped.
 pub(crate) fn push_dropped(out: &mut String, n: u32) -> Result<(), AllocError> {
     write!(out, "Packets that the pager dropped: {n}")
+}
+
+/// Appends how many requests for a page there are, and how many of them were not delivered.
+pub(crate) fn push_requests(
+    out: &mut String,
+    requests: u32,
+    unheard: u32,
+) -> Result<(), AllocError> {
+    write!(
+        out,
+        "Requests for a page: {requests}, of which not delivered: {unheard}"
+    )
 }
 
 /// Appends how many misses there are, and how many of them waited.
