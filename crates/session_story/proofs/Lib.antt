@@ -13,3 +13,10 @@ pub mod Causing
 pub mod Firsts
 pub mod EveryOrder
 pub mod Circling
+pub mod Preceding
+pub mod TargetCells
+pub mod GivingOrders
+pub mod AbsentIn
+pub mod RightOrGiven
+pub mod Shown
+pub mod Unexplained

@@ -14,5 +14,6 @@ pub mod Explained
 pub mod Topics
 pub mod Concerned
 pub mod Amended
+pub mod CauseLaws
 pub mod Causes
 pub mod inner

@@ -9,6 +9,7 @@
 
 mod amends;
 mod asking;
+mod cause_laws;
 mod causes;
 mod concerned;
 mod concerns;
@@ -38,6 +39,7 @@ mod values;
 mod waits;
 
 pub use amends::{Amended, amended_by, is_always_wrong, is_number, tells_of, value_at};
+pub use cause_laws::{given_is_explained, lost_is_unexplained};
 pub use causes::{Cause, CauseKind, came_to, cause_by, cause_of, is_used_by};
 pub use concerns::{concerned_of, resumed_by};
 pub use counting::{Counts, counts_of};
