@@ -32,7 +32,7 @@ pub enum FileFault {
 }
 
 /// The most bytes of one read.
-const PIECE: usize = 65_536;
+const PIECE: usize = 16_384;
 
 /// Reads a file record by record. Contracts see the state of the reader.
 #[derive(Drop)]
