@@ -4,6 +4,7 @@ pub mod Cuts
 pub mod Narrowing
 pub mod Visits
 pub mod InTurn
+pub mod Waiting
 pub mod Cutting
 pub mod TakenLines
 pub mod Refusing

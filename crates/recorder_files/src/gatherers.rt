@@ -7,7 +7,7 @@ ghost use Rattle.recorder_files.specs.declared.lines.Party.{Party};
 ghost use Rattle.recorder_files.specs.Logs.{AreAt, AreBegun, Came, Gathering, IsGatherFault, SayLog, nothing_of, text_in};
 
 use crate::files::{FileFault, FileReader};
-use crate::turns::{Turn, others_beside, turn_after};
+use crate::turns::{Turn, Turns};
 use std::alloc::Global;
 use std::io::Read;
 use std::marker::Model;
@@ -74,22 +74,19 @@ pub struct Gatherer<R: Read + Drop> {
     heads: Vec<Option<u64>>,
     given: Option<usize>,
     number: u64,
-    /// The file whose record came last, or that is to be asked first.
-    last: usize,
-    /// No other file's next record has a lower number.
-    others: u64,
+    turns: Turns,
 }
 
 impl<R: Read + Drop> Model for Gatherer<R> {
     ghost use Rattle.std.specs.Prelude.{◌≡◌, ◌<◌, length, IfSome};
     ghost use Rattle.recorder_files.specs.Logs.{Gathering};
-    ghost use Rattle.recorder_files.specs.inner.Turns.{OthersAreFrom};
+    ghost use Rattle.recorder_files.specs.inner.Turns.{AreTurns};
 
     ghost Value = { Gathering };
 
     ghost view = { λ a. record { files = a.files.items; heads = a.heads.items; given = a.given; number = a.number } };
 
-    ghost invariant = { λ a. (length a.heads.items ≡ length a.files.items) × IfSome a.given (λ i. (i < length a.files.items) × (i ≡ a.last)) × OthersAreFrom a.heads.items a.last a.others };
+    ghost invariant = { λ a. (length a.heads.items ≡ length a.files.items) × IfSome a.given (λ i. (i < length a.files.items) × (i ≡ a.turns.last)) × AreTurns a.heads.items a.turns };
 }
 
 impl<R: Read + Drop> Gatherer<R> {
@@ -107,13 +104,15 @@ impl<R: Read + Drop> Gatherer<R> {
             return Err(GatherFault::Memory);
         };
         read_first(&mut files, &mut heads)?;
+        let Ok(turns) = Turns::new(alloc, &heads) else {
+            return Err(GatherFault::Memory);
+        };
         Ok(Gatherer {
             files,
             heads,
             given: None,
             number: 0,
-            last: 0,
-            others: 0,
+            turns,
         })
     }
 
@@ -147,13 +146,14 @@ impl<R: Read + Drop> Gatherer<R> {
     {
         self.read_given()?;
         let number = self.number;
-        match turn_after(&self.heads, number, self.last, self.others) {
+        let Ok(turn) = self.turns.take(&self.heads, number) else {
+            return Err(GatherFault::Memory);
+        };
+        match turn {
             Turn::Of(i) => {
                 let Some(next) = number.checked_add(1) else {
                     return Err(GatherFault::Memory);
                 };
-                self.others = others_beside(&self.heads, i, self.last, self.others);
-                self.last = i;
                 self.number = next;
                 self.given = Some(i);
                 Ok(Some(number))

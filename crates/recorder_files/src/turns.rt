@@ -1,9 +1,14 @@
 //! The file whose turn it is, if the records of a log are in several files. Most often it is the one whose record came last.
 
-ghost use Rattle.std.specs.Prelude.{◌≡◌, ◌≤◌, ◌<◌, ℕ, List, length, MatchOption};
+ghost use Rattle.std.specs.Prelude.{◌≡◌, ◌≤◌, ◌<◌, ℕ, List, length, IfOk, IsTrue, MatchOption, OnOk};
+ghost use Rattle.std.specs.BinaryHeap.{heap_items};
 ghost use Rattle.recorder_files.specs.Gathered.{Gives, Has, IsGathered, IsTurn, Numbered};
 ghost use Rattle.recorder_files.specs.inner.Heads.{IsLeastOf, lower_of};
-ghost use Rattle.recorder_files.specs.inner.Turns.{OthersAreFrom};
+ghost use Rattle.recorder_files.specs.inner.Turns.{AreTurns, IsInOrder, IsOfLast, Waits};
+
+use std::alloc::{AllocError, Global};
+use std::cmp::Reverse;
+use std::collections::BinaryHeap;
 
 /// The file whose turn it is.
 #[derive(Clone, Copy, Debug, PartialEq, Eq)]
@@ -79,54 +84,112 @@ pub fn turns_gather<X>()
     ensures one { (n : ℕ) (files : List (Numbered X)) (a b : List X) → Gives n files a → Gives n files b → a ≡ b }
 {}
 
-/// Returns the file whose turn it is, as `next_turn` does. No file but `last` has a number below `others`.
-#[inline(always)]
-pub(crate) fn turn_after(heads: &[Option<u64>], wanted: u64, last: usize, others: u64) -> Turn
-    requires { OthersAreFrom heads.now last others }
-    ensures { IsTurn heads.now wanted result }
+/// Files that wait for their turn, each behind the number of its next record.
+type Waiting = BinaryHeap<Reverse<(u64, usize)>>;
+
+/// Lets a file wait, if it has a next record.
+fn wait(waiting: &mut Waiting, heads: &[Option<u64>], file: usize) -> Result<(), AllocError>
+    requires { IsInOrder (heap_items waiting.old) }
+    ensures order { IsInOrder (heap_items waiting.new) }
+    ensures kept { (n j : ℕ) → Waits (heap_items waiting.old) n j → Waits (heap_items waiting.new) n j }
+    ensures waits { OnOk result ((n : ℕ) → Has heads.now file n → Waits (heap_items waiting.new) n file) }
 {
-    if wanted < others && last < heads.len() {
-        if heads[last] == Some(wanted) {
-            return Turn::Of(last);
+    if file < heads.len() {
+        if let Some(number) = heads[file] {
+            waiting.push(Reverse((number, file)))?;
         }
     }
-    next_turn(heads, wanted)
+    Ok(())
 }
 
-/// Returns the lower of a number and the number of a file, unless it is that of `file`.
-fn lower_beside(heads: &[Option<u64>], i: usize, file: usize, least: u64) -> u64
-    requires { i < length heads.now }
-    ensures low { result ≤ least }
-    ensures lower { (n : ℕ) → Has heads.now i n → (i ≡ file → ⊥) → result ≤ n }
+/// Returns a number such that no file that waits has a lower one.
+fn least_waiting(waiting: &Waiting) -> u64
+    requires { IsInOrder (heap_items waiting.now) }
+    ensures { (n j : ℕ) → Waits (heap_items waiting.now) n j → result ≤ n }
 {
-    if i == file {
-        return least;
-    }
-    match heads[i] {
-        Some(number) => number.min(least),
-        None => least,
+    match waiting.peek() {
+        Some(Reverse((number, _))) => *number,
+        None => u64::MAX,
     }
 }
 
-/// Returns a number such that no file but this one has a lower one.
-fn least_beside(heads: &[Option<u64>], file: usize) -> u64
-    ensures { OthersAreFrom heads.now file result }
-{
-    let mut least = u64::MAX;
-    for i in 0..heads.len() {
-        least = lower_beside(heads, i, file, least);
-    }
-    least
+/// Whose turn it may be: the file whose record came last, and those that wait.
+#[derive(Drop)]
+pub(crate) struct Turns {
+    /// The file whose record came last, or that is to be asked first.
+    last: usize,
+    /// The other files.
+    waiting: Waiting,
+    /// None of them has a lower number.
+    others: u64,
 }
 
-/// Returns a number such that no file but this one has a lower one. No file but `last` has one below `others`.
-#[inline(always)]
-pub(crate) fn others_beside(heads: &[Option<u64>], file: usize, last: usize, others: u64) -> u64
-    requires { OthersAreFrom heads.now last others }
-    ensures { OthersAreFrom heads.now file result }
-{
-    if file == last {
-        return others;
+impl Turns {
+    /// Of files whose next records have these numbers.
+    pub(crate) fn new(alloc: Global, heads: &[Option<u64>]) -> Result<Self, AllocError>
+        ensures { IfOk result (AreTurns heads.now) }
+    {
+        let mut waiting = BinaryHeap::new(alloc);
+        for file in 1..heads.len() {
+            wait(&mut waiting, heads, file)?;
+        }
+        let others = least_waiting(&waiting);
+        Ok(Turns {
+            last: 0,
+            waiting,
+            others,
+        })
     }
-    least_beside(heads, file)
+
+    /// Returns whether it is the turn of the file whose record came last.
+    #[inline(always)]
+    fn is_of_last(&self, heads: &[Option<u64>], wanted: u64) -> bool
+        requires { AreTurns heads.now self.now }
+        ensures { IsTrue result → IsTurn heads.now wanted (Turn.Of self.now.last) }
+    {
+        wanted < self.others && self.last < heads.len() && heads[self.last] == Some(wanted)
+    }
+
+    /// Lets the file whose record came last wait, and takes the first of all that wait in its place.
+    fn pass(&mut self, heads: &[Option<u64>]) -> Result<(), AllocError>
+        requires { AreTurns heads.now self.old }
+        ensures { AreTurns heads.now self.new }
+    {
+        wait(&mut self.waiting, heads, self.last)?;
+        if let Some(Reverse((_, file))) = self.waiting.pop() {
+            self.last = file;
+        }
+        self.others = least_waiting(&self.waiting);
+        Ok(())
+    }
+
+    /// Returns the same as `take`, where it is not known to be the turn of the file whose record came last.
+    fn take_other(&mut self, heads: &[Option<u64>], wanted: u64) -> Result<Turn, AllocError>
+        requires { AreTurns heads.now self.old }
+        ensures turn { IfOk result (λ turn. IsTurn heads.now wanted turn × IsOfLast self.new.last turn) }
+        ensures kept { AreTurns heads.now self.new }
+    {
+        self.pass(heads)?;
+        if self.is_of_last(heads, wanted) {
+            return Ok(Turn::Of(self.last));
+        }
+        match next_turn(heads, wanted) {
+            // (no file is left here, since the one that was first of all had the least number)
+            Turn::Of(_) => Err(AllocError),
+            turn => Ok(turn),
+        }
+    }
+
+    /// Returns the file whose turn it is, as `next_turn` does, and takes it for the one whose record came last.
+    #[inline(always)]
+    pub(crate) fn take(&mut self, heads: &[Option<u64>], wanted: u64) -> Result<Turn, AllocError>
+        requires { AreTurns heads.now self.old }
+        ensures turn { IfOk result (λ turn. IsTurn heads.now wanted turn × IsOfLast self.new.last turn) }
+        ensures kept { AreTurns heads.now self.new }
+    {
+        if self.is_of_last(heads, wanted) {
+            return Ok(Turn::Of(self.last));
+        }
+        self.take_other(heads, wanted)
+    }
 }
