@@ -19,6 +19,7 @@ pub mod Dots
 pub mod Endings
 pub mod Gaps
 pub mod Parting
+pub mod Keeping
 pub mod Reading
 pub mod Contents
 pub mod Entries

@@ -4,5 +4,6 @@ pub mod Heads
 pub mod Reaches
 pub mod Noting
 pub mod Turns
+pub mod Openings
 pub mod Described
 pub mod Moments
