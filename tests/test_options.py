@@ -185,7 +185,7 @@ HELP = {
     "replay": ("Replay a session in the order of its runs. Example: postcopy replay session runs", {"<SESSION>": SESSION, "<RUNS>": RUNS}, {}),
     "steps": ("Write the session that events record from a guest script. Example: postcopy steps script events",
               {"<SCRIPT>": "File of a guest script, or - for standard input", "<EVENTS>": "File of events, or - for standard input"}, {}),
-    "migrate": ("Migrate the guest of a script, and write its session and certificate. Example: postcopy migrate script | postcopy",
+    "migrate": ("Migrate the guest of a script, and write its session and certificate. The page PREPAGING says which pivots and window to choose. Example: postcopy migrate script | postcopy",
                 {"<SCRIPT>": "File of a guest script, or - for standard input"},
                 {"--link <CARRIER>": "Transport of the migration's packets [default: memory] [possible values: memory, tcp]"}),
     "draw": ("Draw the records of a session as SVG, in the order of its report or of runs. Example: postcopy draw session -o picture.svg",

@@ -202,7 +202,7 @@ static COMMANDS: [CommandRow; 10] = [
     },
     CommandRow {
         name: "migrate",
-        about: "Migrate the guest of a script, and write its session and certificate. Example: postcopy migrate script | postcopy",
+        about: "Migrate the guest of a script, and write its session and certificate. The page PREPAGING says which pivots and window to choose. Example: postcopy migrate script | postcopy",
         takes: Takes::Texts(Request::Migrate(Carrier::Memory, SCRIPT)),
     },
     CommandRow {
