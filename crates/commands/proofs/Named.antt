@@ -1,5 +1,5 @@
 -- An answer and a table that get their names one after the other.
-use Rattle.std.proofs.Common.{rules, arith, ◌≡◌, ◌∙◌, ◌<◌, ◌⊎◌, ℕ, List, [], ◌++◌, ap, inl, inr, refl, subst, sym, Option, Some, None, Result, Ok, Err, OnOk, IsErr, IsOk, MatchResult, append-nil}
+use Rattle.std.proofs.Common.{rules, arith, ◌≡◌, ◌∙◌, ◌<◌, ℕ, List, [], ◌++◌, ap, inl, inr, refl, subst, sym, Option, Some, None, Result, Ok, Err, OnOk, IsErr, IsOk, MatchResult, append-nil}
 use Rattle.std.specs.Prelude.{Bool, true, false, if◌then◌else◌, not, nat_lt, ◌&&◌}
 use Rattle.std.specs.Io.KnownBytes.{Appends}
 use Rattle.command_words.specs.declared.requests.AnswerKind.{AnswerKind}

@@ -1,8 +1,8 @@
 //! Where an answer goes when it is whole, and the table that goes beside it.
 
-ghost use Rattle.std.specs.Prelude.{◌≡◌, ◌<◌, ◌⊎◌, ℕ, List, [], ◌++◌, Some, None, IfErr, IfSome, IsErr, IsOk, MatchResult, OnOk, OnErr, option_map, not, nat_lt, ◌&&◌};
+ghost use Rattle.std.specs.Prelude.{◌≡◌, ◌≢◌, ◌<◌, ◌⊎◌, ℕ, List, [], ◌++◌, Some, None, IfErr, IfSome, IsErr, IsOk, MatchResult, OnOk, OnErr, option_map, not, nat_lt, ◌&&◌};
 ghost use Rattle.std.specs.Io.KnownBytes.{Appends};
-ghost use Rattle.command_texts.specs.Answers.{IsListStop, fault_line, fault_status};
+ghost use Rattle.command_texts.specs.Answers.{IsListStop, IsOutputFault, fault_line, fault_status};
 ghost use Rattle.command_words.specs.Words.{is_report};
 ghost use Rattle.commands.specs.Puts.{AreBothNamed, IsOneNamed, IsPut, beside, name_at, under_if};
 ghost use Rattle.commands.specs.Saving.{IsSaved, Named, at_end, name_of, under};
@@ -16,9 +16,11 @@ use std::io;
 use std::io::Write;
 use text_access::{Cause, cause_of};
 
-// Returns the fault of an output that could not be written.
+// Returns the fault of an output that could not be written: that memory ran out, if this is the cause.
 fn output_fault(name: &str, cause: Cause) -> Fault<'_>
-    ensures { IsListStop result }
+    ensures memory { cause ≡ Cause.NoMemory → result ≡ Fault.Memory }
+    ensures output { cause ≢ Cause.NoMemory → IsOutputFault result }
+    ensures stop { IsListStop result }
 {
     match cause {
         Cause::NoMemory => Fault::Memory,
@@ -108,7 +110,8 @@ impl<'a, S: TextSink> Pieces<'a, S> {
         put
     }
 
-    // Puts the answer where it goes, and then gives a table its name, which has ended.
+    // Puts the answer where it goes, and then gives a table its name, which has ended. If the table could not be kept,
+    // nothing is put.
     fn put_before<O: Write>(
         &mut self,
         table: &Pieces<'a, S>,
@@ -118,12 +121,17 @@ impl<'a, S: TextSink> Pieces<'a, S> {
         output: &mut O,
     ) -> Result<(), Fault<'a>>
         requires named { (name_of name ≡ None) ⊎ (name_of name ≡ name_of self.old.name) }
-        requires out { IfSome table.now.draft (λ draft. table.now.held.items ≡ []) }
-        ensures named { S.is_known → (text : List ℕ) → (self.old.fault ≡ None → IsSaved S.draft_of (name_of self.old.name) self.old.draft self.old.held.items text) → (start : Named) (bytes : List ℕ) → IsSaved S.draft_of (name_of table.now.name) table.now.draft table.now.held.items bytes → S.named sink.old ≡ start ++ at_end table.now.draft (under (name_of table.now.name) bytes) → OnOk result (AreBothNamed (under (name_of name.entry) text) (under (name_of table.now.name) bytes) start (S.named sink.new)) }
+        requires out { table.now.fault ≡ None → IfSome table.now.draft (λ draft. table.now.held.items ≡ []) }
+        ensures named { S.is_known → (text : List ℕ) → (self.old.fault ≡ None → IsSaved S.draft_of (name_of self.old.name) self.old.draft self.old.held.items text) → (start : Named) (bytes : List ℕ) → (table.now.fault ≡ None → IsSaved S.draft_of (name_of table.now.name) table.now.draft table.now.held.items bytes) → (table.now.fault ≡ None → S.named sink.old ≡ start ++ at_end table.now.draft (under (name_of table.now.name) bytes)) → OnOk result (AreBothNamed (under (name_of name.entry) text) (under (name_of table.now.name) bytes) start (S.named sink.new)) }
         ensures written { S.is_known → (text : List ℕ) → (self.old.fault ≡ None → IsSaved S.draft_of (name_of self.old.name) self.old.draft self.old.held.items text) → OnOk result (Appends (O.contents output.old) (O.contents output.new) (beside (name_of name.entry) text)) }
-        ensures err { S.is_known → (text : List ℕ) → (self.old.fault ≡ None → IsSaved S.draft_of (name_of self.old.name) self.old.draft self.old.held.items text) → (start : Named) (bytes : List ℕ) → S.named sink.old ≡ start ++ at_end table.now.draft (under (name_of table.now.name) bytes) → OnErr result (IsOneNamed (under (name_of name.entry) text) (under (name_of table.now.name) bytes) start (S.named sink.new)) }
+        ensures err { S.is_known → (text : List ℕ) → (self.old.fault ≡ None → IsSaved S.draft_of (name_of self.old.name) self.old.draft self.old.held.items text) → (start : Named) (bytes : List ℕ) → (table.now.fault ≡ None → S.named sink.old ≡ start ++ at_end table.now.draft (under (name_of table.now.name) bytes)) → IfSome table.now.fault (λ _. S.named sink.old ≡ start) → OnErr result (IsOneNamed (under (name_of name.entry) text) (under (name_of table.now.name) bytes) start (S.named sink.new)) }
         ensures fault { IfErr result IsListStop }
     {
+        if let Some(error) = &table.fault {
+            let fault = output_fault(lines, cause_of(error));
+            self.discard(sink);
+            return Err(fault);
+        }
         match self.put_answer(name, sink, output) {
             Ok(()) => or_fault(table.keep(sink), lines),
             Err(fault) => Err(fault),
@@ -148,12 +156,6 @@ impl<'a, S: TextSink> Pieces<'a, S> {
         let mut saved = Pieces::new(self.alloc, Some(lines));
         saved.add(sink, table);
         saved.end(sink);
-        if let Some(error) = &saved.fault {
-            let fault = output_fault(lines, cause_of(error));
-            saved.discard(sink);
-            self.discard(sink);
-            return Err(fault);
-        }
         let put = self.put_before(&saved, lines, name, sink, output);
         if put.is_err() {
             saved.discard(sink);
