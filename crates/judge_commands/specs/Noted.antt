@@ -1,5 +1,5 @@
 -- The notes on a session that is clean: about which little could be judged, or to which pages never came.
-use Rattle.std.specs.Prelude.{◌≡◌, ◌≢◌, ◌⊎◌, ℕ, List, [], ◌++◌, Bool, Option, Some, None, codes, ◌==◌, if◌then◌else◌}
+use Rattle.std.specs.Prelude.{◌≡◌, ◌≢◌, ◌⊎◌, ℕ, List, [], ◌++◌, Bool, Option, Some, None, ◌==◌, if◌then◌else◌}
 use Rattle.std.specs.Fmt.{decimal}
 use Rattle.text_lines.specs.Text.{IsSpelling}
 use Rattle.migration_types.specs.Sessions.{Recorded}
@@ -9,26 +9,23 @@ use Rattle.completeness.specs.declared.lack.Extent.{Extent}
 use Rattle.completeness.specs.declared.lack.Lack.{Lack}
 use Rattle.completeness.specs.Left.{left_pages}
 use Rattle.completeness.specs.Uses.{tells_use}
+use Rattle.judge_commands.specs.declared.noting.TheConstants.{INCOMPLETE, LEFT, LEFT_STATUS, NOR_A_USE, NO_USE}
 
 -- that so many owed pages never came, before more words
 abbrev pub left_words : ℕ → List ℕ → List ℕ
-left_words count behind = codes "note: owed pages that never came: " ++ decimal count ++ codes " (with --complete-pages that is status 1)" ++ behind
+left_words count behind = LEFT.now ++ decimal count ++ LEFT_STATUS.now ++ behind
 
 -- the words of the note on a session, by whether it tells of a use and how many owed pages never came
 abbrev pub note_words : Bool → ℕ → Option (List ℕ)
 note_words used left =
     if left == 0
-    then (if used then None else Some (codes "note: the guest neither reads nor writes a page after a resume, so no use of one was judged"))
-    else Some (left_words left (if used then [] else codes "; the guest neither reads nor writes a page after a resume, so no use of one was judged"))
+    then (if used then None else Some NO_USE.now)
+    else Some (left_words left (if used then [] else NOR_A_USE.now))
 
 abbrev pub note_on : Recorded → Option (List ℕ)
 note_on s = note_words (tells_use s) (left_pages s)
 
--- that a session lacks something of what it must tell
-abbrev pub lack_words : List ℕ
-lack_words = codes "note: nothing in the logs is wrong, but they do not tell of a whole migration: \"postcopy explain\" with the same option says what is missing"
-
--- these are the words beside the answer that says so
+-- these are the words beside the answer that says what a session lacks of what it must tell
 pub record IsReasonOn (complete : Option Extent) (session : List ℕ) (status : ℕ) (words : List ℕ) : Type 0 where
   pub is_refused : status ≢ 0
   pub extent : Extent
@@ -37,7 +34,7 @@ pub record IsReasonOn (complete : Option Extent) (session : List ℕ) (status : 
   pub is_spelled : IsSpelling SpellsSession recorded session
   pub lacking : Lack
   pub lacks : Lacks extent recorded lacking
-  pub are_words : words ≡ lack_words
+  pub are_words : words ≡ INCOMPLETE.now
 
 -- these are the words of the note on the session of this text, for an answer with this status
 pub record IsNoteOn (session : List ℕ) (status : ℕ) (words : List ℕ) : Type 0 where

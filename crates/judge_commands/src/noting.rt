@@ -6,7 +6,7 @@ ghost use Rattle.session_log.specs.Grammar.{SpellsSession};
 ghost use Rattle.completeness.specs.Complete.{Lacks};
 ghost use Rattle.completeness.specs.declared.lack.Extent.{Extent as HowFar};
 ghost use Rattle.completeness.specs.declared.lack.Lack.{Lack};
-ghost use Rattle.judge_commands.specs.Noted.{IsBeside, lack_words, left_words, note_on, note_words};
+ghost use Rattle.judge_commands.specs.Noted.{IsBeside, left_words, note_on, note_words};
 
 use audit_report::OwnLines;
 use command_texts::{ACCEPTED, Answer};
@@ -24,6 +24,12 @@ const NO_USE: &[u8] =
 /// The same behind another note.
 const NOR_A_USE: &[u8] =
     b"; the guest neither reads nor writes a page after a resume, so no use of one was judged";
+
+/// The note on owed pages that never came, before how many there are.
+const LEFT: &[u8] = b"note: owed pages that never came: ";
+
+/// The same behind the number.
+const LEFT_STATUS: &[u8] = b" (with --complete-pages that is status 1)";
 
 /// What is said beside an answer that says what a session lacks.
 const INCOMPLETE: &[u8] =
@@ -43,9 +49,9 @@ fn pages_left(alloc: Global, count: u32, behind: &[u8]) -> Result<Vec<u8>, Alloc
     ensures { IfOk result (λ words. words.items ≡ left_words count behind.now) }
 {
     let mut words = Vec::new(alloc);
-    words.extend_from_slice(b"note: owed pages that never came: ")?;
+    words.extend_from_slice(LEFT)?;
     push_number(&mut words, count)?;
-    words.extend_from_slice(b" (with --complete-pages that is status 1)")?;
+    words.extend_from_slice(LEFT_STATUS)?;
     words.extend_from_slice(behind)?;
     Ok(words)
 }
@@ -96,7 +102,7 @@ fn reason_of(
     form: LackForm,
     answer: &Answer,
 ) -> Result<Option<Vec<u8>>, AllocError>
-    ensures { IfOk result (λ reason. IfSome reason (λ words. (extent : HowFar) × (complete ≡ Some extent) × ((lacking : Lack) × Lacks extent session.now lacking) × (words.items ≡ lack_words))) }
+    ensures { IfOk result (λ reason. IfSome reason (λ words. (extent : HowFar) × (complete ≡ Some extent) × ((lacking : Lack) × Lacks extent session.now lacking) × (words.items ≡ INCOMPLETE.now))) }
 {
     let Some(extent) = complete else {
         return Ok(None);
