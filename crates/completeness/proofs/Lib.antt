@@ -1,3 +1,4 @@
+pub mod Ledgers
 pub mod Left
 pub mod Records
 pub mod Walking

@@ -1,13 +1,15 @@
-//! How many pages the target was owed that never came.
+//! How many pages the target was owed that never came, and how many it was not owed.
 
 ghost use Rattle.std.specs.Prelude.{◌≡◌, IfOk, true};
 ghost use Rattle.std.specs.List.{list_any};
+ghost use Rattle.migration_types.specs.PageSets.{size_below};
+ghost use Rattle.audit_model.specs.Flat.{at_halt, in_ledger};
 ghost use Rattle.audit_model.specs.Shape.{is_placement_of};
 ghost use Rattle.page_facts.specs.Tables.{IsTable};
 ghost use Rattle.completeness.specs.Left.{left_below, left_pages};
 ghost use Rattle.completeness.specs.inner.Walks.{AreSeen};
 
-use crate::pages::{LogFacts, placed_pages};
+use crate::pages::{LogFacts, ledger_at_halt, placed_pages};
 use audit_model::has_resume;
 use migration_types::{PageNo, Session};
 use page_store::Table;
@@ -58,4 +60,14 @@ pub fn count_left_pages(alloc: Global, session: &Session) -> Result<u32, AllocEr
     }
     let seen = LogFacts::with(alloc, session, placed)?;
     Ok(count_left(session, &seen))
+}
+
+/// Returns how many pages are released at the halt, so that the target is not owed them. Makes a pass over the guest's
+/// log up to there, and allocates memory for a mark for each page. Fails only if memory runs out.
+pub fn count_released_pages(alloc: Global, session: &Session) -> Result<u32, AllocError>
+    ensures { IfOk result (λ count. count ≡ size_below session.now.geometry.pages (in_ledger session.now (at_halt session.now))) }
+{
+    session.keeps_limits();
+    let ledger = ledger_at_halt(alloc, session)?;
+    Ok(session.geometry().pages() - ledger.owed_count())
 }

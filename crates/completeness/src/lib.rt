@@ -4,7 +4,8 @@
 //! migration: the guest was halted and resumed, every owed page was placed or released at the target, then the pager
 //! said so and the source learned of it, and everything that the pager took was placed or dropped. If a session must be
 //! complete only as to its pages ([`Extent`]), what the pager said and the source learned does not matter.
-//! [`first_missing`] returns the first of these that is missing, and [`count_left_pages`] how many owed pages never came.
+//! [`first_missing`] returns the first of these that is missing, [`count_left_pages`] how many owed pages never came, and
+//! [`count_released_pages`] how many pages were not owed.
 #![tactic(auto)]
 
 mod counting;
@@ -15,7 +16,7 @@ mod searching;
 mod taken;
 mod uses;
 
-pub use counting::count_left_pages;
+pub use counting::{count_left_pages, count_released_pages};
 pub use lack::{Extent, Lack};
 pub use searching::first_missing;
 pub use uses::tells_use;

@@ -45,7 +45,7 @@ fn take_change(ledger: &mut Ledger, rec: &GuestRec)
 }
 
 /// Returns the pages that are released at the halt.
-fn ledger_at_halt(alloc: Global, session: &Session) -> Result<Ledger, AllocError>
+pub(crate) fn ledger_at_halt(alloc: Global, session: &Session) -> Result<Ledger, AllocError>
     requires { IsSession session.now }
     ensures { IfOk result (IsLedger session.now (at_halt session.now)) }
 {

@@ -1,7 +1,6 @@
 pub mod Scanning
 pub mod Unasked
 pub mod Delivered
-pub mod Ledgers
 pub mod Losses
 pub mod Looking
 pub mod Reaching

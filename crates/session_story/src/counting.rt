@@ -9,9 +9,8 @@ ghost use Rattle.session_story.specs.Counted.{IsCounts, reads_after};
 use crate::asking::count_of_pushes;
 use crate::delivering::{count_of_undelivered_packets, count_of_undelivered_requests};
 use crate::questions::{EntryQuestion, GuestQuestion, PagerQuestion, SourceQuestion};
-use crate::releasing::count_of_released;
 use crate::scans::{count_of, first_of};
-use completeness::count_left_pages;
+use completeness::{count_left_pages, count_released_pages};
 use migration_types::{Entry, Session};
 use std::alloc::{AllocError, Global};
 
@@ -68,15 +67,15 @@ fn count_of_reads(session: &Session) -> u32
 }
 
 /// Returns how many pages came in which way, according to the entries of a certificate, and how many records there are
-/// of some kinds. Makes a few passes over the logs, and allocates memory for the cells of all pages, and for a mark for
-/// each page and for each record. Fails only if memory runs out.
+/// of some kinds. Makes a few passes over the logs, and allocates memory for up to three marks for each page, and for one
+/// for each record. Fails only if memory runs out.
 pub fn counts_of(alloc: Global, session: &Session, entries: &[Entry]) -> Result<Counts, AllocError>
     requires { length entries.now ≤ most_pages }
     ensures { IfOk result (IsCounts session.now entries.now) }
 {
     session.keeps_limits();
     let pushes = count_of_pushes(alloc, session)?;
-    let released = count_of_released(alloc, session)?;
+    let released = count_released_pages(alloc, session)?;
     let left = count_left_pages(alloc, session)?;
     let undelivered = count_of_undelivered_packets(alloc, session)?;
     let unheard = count_of_undelivered_requests(alloc, session)?;

@@ -30,7 +30,6 @@ mod orders;
 mod pages;
 mod questions;
 mod reasons;
-mod releasing;
 mod scans;
 mod subjects;
 mod topic_stories;
