@@ -1,5 +1,5 @@
 -- The records that the story of a session names, as a JSON object has them.
-use Rattle.std.specs.Prelude.{ℕ, nat_lt, List, [], ◌∷◌, ◌++◌, Option, Some, None, codes, if◌then◌else◌}
+use Rattle.std.specs.Prelude.{ℕ, nat_lt, List, [], ◌∷◌, ◌++◌, map, Option, Some, None, codes, if◌then◌else◌}
 use Rattle.std.specs.List.{flat_map}
 use Rattle.migration_types.specs.declared.records.LogName.{LogName}
 use Rattle.migration_types.specs.declared.records.LogName.TheVariants.{Guest, Source, Link, Lane, Pager}
@@ -17,6 +17,7 @@ use Rattle.session_story.specs.declared.topic_stories.TopicStory.{TopicStory}
 use Rattle.session_story.specs.declared.topic_stories.TopicStory.TheVariants as topic
 use Rattle.session_story.specs.declared.knots.Waiting.{Waiting}
 use Rattle.session_story.specs.Concerned.{resumed_by}
+use Rattle.session_answers.specs.declared.records.Part.{Part}
 use Rattle.session_answers.specs.declared.records.Role.{Role}
 use Rattle.session_answers.specs.declared.records.Role.TheVariants as role
 use Rattle.session_answers.specs.declared.records.ToldRecord.{ToldRecord}
@@ -41,70 +42,73 @@ role_word role.Named = codes "named"
 unfoldable pub told_record : ToldRecord → List ℕ
 told_record r = codes "{\"role\":\"" ++ role_word r.role ++ codes "\"" ++ word (codes "log") (log_word r.log) ++ number (codes "record") r.place ++ number (codes "line") r.line ++ codes "}"
 
--- the record of this number, with its line number mapped, if there is a number and the session has the record
-abbrev pub told : (ℕ → ℕ) → Recorded → Role → LogName → Option ℕ → List ToldRecord
-told tell s role log None = []
-told tell s role log (Some n) = if nat_lt n (log_length s log) then record { role = role; log = log; place = n; line = tell (line_of s (log, n)) } ∷ [] else []
-
--- how a page came to the target
-abbrev pub sent_records : (ℕ → ℕ) → Recorded → PageStory → Handover → List ToldRecord
-sent_records tell s page handover =
-    told tell s role.Changed Guest page.changed ++ told tell s role.Halt Guest handover.halt ++ told tell s role.Sent Source page.sent
-    ++ told tell s role.Delivered Link page.delivered ++ told tell s role.Delivered Lane page.by_lane ++ told tell s role.Taken Pager page.got
-
--- what became of a page there
-abbrev pub later_records : (ℕ → ℕ) → Recorded → PageStory → List ToldRecord
-later_records tell s page =
-    told tell s role.Placed Pager page.found.placement ++ told tell s role.PlacedAgain Pager page.found.again
-    ++ told tell s role.Look Guest page.found.look ++ told tell s role.Touch Guest page.found.touch
-
--- how a page came to the target, and what became of it there
-abbrev pub page_records : (ℕ → ℕ) → Recorded → PageStory → Handover → List ToldRecord
-page_records tell s page handover = sent_records tell s page handover ++ later_records tell s page
+-- a record that a story may name: its role, its log, and its number there, if the story has one
+abbrev pub part : Role → LogName → Option ℕ → Part
+part role log n = record { 0 = role; 1 = log; 2 = n }
 
 -- the record that has a fault of a page
-abbrev pub faulty_record : (ℕ → ℕ) → Recorded → FaultStory → List ToldRecord
-faulty_record tell s f = told tell s role.Faulty f.fault.log (Some f.fault.place)
+abbrev pub faulty_part : FaultStory → List Part
+faulty_part f = part role.Faulty f.fault.log (Some f.fault.place) ∷ []
+
+-- how a page came to the target, and what became of it there
+abbrev pub page_parts : PageStory → Handover → List Part
+page_parts page handover =
+    part role.Changed Guest page.changed ∷ part role.Halt Guest handover.halt ∷ part role.Sent Source page.sent
+    ∷ part role.Delivered Link page.delivered ∷ part role.Delivered Lane page.by_lane ∷ part role.Taken Pager page.got
+    ∷ part role.Placed Pager page.found.placement ∷ part role.PlacedAgain Pager page.found.again
+    ∷ part role.Look Guest page.found.look ∷ part role.Touch Guest page.found.touch ∷ []
 
 -- the fault of a page, and the page's story
-abbrev pub fault_records : (ℕ → ℕ) → Recorded → FaultStory → List ToldRecord
-fault_records tell s f = faulty_record tell s f ++ page_records tell s f.page f.handover
+abbrev pub fault_parts : FaultStory → List Part
+fault_parts f = faulty_part f ++ page_parts f.page f.handover
 
 -- the record that does not have the right shape, and the first sending of its page, or the resume of its guest
-abbrev pub shape_records : (ℕ → ℕ) → Recorded → ShapeStory → List ToldRecord
-shape_records tell s t = told tell s role.Faulty t.fault.log (Some t.fault.place) ++ told tell s role.Sent Source t.sent ++ told tell s role.Resume Guest (resumed_by t)
+abbrev pub shape_parts : ShapeStory → List Part
+shape_parts t = part role.Faulty t.fault.log (Some t.fault.place) ∷ part role.Sent Source t.sent ∷ part role.Resume Guest (resumed_by t) ∷ []
 
 -- the records that wait for one another, each for the next
-abbrev pub waiting_records : (ℕ → ℕ) → Recorded → List Waiting → List ToldRecord
-waiting_records tell s waits = flat_map (λ w. told tell s role.Waits w.log (Some w.place)) waits
+abbrev pub waiting_parts : List Waiting → List Part
+waiting_parts waits = map (λ w. part role.Waits w.log (Some w.place)) waits
 
 -- the story of the report
-abbrev pub report_records : (ℕ → ℕ) → Recorded → Explanation → List ToldRecord
-report_records tell s (story.Shape t) = shape_records tell s t
-report_records tell s (story.Knot knot) = waiting_records tell s knot.waits.items
-report_records tell s (story.Faulty f more) = fault_records tell s f
-report_records tell s (story.Clean counts) = []
+abbrev pub report_parts : Explanation → List Part
+report_parts (story.Shape t) = shape_parts t
+report_parts (story.Knot knot) = waiting_parts knot.waits.items
+report_parts (story.Faulty f more) = fault_parts f
+report_parts (story.Clean counts) = []
 
 -- the first fault of a page, if it has one, and the page's story
-abbrev pub first_records : (ℕ → ℕ) → Recorded → Option FaultStory → List ToldRecord
-first_records tell s None = []
-first_records tell s (Some f) = faulty_record tell s f
+abbrev pub first_parts : Option FaultStory → List Part
+first_parts None = []
+first_parts (Some f) = faulty_part f
 
-abbrev pub full_records : (ℕ → ℕ) → Recorded → Option FullPageStory → List ToldRecord
-full_records tell s None = []
-full_records tell s (Some t) = first_records tell s t.fault ++ page_records tell s t.story t.handover
+abbrev pub full_parts : Option FullPageStory → List Part
+full_parts None = []
+full_parts (Some t) = first_parts t.fault ++ page_parts t.story t.handover
 
 -- the record at a line, what its shape concerns if the report names it for that, and the story of its page
-abbrev pub misshapen_records : (ℕ → ℕ) → Recorded → Option ShapeStory → List ToldRecord
-misshapen_records tell s None = []
-misshapen_records tell s (Some t) = shape_records tell s t
+abbrev pub misshapen_parts : Option ShapeStory → List Part
+misshapen_parts None = []
+misshapen_parts (Some t) = shape_parts t
 
-abbrev pub line_records : (ℕ → ℕ) → Recorded → Option LineStory → List ToldRecord
-line_records tell s None = []
-line_records tell s (Some t) = told tell s role.Named t.log (Some t.place) ++ misshapen_records tell s t.shape ++ full_records tell s t.page
+abbrev pub line_parts : Option LineStory → List Part
+line_parts None = []
+line_parts (Some t) = part role.Named t.log (Some t.place) ∷ misshapen_parts t.shape ++ full_parts t.page
+
+-- the parts of the story on a topic
+abbrev pub parts_of : TopicStory → List Part
+parts_of (topic.Report e) = report_parts e
+parts_of (topic.Page number t) = full_parts t
+parts_of (topic.Line line t) = line_parts t
+
+-- the record of a part, with its line number mapped, if the part has a number and the session has the record
+abbrev pub told_at : (ℕ → ℕ) → Recorded → Role → LogName → Option ℕ → List ToldRecord
+told_at tell s role log None = []
+told_at tell s role log (Some n) = if nat_lt n (log_length s log) then record { role = role; log = log; place = n; line = tell (line_of s (log, n)) } ∷ [] else []
+
+abbrev pub told : (ℕ → ℕ) → Recorded → Part → List ToldRecord
+told tell s p = told_at tell s p.0 p.1 p.2
 
 -- the records of the story on a topic
 abbrev pub records_of : (ℕ → ℕ) → Recorded → TopicStory → List ToldRecord
-records_of tell s (topic.Report e) = report_records tell s e
-records_of tell s (topic.Page number t) = full_records tell s t
-records_of tell s (topic.Line line t) = line_records tell s t
+records_of tell s t = flat_map (told tell s) (parts_of t)

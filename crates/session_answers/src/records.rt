@@ -1,7 +1,8 @@
 //! The records that the story of a session names, each with its role.
 
 ghost use Rattle.std.specs.Prelude.{◌≡◌, ◌++◌, Some, IfOk, OnOk};
-ghost use Rattle.session_answers.specs.RecordsText.{fault_records, faulty_record, first_records, full_records, later_records, line_records, misshapen_records, page_records, records_of, report_records, role_word, sent_records, shape_records, told, told_record, waiting_records};
+ghost use Rattle.std.specs.List.{flat_map};
+ghost use Rattle.session_answers.specs.RecordsText.{fault_parts, faulty_part, first_parts, full_parts, line_parts, misshapen_parts, page_parts, parts_of, records_of, report_parts, role_word, shape_parts, told, told_at, told_record, waiting_parts};
 
 use crate::fields::{push_number_under, push_word_under};
 use crate::lists::Item;
@@ -92,6 +93,137 @@ impl Item for ToldRecord {
     }
 }
 
+/// A record that a story may name: its role, its log, and its number there, if the story has one.
+#[derive(Clone, Copy)]
+struct Part(Role, LogName, Option<u32>);
+
+/// Adds the part that has a fault of a page.
+fn push_faulty(parts: &mut Vec<Part>, story: &FaultStory) -> Result<(), AllocError>
+    ensures { OnOk result (parts.new.items ≡ parts.old.items ++ faulty_part story.now) }
+{
+    let fault = &story.fault;
+    parts.extend_from_slice(&[Part(Role::Faulty, fault.log, Some(fault.place))])
+}
+
+/// Adds the parts that say how a page came to the target, and what became of it there.
+fn push_page(parts: &mut Vec<Part>, page: &PageStory, handover: &Handover) -> Result<(), AllocError>
+    ensures { OnOk result (parts.new.items ≡ parts.old.items ++ page_parts page.now handover.now) }
+{
+    let found = &page.found;
+    parts.extend_from_slice(&[
+        Part(Role::Changed, LogName::Guest, page.changed),
+        Part(Role::Halt, LogName::Guest, handover.halt),
+        Part(Role::Sent, LogName::Source, page.sent),
+        Part(Role::Delivered, LogName::Link, page.delivered),
+        Part(Role::Delivered, LogName::Lane, page.by_lane),
+        Part(Role::Taken, LogName::Pager, page.got),
+        Part(Role::Placed, LogName::Pager, found.placement),
+        Part(Role::PlacedAgain, LogName::Pager, found.again),
+        Part(Role::Look, LogName::Guest, found.look),
+        Part(Role::Touch, LogName::Guest, found.touch),
+    ])
+}
+
+/// Adds the parts of a fault and of its page.
+fn push_fault(parts: &mut Vec<Part>, story: &FaultStory) -> Result<(), AllocError>
+    ensures { OnOk result (parts.new.items ≡ parts.old.items ++ fault_parts story.now) }
+{
+    push_faulty(parts, story)?;
+    push_page(parts, &story.page, &story.handover)
+}
+
+/// Adds the record that does not have the right shape, and the first sending of its page, or the resume of its guest.
+fn push_shape(parts: &mut Vec<Part>, story: &ShapeStory) -> Result<(), AllocError>
+    ensures { OnOk result (parts.new.items ≡ parts.old.items ++ shape_parts story.now) }
+{
+    let fault = &story.fault;
+    parts.extend_from_slice(&[
+        Part(Role::Faulty, fault.log, Some(fault.place)),
+        Part(Role::Sent, LogName::Source, story.sent),
+        Part(Role::Resume, LogName::Guest, resumed_by(story)),
+    ])
+}
+
+/// Adds the records that wait for one another.
+fn push_waits(parts: &mut Vec<Part>, waits: &[Waiting]) -> Result<(), AllocError>
+    ensures { OnOk result (parts.new.items ≡ parts.old.items ++ waiting_parts waits.now) }
+{
+    for waiting in waits {
+        parts.push(Part(Role::Waits, waiting.log, Some(waiting.place)))?;
+    }
+    Ok(())
+}
+
+/// Adds the parts of the story of the report.
+fn push_report(parts: &mut Vec<Part>, explanation: &Explanation) -> Result<(), AllocError>
+    ensures { OnOk result (parts.new.items ≡ parts.old.items ++ report_parts explanation.now) }
+{
+    match explanation {
+        Explanation::Shape(story) => push_shape(parts, story),
+        Explanation::Knot(knot) => push_waits(parts, &knot.waits),
+        Explanation::Faulty { story, .. } => push_fault(parts, story),
+        Explanation::Clean(_) => Ok(()),
+    }
+}
+
+/// Adds a page's first fault, if it has one.
+fn push_first(parts: &mut Vec<Part>, fault: &Option<FaultStory>) -> Result<(), AllocError>
+    ensures { OnOk result (parts.new.items ≡ parts.old.items ++ first_parts fault.now) }
+{
+    match fault {
+        Some(story) => push_faulty(parts, story),
+        None => Ok(()),
+    }
+}
+
+/// Adds the parts of a page with its first fault, if there is a page.
+fn push_full(parts: &mut Vec<Part>, told: &Option<FullPageStory>) -> Result<(), AllocError>
+    ensures { OnOk result (parts.new.items ≡ parts.old.items ++ full_parts told.now) }
+{
+    match told {
+        Some(page) => {
+            push_first(parts, &page.fault)?;
+            push_page(parts, &page.story, &page.handover)
+        }
+        None => Ok(()),
+    }
+}
+
+/// Adds what the shape of a record concerns, if the story has that.
+fn push_misshapen(parts: &mut Vec<Part>, shape: &Option<ShapeStory>) -> Result<(), AllocError>
+    ensures { OnOk result (parts.new.items ≡ parts.old.items ++ misshapen_parts shape.now) }
+{
+    match shape {
+        Some(story) => push_shape(parts, story),
+        None => Ok(()),
+    }
+}
+
+/// Adds the record at a line, and the parts of its story, if there is a record.
+fn push_line(parts: &mut Vec<Part>, told: &Option<LineStory>) -> Result<(), AllocError>
+    ensures { OnOk result (parts.new.items ≡ parts.old.items ++ line_parts told.now) }
+{
+    let Some(line) = told else {
+        return Ok(());
+    };
+    parts.extend_from_slice(&[Part(Role::Named, line.log, Some(line.place))])?;
+    push_misshapen(parts, &line.shape)?;
+    push_full(parts, &line.page)
+}
+
+/// Returns the parts of the story on a topic.
+fn parts_of(alloc: Global, told: &TopicStory) -> Result<Vec<Part>, AllocError>
+    ensures { IfOk result (λ parts. parts.items ≡ parts_of told.now) }
+{
+    let mut parts = Vec::new(alloc);
+    match told {
+        TopicStory::Report(explanation) => push_report(&mut parts, explanation)?,
+        TopicStory::Page(_, page) => push_full(&mut parts, page)?,
+        TopicStory::Line(_, line) => push_line(&mut parts, line)?,
+    }
+    Ok(parts)
+}
+
 /// Adds the record of this number, if the session has it.
 fn take_at<L: Lines>(
     records: &mut Vec<ToldRecord>,
@@ -101,7 +233,7 @@ fn take_at<L: Lines>(
     log: LogName,
     place: u32,
 ) -> Result<(), AllocError>
-    ensures { OnOk result (records.new.items ≡ records.old.items ++ told (L.tell lines.now) session.now role log (Some place)) }
+    ensures { OnOk result (records.new.items ≡ records.old.items ++ told_at (L.tell lines.now) session.now role log (Some place)) }
 {
     match line_at(session, log, place) {
         Some(line) => records.push(ToldRecord {
@@ -115,319 +247,34 @@ fn take_at<L: Lines>(
     Ok(())
 }
 
-/// Adds the record of this number, if there is one.
+/// Adds the record of a part, if the part has a number and the session that record.
 fn take<L: Lines>(
     records: &mut Vec<ToldRecord>,
     session: &Session,
     lines: &L,
-    role: Role,
-    log: LogName,
-    place: Option<u32>,
+    part: Part,
 ) -> Result<(), AllocError>
-    ensures { OnOk result (records.new.items ≡ records.old.items ++ told (L.tell lines.now) session.now role log place) }
+    ensures { OnOk result (records.new.items ≡ records.old.items ++ told (L.tell lines.now) session.now part) }
 {
-    match place {
-        Some(place) => take_at(records, session, lines, role, log, place),
+    match part.2 {
+        Some(place) => take_at(records, session, lines, part.0, part.1, place),
         None => Ok(()),
     }
 }
 
-/// Adds the records that say how a page came to the target.
-fn take_sent<L: Lines>(
+/// Adds the records of these parts.
+fn take_all<L: Lines>(
     records: &mut Vec<ToldRecord>,
     session: &Session,
     lines: &L,
-    page: &PageStory,
-    handover: &Handover,
+    parts: &[Part],
 ) -> Result<(), AllocError>
-    ensures { OnOk result (records.new.items ≡ records.old.items ++ sent_records (L.tell lines.now) session.now page.now handover.now) }
+    ensures { OnOk result (records.new.items ≡ records.old.items ++ flat_map (told (L.tell lines.now) session.now) parts.now) }
 {
-    take(
-        records,
-        session,
-        lines,
-        Role::Changed,
-        LogName::Guest,
-        page.changed,
-    )?;
-    take(
-        records,
-        session,
-        lines,
-        Role::Halt,
-        LogName::Guest,
-        handover.halt,
-    )?;
-    take(
-        records,
-        session,
-        lines,
-        Role::Sent,
-        LogName::Source,
-        page.sent,
-    )?;
-    take(
-        records,
-        session,
-        lines,
-        Role::Delivered,
-        LogName::Link,
-        page.delivered,
-    )?;
-    take(
-        records,
-        session,
-        lines,
-        Role::Delivered,
-        LogName::Lane,
-        page.by_lane,
-    )?;
-    take(
-        records,
-        session,
-        lines,
-        Role::Taken,
-        LogName::Pager,
-        page.got,
-    )
-}
-
-/// Adds the records that say what became of a page at the target.
-fn take_later<L: Lines>(
-    records: &mut Vec<ToldRecord>,
-    session: &Session,
-    lines: &L,
-    page: &PageStory,
-) -> Result<(), AllocError>
-    ensures { OnOk result (records.new.items ≡ records.old.items ++ later_records (L.tell lines.now) session.now page.now) }
-{
-    let found = &page.found;
-    take(
-        records,
-        session,
-        lines,
-        Role::Placed,
-        LogName::Pager,
-        found.placement,
-    )?;
-    take(
-        records,
-        session,
-        lines,
-        Role::PlacedAgain,
-        LogName::Pager,
-        found.again,
-    )?;
-    take(
-        records,
-        session,
-        lines,
-        Role::Look,
-        LogName::Guest,
-        found.look,
-    )?;
-    take(
-        records,
-        session,
-        lines,
-        Role::Touch,
-        LogName::Guest,
-        found.touch,
-    )
-}
-
-/// Adds the records that say how a page came to the target, and what became of it there.
-fn take_page<L: Lines>(
-    records: &mut Vec<ToldRecord>,
-    session: &Session,
-    lines: &L,
-    page: &PageStory,
-    handover: &Handover,
-) -> Result<(), AllocError>
-    ensures { OnOk result (records.new.items ≡ records.old.items ++ page_records (L.tell lines.now) session.now page.now handover.now) }
-{
-    take_sent(records, session, lines, page, handover)?;
-    take_later(records, session, lines, page)
-}
-
-/// Adds the record that has a fault of a page.
-fn take_faulty<L: Lines>(
-    records: &mut Vec<ToldRecord>,
-    session: &Session,
-    lines: &L,
-    story: &FaultStory,
-) -> Result<(), AllocError>
-    ensures { OnOk result (records.new.items ≡ records.old.items ++ faulty_record (L.tell lines.now) session.now story.now) }
-{
-    let fault = &story.fault;
-    take(
-        records,
-        session,
-        lines,
-        Role::Faulty,
-        fault.log,
-        Some(fault.place),
-    )
-}
-
-/// Adds the records of a fault and of its page.
-fn take_fault<L: Lines>(
-    records: &mut Vec<ToldRecord>,
-    session: &Session,
-    lines: &L,
-    story: &FaultStory,
-) -> Result<(), AllocError>
-    ensures { OnOk result (records.new.items ≡ records.old.items ++ fault_records (L.tell lines.now) session.now story.now) }
-{
-    take_faulty(records, session, lines, story)?;
-    take_page(records, session, lines, &story.page, &story.handover)
-}
-
-/// Adds the record that does not have the right shape, and the first sending of its page, or the resume of its guest.
-fn take_shape<L: Lines>(
-    records: &mut Vec<ToldRecord>,
-    session: &Session,
-    lines: &L,
-    story: &ShapeStory,
-) -> Result<(), AllocError>
-    ensures { OnOk result (records.new.items ≡ records.old.items ++ shape_records (L.tell lines.now) session.now story.now) }
-{
-    let fault = &story.fault;
-    take(
-        records,
-        session,
-        lines,
-        Role::Faulty,
-        fault.log,
-        Some(fault.place),
-    )?;
-    take(
-        records,
-        session,
-        lines,
-        Role::Sent,
-        LogName::Source,
-        story.sent,
-    )?;
-    take(
-        records,
-        session,
-        lines,
-        Role::Resume,
-        LogName::Guest,
-        resumed_by(story),
-    )
-}
-
-/// Adds the records that wait for one another.
-fn take_waits<L: Lines>(
-    records: &mut Vec<ToldRecord>,
-    session: &Session,
-    lines: &L,
-    waits: &[Waiting],
-) -> Result<(), AllocError>
-    ensures { OnOk result (records.new.items ≡ records.old.items ++ waiting_records (L.tell lines.now) session.now waits.now) }
-{
-    for waiting in waits {
-        take_at(
-            records,
-            session,
-            lines,
-            Role::Waits,
-            waiting.log,
-            waiting.place,
-        )?;
+    for part in parts {
+        take(records, session, lines, *part)?;
     }
     Ok(())
-}
-
-/// Adds the records of the story of the report.
-fn take_report<L: Lines>(
-    records: &mut Vec<ToldRecord>,
-    session: &Session,
-    lines: &L,
-    explanation: &Explanation,
-) -> Result<(), AllocError>
-    ensures { OnOk result (records.new.items ≡ records.old.items ++ report_records (L.tell lines.now) session.now explanation.now) }
-{
-    match explanation {
-        Explanation::Shape(story) => take_shape(records, session, lines, story),
-        Explanation::Knot(knot) => take_waits(records, session, lines, &knot.waits),
-        Explanation::Faulty { story, .. } => take_fault(records, session, lines, story),
-        Explanation::Clean(_) => Ok(()),
-    }
-}
-
-/// Adds the record of a page's first fault, if it has one.
-fn take_first<L: Lines>(
-    records: &mut Vec<ToldRecord>,
-    session: &Session,
-    lines: &L,
-    fault: &Option<FaultStory>,
-) -> Result<(), AllocError>
-    ensures { OnOk result (records.new.items ≡ records.old.items ++ first_records (L.tell lines.now) session.now fault.now) }
-{
-    match fault {
-        Some(story) => take_faulty(records, session, lines, story),
-        None => Ok(()),
-    }
-}
-
-/// Adds the records of a page with its first fault, if there is a page.
-fn take_full<L: Lines>(
-    records: &mut Vec<ToldRecord>,
-    session: &Session,
-    lines: &L,
-    told: &Option<FullPageStory>,
-) -> Result<(), AllocError>
-    ensures { OnOk result (records.new.items ≡ records.old.items ++ full_records (L.tell lines.now) session.now told.now) }
-{
-    match told {
-        Some(page) => {
-            take_first(records, session, lines, &page.fault)?;
-            take_page(records, session, lines, &page.story, &page.handover)
-        }
-        None => Ok(()),
-    }
-}
-
-/// Adds what the shape of a record concerns, if the story has that.
-fn take_misshapen<L: Lines>(
-    records: &mut Vec<ToldRecord>,
-    session: &Session,
-    lines: &L,
-    shape: &Option<ShapeStory>,
-) -> Result<(), AllocError>
-    ensures { OnOk result (records.new.items ≡ records.old.items ++ misshapen_records (L.tell lines.now) session.now shape.now) }
-{
-    match shape {
-        Some(story) => take_shape(records, session, lines, story),
-        None => Ok(()),
-    }
-}
-
-/// Adds the record at a line, and the records of its story, if there is a record.
-fn take_line<L: Lines>(
-    records: &mut Vec<ToldRecord>,
-    session: &Session,
-    lines: &L,
-    told: &Option<LineStory>,
-) -> Result<(), AllocError>
-    ensures { OnOk result (records.new.items ≡ records.old.items ++ line_records (L.tell lines.now) session.now told.now) }
-{
-    let Some(line) = told else {
-        return Ok(());
-    };
-    take(
-        records,
-        session,
-        lines,
-        Role::Named,
-        line.log,
-        Some(line.place),
-    )?;
-    take_misshapen(records, session, lines, &line.shape)?;
-    take_full(records, session, lines, &line.page)
 }
 
 /// Returns the records of the story on a topic. Fails only if memory runs out.
@@ -439,11 +286,8 @@ pub(crate) fn records_of<L: Lines>(
 ) -> Result<Vec<ToldRecord>, AllocError>
     ensures { IfOk result (λ records. records.items ≡ records_of (L.tell lines.now) session.now told.now) }
 {
+    let parts = parts_of(alloc, told)?;
     let mut records = Vec::new(alloc);
-    match told {
-        TopicStory::Report(explanation) => take_report(&mut records, session, lines, explanation)?,
-        TopicStory::Page(_, page) => take_full(&mut records, session, lines, page)?,
-        TopicStory::Line(_, line) => take_line(&mut records, session, lines, line)?,
-    }
+    take_all(&mut records, session, lines, &parts)?;
     Ok(records)
 }
