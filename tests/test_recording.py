@@ -307,7 +307,7 @@ def test_recording(program, room):
 def skeleton_in(room, program, name):
     """Puts the skeleton in C of docs/RECORDING.md into a folder in which the page's commands run, and answers the page and the skeleton."""
     page = read("docs/RECORDING.md")
-    skeleton = re.search(r"```c\n(/\* smallest\.c: .*?)```", page, re.S)[1]
+    skeleton = re.search(r"Save it as `smallest\.c`.*?```c\n(.*?)```", page, re.S)[1]
     for folder in ("bindings", "recorders"):
         os.symlink(f"{TOP}/{folder}", f"{room}/{folder}")
     os.symlink(program, f"{room}/postcopy")

@@ -1,6 +1,5 @@
 """The report of a series of migrations as a page: its rows beside the results and the JUnit report of the same run, and that it needs nothing else."""
 import html.parser
-import json
 import os
 import random
 import re
