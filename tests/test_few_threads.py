@@ -8,6 +8,7 @@ import errno
 import os
 import re
 import resource
+import shutil
 import subprocess
 import tempfile
 
@@ -108,6 +109,13 @@ def migrations(program, refusing):
                 yield f"{example} over {link}, without thread {number}", found, refused
 
 
+@pytest.fixture
+def open_program(program, room):
+    """The program in a folder that another user may enter."""
+    os.chmod(room, 0o755)
+    return shutil.copy(program, room)
+
+
 @pytest.mark.cases(6)
 def test_threads_begun(program, refusing):
     for case in counted(program, refusing):
@@ -115,12 +123,12 @@ def test_threads_begun(program, refusing):
 
 
 @pytest.mark.cases(22)
-def test_one_thread(program):
-    for case in tries(program):
+def test_one_thread(open_program):
+    for case in tries(open_program):
         same(*case)
 
 
 @pytest.mark.cases(24)
-def test_migrations(program, refusing):
-    for case in migrations(program, refusing):
+def test_migrations(open_program, refusing):
+    for case in migrations(open_program, refusing):
         same(*case)
