@@ -197,11 +197,7 @@ def wrong_answers(pages, sources):
     named = {span for _, cells, _ in rows(pages[ANSWERS]) for span in re.findall(r"^`([a-z-]+(?: [a-z]+)*)", cells[0])}
     for it in sorted({*found, *reasons} - named):
         yield f"{ANSWERS}: no row begins with the answer {it}"
-    kinds = re.findall(r"POSTCOPY_(?!REASON_|ASKS_|VERSION|H\b)(\w+) = (\d+)", read("bindings/c/postcopy.h"))
-    for kind, number in kinds:
-        if f"| {number} | `{kind}` |" not in pages[ANSWERS]:
-            yield f"{ANSWERS}: no row has the kind {number}, {kind}"
-    if len(found) < 20 or len(reasons) < 12 or not kinds:
+    if len(found) < 20 or len(reasons) < 12:
         yield "test_pages.py finds no answers in the sources"
 
 
