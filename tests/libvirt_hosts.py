@@ -1,4 +1,4 @@
-"""Migrations by libvirt between two hosts, recorded by the lines of docs/GUESTS.md: without a fault, and with some put in."""
+"""Migrations by libvirt between two hosts, recorded by the lines of docs/SYSTEMS.md: without a fault, and with some put in."""
 import os
 import re
 import shutil
@@ -71,14 +71,14 @@ ROM = "<loader type='rom'>{room}/store/rom</loader>"
 
 def lines_of_page():
     """Returns the lines of the page for a domain of libvirt, by what they do."""
-    with open(f"{TOP}/docs/GUESTS.md", encoding="utf-8") as file:
-        section = file.read().split("\n## Two hosts, with libvirt\n")[1].split("\n## ")[0]
+    with open(f"{TOP}/docs/SYSTEMS.md", encoding="utf-8") as file:
+        section = file.read().split("\n### Two hosts, with libvirt\n")[1].split("\n### ")[0]
     found = [text.strip() for text in re.findall(r"^ *```(?:sh|console)\n *(?:\$ )?(.*?)^ *```$", section, re.M | re.S)]
     *found, precopy = found
     names = "key", "xml", "source", "migrate", "audit"
     of_precopy = "suspend", "stopped", "resume"
     if len(found) != len(names) or len(precopy.splitlines()) != len(of_precopy):
-        sys.exit(f"{hosts.NAME}: docs/GUESTS.md has other lines for libvirt than {', '.join(names + of_precopy)}")
+        sys.exit(f"{hosts.NAME}: docs/SYSTEMS.md has other lines for libvirt than {', '.join(names + of_precopy)}")
     return dict(zip(names + of_precopy, [*found, *precopy.splitlines()]))
 
 

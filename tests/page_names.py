@@ -5,7 +5,7 @@ import re
 from page_text import TOP, anchor, code_spans, headings, italics, links, read, rows, terms
 
 # Pages about other programs, whose identifiers are not ours; paths are looked up there too.
-OF_OTHERS = ("docs/RECORDING.md", "docs/RECORDS.md", "docs/PERFORMANCE.md", "docs/SYSTEMS.md", "docs/GUESTS.md", "docs/FOUND.md", "examples/recording/README.md")
+OF_OTHERS = ("docs/RECORDING.md", "docs/RECORDS.md", "docs/PERFORMANCE.md", "docs/SYSTEMS.md", "docs/FOUND.md", "examples/recording/README.md")
 # Files that come of a build or of a command that the page shows, and names of other people's files.
 MADE = re.compile(r"crates/\w+/out\b|.*libpostcopy\.(?:so|a)\b|postcopy\.pc|changed\.svg|(?:stale-page|fault|picture)\.svg|shipped/")
 PLACEHOLDER = re.compile(r"[A-Z]{4,}|[*<>$]|\.\.|^[/~-]|^https?:")

@@ -240,9 +240,9 @@ class Tests:
 
     def meanings(self):
         """Each reason has its words in SARIF."""
-        with open(f"{TOP}/docs/ANSWERS.md", encoding="utf-8") as file:
-            line, = re.findall(r"^The reasons are .*", file.read(), re.MULTILINE)
-        reasons = {*re.findall("`([a-z-]+)`", line), "knot", "session-text", "incomplete"}
+        with open(f"{TOP}/bindings/c/postcopy.h", encoding="utf-8") as file:
+            words = re.findall(r"POSTCOPY_REASON_(\w+) = ", file.read())
+        reasons = {*(it.lower().replace("_", "-") for it in words), "knot", "session-text", "incomplete"}
         with open(SCRIPT, encoding="utf-8") as file:
             told = re.findall(r'^    "([a-z-]+)": "[^"]+",$', file.read(), re.MULTILINE)
         self.same("what has a meaning", sorted(told), sorted(reasons))
