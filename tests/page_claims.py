@@ -5,7 +5,7 @@ import re
 from case_table import CASES
 from page_text import links, number_of, read, rows, terms
 
-GUARANTEES, FORMATS, ANSWERS, PREPAGING = "docs/GUARANTEES.md", "docs/FORMATS.md", "docs/ANSWERS.md", "docs/PREPAGING.md"
+GUARANTEES, FORMATS, ANSWERS = "docs/GUARANTEES.md", "docs/FORMATS.md", "docs/ANSWERS.md"
 PERFORMANCE, BENCHES = "docs/PERFORMANCE.md", "bench/results/tables.md"
 MAN1, MAN5 = "share/man/man1/postcopy.1", "share/man/man5/postcopy.5"
 
@@ -202,9 +202,9 @@ def wrong_answers(pages, sources):
 
 
 def wrong_texts(pages):
-    """The words of the texts, by FORMATS and PREPAGING, in the man page of the texts."""
+    """The words of the texts, by FORMATS, in the man page of the texts."""
     text = re.sub(r"\\f[BIR]|\\", "", read(MAN5))
-    for _, cells, head in (*rows(pages[FORMATS]), *rows(pages[PREPAGING])):
+    for _, cells, head in rows(pages[FORMATS]):
         if head[:2] in (["Log", "Record"], ["Lines", "Rule"], ["Line", "Finds work if"]):
             for span in re.findall(r"`([a-z][\w-]+)", " ".join(cells[:2])):
                 if not re.search(rf"(?<![\w-]){re.escape(span)}(?![\w-])", text):

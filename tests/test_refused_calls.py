@@ -130,7 +130,7 @@ def has_fields(kind, body):
 
 
 def slow_answer(data):
-    """What a stream answers to bytes, by the table of packets in docs/PREPAGING.md: a letter for each packet, and for a fault."""
+    """What a stream answers to bytes, by the table of packets in docs/FORMATS.md: a letter for each packet, and for a fault."""
     found = ""
     while len(data) >= 4:
         length = int.from_bytes(data[:4], "big")

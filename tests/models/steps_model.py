@@ -4,7 +4,7 @@
     tests/models/steps_model.py SCRIPT EVENTS [runs]
 
 Writes the session that the events record of the script, or `log-full`; with `runs`, the order in which its records were
-made. It goes by the table of events in docs/PREPAGING.md, and looks through the logs for each question. It takes texts that
+made. It goes by the table of events in docs/FORMATS.md, and looks through the logs for each question. It takes texts that
 are well formed.
 """
 import sys

@@ -1,4 +1,4 @@
-"""At which line a text is refused, slowly and plainly: by the tables of docs/FORMATS.md and docs/PREPAGING.md, line by line and word by word."""
+"""At which line a text is refused, slowly and plainly: by the tables of docs/FORMATS.md, line by line and word by word."""
 import itertools
 import re
 from typing import Callable, NamedTuple
