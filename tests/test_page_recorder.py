@@ -556,7 +556,7 @@ lost 0 page post pc.ram 20480 6 -
     (["target", "{}/a b", "--key", "{}/key"], 3, "a space or a colon"),
     (["target", "{}/t", "--key", "{}/key", "--xml", "--", "qemu"], 2, "without --xml"),
     (["target", "{}/t", "--key", "{}/key", "--xml", "--pid", "1"], 2, "a target that is there already"),
-    (["target", "{}/t", "--key", "{}/key", "--domain", "none"], 1, "is not stopped"),
+    (["target", "{}/t", "--key", "{}/key", "--domain", "none"], 1, "names no process"),
     (["migrate", "{}/m", "--precopy", "--track"], 2, "--precopy goes without"),
     (["migrate", "{}/m", "--balloon"], 2, "--balloon goes with --linux"),
     (["source", "{}/s", "--key", "{}/key"], 2, "one of the arguments"),
