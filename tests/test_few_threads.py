@@ -26,8 +26,8 @@ TOLD, THREADS = 99, 4
 # A session of no record, and yet many pages: so little text is read by one thread.
 MANY_PAGES = b"postcopy-session 1\npages 65536\ncells 1\ninit 0\nguest 0\nsource 0\nlink 0\npager 0\nend\n"
 
-# How many writes the long session has: some 5 MB.
-WRITES = 300_000
+# How many writes the long session has: some 11 MB.
+WRITES = 600_000
 
 
 def limited():

@@ -1,6 +1,6 @@
 """Long texts, of which several threads read parts: whole ones, and ones with a fault in each part.
 
-A session of 8 MB and runs of 7 MB, which are read in the first MiB and in three pieces of 2 MiB behind it and more, are
+A session of 16 MB and runs of 14 MB, which are read in the first 8 MiB and in three pieces of 2 MiB behind it and more, are
 replayed: both from files, and each of them from the standard input. Of a text that is refused the line has to be told, and
 what was found there. An input that fails in a later piece is told too; one of
 which a read is interrupted there, since the program is stopped while it waits for more, is replayed as ever.
@@ -27,13 +27,13 @@ from cases import leave_out, same
 
 TOP = os.path.realpath(f"{os.path.dirname(os.path.realpath(__file__))}/..")
 # How many writes a session has, and how many runs a merging, and the line of the first of each.
-WRITES, FIRST_WRITE = 250_000, 6
-RUNS, FIRST_RUN = 620_000, 3
-# Which write or run is wrong: in the first MiB, in parts of each piece behind it, and the last.
-WRONG_WRITES = (1_000, 35_000, 50_000, 66_000, 82_000, 100_000, 130_000, 150_000, 165_000, 200_000, 220_000, WRITES - 1)
-WRONG_RUNS = (5_000, 100_000, 150_000, 200_000, 330_000, 450_000, 600_000, RUNS - 1)
-# After how many bytes an input fails, or a read of it is interrupted: in the first MiB, at its end, and in each piece behind it.
-BROKEN = (1_000_000, 1 << 20, 2_000_000, 3 << 20, 4_000_000, 6_000_000, 8_000_000)
+WRITES, FIRST_WRITE = 474_000, 6
+RUNS, FIRST_RUN = 1_258_000, 3
+# Which write or run is wrong: in the first 8 MiB, in parts of each piece behind it, and the last.
+WRONG_WRITES = (1_000, 259_000, 274_000, 290_000, 306_000, 324_000, 354_000, 374_000, 389_000, 424_000, 444_000, WRITES - 1)
+WRONG_RUNS = (5_000, 738_000, 788_000, 838_000, 968_000, 1_088_000, 1_238_000, RUNS - 1)
+# After how many bytes an input fails, or a read of it is interrupted: in the first 8 MiB, at its end, and in each piece behind it.
+BROKEN = (8_000_000, 8 << 20, 9_000_000, 10 << 20, 11_000_000, 13_000_000, 15_000_000)
 
 
 def session(wrong=None):

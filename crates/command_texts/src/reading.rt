@@ -34,7 +34,7 @@ impl From<AllocError> for ReadFault {
 const FIRST_BYTES: usize = 131_072;
 
 /// How many pieces of that size follow the first one, before several threads take larger pieces.
-const FIRST_PIECES: u32 = 7;
+const FIRST_PIECES: u32 = 63;
 
 /// Gives the rest of a reader's text to a taker, piece by piece while it is read. A text has at most 268,435,456 bytes
 /// in 1,048,576 reads, or 17,179,869,184 bytes in 67,108,864 reads if its first bytes say that it may be long. A line

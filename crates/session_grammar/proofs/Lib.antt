@@ -6,3 +6,4 @@ pub mod Geometries
 pub mod Fillings
 pub mod Tells
 pub mod Values
+pub mod Digits
