@@ -3,7 +3,6 @@ use Rattle.std.proofs.Common.{◌≡◌, ◌≢◌, ℕ, ◌+◌, ◌<◌, ◌�
 use Rattle.std.specs.Prelude.{count_by, is_some, option_and_then, slice_get, ◌==◌, Contains}
 use Rattle.std.specs.List.{range_with_len, list_any}
 use Rattle.std.proofs.lemmas.Bool.{and_parts, ltb-true, eqb-true}
-use Rattle.migration_types.specs.declared.records.SourceRec.{SourceRec}
 use Rattle.migration_types.specs.declared.records.SourceRec.TheVariants.{Send}
 use Rattle.migration_types.specs.Limits.{most_records}
 use Rattle.migration_types.specs.PageSets.{Pages, no_page, size_below, without_page}
@@ -26,10 +25,6 @@ use Rattle.active_push.specs.inner.Wanted.{HasNext}
 use Rattle.active_push.proofs.Logs.{length_suc}
 use Rattle.active_push.proofs.Keeping.{contents_of, sent_at, sends_keeps, sends_unsent}
 use Rattle.active_push.proofs.Nearest.{choice_is}
-
--- a book stands for its part
-pub part_is : (k : SourceKept) (log : List SourceRec) (sent : ℕ → Option ℕ) (ring : Ring) (was_asked is_done : Bool) → k.log ≡ log → values k.sent ≡ sent → k.bubbles.ring ≡ ring → k.was_asked ≡ was_asked → k.is_done ≡ is_done → part_of k ≡ record (part_of k) { log = log; sent = sent; ring = ring; was_asked = was_asked; is_done = is_done }
-part_is k log sent ring was_asked is_done a b c d e = λ i. record (part_of k) { log = a i; sent = b i; ring = c i; was_asked = d i; is_done = e i }
 
 -- what stands for a part that is kept is kept
 pub book_is : (k : SourceKept) (b : SourcePart) → part_of k ≡ b → k.ledger.geometry ≡ k.frames.geometry → k.bubbles.geometry ≡ k.frames.geometry → pages_of k.sent ≡ k.frames.geometry.pages → k.released ≡ pages_below k.frames.geometry.pages (released k.ledger) → unsent_in k.bubbles ≡ unsent b → IsSourceLog b → IsSourceBook k

@@ -84,9 +84,6 @@ cond_or_left : (b x y : Bool) → cond b true (x || y) ≡ (cond b true x || y)
 cond_or_left true x y = refl
 cond_or_left false x y = refl
 
-or_same : (x b c : Bool) → b ≡ c → (x || b) ≡ true → (x || c) ≡ true
-or_same x b c e f = ap (λ d. x || d) (sym e) ∙ f
-
 module _ (s : Recorded) (shape : IsRightShape s) (g p : ℕ) where
   flat_next : (r : GuestRec) → slice_get s.guest g ≡ Some r → (q d : ℕ) → flat s (suc g) q d ≡ cell_after q d r (flat s g q d)
   flat_next r is q d = ap (λ o. changed (cell_after q d) o (flat s g q d)) is

@@ -4,7 +4,7 @@ use denote.Enum.Bare.{sameb, same_true}
 use Rattle.migration_types.specs.Limits.{longest_log}
 use Rattle.migration_types.specs.contracts.records.LogName.{the_type}
 use Rattle.std.proofs.lemmas.Bool.{cases_lt}
-use Rattle.std.proofs.lemmas.List.{append_assoc, append-nil}
+use Rattle.std.proofs.lemmas.List.{append_assoc}
 use Rattle.migration_types.specs.declared.records.LogName.{LogName}
 use Rattle.migration_types.specs.declared.records.LogName.TheVariants.{Guest, Source, Link, Lane, Pager}
 use Rattle.migration_types.specs.declared.cert.Run.{Run}
@@ -99,12 +99,6 @@ blocks_none = record {
   alternate = λ k d lt. absurd (omega arith);
   last = λ k d at. absurd (omega arith);
 }
-
--- no record more
-pub added_none : (runs more : List Run) (log : LogName) (n : ℕ) → AreBlocks runs → n ≡ 0 → more ≡ runs → IsAdded runs log n more
-added_none runs more log n blocks none same =
-    subst (λ (rs : List Run). IsAdded runs log n rs) (sym same)
-    (subst (λ (k : ℕ). IsAdded runs log k runs) (sym none) (record { blocks = blocks; spelled = sym (append-nil (spelled runs)) }))
 
 -- a run more
 pub added_run : (runs more : List Run) (log : LogName) (n : ℕ) → AreBlocks runs → ends runs log + n ≤ longest_log → 0 < n → ((k : ℕ) (d : Run) → k + 1 ≡ length runs → (get_or runs k d).log ≢ log) → more ≡ runs ++ record { log = log; count = n } ∷ [] → IsAdded runs log n more

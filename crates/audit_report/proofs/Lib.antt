@@ -4,4 +4,3 @@ pub mod Depending
 pub mod Blocks
 pub mod Splitting
 pub mod Showing
-pub mod Taken

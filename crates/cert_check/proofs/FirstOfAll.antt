@@ -147,9 +147,6 @@ same_index a b e = same_from_test a b (eq-eqb (log_index a) (log_index b) e)
 abbrev pub AreRightLogs : Recorded → ℕ → Type 0
 AreRightLogs s count = (log : LogName) → log_index log < count → IsRightLog s log
 
-pub no_logs : (s : Recorded) → AreRightLogs s 0
-no_logs s log lt = absurd (omega arith)
-
 pub one_more_log : (s : Recorded) (log : LogName) → AreRightLogs s (log_index log) → IsRightLog s log → AreRightLogs s (log_index log + 1)
 one_more_log s log before right other lt = go (cases_lt (log_index other) (log_index log))
   where

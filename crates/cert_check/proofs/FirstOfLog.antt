@@ -5,14 +5,10 @@ use Rattle.std.proofs.lemmas.Bool.{cases_lt}
 use Rattle.std.proofs.lemmas.Option.{slice_get_past}
 use Rattle.migration_types.specs.declared.records.LogName.{LogName}
 use Rattle.migration_types.specs.declared.records.LogName.TheVariants.{Guest, Source, Link, Lane, Pager}
-use Rattle.migration_types.specs.declared.records.GuestRec.{GuestRec}
 use Rattle.migration_types.specs.declared.records.SourceRec.{SourceRec}
 use Rattle.migration_types.specs.declared.records.SourceRec.TheVariants.{Halted, State, Send, Again, Ask, Done, Back}
 use Rattle.audit_model.specs.declared.reasons.ShapeReason.{ShapeReason}
 use Rattle.migration_types.specs.Sessions.{Recorded}
-use Rattle.migration_types.specs.declared.records.LinkRec.{LinkRec}
-use Rattle.migration_types.specs.declared.records.LaneRec.{LaneRec}
-use Rattle.migration_types.specs.declared.records.PagerRec.{PagerRec}
 use Rattle.audit_model.specs.Names.{log_length}
 use Rattle.page_store.specs.Tables.{Values, values, IsWith}
 use Rattle.std.specs.Option.{MatchOption}
@@ -31,9 +27,6 @@ earlier_more test log n r e =
 guest_past : (s : Recorded) (n : ℕ) → length s.guest ≤ n → reason_at s (Guest, n) ≡ None
 guest_past s n past = ap (λ o. first_reason (keeps (in_phase s n) o) (keeps (guest_named s) o) true true true) (slice_get_past s.guest n past)
 
-pub guest_reason_at : (s : Recorded) (n : ℕ) (r : GuestRec) → slice_get s.guest n ≡ Some r → reason_at s (Guest, n) ≡ first_reason (in_phase s n r) (guest_named s r) true true true
-guest_reason_at s n r e = ap (λ o. first_reason (keeps (in_phase s n) o) (keeps (guest_named s) o) true true true) e
-
 source_past : (s : Recorded) (n : ℕ) → length s.source ≤ n → reason_at s (Source, n) ≡ None
 source_past s n past = ap (λ o. first_reason true (keeps (source_named s n) o) (keeps (source_start s n) o) (keeps (is_first_send s n) o) (keeps (is_alone s) o)) (slice_get_past s.source n past)
 
@@ -43,20 +36,11 @@ source_reason_at s n r e = ap (λ o. first_reason true (keeps (source_named s n)
 link_past : (s : Recorded) (n : ℕ) → length s.link ≤ n → reason_at s (Link, n) ≡ None
 link_past s n past = ap (λ o. first_reason true (keeps (link_named s) o) true true true) (slice_get_past s.link n past)
 
-pub link_reason_at : (s : Recorded) (n : ℕ) (r : LinkRec) → slice_get s.link n ≡ Some r → reason_at s (Link, n) ≡ first_reason true (link_named s r) true true true
-link_reason_at s n r e = ap (λ o. first_reason true (keeps (link_named s) o) true true true) e
-
 lane_past : (s : Recorded) (n : ℕ) → length s.lane ≤ n → reason_at s (Lane, n) ≡ None
 lane_past s n past = ap (λ o. first_reason true (keeps (lane_named s) o) true true true) (slice_get_past s.lane n past)
 
-pub lane_reason_at : (s : Recorded) (n : ℕ) (r : LaneRec) → slice_get s.lane n ≡ Some r → reason_at s (Lane, n) ≡ first_reason true (lane_named s r) true true true
-lane_reason_at s n r e = ap (λ o. first_reason true (keeps (lane_named s) o) true true true) e
-
 pager_past : (s : Recorded) (n : ℕ) → length s.pager ≤ n → reason_at s (Pager, n) ≡ None
 pager_past s n past = ap (λ o. first_reason true (keeps (pager_named s n) o) (keeps (pager_start s n) o) true true) (slice_get_past s.pager n past)
-
-pub pager_reason_at : (s : Recorded) (n : ℕ) (r : PagerRec) → slice_get s.pager n ≡ Some r → reason_at s (Pager, n) ≡ first_reason true (pager_named s n r) (pager_start s n r) true true
-pager_reason_at s n r e = ap (λ o. first_reason true (keeps (pager_named s n) o) (keeps (pager_start s n) o) true true) e
 
 pub past_end : (s : Recorded) (log : LogName) (n : ℕ) → log_length s log ≤ n → reason_at s (log, n) ≡ None
 past_end s Guest n le = guest_past s n le

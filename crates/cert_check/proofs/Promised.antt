@@ -22,19 +22,6 @@ promised s Replays is replays = record {
   released_as_zeros = λ _. is.released_as_zeros;
 }
 
--- what holds of the session holds of what the other speaks of
-pub promised_on : {IsYes : Type 0} (Of On : (Recorded → Type 0) → Type 0) (Replays Other : Recorded → Type 0) → ((Has : Recorded → Type 0) → Of Has → On Has) → (Of Replays → On Other) → Promises IsYes Of Replays → Promises IsYes On Other
-promised_on Of On Replays Other on other is = record {
-  safe = λ yes. on _ (is.safe yes);
-  replays_clean = λ yes. other (is.replays_clean yes);
-  has_merging = λ yes. on _ (is.has_merging yes);
-  finds_resident = λ yes. on _ (is.finds_resident yes);
-  reads_flat = λ yes. on _ (is.reads_flat yes);
-  placed_once = λ yes. on _ (is.placed_once yes);
-  placed_untouched = λ yes. on _ (is.placed_untouched yes);
-  released_as_zeros = λ yes. on _ (is.released_as_zeros yes);
-}
-
 -- what is not answered promises nothing
 no_promise : {IsYes : Type 0} (Of : (Recorded → Type 0) → Type 0) (Replays : Recorded → Type 0) → (IsYes → ⊥) → Promises IsYes Of Replays
 no_promise Of Replays no_yes = record {

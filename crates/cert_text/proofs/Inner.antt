@@ -120,13 +120,6 @@ cert_tells true (Faulty line reason) order runs cert b is live s = absurd cc
 spells_inner : (form : OrderForm) (order : List Run) (runs cert : List (List ℕ)) → LiveIn form runs cert → Begins SpellsRuns runs → Begins SpellsCertRuns cert → SpellsOrder order (held_in form runs cert) → SpellsInner form order (inner_of form runs cert)
 spells_inner form order runs cert live b d s = spells_back form order (inner_of form runs cert) live.front live.begun (inner_begins form runs cert b d) s
 
-pub no_runs_text : (begun : Bool) (form : OrderForm) (runs cert : List (List ℕ)) → begun ≡ true → has_runs form ≡ true → LiveBy begun form runs cert → Begins SpellsRuns runs → Begins SpellsCertRuns cert → ((order : List Run) → SpellsRuns order runs → ⊥) → (order : List Run) → SpellsOrder order (held_by begun form runs cert) → ⊥
-no_runs_text false form runs cert e is live b d stops order s = absurd cc
-no_runs_text true Runs runs cert e is live b d stops order s = stops order (spells_inner Runs order runs cert live b d s)
-no_runs_text true (Faulty line reason) runs cert e is live b d stops order s = stops order (spells_inner (Faulty line reason) order runs cert live b d s)
-no_runs_text true Cert runs cert e is live b d stops order s = absurd cc
-no_runs_text true Clean runs cert e is live b d stops order s = absurd cc
-
 pub no_cert_text : (begun : Bool) (form : OrderForm) (runs cert : List (List ℕ)) → begun ≡ true → has_runs form ≡ false → LiveBy begun form runs cert → Begins SpellsRuns runs → Begins SpellsCertRuns cert → ((order : List Run) → SpellsCertRuns order cert → ⊥) → (order : List Run) → SpellsOrder order (held_by begun form runs cert) → ⊥
 no_cert_text false form runs cert e is live b d stops order s = absurd cc
 no_cert_text true Cert runs cert e is live b d stops order s = stops order (spells_inner Cert order runs cert live b d s)

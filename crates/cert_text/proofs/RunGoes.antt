@@ -1,5 +1,5 @@
 -- What the lines that a reader of runs holds say of each text that begins with them, and how it goes on.
-use Rattle.std.proofs.Common.{◌≡◌, ◌≢◌, ℕ, zero, suc, ◌+◌, ◌-◌, ◌*◌, ◌<◌, ◌≤◌, ◌^◌, List, [], ◌∷◌, ◌++◌, length, map, refl, sym, ap, subst, ◌∙◌, append_assoc, length-append, arith}
+use Rattle.std.proofs.Common.{◌≡◌, ◌≢◌, ℕ, zero, suc, ◌+◌, ◌-◌, ◌<◌, ◌≤◌, List, [], ◌∷◌, ◌++◌, length, map, refl, sym, ap, subst, ◌∙◌, append_assoc, length-append, arith}
 use Rattle.std.specs.Prelude.{Result, Ok, Err, OnOk, OnErr, IfErr}
 use Rattle.std.specs.List.{AllByRecursion}
 use Rattle.std.specs.Fmt.{decimal}
@@ -13,13 +13,12 @@ use Rattle.text_lines.specs.declared.FaultKind.TheVariants.{Memory}
 use Rattle.migration_types.specs.declared.cert.Run.{Run}
 use Rattle.migration_types.specs.declared.version.Version.{Version}
 use Rattle.migration_types.specs.declared.size.Size.{Size}
-use Rattle.migration_types.specs.Limits.{longest_log, most_runs}
+use Rattle.migration_types.specs.Limits.{most_runs}
 use Rattle.migration_types.specs.Certs.{RunFits, Alternate, AreRuns}
 use Rattle.cert_text.specs.declared.run_lines.RunStage.{RunStage}
 use Rattle.cert_text.specs.declared.run_lines.RunStage.TheVariants.{Count, Runs, Done}
 use Rattle.cert_text.specs.Runs.{runs_key, closing, run_line, runs_lines, SpellsRunLines}
 use Rattle.cert_text.specs.inner.Held.{MayFollow, Follows, runs_onto, runs_held, RunsFit, RunsLive}
-use Rattle.migration_types.specs.inner.Widest.{few_runs}
 use Rattle.cert_text.proofs.RunLaws.{runs_agree, runs_end, runs_same, NextRun, next_run, all_push, all_append, alternate_push, alternate_all, another}
 
 runs_onto_append : (d : Part Run) (a b : List (List ℕ)) → runs_onto d a ++ b ≡ runs_onto d (a ++ b)
@@ -151,19 +150,6 @@ not_whole_at version size Done d live other runs fits e = absurd (other refl)
 
 pub not_whole : (version : Version) (size : Size) (stage : RunStage) (d : Part Run) (held : List (List ℕ)) → runs_held stage d [] ≡ held → RunsLive version size stage d → stage ≢ Done → (runs : List Run) → SpellsRunLines version size runs held → ⊥
 not_whole version size stage d held e live other runs s = not_whole_at version size stage d live other runs s.0 (e ∙ s.1)
-
--- ---- the lines are few
-
-runs_few : (version : Version) (size : Size) (d : Part Run) (more : List (List ℕ)) → RunsFit version size d → length (runs_onto d more) ≤ 5 * longest_log + 1 + length more
-runs_few version size d more f =
-    let few = few_runs version size d.count f.few in
-    let count = f.count in
-    omega (arith, length-append (map run_line d.items) more, length-map d.items run_line)
-
-pub live_few : (version : Version) (size : Size) (stage : RunStage) (d : Part Run) → RunsLive version size stage d → length (runs_held stage d []) < 2 ^ 31
-live_few version size Count d live = omega arith
-live_few version size Runs d live = omega (arith, runs_few version size d [] live)
-live_few version size Done d live = omega (arith, runs_few version size d (closing ∷ []) live.0)
 
 -- ---- no runs' lines begin those of others
 

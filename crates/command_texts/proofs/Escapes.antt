@@ -1,9 +1,8 @@
 -- A name between quotation marks, as it is written.
-use Rattle.std.proofs.Common.{◌≡◌, ◌∙◌, ℕ, ◌+◌, ◌<◌, List, [], ◌∷◌, ◌++◌, Option, length, drop, get_or, refl, sym, ap, append_assoc, cond, false}
+use Rattle.std.proofs.Common.{◌≡◌, ◌∙◌, ℕ, ◌+◌, ◌<◌, List, [], ◌∷◌, ◌++◌, Option, length, drop, get_or, sym, ap, append_assoc, cond, false}
 use Rattle.std.proofs.lemmas.List.{at_drop_more}
 use Rattle.std.specs.Io.KnownBytes.{Appends}
 use Rattle.std.proofs.KnownBytes.{Appends-trans}
-use Rattle.std.specs.Str.{chars}
 use Rattle.refusal_words.specs.Hidden.{is_hidden}
 use Rattle.command_texts.specs.Shown.{are_printed, escaped, escapes, quoted}
 use Rattle.text_access.specs.Written.{AppendsFront}
@@ -21,10 +20,6 @@ pub record IsQuotedTo (old new : Option (List ℕ)) (name rest : List ℕ) : Typ
   pub front : List ℕ
   pub parts : quoted name ≡ front ++ (escapes rest ++ 34 ∷ [])
   pub written : Appends old new front
-
--- nothing but the mark at its front
-pub quoted_first : (old new : Option (List ℕ)) (name : List ℕ) → Appends old new (34 ∷ []) → IsQuotedTo old new name (chars name)
-quoted_first old new name h = record { front = 34 ∷ []; parts = refl; written = h }
 
 -- one character more
 pub quoted_more : (old mid new : Option (List ℕ)) (name rest more : List ℕ) (c : ℕ) → escapes rest ≡ escaped c ++ escapes more → IsQuotedTo old mid name rest → Appends mid new (escaped c) → IsQuotedTo old new name more

@@ -7,10 +7,9 @@ use Rattle.std.specs.Io.KnownBytes.{Appends, Keeps}
 use Rattle.std.proofs.KnownBytes.{Appends-nil, Appends-trans, Keeps-refl, Keeps-trans}
 use Rattle.std.proofs.lemmas.List.{append_assoc, append-nil, length-map, take-map, take_all, take_more}
 use Rattle.command_texts.specs.declared.answer.Fault.{Fault}
-use Rattle.command_texts.specs.declared.answer.Fault.TheVariants.{File, Link, Threads, Output, Memory}
 use Rattle.command_texts.specs.declared.why.Telling.{Telling}
 use Rattle.command_texts.specs.declared.why.Telling.TheVariants.{Short}
-use Rattle.command_texts.specs.Answers.{IsListStop, IsReadFault}
+use Rattle.command_texts.specs.Answers.{IsListStop}
 use Rattle.command_texts.specs.Reasons.{Place, TellsWhy, place_of}
 use Rattle.command_texts.specs.Told.{AreRead, IsNamed, is_dash}
 use Rattle.command_texts.specs.Several.{AreListed, Entry, IsListStatus, IsListed, IsRight, Said, StopsSeveral, Style, TellsEach, TellsEntry, TellsOneUnread, TellsSeveral, TellsUnread, entry_status, greater, list_end, listed, well, worst}
@@ -178,11 +177,3 @@ unread_by false worse status a b c name before more one next three =
 
 pub one_unread : (worse status : ℕ) (a b c : Option (List ℕ)) (name : List ℕ) → Gains a b → Gains b c → (worse ≡ 3 → TellsOneUnread a b) → (status ≡ 3 → TellsUnread name b c) → greater worse status ≡ 3 → TellsOneUnread a c
 one_unread worse status a b c name before more one next three = unread_by (nat_lt worse status) worse status a b c name before more one next three
-
--- a text was not read under a name, or there was no memory
-pub read_stops : (P : List ℕ → Type 0) (fault : Fault) → ((name why : Bor (List ℕ)) → fault ≡ File name why → ⊥) → IsReadFault P fault → IsListStop fault
-read_stops P (File name why) never h = absurd (never name why refl)
-read_stops P Link never h = absurd h
-read_stops P Threads never h = absurd h
-read_stops P (Output name why) never h = tt
-read_stops P Memory never h = tt

@@ -29,8 +29,3 @@ beside_holds P made (Err fault) is same = tt
 pub beside_few : {U : Type 0} (P : Answer → Type 0) (made : Result Answer AllocError) (given : Result (Answer × U) Fault) → ((a : Answer) → P a → a.status < 2) → IfOk made P → IfOk given (λ g. made ≡ Ok g.0) → IfOk given (λ g. g.0.status < 2)
 beside_few P made (Ok g) few is same = few g.0 (subst (λ (r : Result Answer AllocError). IfOk r P) same is)
 beside_few P made (Err fault) few is same = tt
-
--- what follows of the status of an answer from what it says
-pub few_of : (P : Answer → Type 0) (given : Result Answer Fault) → ((a : Answer) → P a → a.status < 2) → IfOk given P → IfOk given (λ a. a.status < 2)
-few_of P (Ok g) few is = few g is
-few_of P (Err fault) few is = tt

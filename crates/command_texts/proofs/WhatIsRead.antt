@@ -1,5 +1,5 @@
 -- What was read of a text.
-use Rattle.std.proofs.Common.{◌≡◌, ◌≢◌, ℕ, ◌<◌, List, ◌++◌, refl, subst, append_assoc}
+use Rattle.std.proofs.Common.{◌≡◌, ◌≢◌, ℕ, List, ◌++◌, refl, subst, append_assoc}
 use Rattle.std.specs.Prelude.{Option, Some, None, Result, Ok, Err, IfOk, OnOk, MatchResult}
 use Rattle.text_lines.specs.declared.FaultKind.{FaultKind}
 use Rattle.text_lines.specs.declared.FaultKind.TheVariants.{Form, Range, Ended, Memory}
@@ -7,7 +7,6 @@ use Rattle.std.specs.declared.alloc.AllocError.{AllocError}
 use Rattle.text_lines.specs.declared.wanted.Refusal.{Refusal}
 use Rattle.text_lines.specs.Answer.{IsRead, Refused}
 use Rattle.text_lines.specs.Text.{IsRefusalLine, IsSpelling}
-use Rattle.command_texts.specs.declared.answer.Fault.{Fault}
 use Rattle.command_texts.specs.Reasons.{IsRefusedAt, line_of}
 
 -- a text that is refused, and not because there is no memory for it, is refused at that line
@@ -20,11 +19,6 @@ refused_at Spells text line Memory h ne = absurd (ne refl)
 -- one piece more
 pub more_taken : {T : Type 0} (Came : T → List ℕ → Type 0) (start mid new : T) (bytes piece : List ℕ) → ((before : List ℕ) → Came start before → Came mid (before ++ bytes)) → ((text : List ℕ) → Came mid text → Came new (text ++ piece)) → (before : List ℕ) → Came start before → Came new (before ++ (bytes ++ piece))
 more_taken Came start mid new bytes piece yet more before came = subst (Came new) (append_assoc before bytes piece) (more (before ++ bytes) (yet before came))
-
--- the status that was written is the answer's
-pub few_written : (done : Result ℕ Fault) (own : ℕ) → own < 2 → IfOk done (λ status. status ≡ own) → IfOk done (λ status. status < 2)
-few_written (Ok status) own few e = rw e few
-few_written (Err fault) own few e = tt
 
 pub ok_then : {V E : Type 0} (r : Result V E) (P Q : Type 0) → OnOk r P → (P → Q) → OnOk r Q
 ok_then (Ok v) P Q h f = f h

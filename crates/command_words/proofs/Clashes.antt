@@ -8,7 +8,7 @@ use Rattle.clap.specs.declared.error.kind.ErrorKind.TheVariants.{ArgumentConflic
 use Rattle.command_words.specs.declared.requests.Request.{Request}
 use Rattle.command_words.specs.declared.requests.Lacking.{Lacking}
 use Rattle.command_words.specs.declared.requests.Lists.{Lists}
-use Rattle.command_words.specs.Words.{AreAccepted, AreRefused, IsKindFor, IsRefusedFor, asked, asked_in, asked_of, clashes, clashing, error_kinds, folders_asked, folders_given, folders_in, postcopy_words, several_asked, several_given, several_in}
+use Rattle.command_words.specs.Words.{AreAccepted, AreRefused, IsKindFor, asked, asked_in, asked_of, clashes, clashing, error_kinds, folders_asked, folders_given, folders_in, postcopy_words, several_asked, several_given, several_in}
 
 -- what is asked for unless something holds, does not hold where it is asked for
 unless : {X : Type 0} (b : Bool) (found : Option X) (x : X) → cond b None found ≡ Some x → b ≡ false
@@ -43,12 +43,6 @@ folders_asked_alike words folders e = folders_alike (subcommand_of postcopy_word
 pub kind_of_line : (words : List Text) (error : Error) → HasKind (error_kinds words) error → (kind_of error ≡ OutOfMemory) ⊎ IsKindFor words (kind_of error)
 kind_of_line words error (inl memory) = inl memory
 kind_of_line words error (inr among) = inr (inl among)
-
--- so is one for words that the command line accepts
-pub kind_of_clash : (words : List Text) (clash : Bool) (kind : ErrorKind) → clashing words ≡ clash → error_kinds words ≡ [] → IsRefusedFor clash kind → (kind ≡ OutOfMemory) ⊎ IsKindFor words kind
-kind_of_clash words true kind clashes none (inl conflict) = inr (inr (none, clashes, conflict))
-kind_of_clash words true kind clashes none (inr memory) = inl memory
-kind_of_clash words false kind alike none memory = inl memory
 
 -- if memory does not run out, it is one for the words
 pub kind_alone : (words : List Text) (kind : ErrorKind) → kind ≢ OutOfMemory → (kind ≡ OutOfMemory) ⊎ IsKindFor words kind → IsKindFor words kind

@@ -1,5 +1,5 @@
 -- Laws on the rows of the table.
-use Rattle.std.proofs.Common.{◌≡◌, true, false, List, [], ◌∷◌, None, Option, Some, refl, sym, ap, ◌∙◌, find, fold, option_map, option_and_then, cond}
+use Rattle.std.proofs.Common.{◌≡◌, true, false, List, [], ◌∷◌, Option, Some, refl, sym, ap, ◌∙◌, find, fold, option_map, option_and_then, cond}
 use Rattle.std.specs.Str.{bytes_eq}
 use Rattle.clap.specs.Words.{App, Row as Given, Text}
 use Rattle.command_words.specs.declared.building.Choices.{Choices}
@@ -22,13 +22,3 @@ asked_by_row rows name given found is e =
 pub fold_rows : (choices : Choices) (app : App) (rows : List CommandRow) → fold (λ app row. with_command choices app (row_of row)) app rows ≡ fold (with_command choices) app (rows_of rows)
 fold_rows choices app [] = refl
 fold_rows choices app (row ∷ rows) = fold_rows choices (with_command choices app (row_of row)) rows
-
--- a name and rows that were told apart, together
-pub told_together : {B N R : Type 0} (name : B → N) (rows : B → R) (found : Option B) (n : N) (r : R)
-    → Some n ≡ option_map name found → Some r ≡ option_map (λ (p : N × R). p.1) (option_map (λ b. (name b, rows b)) found)
-    → option_map (λ (b : B). let p : N × R = (name b, rows b) in p) found ≡ Some (n, r)
-told_together name rows None n r e d = let none : Some n ≡ None = e in absurd cc
-told_together name rows (Some b) n r e d =
-    let names : n ≡ name b = cc in
-    let lists : r ≡ rows b = cc in
-    rw (names, lists) refl

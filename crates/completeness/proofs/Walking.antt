@@ -21,12 +21,6 @@ use Rattle.completeness.specs.inner.Walks.{IsLedger, AreFreed, ArePlaced, AreSet
 
 -- ---- whole logs
 
-or_swapped : (b c : Bool) → (b || c) ≡ (c || b)
-or_swapped true true = refl
-or_swapped true false = refl
-or_swapped false true = refl
-or_swapped false false = refl
-
 or_moved : (a b c : Bool) → (a || (b || c)) ≡ (b || (a || c))
 or_moved true true c = refl
 or_moved true false c = refl

@@ -1,21 +1,14 @@
 -- The flat machine at the next record.
-use Rattle.std.proofs.Common.{◌≡◌, ℕ, suc, Some, sym, ap, ◌∙◌, subst}
+use Rattle.std.proofs.Common.{◌≡◌, ℕ, suc, Some, sym, ap, ◌∙◌}
 use Rattle.std.specs.Prelude.{slice_get}
 use Rattle.migration_types.specs.declared.records.GuestRec.{GuestRec}
 use Rattle.migration_types.specs.Extents.{Extent}
 use Rattle.migration_types.specs.Memory.{Memory}
 use Rattle.migration_types.specs.PageSets.{Pages}
-use Rattle.migration_types.specs.Sessions.{Recorded, GuestRecFits}
+use Rattle.migration_types.specs.Sessions.{Recorded}
 use Rattle.audit_model.specs.Flat.{changed, cell_after, released_after, flat, in_ledger}
 use Rattle.flat_machine.specs.declared.machine.Machine.{Machine}
-use Rattle.flat_machine.specs.Machines.{IsSized, HasFor, IsWith, IsAfter, IsFlat, memory_after, ledger_after}
-
--- a machine of the session's geometry has what its records are about
-pub has_for : (e : Extent) (r : GuestRec) (m : Machine) → IsSized e m → GuestRecFits e r → HasFor r m
-has_for e r m sized fits = record {
-  frames = subst (λ (f : Extent). GuestRecFits f r) (sym sized.frames) fits;
-  ledger = subst (λ (f : Extent). GuestRecFits f r) (sym sized.ledger) fits;
-}
+use Rattle.flat_machine.specs.Machines.{IsSized, IsWith, IsAfter, IsFlat, memory_after, ledger_after}
 
 pub sized_on : (e : Extent) (old new : Machine) (memory : Memory) (pages : Pages) → IsSized e old → IsWith old new memory pages → IsSized e new
 sized_on e old new memory pages sized on = record {

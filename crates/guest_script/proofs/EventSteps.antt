@@ -21,14 +21,10 @@ use Rattle.guest_script.specs.declared.event_steps.EventStage.{EventStage}
 use Rattle.guest_script.specs.declared.event_steps.EventStage.TheVariants.{Header, Count, Events, Done}
 use Rattle.guest_script.specs.Events.{events_header, events_key, closing, event_line, event_lines, EventFits, AreEvents, SpellsEvents}
 use Rattle.guest_script.specs.inner.EventHeld.{events_held, EventsLeft, EventsRest, EventsFit, EventsLive, EventsStep}
-use Rattle.guest_script.proofs.Exactly.{exact_step, exact_refuses, exact_begins, exact_whole, exact_left}
+use Rattle.guest_script.proofs.Exactly.{exact_step, exact_refuses, exact_begins, exact_left}
 use Rattle.guest_script.proofs.Lists.{all_at, all_append}
 use Rattle.guest_script.proofs.TextLists.{keyed_same, all_replicate, none_left}
 use Rattle.guest_script.proofs.Tells.{event_tells}
-
--- no line came yet
-pub live_start : (d : Part Event) → EventsLive Header d
-live_start d = record { exact = record { only = λ v more s. s; all = λ v more s. s }; fits = tt }
 
 pub live_at : (stage at : EventStage) (d : Part Event) → stage ≡ at → EventsLive stage d → EventsLive at d
 live_at stage at d is live = subst (λ (s : EventStage). EventsLive s d) is live
@@ -37,11 +33,6 @@ live_at stage at d is live = subst (λ (s : EventStage). EventsLive s d) is live
 
 step : (stage next : EventStage) (d new : Part Event) (line : List ℕ) → EventsLive stage d → EventsFit next new → events_held next new ≡ events_held stage d ++ line ∷ [] → ((v : List Event) (more : List (List ℕ)) → EventsRest stage d v (line ∷ more) → EventsRest next new v more) → ((v : List Event) (more : List (List ℕ)) → EventsRest next new v more → EventsRest stage d v (line ∷ more)) → EventsLive next new × (events_held next new ≡ events_held stage d ++ line ∷ [])
 step stage next d new line live fits grown on back = (record { exact = exact_step SpellsEvents (EventsRest stage d) (events_held stage d) live.exact (EventsRest next new) (events_held next new) line grown on back; fits = fits }, grown)
-
-pub header_taken : (d : Part Event) (line : List ℕ) → EventsLive Header d → line ≡ events_header → EventsLive Count d × (events_held Count d ≡ events_held Header d ++ line ∷ [])
-header_taken d line live is = step Header Count d d line live tt (ap (λ (l : List ℕ). l ∷ []) (sym is))
-    (λ v more r. let e = r.1 in let tail : more ≡ counted events_key event_line v (closing ∷ []) = cc in (r.0, tail))
-    (λ v more r. let e = r.1 in (r.0, cc))
 
 pub count_taken : (d new : Part Event) (line : List ℕ) → EventsLive Count d → new.items ≡ [] → new.count ≤ most_records → line ≡ events_key ++ decimal new.count → EventsLive Events new × (events_held Events new ≡ events_held Count d ++ line ∷ [])
 count_taken d new line live none few is = step Count Events d new line live
@@ -91,20 +82,8 @@ closing_taken d line live all is = step Events Done d d line live (live.fits, al
 
 -- ---- a line that is refused
 
-pub header_refused : (d : Part Event) (line : List ℕ) → line ≢ events_header → (v : List Event) (more : List (List ℕ)) → EventsRest Header d v (line ∷ more) → ⊥
-header_refused d line other v more r = let e = r.1 in other (cc)
-
-pub count_refused : (d : Part Event) (line : List ℕ) → ((n : ℕ) → n ≤ most_records → line ≢ events_key ++ decimal n) → (v : List Event) (more : List (List ℕ)) → EventsRest Count d v (line ∷ more) → ⊥
-count_refused d line none v more r = let e = r.1 in none (length v) r.0.few (cc)
-
 pub event_refused : (d : Part Event) (line : List ℕ) → length d.items < d.count → ((x : Event) → EventFits x → line ≢ event_line x) → (v : List Event) (more : List (List ℕ)) → EventsRest Events d v (line ∷ more) → ⊥
 event_refused d line less none v more r = let n = next_event d line v more r less in none n.0 n.5 n.3
-
-pub closing_refused : (d : Part Event) (line : List ℕ) → IsWhole d → line ≢ closing → (v : List Event) (more : List (List ℕ)) → EventsRest Events d v (line ∷ more) → ⊥
-closing_refused d line all other v more r = let n = no_more d v (line ∷ more) r all in let e = n.1 in other (cc)
-
-pub more_refused : (d : Part Event) (line : List ℕ) (v : List Event) (more : List (List ℕ)) → EventsRest Done d v (line ∷ more) → ⊥
-more_refused d line v more r = let e = r.2 in absurd cc
 
 -- ---- what comes of the lines so far
 
@@ -134,12 +113,6 @@ live_few Header d live = omega arith
 live_few Count d live = omega arith
 live_few Events d live = let few = live.fits.few in let within = live.fits.within in omega (arith, length-map d.items event_line)
 live_few Done d live = let few = live.fits.0.few in let within = live.fits.0.within in omega (arith, length-append (map event_line d.items) (closing ∷ []), length-map d.items event_line)
-
-pub live_text : (d : Part Event) → EventsLive Done d → SpellsEvents d.items (events_held Done d)
-live_text d live =
-    let few = live.fits.0.few in
-    let within = live.fits.0.within in
-    exact_whole SpellsEvents (EventsRest Done d) (events_held Done d) live.exact d.items (record { few = omega arith; each = live.fits.0.each }, refl, refl)
 
 rest_not_none : (stage : EventStage) (d : Part Event) → stage ≢ Done → (v : List Event) → EventsRest stage d v [] → ⊥
 rest_not_none Header d other v r = let e = r.1 in absurd cc

@@ -20,12 +20,12 @@ use Rattle.session_grammar.specs.inner.InitPages.{IsInitContent, Rise, next_from
 use Rattle.session_grammar.proofs.Laws.{extent_same, page_push, rise_at}
 use Rattle.session_grammar.proofs.Values.{init_page_tells}
 use Rattle.guest_script.specs.declared.stages.ScriptStage.{ScriptStage}
-use Rattle.guest_script.specs.declared.stages.ScriptStage.TheVariants.{Header, Pages, Cells, InitCount, Init, Window, Down, Up, Lanes, Lane, Count}
+use Rattle.guest_script.specs.declared.stages.ScriptStage.TheVariants.{Pages, Cells, InitCount, Init, Window, Down, Up, Lanes, Lane, Count}
 use Rattle.guest_script.specs.declared.script.Scenario.{Scenario}
 use Rattle.guest_script.specs.Scenarios.{LaneFits, IsScenario}
-use Rattle.guest_script.specs.Scripts.{script_header, pivots_key, window_key, down_key, up_key, lane_key, fates_text, vcpus_lines, with_lanes, lanes_lines, up_lines, down_lines, window_lines, pivots_lines, init_lines, cells_lines, pages_lines, SpellsScript}
+use Rattle.guest_script.specs.Scripts.{script_header, pivots_key, window_key, down_key, up_key, lane_key, fates_text, vcpus_lines, with_lanes, lanes_lines, up_lines, down_lines, window_lines, pivots_lines, init_lines, cells_lines, SpellsScript}
 use Rattle.guest_script.specs.inner.ScriptHeld.{ScriptDraft, small_machine, machine_of, held_down, held_up, script_held, InitLeft, ScriptRest, InitPart, FitsDown, FitsUp, FitsLane, ScriptFits, ScriptLive}
-use Rattle.guest_script.proofs.ByVersion.{header_tells, no_header, no_lane, no_lanes, one_lane, two_lanes, with_lanes_same}
+use Rattle.guest_script.proofs.ByVersion.{no_lane, with_lanes_same}
 use Rattle.guest_script.proofs.Exactly.{exact_step}
 use Rattle.guest_script.proofs.Lists.{all_at}
 use Rattle.guest_script.proofs.TextLists.{cons_parts, cons_same, keyed_same, none_left}
@@ -53,14 +53,6 @@ step stage next d new line live fits grown on back = (record { exact = exact_ste
 
 abbrev pub with_version : Version → ScriptDraft → ScriptDraft
 with_version version d = record d { version = version }
-
-pub header_taken : (d : ScriptDraft) (version : Version) (line : List ℕ) → ScriptLive Header d → line ≡ script_header version → Taken Header Pages d (with_version version d) line
-header_taken d version line live is = step Header Pages d (with_version version d) line live tt (ap (λ (l : List ℕ). l ∷ []) (sym is))
-    (λ v more r. let parts = cons_parts line (script_header v.version) more (pages_lines v) r.1 in (r.0, header_tells v.version version (sym parts.0 ∙ is), parts.1))
-    (λ v more r. (r.0, cons_same line (script_header v.version) more (pages_lines v) (is ∙ ap script_header (sym r.1)) r.2))
-
-pub header_refused : (d : ScriptDraft) (line : List ℕ) → line ≢ script_header One → line ≢ script_header Two → RefusesAt Header d line
-header_refused d line one two v more r = no_header line v.version one two (cons_parts line (script_header v.version) more (pages_lines v) r.1).0
 
 abbrev pub with_pages : ℕ → ScriptDraft → ScriptDraft
 with_pages n d = record d { pages = n }
@@ -183,9 +175,6 @@ pivots_taken d n line live all some few is = step Init Window d (with_pivots n d
     (r.fits, ((r.version, r.geometry, left.0), k.0), k.1))
     (λ v more r. record { fits = r.0; version = r.1.0.0; geometry = r.1.0.1; count = ap (λ (t : List InitPage). length t) r.1.0.2 ∙ all; back = []; whole = r.1.0.2 ∙ sym (append-nil d.init.items); lines = keyed_back pivots_key n v.pivots line more (window_lines v) is r.1.1 r.2 })
 
-pub pivots_refused : (d : ScriptDraft) (line : List ℕ) → IsWhole d.init → ((n : ℕ) → 1 ≤ n → n ≤ 16 → line ≢ pivots_key ++ decimal n) → RefusesAt Init d line
-pivots_refused d line all none v more r = let left = no_page d v (line ∷ more) r all in none v.pivots r.fits.some_pivots r.fits.few_pivots (cons_parts line (pivots_key ++ decimal v.pivots) more (window_lines v) left.1).0
-
 abbrev pub with_window : ℕ → ScriptDraft → ScriptDraft
 with_window n d = record d { window = n }
 
@@ -215,9 +204,6 @@ down_taken d fates line live few is =
     (λ v more r. let k = fates_on down_key fates v.down line more (up_lines v) is r.2 in (r.0, (r.1, k.0), k.1))
     (λ v more r. (r.0, r.1.0, fates_back down_key fates v.down line more (up_lines v) is r.1.1 r.2))
 
-pub down_refused : (d : ScriptDraft) (line : List ℕ) → ((fates : List Fate) → length fates ≤ 4096 → line ≢ down_key ++ fates_text fates) → RefusesAt Down d line
-down_refused d line none v more r = none v.down r.0.few_down (cons_parts line (down_key ++ fates_text v.down) more (up_lines v) r.2).0
-
 -- there is no lane until its line comes
 abbrev pub with_up : List Fate → ScriptDraft → ScriptDraft
 with_up fates d = record d { up = fates; lane = None }
@@ -244,34 +230,7 @@ second_up_taken d fates line live two few is = step Up Lanes d (with_up fates d)
     (λ v more r. let k = fates_on up_key fates v.up line more (lanes_lines v) is r.2 in (r.0, (r.1, k.0), k.1))
     (λ v more r. (r.0, r.1.0, fates_back up_key fates v.up line more (lanes_lines v) is r.1.1 r.2))
 
-pub up_refused : (d : ScriptDraft) (line : List ℕ) → ((fates : List Fate) → length fates ≤ 4096 → line ≢ up_key ++ fates_text fates) → RefusesAt Up d line
-up_refused d line none v more r = none v.up r.0.few_up (cons_parts line (up_key ++ fates_text v.up) more (lanes_lines v) r.2).0
-
 -- ---- the number of links that carry packets down, and the lane
-
-lanes_come : (d : ScriptDraft) (line : List ℕ) → ScriptLive Lanes d → (v : Scenario) (more : List (List ℕ)) → ScriptRest Lanes d v (line ∷ more) → line ∷ more ≡ with_lanes Two v.lane (vcpus_lines v)
-lanes_come d line live v more r = r.2 ∙ lanes_at Two v (r.1.0.0.0.0.0 ∙ live.fits.1)
-
-pub one_lane_taken : (d : ScriptDraft) (line : List ℕ) → ScriptLive Lanes d → line ≡ codes "lanes 1" → Taken Lanes Count d d line
-one_lane_taken d line live is =
-    let two = live.fits.1 in
-    let none = live.fits.2 in
-    step Lanes Count d d line live
-    (record { before = live.fits.0; lane = subst (LaneFits d.version) (sym none) tt })
-    (ap (λ (t : List (List ℕ)). held_up d ++ t) (with_lanes_same d.version Two d.lane None [] two none) ∙ ap (λ (l : List ℕ). held_up d ++ l ∷ []) (sym is))
-    (λ v more r. let come = one_lane v.lane line more (vcpus_lines v) is (lanes_come d line live v more r) in (r.0, (r.1, come.0 ∙ sym none), come.1))
-    (λ v more r. (r.0, r.1.0, cons_same line (codes "lanes 1") more (vcpus_lines v) is r.2 ∙ sym (with_lanes_same v.version Two v.lane None (vcpus_lines v) (r.1.0.0.0.0.0.0 ∙ two) (r.1.1 ∙ none))))
-
-pub two_lanes_taken : (d : ScriptDraft) (line : List ℕ) → ScriptLive Lanes d → line ≡ codes "lanes 2" → Taken Lanes Lane d d line
-two_lanes_taken d line live is =
-    let two = live.fits.1 in
-    step Lanes Lane d d line live (live.fits.0, two)
-    (ap (λ (l : List ℕ). held_up d ++ l ∷ []) (sym is))
-    (λ v more r. let come = two_lanes v.lane line more (vcpus_lines v) is (lanes_come d line live v more r) in record { fits = r.0; agrees = r.1; fates = come.0; lane = come.1; lines = come.2 })
-    (λ v more r. (r.fits, r.agrees, cons_same line (codes "lanes 2") more ((lane_key ++ fates_text r.fates) ∷ vcpus_lines v) is r.lines ∙ sym (with_lanes_same v.version Two v.lane (Some r.fates) (vcpus_lines v) (r.agrees.0.0.0.0.0 ∙ two) r.lane)))
-
-pub lanes_refused : (d : ScriptDraft) (line : List ℕ) → ScriptLive Lanes d → line ≢ codes "lanes 1" → line ≢ codes "lanes 2" → RefusesAt Lanes d line
-lanes_refused d line live one two v more r = no_lanes v.lane line more (vcpus_lines v) one two (lanes_come d line live v more r)
 
 abbrev pub with_lane : List Fate → ScriptDraft → ScriptDraft
 with_lane fates d = record d { lane = Some fates }
@@ -289,6 +248,3 @@ lane_taken d fates line live few is =
     (ap (λ (x : Version). held_up d ++ with_lanes x (Some fates) []) two ∙ ap (λ (l : List ℕ). held_up d ++ codes "lanes 2" ∷ l ∷ []) (sym is) ∙ sym (append_assoc (held_up d) (codes "lanes 2" ∷ []) (line ∷ [])))
     (λ v more r. let k = fates_on lane_key fates r.fates line more (vcpus_lines v) is r.lines in (r.fits, (r.agrees, r.lane ∙ ap Some k.0), k.1))
     (λ v more r. record { fits = r.0; agrees = r.1.0; fates = fates; lane = r.1.1; lines = fates_back lane_key fates fates line more (vcpus_lines v) is refl r.2 })
-
-pub lane_refused : (d : ScriptDraft) (line : List ℕ) → ((fates : List Fate) → length fates ≤ 4096 → line ≢ lane_key ++ fates_text fates) → RefusesAt Lane d line
-lane_refused d line none v more r = none r.fates (subst (LaneFits v.version) r.lane r.fits.lane).1 (cons_parts line (lane_key ++ fates_text r.fates) more (vcpus_lines v) r.lines).0

@@ -349,12 +349,3 @@ end_taken d new line is live all last spelled =
     let parts = cons_parts line closing more [] (left.tail ∙ ap (λ (t : List Vcpu). vcpus_onto t (closing ∷ [])) none) in
     (r.fits, r.agrees, left.whole ∙ ap (λ (t : List Vcpu). d.vcpus ++ this ∷ t) none, parts.1))
     (λ v more r. with_no_op d v (line ∷ more) [] r.0 r.1 (ap (λ (t : List Vcpu). length t) r.2 ∙ omega arith) all (record { whole = r.2; tail = cons_same line closing more [] spelled r.3 })))
-
-pub end_refused : (d : ScriptDraft) (line : List ℕ) → HasAllOps d → d.count ≤ length d.vcpus + 1 → line ≢ closing → RefusesAt Ops d line
-end_refused d line all last other v more r =
-    let left = no_op d v (line ∷ more) r all in
-    let none = last_vcpu d v r.back (line ∷ more) left r.count last in
-    other (cons_parts line closing more [] (left.tail ∙ ap (λ (t : List Vcpu). vcpus_onto t (closing ∷ [])) none)).0
-
-pub more_refused : (d : ScriptDraft) (line : List ℕ) → RefusesAt Done d line
-more_refused d line v more r = let e = r.3 in absurd cc

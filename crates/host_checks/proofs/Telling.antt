@@ -91,13 +91,6 @@ differs_here transcripts told log rest r u a says was other are =
     let long : length (part_of u log) ≡ get_or told u 0 = ap length (sym (was.answers u)) ∙ length-take-le (get_or told u 0) ts (was.within u) in
     other (ap (λ (k : ℕ). slice_get ts k) (sym long) ∙ ap (λ (xs : List Answered). slice_get xs (length (part_of u log))) whole ∙ at_seam (part_of u log) (part_of u rest) a)
 
--- before the first record nothing is told
-pub told_at_start : (transcripts : List (List Answered)) (told : List ℕ) → ((v : ℕ) → get_or told v 0 ≡ 0) → AreTold transcripts told []
-told_at_start transcripts told zero = record {
-  within = λ v. omega (arith, zero v);
-  answers = λ v. ap (λ (k : ℕ). take k (get_or transcripts v [])) (zero v);
-}
-
 -- where all is told, each transcript is its part
 pub told_all : (transcripts : List (List Answered)) (told : List ℕ) (log : List GuestRec) → AreTold transcripts told log →
     ((v : ℕ) → get_or told v 0 ≡ length (get_or transcripts v [])) → AreOfLog log transcripts

@@ -31,9 +31,6 @@ carried_none a xs = record { came = []; new_is = sym (append-nil xs); carries = 
 pub carried_out : (a b : Option (List ℕ)) (bytes xs : List ℕ) → Appends a b bytes → HasCarried a b bytes xs xs
 carried_out a b bytes xs more = record { came = []; new_is = sym (append-nil xs); carries = written a b bytes more }
 
-pub carried_back : (a b : Option (List ℕ)) (bytes xs ys : List ℕ) → Consumes a b bytes → ys ≡ xs ++ bytes → HasCarried a b [] xs ys
-carried_back a b bytes xs ys less is = record { came = bytes; new_is = is; carries = gave a b bytes less }
-
 pub carried_then : (a b c : Option (List ℕ)) (s t xs ys zs : List ℕ) → HasCarried a b s xs ys → HasCarried b c t ys zs → HasCarried a c (s ++ t) xs zs
 carried_then a b c s t xs ys zs one other = record {
   came = one.came ++ other.came;

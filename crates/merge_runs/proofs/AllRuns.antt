@@ -1,7 +1,7 @@
 -- A replay of all runs of a merging.
 use Rattle.std.proofs.Common.{◌≡◌, ℕ, ◌+◌, ◌<◌, ◌≤◌, List, ◌++◌, length, take, drop, Option, refl, sym, ap, ◌∙◌, subst}
 use Rattle.std.specs.Option.{MatchOption}
-use Rattle.std.proofs.lemmas.List.{take-append-drop, take_all}
+use Rattle.std.proofs.lemmas.List.{take-append-drop}
 use Rattle.migration_types.specs.declared.cert.Run.{Run}
 use Rattle.migration_types.specs.Extents.{Extent}
 use Rattle.migration_types.specs.Receipts.{Name}
@@ -40,9 +40,6 @@ module _ (s : Recorded) (runs : List Run) (place : ℕ) (d : Run) (within : plac
   run_on c from old new at here ran is =
       let start : cursors_from at_start (spelled (take place runs)) run.log ≡ from = ap (λ (e : Cursors). e run.log) (sym at) ∙ sym here in
       subst (λ (xs : List Name). IsReplaying s xs new) (ap (λ k. spelled (take place runs) ++ run_names run.log k run.count) (sym start) ∙ sym (with_it s runs place d within)) (ran (spelled (take place runs)) start is)
-
-pub whole_replayed : (s : Recorded) (runs : List Run) (place : ℕ) (r : Replaying) → length runs ≤ place → IsReplaying s (spelled (take place runs)) r → IsReplaying s (spelled runs) r
-whole_replayed s runs place r le is = subst (λ (rs : List Run). IsReplaying s (spelled rs) r) (take_all place runs le) is
 
 -- ---- the answer
 

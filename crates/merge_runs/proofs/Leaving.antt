@@ -14,7 +14,7 @@ use Rattle.audit_model.specs.World.{World, guest_step, guest_step_at}
 use Rattle.audit_model.proofs.Worlds.{content_at}
 use Rattle.flat_machine.specs.Machines.{memory_after}
 use Rattle.page_store.specs.Frames.{Frames, memory_of, IsWith}
-use Rattle.merge_runs.specs.inner.Unmoved.{frames_of, IsApart, IsSized, IsSameMachine, IsUnmovedAfter}
+use Rattle.merge_runs.specs.inner.Unmoved.{frames_of, IsApart, IsSameMachine, IsUnmovedAfter}
 
 -- ---- the copy
 
@@ -82,19 +82,3 @@ pub unmoved_more : (r : GuestRec) (w : World) (f g : Frames) (home : Home) (old 
 unmoved_more r w f g home None new at source mem now on = stays r w f g home new at source mem now on
 unmoved_more r w f g home (Some o) None at source mem now on = absurd on
 unmoved_more r w f g home (Some o) (Some n) at source mem now on = (on.memory_is, tt)
-
--- its frames keep the geometry
-pub unmoved_sized : (e : Extent) (r : GuestRec) (f : Frames) (old new : Option Frames) → f.geometry ≡ e → IsSized e old → IsUnmovedAfter r f old new → IsSized e new
-unmoved_sized e r f old None here sized on = tt
-unmoved_sized e r f (Some o) (Some n) here sized on = on.geometry ∙ sized
-unmoved_sized e (Read v p c x) f None (Some n) here sized on = absurd (cc)
-unmoved_sized e (Write v p c x) f None (Some n) here sized on = absurd (cc)
-unmoved_sized e (Release v p) f None (Some n) here sized on = absurd (cc)
-unmoved_sized e (Miss v p) f None (Some n) here sized on = absurd (cc)
-unmoved_sized e (See k) f None (Some n) here sized on = absurd (cc)
-unmoved_sized e Halt f None (Some n) here sized on = on.geometry ∙ here
-unmoved_sized e (Resume i) f None (Some n) here sized on = on.geometry ∙ here
-
-pub frames_sized : (e : Extent) (own : Option Frames) (source : Frames) → IsSized e own → source.geometry ≡ e → (frames_of own source).geometry ≡ e
-frames_sized e None source sized here = here
-frames_sized e (Some own) source sized here = sized

@@ -2,7 +2,7 @@
 use Rattle.std.proofs.Common.{◌≡◌, ℕ, zero, suc, ◌+◌, ◌⊎◌, inl, inr, Bool, true, false, cond, List, [], ◌∷◌, ◌++◌, Option, Some, None, refl, sym, ap, ◌∙◌, subst, arith}
 use Rattle.std.specs.Prelude.{slice_get}
 use Rattle.std.specs.Option.{MatchOption}
-use Rattle.std.proofs.lemmas.List.{append_assoc, append-nil}
+use Rattle.std.proofs.lemmas.List.{append_assoc}
 use Rattle.migration_types.specs.declared.records.LogName.{LogName}
 use Rattle.migration_types.specs.declared.records.LogName.TheVariants.{Guest, Source, Link, Lane, Pager}
 use Rattle.migration_types.specs.declared.records.GuestRec.{GuestRec}
@@ -203,9 +203,6 @@ module _ (s : Recorded) (order : List Name) where
 names_push : (log : LogName) (place count : ℕ) → run_names log place (suc count) ≡ run_names log place count ++ (log, place + count) ∷ []
 names_push log place zero = let none : place ≡ place + zero = omega arith in ap (λ k. (log, k) ∷ []) none
 names_push log place (suc count) = let same : suc place + count ≡ place + suc count = omega arith in ap (λ xs. (log, place) ∷ xs) (names_push log (suc place) count ∙ ap (λ k. run_names log (suc place) count ++ (log, k) ∷ []) same)
-
-pub run_none : (s : Recorded) (log : LogName) (from : ℕ) (r : Replaying) → HasRun s log from 0 r r
-run_none s log from r order here is = subst (λ (xs : List Name). IsReplaying s xs r) (sym (append-nil order)) is
 
 -- a run of one record more
 pub run_more : (s : Recorded) (log : LogName) (from k : ℕ) (first old new : Replaying) → HasRun s log from k first old → HasOne s (log, from + k) old new → HasRun s log from (k + 1) first new

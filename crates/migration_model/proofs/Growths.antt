@@ -28,7 +28,7 @@ use Rattle.migration_types.specs.declared.records.SourceRec.TheVariants.{Again, 
 use Rattle.page_stream.specs.declared.Packet.{Packet}
 use Rattle.page_stream.specs.declared.Packet.TheVariants.{All as AllPacket, Page as PagePacket, State as StatePacket, Want as WantPacket}
 use Rattle.residency.specs.Placements.{is_covered, is_resident}
-use Rattle.std.proofs.Common.{Bool, List, None, Option, Some, [], ap, arith, cond, false, length, subst, suc, true, ℕ, ◌+◌, ◌++◌, ◌||◌, ◌∷◌, ◌≡◌, ◌≤◌}
+use Rattle.std.proofs.Common.{Bool, List, None, Option, Some, [], arith, cond, false, length, subst, suc, true, ℕ, ◌+◌, ◌++◌, ◌||◌, ◌∷◌, ◌≡◌, ◌≤◌}
 use Rattle.std.specs.List.{range_with_len}
 use Rattle.std.specs.Prelude.{nat_lt, slice_get}
 use Rattle.target_side.specs.TargetPart.{Accessed, TargetPart, accesses, does, done_over, frees, lacks, looks, misses_page, resumes, settled as with_settled, target_access, with_misses}
@@ -43,9 +43,6 @@ IsLittleMore old new = length new ≤ length old + 2
 
 none_more : {A : Type 0} (xs : List A) → IsLittleMore xs xs
 none_more xs = omega arith
-
-same_more : {A : Type 0} (xs ys : List A) → ys ≡ xs → IsLittleMore xs ys
-same_more xs ys e = omega (arith, ap length e)
 
 one_more : {A : Type 0} (xs : List A) (x : A) → IsLittleMore xs (xs ++ x ∷ [])
 one_more xs x = omega (arith, length_suc xs x)

@@ -23,7 +23,7 @@ use Rattle.migration_model.proofs.Cleans.{GuestClean, IsBareRelease, PagerClean,
 use Rattle.migration_model.proofs.Facts.{AwayKept, HasMissed, IsReady, IsWaitedFor, PhaseKept, TargetKept, VcpusKept, away_home, frontier_stays, is_there, link_stays, misses_stay, not_new, pager_stays, ready_stays, released_of, unready_goes}
 use Rattle.migration_model.proofs.Grows.{IsThere, guest_extends, guest_merges, guest_more, names, names_none, pager_extends, pager_merges, pager_more}
 use Rattle.migration_model.proofs.Limits.{GuestWithin, IsWide, PagerWithin, guest_limits, pager_limits, wide_cell, wide_zeros}
-use Rattle.migration_model.proofs.Lists.{Index, before_end, each_push, each_weaker, get_new, index_key, passes_at}
+use Rattle.migration_model.proofs.Lists.{before_end, each_push, each_weaker, get_new, index_key, passes_at}
 use Rattle.migration_model.proofs.Shapes.{guest_shapes, guest_starts, pager_goes_on, pager_shapes, pager_starts}
 use Rattle.migration_model.specs.Books.{BooksAfter, Vcpu, session_after}
 use Rattle.migration_events.specs.Ops.{LateOpFits, MayReleaseLate, OpFits}
@@ -31,7 +31,7 @@ use Rattle.std.proofs.Common.{Bool, List, None, Option, Some, [], ap, arith, con
 use Rattle.std.proofs.lemmas.Bool.{eqb-true, leb-true}
 use Rattle.std.proofs.lemmas.Option.{slice_get_within}
 use Rattle.std.specs.List.{AllByRecursion}
-use Rattle.std.specs.Prelude.{is_some, map, ◌==◌}
+use Rattle.std.specs.Prelude.{is_some, ◌==◌}
 use Rattle.target_side.specs.TargetPart.{TargetPart}
 use Rattle.target_side.specs.declared.access.UntakenMiss.{UntakenMiss}
 use Rattle.migration_events.specs.declared.ops.Op.TheVariants.{Read as ReadCell, Release as ReleasePage, Write as WriteCell}
@@ -178,10 +178,6 @@ target_idle r a k idle other =
       misses = misses_stay s t x a.target.misses k.target.misses;
       wide = k.target.wide;
     }
-
--- record k, or an earlier one, places the page
-pub placement_there : (s : Recorded) (map : ℕ → Option ℕ) (p k : ℕ) → Index is_placement_of map s.pager → map p ≡ Some k → k < length s.pager
-placement_there s map p k i e = let w = i.found p k e in slice_get_within s.pager k w.0 w.1
 
 is_a_placement : (p : ℕ) (r : PagerRec) → is_placement_of p r ≡ true → is_placement r ≡ true
 is_a_placement p (Place q g c) e = refl

@@ -1,6 +1,5 @@
 -- What stays true of the books after the halt where one of them changes and nothing is recorded.
 use Rattle.balloon_ledger.specs.Released.{released}
-use Rattle.bubbling.specs.Bubbling.{Ring}
 use Rattle.fault_queue.specs.Waiting.{without}
 use Rattle.link_book.specs.LinkPart.{LinkPart, with_back, with_front, with_lane, with_up}
 use Rattle.link_book.specs.declared.Arrival.{Arrival}
@@ -117,28 +116,6 @@ settles_released (p ∷ ps) b = settles_released ps (record b { settled = with_p
 
 pub settled_arrives : (o : List Name) (a b : BooksAfter) → Arrives o (settled_books a) b → Arrives o a b
 settled_arrives o a b k = subst (λ log. AwayKept (o ++ new_names (record (session_after a) { pager = log }) (session_after b)) b) (settles_log a.target.unsettled a.pager) k
-
--- the pivots
-pub with_ring : {o : List Name} (ring : Ring) (a : BooksAfter) → AwayKept o a → AwayKept o (record a { source = record a.source { ring = ring } })
-with_ring ring a k = record {
-  named = k.named;
-  started = k.started;
-  merges = k.merges;
-  clean = k.clean;
-  frozen = k.frozen;
-  limits = k.limits;
-  phase = k.phase;
-  resumed_ready = k.resumed_ready;
-  source = record { sends = k.source.sends; state = k.source.state; wide = k.source.wide };
-  link = k.link;
-  pager = k.pager;
-  placed = k.placed;
-  settled = k.settled;
-  target = k.target;
-  ends = k.ends;
-  vcpus = k.vcpus;
-  lanes = k.lanes;
-}
 
 -- the lines
 pub channel_more : {R : Type 0} (names : ℕ → R) (log : List R) (P : Packet → Type 0) (line : List Packet) (arrivals : List Arrival) (packet : Packet) → P packet → ChannelKept names log P line arrivals → ChannelKept names log P (line ++ packet ∷ []) arrivals

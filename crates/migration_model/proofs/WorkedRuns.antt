@@ -5,7 +5,7 @@ use Rattle.std.specs.List.{AllByRecursion}
 use Rattle.migration_model.specs.Events.{run, start}
 use Rattle.migration_model.specs.Books.{IsScript, Recording}
 use Rattle.migration_model.specs.Promise.{SomeRunIsDone}
-use Rattle.migration_model.specs.Worked.{ComesOut, offers, run_of_lane, run_of_one, run_of_release, run_of_two, small_source, source_calls, source_offers, source_records, woken_next, worked_runs}
+use Rattle.migration_model.specs.Worked.{ComesOut, offers, run_of_one, run_of_two, small_source, source_calls, source_offers, source_records, woken_next, worked_runs}
 
 pub runs_come_out : AllByRecursion ComesOut worked_runs
 runs_come_out = (refl, (refl, (refl, (refl, tt))))
@@ -16,17 +16,6 @@ woken_of_two = refl
 pub source_worked : offers source_calls small_source ≡ (source_offers, source_records)
 source_worked = refl
 
--- the scripts are within their limits, so these runs are faultless
-pub fits_of_two : IsScript run_of_two.script
-fits_of_two = record {
-  geometry = record { some_pages = omega arith; few_pages = omega arith; some_cells = omega arith; few_cells = omega arith; few_in_all = omega arith; own = record { pages = omega arith; cells = omega arith } };
-  small = refl;
-  init = record { each = (record { page = omega arith; content = record { count = refl; each = (omega arith, tt) }; not_zeros = λ all. let e : 7 ≡ 0 = all.0 in absurd (omega (arith, e)) }, tt); rising = λ k lt. absurd (omega (arith, lt)) };
-  lane = λ is. absurd (let e : false ≡ true = is in cc);
-  few_vcpus = omega arith;
-  vcpus = (record { before_move = tt; after_move = ((omega arith, omega arith), tt) }, (record { before_move = tt; after_move = ((omega arith, omega arith), tt) }, tt));
-}
-
 pub fits_of_one : IsScript run_of_one.script
 fits_of_one = record {
   geometry = record { some_pages = omega arith; few_pages = omega arith; some_cells = omega arith; few_cells = omega arith; few_in_all = omega arith; own = record { pages = omega arith; cells = omega arith } };
@@ -35,26 +24,6 @@ fits_of_one = record {
   lane = λ is. absurd (let e : false ≡ true = is in cc);
   few_vcpus = omega arith;
   vcpus = (record { before_move = (omega arith, tt); after_move = ((omega arith, omega arith), tt) }, tt);
-}
-
-pub fits_of_release : IsScript run_of_release.script
-fits_of_release = record {
-  geometry = record { some_pages = omega arith; few_pages = omega arith; some_cells = omega arith; few_cells = omega arith; few_in_all = omega arith; own = record { pages = omega arith; cells = omega arith } };
-  small = refl;
-  init = record { each = (record { page = omega arith; content = record { count = refl; each = (omega arith, tt) }; not_zeros = λ all. let e : 6 ≡ 0 = all.0 in absurd (omega (arith, e)) }, tt); rising = λ k lt. absurd (omega (arith, lt)) };
-  lane = λ is. tt;
-  few_vcpus = omega arith;
-  vcpus = (record { before_move = tt; after_move = ((tt, omega arith), ((omega arith, omega arith), tt)) }, tt);
-}
-
-pub fits_of_lane : IsScript run_of_lane.script
-fits_of_lane = record {
-  geometry = record { some_pages = omega arith; few_pages = omega arith; some_cells = omega arith; few_cells = omega arith; few_in_all = omega arith; own = record { pages = omega arith; cells = omega arith } };
-  small = refl;
-  init = record { each = (record { page = omega arith; content = record { count = refl; each = (omega arith, tt) }; not_zeros = λ all. let e : 6 ≡ 0 = all.0 in absurd (omega (arith, e)) }, tt); rising = λ k lt. absurd (omega (arith, lt)) };
-  lane = λ is. tt;
-  few_vcpus = omega arith;
-  vcpus = (record { before_move = tt; after_move = ((omega arith, omega arith), tt) }, tt);
 }
 
 -- the machine that a run leads to

@@ -51,15 +51,3 @@ spends fault concerned n = go (is_next_to fault n) (is_at concerned n) refl refl
     go true b e f = let h = next_spends fault n e in let k = at_falls concerned n in omega (arith, h, k)
     go false true e f = let h = next_falls fault n in let k = at_spends concerned n f in omega (arith, h, k)
     go false false e f = let h = next_falls fault n in let k = at_falls concerned n in omega (arith, h, k)
-
-next_few : (fault : Option ℕ) (n : ℕ) → next_left fault n ≤ 2
-next_few None n = omega arith
-next_few (Some at) n = grind (arith, nat_tests)
-
-at_few : (concerned : Option ℕ) (n : ℕ) → at_left concerned n ≤ 1
-at_few None n = omega arith
-at_few (Some at) n = grind (arith, nat_tests)
-
--- at most three places are certain
-pub few_certain : (fault concerned : Option ℕ) (n : ℕ) → certain_left fault concerned n ≤ 3
-few_certain fault concerned n = let h = next_few fault n in let k = at_few concerned n in omega (arith, h, k)

@@ -6,18 +6,17 @@ use Rattle.std.proofs.lemmas.Option.{slice_get_past}
 use Rattle.migration_types.specs.declared.records.GuestRec.{GuestRec}
 use Rattle.migration_types.specs.declared.records.GuestRec.TheVariants.{Read, Write, Release, Miss, Halt, Resume, See}
 use Rattle.migration_types.specs.declared.records.PagerRec.{PagerRec}
-use Rattle.migration_types.specs.Sessions.{Recorded, IsSession, PagerRecFits}
+use Rattle.migration_types.specs.Sessions.{Recorded}
 use Rattle.audit_model.specs.Flat.{changed}
 use Rattle.audit_model.specs.Shape.{passes, is_placement_of, earlier}
 use Rattle.audit_model.specs.Faults.{looks_at}
-use Rattle.audit_model.proofs.Lists.{each_at}
 use Rattle.page_store.proofs.Noting.{noted_none}
-use Rattle.page_store.specs.Tables.{Values, pages_of, values, IsWith}
+use Rattle.page_store.specs.Tables.{Values, values, IsWith}
 use Rattle.page_facts.specs.Tables.{some_before, or_here, IsTable}
-use Rattle.page_facts.specs.Moved.{PagerPage, placed_by}
+use Rattle.page_facts.specs.Moved.{placed_by}
 use Rattle.page_facts.proofs.Judging.{here_by}
 use Rattle.page_facts.proofs.Before.{some_true, some_false}
-use Rattle.page_facts.proofs.Moving.{pager_page, places, placed_here}
+use Rattle.page_facts.proofs.Moving.{places, placed_here}
 use Rattle.page_facts.specs.declared.looks.Looks.{Looks}
 use Rattle.page_facts.specs.Looks.{look_of, first_look, is_placed, AreNoted, AreLooks, AreLooksOf}
 
@@ -84,9 +83,6 @@ table_same pages table f g is same = record { pages_are = is.pages_are; values_a
 
 pub noted_start : (s : Recorded) (n : ℕ) (looks : Looks) → AreLooks s n looks → AreNoted s n looks.reached looks.first
 noted_start s n looks is = table_same s.geometry.pages looks.first (first_look s n) (λ p. or_here (first_look s n p) (is_placed s looks.reached p) n) is.table (λ p. noted_same (first_look s n p) (is_placed s looks.reached p) n (is.known p))
-
-pub fits_table : (s : Recorded) (m : ℕ) (r : PagerRec) (table : Values (Option ℕ)) (f : ℕ → Option ℕ) → IsSession s → slice_get s.pager m ≡ Some r → IsTable s.geometry.pages table f → PagerPage (pages_of table) r
-fits_table s m r table f limits is sized = subst (λ k. PagerPage k r) (sym sized.pages_are) (pager_page s.version s.geometry r (each_at (PagerRecFits s.version s.geometry) s.pager m r limits.pager is))
 
 pub noted_more : (s : Recorded) (n m : ℕ) (r : PagerRec) (old new : Values (Option ℕ)) → slice_get s.pager m ≡ Some r → AreNoted s n m old → IsWith old new (placed_by n r (values old)) → AreNoted s n (m + 1) new
 noted_more s n m r old new is noted on =

@@ -1,7 +1,7 @@
 -- Blocks of values that are cleared.
 use Rattle.std.proofs.Common.{◌≡◌, ℕ, ◌+◌, ◌-◌, ◌*◌, ◌<◌, ◌≤◌, ◌⊎◌, inl, inr, Bool, false, cond, List, ◌++◌, replicate, length, get_or, set, take, drop, min, max, ltb, refl, sym, ap, ◌∙◌, subst, arith}
 use Rattle.std.proofs.lemmas.Bool.{cases_lt, cases_eq, ltb-false, lt-ltb, le-ltb, le-leb, lt-leb, and_left, and_right, and_from}
-use Rattle.std.proofs.lemmas.List.{get_or-set_same, get_or-set_other, same_lists, length-set, length-replicate, length-take, length-drop, length-append, get_or_default}
+use Rattle.std.proofs.lemmas.List.{get_or-set_same, get_or-set_other, length-set, length-replicate, length-take, length-drop, length-append}
 use Rattle.page_store.specs.inner.Blocks.{block, AreTouched, IsCleared}
 use Rattle.page_store.proofs.Places.{cells_put, zeros_put}
 
@@ -21,21 +21,6 @@ cleared_by xs new from n le e = record {
   before = λ i lt. zeros_put xs new from n le e i ∙ ap (λ b. cond b 0 (get_or xs i 0)) (and_left _ _ (lt-leb from i lt));
   past = λ i ge. zeros_put xs new from n le e i ∙ ap (λ b. cond b 0 (get_or xs i 0)) (and_right _ _ (le-ltb i (from + n) ge));
 }
-
--- and so there is but one such list
-pub cleared_is : (xs new : List ℕ) (from n : ℕ) → from + n ≤ length xs → IsCleared from (from + n) xs new → new ≡ take from xs ++ (replicate n 0 ++ drop (from + n) xs)
-cleared_is xs new from n le is = same_lists _ _ (is.len ∙ sym by.len) (λ k d lt. get_or_default new k d 0 lt ∙ each k (cases_lt k from) (cases_lt k (from + n)) ∙ sym (get_or_default _ k d 0 (omega (arith, is.len, by.len))))
-  where
-    wanted : List ℕ
-    wanted = take from xs ++ (replicate n 0 ++ drop (from + n) xs)
-
-    by : IsCleared from (from + n) xs wanted
-    by = cleared_by xs wanted from n le refl
-
-    each : (k : ℕ) → (k < from) ⊎ (from ≤ k) → (k < from + n) ⊎ (from + n ≤ k) → get_or new k 0 ≡ get_or wanted k 0
-    each k (inl lt) _ = is.before k lt ∙ sym (by.before k lt)
-    each k (inr ge) (inl lt) = is.inside k ge lt ∙ sym (by.inside k ge lt)
-    each k (inr ge) (inr past) = is.past k past ∙ sym (by.past k past)
 
 -- nothing is cleared before the first block's part
 pub cleared_none : (xs : List ℕ) (from to : ℕ) → to ≤ from → IsCleared from to xs xs

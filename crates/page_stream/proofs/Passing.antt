@@ -7,11 +7,10 @@ use Rattle.migration_types.specs.Extents.{Extent, IsExtent}
 use Rattle.page_stream.specs.Bytes.{packet_bytes, Fits, IsShort}
 use Rattle.page_stream.specs.Streams.{StandsFor, HasFault, Flow, Takes, Refuses}
 use Rattle.page_stream.specs.Pumps.{Known}
-use Rattle.page_stream.specs.inner.Passing.{PutsFront, IsOfWriting, StopsAt}
+use Rattle.page_stream.specs.inner.Passing.{StopsAt}
 use Rattle.page_stream.specs.declared.Packet.{Packet}
 use Rattle.page_stream.specs.declared.stream.StreamFaultKind.{StreamFaultKind}
 use Rattle.page_stream.specs.declared.stream.StreamFaultKind.TheVariants as kinds
-use Rattle.page_stream.specs.declared.pumping.PumpFault.{PumpFault}
 use Rattle.page_stream.specs.declared.pumping.PumpFault.TheVariants as faults
 use Rattle.page_stream.proofs.Readings.{fits_short}
 
@@ -49,10 +48,6 @@ leaves start end piece before kinds.Memory going h =
 leaves start end piece before kinds.Broken going h = absurd (let t : true ≡ false = sym h.0 ∙ going in cc)
 
 -- ---- where a pump stops
-
-pub stops_writing : (e : Extent) (writer : Known) (bytes : List ℕ) (ps : List Packet) (rest : List ℕ) (fault : PumpFault) → StandsFor e bytes ps rest → PutsFront writer (flat_map packet_bytes ps) → IsOfWriting fault → StopsAt e writer bytes fault
-stops_writing e writer bytes ps rest fault s p (inl f) = rw f (record { packets = ps; rest = rest; written = p.written; unwritten = p.unwritten; stands = s; appended = p.appended; front = p.front; is_fault = tt })
-stops_writing e writer bytes ps rest fault s p (inr f) = rw f (record { packets = ps; rest = rest; written = p.written; unwritten = p.unwritten; stands = s; appended = p.appended; front = p.front; is_fault = tt })
 
 pub stops_memory : (e : Extent) (writer : Known) (bytes : List ℕ) (ps : List Packet) (reason : StreamFaultKind) → Leaves e bytes ps reason → Appends writer.before writer.after (flat_map packet_bytes ps) → StopsAt e writer bytes faults.Memory
 stops_memory e writer bytes ps reason l a = record { packets = ps; rest = l.rest; written = flat_map packet_bytes ps; unwritten = []; stands = l.stands; appended = a; front = sym (append-nil (flat_map packet_bytes ps)); is_fault = tt }

@@ -1,14 +1,14 @@
 -- A pump's turns.
 use Rattle.std.proofs.Common.{◌≡◌, inl, inr, ℕ, ◌+◌, ◌≤◌, Option, List, [], ◌∷◌, ◌++◌, length, take, refl, sym, ap, ◌∙◌, append_assoc, length-append, arith}
 use Rattle.std.specs.List.{flat_map, concat, AllByRecursion}
-use Rattle.std.specs.Io.KnownBytes.{Appends, Consumes, Keeps, IsAtEnd}
+use Rattle.std.specs.Io.KnownBytes.{Appends, Consumes, Keeps}
 use Rattle.std.proofs.KnownBytes.{Appends-nil, Appends-trans, Consumes-nil, Consumes-trans, Consumes-kept}
 use Rattle.std.proofs.lemmas.List.{append-nil, take-append-le, take-take}
 use Rattle.std.proofs.lemmas.List.Concat.{flat_map-append}
 use Rattle.migration_types.specs.Extents.{Extent}
 use Rattle.page_stream.specs.Bytes.{packet_bytes}
 use Rattle.page_stream.specs.Streams.{StandsFor, IsPartial, Flow}
-use Rattle.page_stream.specs.Pumps.{Known, AreReads, PumpsAll, PumpsUntil, IsPumpFault}
+use Rattle.page_stream.specs.Pumps.{Known, AreReads, PumpsUntil, IsPumpFault}
 use Rattle.page_stream.specs.inner.Passing.{PassesOn, StopsAt, IsPieceFault, IsOfReading}
 use Rattle.page_stream.specs.declared.Packet.{Packet}
 use Rattle.page_stream.specs.declared.pumping.PumpFault.{PumpFault}
@@ -109,32 +109,11 @@ so_far_until e r s w v rest count turn turns fault h f = record {
   is_fault = f;
 }
 
--- reading no bytes leaves all else
-so_far_still : (e : Extent) (r q s w v : Option (List ℕ)) (rest : List ℕ) (count turn : ℕ) → SoFar e (known r q) (known w v) rest count turn → Consumes q s [] → SoFar e (known r s) (known w v) rest count turn
-so_far_still e r q s w v rest count turn h read = record {
-  packets = h.packets;
-  bytes = h.bytes;
-  read = rw (append-nil h.bytes) at (Consumes-trans r q s h.bytes [] h.read read);
-  stands = h.stands;
-  partial = h.partial;
-  appended = h.appended;
-  reads = h.reads;
-  count_is = h.count_is;
-}
-
 pub until_memory : (e : Extent) (r w : Option (List ℕ)) (turns : ℕ) → PumpsUntil e (known r r) (known w w) turns Memory
 until_memory e r w turns = so_far_until e r r w w [] 0 0 turns Memory (so_far_begins e r w) tt
 
 pub until_turns : (e : Extent) (r s w v : Option (List ℕ)) (rest : List ℕ) (count turn turns : ℕ) → SoFar e (known r s) (known w v) rest count turn → turn ≡ turns → PumpsUntil e (known r s) (known w v) turns Turns
 until_turns e r s w v rest count turn turns h same = so_far_until e r s w v rest count turn turns Turns h (rw same at h.reads, refl)
-
-pub until_cut : (e : Extent) (r q s w v : Option (List ℕ)) (rest : List ℕ) (count turn turns : ℕ) → SoFar e (known r q) (known w v) rest count turn → Consumes q s [] → IsAtEnd s → (rest ≡ [] → ⊥) → PumpsUntil e (known r s) (known w v) turns Cut
-until_cut e r q s w v rest count turn turns h read end some =
-    so_far_until e r s w v rest count turn turns Cut (so_far_still e r q s w v rest count turn h read) (end, h.partial, some_of rest some, refl)
-  where
-    some_of : (xs : List ℕ) → (xs ≡ [] → ⊥) → 1 ≤ length xs
-    some_of [] f = absurd (f refl)
-    some_of (x ∷ xs) f = omega arith
 
 pub until_read : (e : Extent) (r q s w v : Option (List ℕ)) (rest : List ℕ) (count turn turns : ℕ) (fault : PumpFault) → SoFar e (known r q) (known w v) rest count turn → Keeps q s → IsOfReading fault → PumpsUntil e (known r s) (known w v) turns fault
 until_read e r q s w v rest count turn turns fault h keeps f = go f
@@ -145,13 +124,3 @@ until_read e r q s w v rest count turn turns fault h keeps f = go f
     go : IsOfReading fault → PumpsUntil e (known r s) (known w v) turns fault
     go (inl is) = rw is (so_far_until e r s w v rest count turn turns Read still refl)
     go (inr is) = rw is (so_far_until e r s w v rest count turn turns Memory still tt)
-
-pub all_pumped : (e : Extent) (r q s w v : Option (List ℕ)) (rest : List ℕ) (count turn : ℕ) → SoFar e (known r q) (known w v) rest count turn → Consumes q s [] → IsAtEnd s → rest ≡ [] → PumpsAll e (known r s) (known w v) count
-all_pumped e r q s w v rest count turn h read end none =
-    let still : SoFar e (known r s) (known w v) [] count turn = rw none at (so_far_still e r q s w v rest count turn h read) in
-    record {
-      packets = still.packets;
-      moves = record { bytes = still.bytes; read = still.read; stands = still.stands; appended = still.appended; front = sym (append-nil (flat_map packet_bytes still.packets)) };
-      end = end;
-      count_is = still.count_is;
-    }

@@ -1,14 +1,12 @@
 -- Lists of numbers, as bytes.
 use Rattle.std.proofs.Common.{◌≡◌, ℕ, ◌+◌, ◌*◌, ◌^◌, ◌<◌, ◌≤◌, List, [], ◌∷◌, ◌++◌, length, zero, suc, get_or, take, drop, refl, sym, ap, ◌∙◌, append_assoc, take-append-drop, arith}
-use Rattle.std.specs.List.{flat_map, AllByRecursion}
+use Rattle.std.specs.List.{flat_map}
 use Rattle.std.specs.Int.{w32, w64, from_be_bytes}
 use Rattle.std.proofs.lemmas.Nat.{from_be_bytes-to_be_bytes_4, be_bytes_4, be_bytes_8}
-use Rattle.page_stream.specs.Bytes.{number_bytes, cell_bytes, kind_of, fields_of, body_of, packet_bytes, Rises, IsNoBody}
-use Rattle.page_stream.specs.inner.Fronts.{AreFields, IsNoFields}
-use Rattle.page_stream.specs.Packets.{number_of}
+use Rattle.page_stream.specs.Bytes.{number_bytes, cell_bytes, kind_of, body_of, packet_bytes, Rises}
+use Rattle.page_stream.specs.inner.Fronts.{IsNoFields}
 use Rattle.migration_types.specs.Extents.{Extent}
-use Rattle.migration_types.specs.Contents.{IsContent}
-use Rattle.migration_types.specs.Limits.{most_pages, most_records}
+use Rattle.migration_types.specs.Limits.{most_pages}
 use Rattle.page_stream.specs.declared.Packet.{Packet}
 use Rattle.page_stream.specs.declared.Packet.TheVariants.{State as StatePacket, Page as PagePacket, Want as WantPacket, All as AllPacket}
 
@@ -59,10 +57,6 @@ pub more_numbers : (front : List ℕ) (n : ℕ) (after : List ℕ) → flat_map 
 more_numbers [] n after = refl
 more_numbers (p ∷ ps) n after = ap (λ (t : List ℕ). number_bytes p ++ t) (more_numbers ps n after)
 
-pub each_more : (P : ℕ → Type 0) (xs : List ℕ) (x : ℕ) → AllByRecursion P xs → P x → AllByRecursion P (xs ++ x ∷ [])
-each_more P [] x h p = (p, tt)
-each_more P (y ∷ xs) x h p = (h.0, each_more P xs x h.1 p)
-
 pub length_cells : (cs : List ℕ) → length (flat_map cell_bytes cs) ≡ 8 * length cs
 length_cells [] = refl
 length_cells (c ∷ cs) = omega (arith, length_cells cs)
@@ -99,46 +93,13 @@ only_state e number fields h (PagePacket n page contents) a = let k : 2 ≡ 1 = 
 only_state e number fields h (WantPacket n page) a = let k : 3 ≡ 1 = a.kind_is in absurd (omega (arith, k))
 only_state e number fields h (AllPacket n) a = let k : 4 ≡ 1 = a.kind_is in absurd (omega (arith, k))
 
-pub only_page : (e : Extent) (number : ℕ) (fields : List ℕ) → ((page : ℕ) (contents : List ℕ) → page < e.pages → IsContent e.cells contents → fields ≡ number_bytes page ++ flat_map cell_bytes contents → ⊥) → IsNoFields e 2 number fields
-only_page e number fields h (StatePacket n released) a = let k : 1 ≡ 2 = a.kind_is in absurd (omega (arith, k))
-only_page e number fields h (PagePacket n page contents) a = let f : (page < e.pages) × IsContent e.cells contents = a.fits.fields in h page contents f.0 f.1 a.fields_are
-only_page e number fields h (WantPacket n page) a = let k : 3 ≡ 2 = a.kind_is in absurd (omega (arith, k))
-only_page e number fields h (AllPacket n) a = let k : 4 ≡ 2 = a.kind_is in absurd (omega (arith, k))
-
-pub only_want : (e : Extent) (number : ℕ) (fields : List ℕ) → ((page : ℕ) → page < e.pages → fields ≡ number_bytes page ++ [] → ⊥) → IsNoFields e 3 number fields
-only_want e number fields h (StatePacket n released) a = let k : 1 ≡ 3 = a.kind_is in absurd (omega (arith, k))
-only_want e number fields h (PagePacket n page contents) a = let k : 2 ≡ 3 = a.kind_is in absurd (omega (arith, k))
-only_want e number fields h (WantPacket n page) a = h page a.fits.fields a.fields_are
-only_want e number fields h (AllPacket n) a = let k : 4 ≡ 3 = a.kind_is in absurd (omega (arith, k))
-
-pub only_all : (e : Extent) (number : ℕ) (fields : List ℕ) → (fields ≡ [] → ⊥) → IsNoFields e 4 number fields
-only_all e number fields h (StatePacket n released) a = let k : 1 ≡ 4 = a.kind_is in absurd (omega (arith, k))
-only_all e number fields h (PagePacket n page contents) a = let k : 2 ≡ 4 = a.kind_is in absurd (omega (arith, k))
-only_all e number fields h (WantPacket n page) a = let k : 3 ≡ 4 = a.kind_is in absurd (omega (arith, k))
-only_all e number fields h (AllPacket n) a = h a.fields_are
-
 pub kind_small : (p : Packet) → (1 ≤ kind_of p) × (kind_of p ≤ 4)
 kind_small (StatePacket n released) = (omega arith, omega arith)
 kind_small (PagePacket n page contents) = (omega arith, omega arith)
 kind_small (WantPacket n page) = (omega arith, omega arith)
 kind_small (AllPacket n) = (omega arith, omega arith)
 
-pub only_kinds : (e : Extent) (kind number : ℕ) (fields : List ℕ) → (kind ≡ 1 → ⊥) → (kind ≡ 2 → ⊥) → (kind ≡ 3 → ⊥) → (kind ≡ 4 → ⊥) → IsNoFields e kind number fields
-only_kinds e kind number fields a b c d p h = absurd (grind (arith, kind_small p, h.kind_is))
-
 -- ---- from fields to bodies
-
-pub no_body : (e : Extent) (kind number : ℕ) (fields : List ℕ) → number < 2 ^ 32 → IsNoFields e kind number fields → IsNoBody e (kind ∷ (number_bytes number ++ fields))
-no_body e kind number fields fits h p f eq =
-    let heads : kind ≡ kind_of p = cc in
-    let s = same_number number (number_of p) fields (fields_of p) fits (omega (arith, f.number)) (ap (drop 1) eq) in
-    h p (record { fits = f; kind_is = sym heads; number_is = sym s.0; fields_are = s.1 })
-
-pub number_too_large : (e : Extent) (kind number : ℕ) (fields : List ℕ) → most_records ≤ number → IsNoFields e kind number fields
-number_too_large e kind number fields lt p h = absurd (omega (arith, h.fits.number, h.number_is))
-
-pub found_body : (e : Extent) (kind number : ℕ) (fields : List ℕ) (p : Packet) → AreFields e kind number fields p → kind ∷ (number_bytes number ++ fields) ≡ body_of p
-found_body e kind number fields p h = rw (← h.kind_is, ← h.number_is, h.fields_are) refl
 
 rises_from : (start limit : ℕ) (ps : List ℕ) → Rises start limit ps → start ≤ limit → length ps + start ≤ limit
 rises_from start limit [] r le = omega arith
@@ -146,7 +107,3 @@ rises_from start limit (p ∷ ps) r le = omega (arith, rises_from (p + 1) limit 
 
 pub rises_few : (limit : ℕ) (ps : List ℕ) → Rises 0 limit ps → length ps ≤ limit
 rises_few limit ps r = omega (arith, rises_from 0 limit ps r (omega arith))
-
-pub each_small : (xs : List ℕ) → ((i : ℕ) → get_or xs i 0 < 2 ^ 64) → AllByRecursion (λ x. x < 2 ^ 64) xs
-each_small [] h = tt
-each_small (x ∷ xs) h = (h 0, each_small xs (λ i. h (suc i)))

@@ -26,14 +26,6 @@ split x y xs c = go c.0 c.1 c.2
     go zero lt e = inl e
     go (suc k) lt e = inr (k, omega arith, e)
 
-in_front : {A : Type 0} (xs ys : List A) (y : A) → Contains xs y → Contains (xs ++ ys) y
-in_front [] ys y c = none y c
-in_front (x ∷ xs) ys y c = go (λ d. in_front xs ys y d) (split x y xs c)
-  where
-    go : (Contains xs y → Contains (xs ++ ys) y) → (x ≡ y) ⊎ Contains xs y → Contains (x ∷ (xs ++ ys)) y
-    go front (inl e) = subst (λ z. Contains (x ∷ (xs ++ ys)) z) e (here x (xs ++ ys))
-    go front (inr d) = there x y (xs ++ ys) (front d)
-
 at_end : {A : Type 0} (xs : List A) (y : A) → Contains (xs ++ y ∷ []) y
 at_end [] y = here y []
 at_end (x ∷ xs) y = there x y (xs ++ y ∷ []) (at_end xs y)

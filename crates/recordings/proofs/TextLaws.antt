@@ -13,15 +13,13 @@ use Rattle.migration_types.specs.declared.records.PagerRec.{PagerRec}
 use Rattle.migration_types.specs.declared.pages.InitPage.{InitPage}
 use Rattle.migration_types.specs.declared.version.Version.{Version}
 use Rattle.migration_types.specs.declared.version.Version.TheVariants.{One, Two}
-use Rattle.migration_types.specs.declared.size.Size.{Size}
-use Rattle.migration_types.specs.Limits.{HasSize}
 use Rattle.migration_types.specs.Extents.{Extent}
 use Rattle.migration_types.specs.Pages.{InitPageFits}
 use Rattle.migration_types.specs.Sessions.{Recorded}
 use Rattle.migration_types.specs.inner.InitPages.{Rise, rise_long, rise_of}
 use Rattle.recordings.specs.Recordings.{IsCount, IsMachine, IsRecording, SpellsRecording, IsGuestRecOf, IsSourceRecOf, IsLinkRecOf, IsLaneRecOf, IsPagerRecOf}
 use Rattle.session_grammar.specs.declared.stage.Stage.{Stage}
-use Rattle.session_grammar.specs.declared.stage.Stage.TheVariants.{Header, Pages, Cells, InitCount, Init, Guest, Source, Link, Lane, Pager, Done}
+use Rattle.session_grammar.specs.declared.stage.Stage.TheVariants.{InitCount, Init, Guest, Source, Link, Lane, Pager, Done}
 use Rattle.session_grammar.specs.Records.{guest_line, source_line, link_line, lane_line, pager_line}
 use Rattle.session_grammar.specs.Grammar.{header, pages_key, cells_key, init_key, guest_key, source_key, link_key, lane_key, pager_key, page_line, closing, counted, session_lines}
 use Rattle.session_grammar.specs.inner.Held.{part_onto, init_onto, guest_onto, source_onto, link_onto, lane_onto, pager_onto}
@@ -182,28 +180,6 @@ page_push version e part next p f less low high has =
     }
 
 -- ---- why a line is refused
-
-pub header_refused : (d : SessionDraft) (line : List ℕ) → ((version : Version) (size : Size) → HasSize version size → line ≢ header version size) → Begins SpellsRecording (held_onto Header d (line ∷ [])) → ⊥
-header_refused d line none b =
-    let g = goes_from Header d line b in
-    let whole = g.whole in
-    let l : line ≡ header g.v.version g.v.geometry.size = cc in
-    none g.v.version g.v.geometry.size g.fits.size l
-
-pub pages_refused : (d : SessionDraft) (line : List ℕ) → ((n : ℕ) → 1 ≤ n → n < 2 ^ 63 → line ≢ pages_key ++ decimal n) → Begins SpellsRecording (held_onto Pages d (line ∷ [])) → ⊥
-pages_refused d line none b =
-    let g = goes_from Pages d line b in
-    let whole = g.whole in
-    let l : line ≡ pages_key ++ decimal g.v.geometry.pages = cc in
-    none g.v.geometry.pages g.fits.machine.some_pages g.fits.machine.few_pages l
-
-pub cells_refused : (d : SessionDraft) (line : List ℕ) → ((n : ℕ) → 1 ≤ n → n ≤ 512 → line ≢ cells_key ++ decimal n) → Begins SpellsRecording (held_onto Cells d (line ∷ [])) → ⊥
-cells_refused d line none b =
-    let g = goes_from Cells d line b in
-    let whole = g.whole in
-    let few = g.fits.machine.few_cells in
-    let l : line ≡ cells_key ++ decimal g.v.geometry.cells = cc in
-    none g.v.geometry.cells g.fits.machine.some_cells (omega arith) l
 
 pub init_count_refused : (d : SessionDraft) (line : List ℕ) → IsMachine d.geometry → ((n : ℕ) → n ≤ d.geometry.pages → line ≢ init_key ++ decimal n) → Begins SpellsRecording (held_onto InitCount d (line ∷ [])) → ⊥
 init_count_refused d line geo none b = let n = init_count_at d line geo (goes_from InitCount d line b) in none n.0 n.1 n.2

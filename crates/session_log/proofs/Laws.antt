@@ -19,10 +19,10 @@ use Rattle.migration_types.specs.Pages.{InitPageFits}
 use Rattle.migration_types.specs.declared.size.Size.{Size}
 use Rattle.migration_types.specs.declared.records.LogName.{LogName}
 use Rattle.migration_types.specs.declared.records.LogName.TheVariants as logs
-use Rattle.migration_types.specs.Limits.{HasSize, limits, limits_at_most, longest_log}
+use Rattle.migration_types.specs.Limits.{limits, limits_at_most, longest_log}
 use Rattle.migration_types.specs.Sessions.{Recorded, IsSession, log_length, GuestRecFits, SourceRecFits, LinkRecFits, LaneRecFits, PagerRecFits}
 use Rattle.session_grammar.specs.declared.stage.Stage.{Stage}
-use Rattle.session_grammar.specs.declared.stage.Stage.TheVariants.{Header, Pages, Cells, InitCount, Init, Guest, Source, Link, Lane, Pager, Done}
+use Rattle.session_grammar.specs.declared.stage.Stage.TheVariants.{Cells, InitCount, Init, Guest, Source, Link, Lane, Pager, Done}
 use Rattle.session_grammar.specs.Records.{guest_line, source_line, link_line, lane_line, pager_line}
 use Rattle.session_grammar.specs.inner.InitPages.{IsInitContent, Rise, next_from, next_push, rise_long, rise_of, few_init}
 use Rattle.session_grammar.specs.inner.Limits.{records_few}
@@ -190,22 +190,6 @@ pages_push version e old new high n bytes rest f below same within t room = reco
 }
 
 -- ---- why a line is refused
-
-pub header_refused : (d : SessionDraft) (line : List ℕ) → ((version : Version) (size : Size) → HasSize version size → line ≢ header version size) → Begins SpellsSession (held_onto Header d (line ∷ [])) → ⊥
-header_refused d line none b =
-    let g = goes_from Header d line b in
-    let whole = g.whole in
-    let l : line ≡ header g.v.version g.v.geometry.size = cc in
-    none g.v.version g.v.geometry.size g.fits.size l
-
-pub pages_refused : (d : SessionDraft) (line : List ℕ) → ((n : ℕ) → 1 ≤ n → n ≤ (limits d.geometry.size).pages → line ≢ pages_key ++ decimal n) → Begins SpellsSession (held_onto Pages d (line ∷ [])) → ⊥
-pages_refused d line none b =
-    let g = goes_from Pages d line b in
-    let whole = g.whole in
-    let headers : header d.version d.geometry.size ≡ header g.v.version g.v.geometry.size = cc in
-    let same = (header_tells d.version g.v.version d.geometry.size g.v.geometry.size headers).1 in
-    let l : line ≡ pages_key ++ decimal g.v.geometry.pages = cc in
-    none g.v.geometry.pages g.fits.geometry.some_pages (subst (λ (size : Size). g.v.geometry.pages ≤ (limits size).pages) (sym same) g.fits.geometry.own.pages) l
 
 pub cells_refused : (d : SessionDraft) (line : List ℕ) → d.geometry.pages ≤ (limits d.geometry.size).pages → ((n : ℕ) → IsExtent (extent d.geometry.size d.geometry.pages n) → line ≢ cells_key ++ decimal n) → Begins SpellsSession (held_onto Cells d (line ∷ [])) → ⊥
 cells_refused d line lp none b =

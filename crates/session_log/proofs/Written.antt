@@ -1,9 +1,6 @@
 -- Lines that are written one by one.
-use Rattle.std.proofs.Common.{◌≡◌, ℕ, ◌+◌, ◌<◌, List, [], ◌∷◌, ◌++◌, length, map, take, get_or, refl, sym, ap, ◌∙◌, append_assoc}
-use Rattle.std.proofs.lemmas.List.{append-nil}
-use Rattle.std.proofs.Math.Seq.{take-length}
+use Rattle.std.proofs.Common.{◌≡◌, ℕ, ◌+◌, List, [], ◌∷◌, ◌++◌, length, map, take, refl, ap, ◌∙◌, append_assoc}
 use Rattle.text_lines.specs.Text.{ended}
-use Rattle.text_lines.proofs.Sections.{ended_next}
 use Rattle.std.specs.Fmt.{decimal}
 use Rattle.migration_types.specs.declared.records.LaneRec.{LaneRec}
 use Rattle.migration_types.specs.declared.version.Version.{Version}
@@ -17,19 +14,6 @@ use Rattle.session_grammar.proofs.Sections.{ended_then}
 -- behind what was there before stand a line and those of the first items
 abbrev pub Written : {X : Type 0} → (X → List ℕ) → List ℕ → List ℕ → List X → ℕ → List ℕ → Type 0
 Written spell old line xs i now = now ≡ old ++ ended (line ∷ map spell (take i xs))
-
-pub written_next : {X : Type 0} (spell : X → List ℕ) (old line : List ℕ) (xs : List X) (i : ℕ) (now new : List ℕ) (d : X) → i < length xs → Written spell old line xs i now → new ≡ now ++ (spell (get_or xs i d) ++ 10 ∷ []) → Written spell old line xs (i + 1) new
-written_next spell old line xs i now new d lt w e =
-    let one = spell (get_or xs i d) ++ 10 ∷ [] in
-    e ∙ (ap (λ (t : List ℕ). t ++ one) w ∙ (append_assoc old (ended (line ∷ map spell (take i xs))) one ∙ ap (λ (t : List ℕ). old ++ t) (sym (ended_next spell (line ∷ []) xs i d lt))))
-
--- the same where the item is one that is at i
-pub written_item : {X : Type 0} (spell : X → List ℕ) (old line : List ℕ) (xs : List X) (i : ℕ) (now new : List ℕ) (x : X) → i < length xs → Written spell old line xs i now → x ≡ get_or xs i x → new ≡ now ++ (spell x ++ 10 ∷ []) → Written spell old line xs (i + 1) new
-written_item spell old line xs i now new x lt w is e = written_next spell old line xs i now new x lt w (e ∙ ap (λ (y : _). now ++ (spell y ++ 10 ∷ [])) is)
-
-pub written_all : {X : Type 0} (spell : X → List ℕ) (old line : List ℕ) (xs : List X) (i : ℕ) (now : List ℕ) → i ≡ length xs → Written spell old line xs i now → now ≡ old ++ ended (line ∷ (map spell xs ++ []))
-written_all spell old line xs i now all w =
-    w ∙ (ap (λ (k : ℕ). old ++ ended (line ∷ map spell (take k xs))) all ∙ (ap (λ (t : List _). old ++ ended (line ∷ map spell t)) (take-length xs) ∙ ap (λ (t : List (List ℕ)). old ++ ended (line ∷ t)) (sym (append-nil (map spell xs)))))
 
 regroup : (h a b c d l e z : List (List ℕ)) → h ++ a ++ b ++ c ++ d ++ l ++ e ++ z ≡ h ++ (a ++ (b ++ (c ++ (d ++ (l ++ (e ++ z))))))
 regroup h a b c d l e z = simp append_assoc

@@ -151,17 +151,6 @@ kept_taken x rest b is k =
       },
     )
 
--- a packet is taken out of the outbox, or goes into it
-pub kept_flushed : (packet : Packet) (rest : List Packet) (b : PagerPart) → b.outbox ≡ packet ∷ rest → IsKept b → IsKept (record b { outbox = rest })
-kept_flushed packet rest b is k =
-    let all : AllByRecursion (IsSaid b.geometry b.log) (packet ∷ rest) = subst (AllByRecursion (IsSaid b.geometry b.log)) is k.tied.outbox in
-    record {
-      few = k.few;
-      begun = k.begun;
-      last = k.last;
-      tied = record { inbox = k.tied.inbox; outbox = all.1; wants = k.tied.wants; waiting = k.tied.waiting; placed = k.tied.placed };
-    }
-
 -- a page is wanted, by the next record
 wanted_still : (e : Extent) (page n : ℕ) (wants : ℕ → Option ℕ) (x : Waiting) → IsWanted e wants x → IsWanted e (with_value page (Some n) wants) x
 wanted_still e page n wants x h = (h.0, go (page == x.page))

@@ -110,11 +110,6 @@ kept_more_waiting b miss p v want log waiting is grown more few k =
     let e : record b { log = log; waiting = waiting } ≡ record b { log = (b.log ++ Fault miss ∷ []) ++ Join want ∷ []; waiting = joined p v b.waiting } = λ i. record b { log = grown i; waiting = more i } in
     subst IsKept (sym e) (kept_joined p v (with_record (Join want) (with_record (Fault miss) b)) k2)
 
-pub joined_part : (b : PagerPart) (miss p v want : ℕ) (log : List PagerRec) (waiting : List Waiting) → log ≡ (b.log ++ Fault miss ∷ []) ++ Join want ∷ [] → waiting ≡ joined p v b.waiting → is_asked p b.waiting ≡ true → b.wants p ≡ Some want → record b { log = log; waiting = waiting } ≡ asks p v (learned miss b)
-joined_part b miss p v want log waiting grown more is wanted =
-    let e : record b { log = log; waiting = waiting } ≡ record b { log = (b.log ++ Fault miss ∷ []) ++ Join want ∷ []; waiting = joined p v b.waiting } = λ i. record b { log = grown i; waiting = more i } in
-    e ∙ sym (asks_join (learned miss b) p v want is wanted)
-
 pub asked_part : (b : PagerPart) (miss p v number : ℕ) (log : List PagerRec) (outbox : List Packet) (waiting : List Waiting) (wants : ℕ → Option ℕ) → log ≡ (b.log ++ Fault miss ∷ []) ++ Want p ∷ [] → outbox ≡ b.outbox ++ WantPacket number p ∷ [] → waiting ≡ b.waiting ++ entry p v ∷ [] → wants ≡ with_value p (Some number) b.wants → number ≡ length (b.log ++ Fault miss ∷ []) → record b { log = log; outbox = outbox; waiting = waiting; wants = wants } ≡ fault_new p v (learned miss b)
 asked_part b miss p v number log outbox waiting wants grown sent more given at =
     let sent_at : outbox ≡ b.outbox ++ WantPacket (length (b.log ++ Fault miss ∷ [])) p ∷ [] = sent ∙ ap (λ n. b.outbox ++ WantPacket n p ∷ []) at in

@@ -10,7 +10,7 @@ use Rattle.migration_events.specs.declared.ops.Op.TheVariants.{Read as ReadCell,
 use Rattle.residency.specs.declared.Presence.{Presence}
 use Rattle.residency.specs.declared.Presence.TheVariants.{Absent, Placed, Freed}
 use Rattle.residency.specs.Placements.{number_of, is_freed, is_covered}
-use Rattle.target_side.specs.TargetPart.{TargetPart, looks, frees, does, done_over}
+use Rattle.target_side.specs.TargetPart.{TargetPart, looks, does, done_over}
 use Rattle.target_side.specs.Kept.{Held, marked, IsSized}
 use Rattle.target_side.proofs.Logs.{each_push}
 
@@ -67,12 +67,6 @@ unseen_length v op k b unseen =
     let c : TargetPart = record b { standing = without_page v b.standing } in
     let looked = one_record v op (looks k c) ∙ ap (λ (d : TargetPart). length d.log + 1) (looks_unseen k c unseen) in
     omega (arith, looked, length-append b.log (See k ∷ []))
-
-pub again_length : (v : ℕ) (op : Op) (b : TargetPart) → length (done_over (λ c. c) v op b).book.log ≡ length b.log + 1
-again_length v op b = one_record v op (record b { standing = without_page v b.standing })
-
-pub free_length : (v : ℕ) (op : Op) (p : ℕ) (b : TargetPart) → length (done_over (frees p) v op b).book.log ≡ length b.log + 1
-free_length v op p b = one_record v op (frees p (record b { standing = without_page v b.standing }))
 
 -- sized for its own machine
 pub sized_own : (e : Extent) (h : Held) → IsSized e h → IsSized h.frames.geometry h

@@ -383,11 +383,6 @@ released_before h (suc n) page e = go (released_before h n page) (slice_get h n)
     go rec (Some (Did (See k))) is e = more (rec e)
     go rec (Some (Placed p k xs)) is e = more (rec e)
 
--- a page stays resident
-or_left : (a b : Bool) → a ≡ true → (a || b) ≡ true
-or_left true b e = refl
-or_left false b e = absurd (cc)
-
 freed_more : (o : Option ℕ) (p page : ℕ) (all : Pages) → all page ≡ true → freed_by p o all page ≡ true
 freed_more None p page all e = either (p == page)
   where

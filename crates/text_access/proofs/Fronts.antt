@@ -1,5 +1,5 @@
 -- What outputs gain.
-use Rattle.std.proofs.Common.{◌≡◌, ◌∙◌, ℕ, ◌+◌, ◌-◌, List, [], ◌++◌, length, take, drop, refl, sym, ap, subst, inl, inr, Option, append_assoc, append-nil, arith, take_all, length-drop}
+use Rattle.std.proofs.Common.{◌≡◌, ◌∙◌, ℕ, ◌+◌, ◌-◌, List, [], ◌++◌, length, take, drop, sym, ap, subst, inl, inr, Option, append_assoc, append-nil, arith, take_all, length-drop}
 use Rattle.std.specs.Io.KnownBytes.{Appends, Keeps}
 use Rattle.std.proofs.KnownBytes.{Appends-kept, Appends-nil, Appends-trans}
 use Rattle.std.proofs.lemmas.List.{take-append-drop}
@@ -13,9 +13,6 @@ kept a b k = Appends-kept a a b [] (Appends-nil a) k
 
 pub all_of : (a b : Option (List ℕ)) (bytes : List ℕ) → Appends a b bytes → AppendsFront a b bytes
 all_of a b bytes all = record { front = bytes; back = []; parts = sym (append-nil bytes); written = all }
-
-pub none_of : (a b : Option (List ℕ)) (bytes : List ℕ) → Keeps a b → AppendsFront a b bytes
-none_of a b bytes k = record { front = []; back = bytes; parts = refl; written = kept a b k }
 
 pub some_of : (a b : Option (List ℕ)) (count : ℕ) (bytes : List ℕ) → Appends a b (take count bytes) → AppendsFront a b bytes
 some_of a b count bytes some = record { front = take count bytes; back = drop count bytes; parts = sym (take-append-drop count bytes); written = some }

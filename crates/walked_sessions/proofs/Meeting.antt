@@ -1,17 +1,12 @@
 -- What a visitor meets of a log, with one record more.
-use Rattle.std.proofs.Common.{◌≡◌, ℕ, zero, suc, ◌+◌, true, false, ◌⊎◌, inl, inr, List, [], ◌∷◌, ◌++◌, length, Option, Some, refl, sym, ap, subst, ◌∙◌, arith, length-append}
+use Rattle.std.proofs.Common.{◌≡◌, ℕ, zero, suc, ◌+◌, false, ◌⊎◌, inl, inr, List, [], ◌∷◌, ◌++◌, length, Option, Some, refl, sym, ap, subst, ◌∙◌, arith, length-append}
 use Rattle.std.specs.Prelude.{IfSome, slice_get}
 use Rattle.std.specs.Option.{option_to_list}
-use Rattle.std.proofs.lemmas.List.{length-map, map-append}
 use Rattle.std.proofs.lemmas.Option.{same_Some, slice_get_within}
 use Rattle.migration_types.specs.declared.records.SourceRec.{SourceRec}
 use Rattle.migration_types.specs.declared.records.PagerRec.{PagerRec}
 use Rattle.migration_types.specs.Sessions.{Recorded}
-use Rattle.recordings.specs.Seen.{with_guest, with_source, with_link, with_lane, with_pager, BeforeSource, BeforeLink, BeforeLane, BeforePager}
-use Rattle.recordings.specs.Wide.{guest_of, lane_of, link_of}
-use Rattle.recordings.specs.declared.wide.WideGuest.{WideGuest}
-use Rattle.recordings.specs.declared.wide.WideLink.{WideLink}
-use Rattle.recordings.specs.declared.wide.WideLane.{WideLane}
+use Rattle.recordings.specs.Seen.{with_source, with_pager, BeforeLink}
 use Rattle.recorder_files.specs.declared.delivering.Message.{Message}
 use Rattle.recorder_files.specs.declared.raw.RawSource.{RawSource}
 use Rattle.recorder_files.specs.declared.raw.RawPager.{RawPager}
@@ -23,7 +18,7 @@ use Rattle.walked_sessions.specs.declared.takers.SourceTaker.{SourceTaker}
 use Rattle.walked_sessions.specs.declared.takers.PagerTaker.{PagerTaker}
 use Rattle.walked_sessions.specs.Walks.{AreNumbered, IsDown, IsNumberOf, IsUp}
 use Rattle.walked_sessions.specs.inner.Passing.{HasPassed, Passes}
-use Rattle.walked_sessions.specs.inner.Meeting.{MeetsGuest, MeetsLane, MeetsLink, MeetsPager, MeetsSource, with_guests, with_lanes, with_links, with_pagers, with_sources}
+use Rattle.walked_sessions.specs.inner.Meeting.{MeetsGuest, MeetsLane, MeetsLink, MeetsPager, MeetsSource, with_pagers, with_sources}
 use Rattle.walked_sessions.proofs.Passing.{are_numbers_there, has_passed_more, has_passed_none}
 
 of_push : {X : Type 0} (xs : List X) (x y : X) (k : ℕ) → slice_get (xs ++ x ∷ []) k ≡ Some y → (slice_get xs k ≡ Some y) ⊎ ((k ≡ length xs) × (y ≡ x))
@@ -62,11 +57,6 @@ numbered_more {R} {S} numbered IsNumber raws recs raw rec k n e is_number is wer
 pub guest_none : {V : Type 0} (Met : V → Recorded → Type 0) (v : V) → MeetsGuest Met v v []
 guest_none Met v = λ d before none met. subst (λ gs. Met v (record { version = d.version; geometry = d.geometry; init = d.init; guest = gs; source = d.source; link = d.link; lane = d.lane; pager = d.pager })) none met
 
-pub guest_more : {V : Type 0} (Met : V → Recorded → Type 0) (from was now : V) (records : List WideGuest) (rec : WideGuest) (number : ℕ) → number ≡ length records → MeetsGuest Met from was records → ((d : Recorded) → BeforeSource d → length d.guest ≡ number → Met was d → Met now (with_guest d (guest_of rec))) → MeetsGuest Met from now (records ++ rec ∷ [])
-guest_more Met from was now records rec number e met next = λ d before none start.
-    let there : Met now (with_guest (with_guests d records) (guest_of rec)) = next (with_guests d records) before (length-map records guest_of ∙ sym e) (met d before none start) in
-    subst (λ gs. Met now (record { version = d.version; geometry = d.geometry; init = d.init; guest = gs; source = d.source; link = d.link; lane = d.lane; pager = d.pager })) (sym (map-append guest_of records (rec ∷ []))) there
-
 -- ---- the source
 
 pub source_none : {V : Type 0} (Met : V → Recorded → Type 0) (t : SourceTaker) (v : V) → MeetsSource Met t v t v []
@@ -94,32 +84,12 @@ link_none Met t v none_met = record {
   met = λ d before none met. subst (λ ls. Met v (record { version = d.version; geometry = d.geometry; init = d.init; guest = d.guest; source = d.source; link = ls; lane = d.lane; pager = d.pager })) none met;
 }
 
-pub link_more : {V : Type 0} (Met : V → Recorded → Type 0) (first before after : LinkTaker) (from was now : V) (records : List WideLink) (rec : WideLink) (number : ℕ) → number ≡ length records → before.is_told ≡ false → after.is_told ≡ before.is_told → after.is_met ≡ true → ((d : Recorded) → BeforeLane d → length d.link ≡ number → Met was d → Met now (with_link d (link_of rec))) → MeetsLink Met first from before was records → MeetsLink Met first from after now (records ++ rec ∷ [])
-link_more Met first before after from was now records rec number e untold same is_met next meets = record {
-  told = same ∙ meets.told;
-  none = λ e. absurd (cc);
-  own = λ e. sym meets.told ∙ untold;
-  met = λ d bef none start.
-      let there : Met now (with_link (with_links d records) (link_of rec)) = next (with_links d records) bef (length-map records link_of ∙ sym e) (meets.met d bef none start) in
-      subst (λ ls. Met now (record { version = d.version; geometry = d.geometry; init = d.init; guest = d.guest; source = d.source; link = ls; lane = d.lane; pager = d.pager })) (sym (map-append link_of records (rec ∷ []))) there;
-}
-
 pub lane_none : {V : Type 0} (Met : V → Recorded → Type 0) (t : LaneTaker) (v : V) → t.is_met ≡ false → MeetsLane Met t v t v []
 lane_none Met t v none_met = record {
   told = refl;
   none = λ e. refl;
   own = λ e. absurd (cc);
   met = λ d before none met. subst (λ ls. Met v (record { version = d.version; geometry = d.geometry; init = d.init; guest = d.guest; source = d.source; link = d.link; lane = ls; pager = d.pager })) none met;
-}
-
-pub lane_more : {V : Type 0} (Met : V → Recorded → Type 0) (first before after : LaneTaker) (from was now : V) (records : List WideLane) (rec : WideLane) (number : ℕ) → number ≡ length records → before.is_told ≡ false → after.is_told ≡ before.is_told → after.is_met ≡ true → ((d : Recorded) → BeforePager d → length d.lane ≡ number → Met was d → Met now (with_lane d (lane_of rec))) → MeetsLane Met first from before was records → MeetsLane Met first from after now (records ++ rec ∷ [])
-lane_more Met first before after from was now records rec number e untold same is_met next meets = record {
-  told = same ∙ meets.told;
-  none = λ e. absurd (cc);
-  own = λ e. sym meets.told ∙ untold;
-  met = λ d bef none start.
-      let there : Met now (with_lane (with_lanes d records) (lane_of rec)) = next (with_lanes d records) bef (length-map records lane_of ∙ sym e) (meets.met d bef none start) in
-      subst (λ ls. Met now (record { version = d.version; geometry = d.geometry; init = d.init; guest = d.guest; source = d.source; link = d.link; lane = ls; pager = d.pager })) (sym (map-append lane_of records (rec ∷ []))) there;
 }
 
 -- ---- the pager

@@ -1,7 +1,7 @@
 -- What is known of a text and its output, where a piece is written.
 use Rattle.std.proofs.Common.{◌≡◌, ℕ, zero, suc, length, drop, ◌+◌, ◌<◌, take, add-zero, arith, List, [], ◌++◌, Option, Some, None, refl, sym, ap, subst, ◌∙◌}
 use Rattle.std.proofs.lemmas.List.{append-nil, take-append-drop}
-use Rattle.std.proofs.Math.Seq.{take-length, take-append_seam}
+use Rattle.std.proofs.Math.Seq.{take-append_seam}
 use Rattle.text_access.specs.Written.{Gains}
 use Rattle.text_access.proofs.Fronts.{both_gain}
 use Rattle.std.specs.Prelude.{Result, Ok, Err, OnOk, IsOk, false}
@@ -123,10 +123,6 @@ finished start known next front pages old new s meets ends wrote =
     (subst (Appends start next) all (Appends-trans start known next h.before new.bytes.items h.written wrote), has_records h.before new old.init front s e, e.init ∙ meets.init)
 
 -- ---- what an output had before
-
-pub kept_same : (a : Option (List ℕ)) → IsKept a a
-kept_same None = refl
-kept_same (Some xs) = ap Some (take-length xs)
 
 pub kept_gains : (a b : Option (List ℕ)) → IsKept a b → Gains a b
 kept_gains None b e = ([], tt)

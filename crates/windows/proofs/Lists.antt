@@ -1,6 +1,5 @@
 -- Lists that grow by an item at their end.
-use Rattle.std.proofs.Common.{◌≡◌, ℕ, ◌+◌, Bool, true, false, List, [], ◌∷◌, ◌++◌, length, map, refl, sym, ap, ◌∙◌, arith, append_assoc, ◌<◌, suc, take, get_or}
-use Rattle.std.proofs.Math.Seq.{take-suc}
+use Rattle.std.proofs.Common.{◌≡◌, ℕ, ◌+◌, Bool, true, false, List, [], ◌∷◌, ◌++◌, length, map, refl, sym, ap, ◌∙◌, arith, append_assoc}
 use Rattle.text_lines.specs.Text.{ended}
 use Rattle.audit_model.specs.Windows.{kept_in}
 use Rattle.windows.specs.inner.Marks.{has_mark}
@@ -69,15 +68,3 @@ marks_end number known far (x ∷ log) r = ap (λ ms. guest_by number known far 
 pub far_end : (known : Marks) (far : ℕ) (log : List GuestRec) (r : GuestRec) → far_after known far (log ++ r ∷ []) ≡ further_by known r (far_after known far log)
 far_end known far [] r = refl
 far_end known far (x ∷ log) r = far_end known (further_by known x far) log r
-
--- one more number, as a loop adds it
-pub sum_more : (first : ℕ) (xs : List ℕ) (n i : ℕ) (front old new : List ℕ) → i < length xs → n ≡ get_or xs i 0 → old ≡ front ++ map (λ p. first + p) (take i xs) → new ≡ old ++ (first + n) ∷ [] → new ≡ front ++ map (λ p. first + p) (take (i + 1) xs)
-sum_more first xs n i front old new lt here so_far more =
-    let at : n ≡ get_or xs i 0 = here in
-    let j : suc i ≡ i + 1 = omega arith in
-    more
-    ∙ ap (λ ys. ys ++ (first + n) ∷ []) so_far
-    ∙ append_assoc front (map (λ p. first + p) (take i xs)) ((first + n) ∷ [])
-    ∙ ap (λ m. front ++ (map (λ p. first + p) (take i xs) ++ (first + m) ∷ [])) at
-    ∙ ap (λ ys. front ++ ys) (sym (map_end (λ p. first + p) (take i xs) (get_or xs i 0)) ∙ ap (map (λ p. first + p)) (sym (take-suc xs i 0 lt)))
-    ∙ ap (λ m. front ++ map (λ p. first + p) (take m xs)) j

@@ -1,5 +1,5 @@
 -- The numbers of pages in a window.
-use Rattle.std.proofs.Common.{◌≡◌, ℕ, ◌+◌, ◌-◌, ◌<◌, ◌≤◌, ◌⊎◌, inl, inr, Bool, true, false, Some, None, refl, sym, ap, ◌∙◌, arith}
+use Rattle.std.proofs.Common.{◌≡◌, ℕ, ◌+◌, ◌-◌, ◌<◌, ◌≤◌, ◌⊎◌, inl, inr, Bool, true, false, Some, None, refl, ap, arith}
 use Rattle.std.specs.Prelude.{◌&&◌, nat_lt, nat_le, if◌then◌else◌}
 use Rattle.std.proofs.lemmas.Bool.Decides.{nat_tests}
 use Rattle.audit_model.specs.Windows.{numbers_from, is_seen, new_page}
@@ -28,10 +28,6 @@ seen_within first count page le lt = ap is_seen (within first count page le lt)
 
 pub seen_outside : (first count page : ℕ) → (page < first) ⊎ (count ≤ page - first) → is_seen (numbers_from first count page) ≡ false
 seen_outside first count page h = ap is_seen (outside first count page h)
-
-pub seen_is : (first count page : ℕ) (b : Bool) → ((b ≡ true) × (first ≤ page) × (page - first < count)) ⊎ ((b ≡ false) × ((page < first) ⊎ (count ≤ page - first))) → b ≡ is_seen (numbers_from first count page)
-seen_is first count page b (inl h) = h.0 ∙ sym (seen_within first count page h.1 h.2)
-seen_is first count page b (inr h) = h.0 ∙ sym (seen_outside first count page h.1)
 
 pub number_within : (first count page : ℕ) → true ≡ is_seen (numbers_from first count page) → page - first ≡ new_page (numbers_from first count page)
 number_within first count page e = go (nat_le first page && nat_lt page (first + count)) e

@@ -1,11 +1,11 @@
 -- Tables as they are written and read.
-use Rattle.std.proofs.Common.{◌≡◌, ℕ, ◌+◌, ◌<◌, ◌≤◌, ◌^◌, List, [], ◌∷◌, ◌++◌, length, map, take, get_or, sym, ap, ◌∙◌, refl, arith, append_assoc, length-append}
+use Rattle.std.proofs.Common.{◌≡◌, ℕ, ◌+◌, ◌<◌, ◌^◌, List, [], ◌∷◌, ◌++◌, length, map, take, get_or, sym, ap, ◌∙◌, refl, append_assoc}
 use Rattle.std.specs.List.{AllByRecursion}
 use Rattle.std.specs.Fmt.{decimal}
-use Rattle.std.proofs.lemmas.List.{append-nil, length-map}
+use Rattle.std.proofs.lemmas.List.{append-nil}
 use Rattle.text_lines.specs.Text.{Begins, ended}
 use Rattle.text_lines.proofs.Sections.{ended_next}
-use Rattle.windows.specs.Tables.{most_lines, SpellsTable, table_text}
+use Rattle.windows.specs.Tables.{SpellsTable, table_text}
 
 -- behind what was there before stand the first lines of a table
 abbrev pub Written : List ℕ → List ℕ → ℕ → List ℕ → Type 0
@@ -27,9 +27,3 @@ pub no_number : (held : List ℕ) (line : List ℕ) → ((n : ℕ) → n < 2 ^ 6
 no_number held line none b =
     let t = line_of_table held line b.1 b.0 b.2.0.each b.2.1 in
     none t.0 t.1 t.2
-
-pub no_room : (held : List ℕ) (line : List ℕ) → most_lines ≤ length held → Begins SpellsTable (map decimal held ++ line ∷ []) → ⊥
-no_room held line full b =
-    let few = b.2.0.few in
-    let long = ap length b.2.1 in
-    absurd (omega (arith, length-map held decimal, length-map b.0 decimal, length-append (map decimal held ++ line ∷ []) b.1, length-append (map decimal held) (line ∷ [])))
