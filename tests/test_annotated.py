@@ -29,8 +29,6 @@ CONTENTS = {"clean": "handover", "early": "early-access", "knot": "circle-of-rec
 ODD = dict.fromkeys(it for it in map(chr, range(sys.maxunicode + 1)) if unicodedata.category(it) in ("Cc", "Cf", "Zl", "Zp"))
 EVEN = "aZ0 .,:;%&<>'\"\\#?=\u00a0\u00e9\u0301\u05d0\u4e00\ue000\U0001f600"
 
-pytestmark = pytest.mark.quick
-
 
 def odd_names(count, size):
     """So many names of files, with so many odd characters each, among others: each odd one, and others at random."""
@@ -345,14 +343,15 @@ class Tests:
             self.one_session(name)
 
 
-@pytest.mark.parametrize("part", (
-    pytest.param(Tests.each, marks=pytest.mark.cases(86)), pytest.param(Tests.many, marks=pytest.mark.cases(12)),
-    pytest.param(Tests.calls, marks=pytest.mark.cases(8)), pytest.param(Tests.outputs, marks=pytest.mark.cases(4)), pytest.param(Tests.odd_names, marks=pytest.mark.cases(3)),
-    pytest.param(Tests.thousand_names, marks=pytest.mark.cases(16)), pytest.param(Tests.other_scripts, marks=pytest.mark.cases(96)),
-    pytest.param(Tests.meanings, marks=pytest.mark.cases(1)), pytest.param(Tests.incomplete, marks=pytest.mark.cases(23)),
-    pytest.param(Tests.refused, marks=pytest.mark.cases(4)), pytest.param(Tests.wrong_words, marks=pytest.mark.cases(3)),
-    pytest.param(Tests.streams, marks=pytest.mark.cases(8)), pytest.param(Tests.ended, marks=pytest.mark.cases(5)), pytest.param(Tests.noted, marks=pytest.mark.cases(6))),
-    ids=lambda it: it.__name__)
+def parts(*cases_of, marks=()):
+    """The parts of the tests, each with the least number of its cases."""
+    return [pytest.param(part, marks=[pytest.mark.cases(least), *marks]) for part, least in cases_of]
+
+
+@pytest.mark.parametrize("part", [
+    *parts((Tests.each, 86), (Tests.many, 12), (Tests.calls, 8), (Tests.outputs, 4), (Tests.odd_names, 3), (Tests.meanings, 1), (Tests.incomplete, 23),
+           (Tests.refused, 4), (Tests.wrong_words, 3), (Tests.streams, 8), (Tests.ended, 5), (Tests.noted, 6), marks=[pytest.mark.quick]),
+    *parts((Tests.thousand_names, 16), (Tests.other_scripts, 96))], ids=lambda it: it.__name__)
 def test_annotated(program, room, part):
     for kind, example in CONTENTS.items():
         shutil.copy(f"{TOP}/examples/{example}/session", f"{room}/{kind}")

@@ -15,8 +15,6 @@ import calls  # noqa: E402
 import definitions  # noqa: E402
 import reference  # noqa: E402
 
-pytestmark = pytest.mark.quick
-
 # Two crates. By hand: `safe` rests on IsSafe (2 lines), Demand (4), with_cell (2), Move (3), of which the file of Moves comes first, and
 # not on `start`, which IsSafe binds, nor on `unused`. The contract of `answer` rests on Told (3) too, as its argument is of a type that it sees so.
 TREE = {
@@ -121,6 +119,7 @@ def found(closure):
     return [(file, [it.name for it in some]) for file, some in closure.files], closure.lines()
 
 
+@pytest.mark.quick
 def test_small_tree(small):
     safe = small.definitions.closure([small.definitions.find("Rattle.high.specs.Safe", "IsSafe")])
     low, high = "crates/low/specs/Moves.antt", "crates/high/specs/Safe.antt"
@@ -137,6 +136,7 @@ def whole():
     return reference.Reference()
 
 
+@pytest.mark.quick
 def test_promises(whole):
     """Each contract in GUARANTEES is found, and each definition that a clause of the headline names there is one that it rests on."""
     page = reference.read(reference.GUARANTEES)
@@ -147,11 +147,13 @@ def test_promises(whole):
     assert whole.definitions.unknown == set()
 
 
+@pytest.mark.quick
 def test_inner(whole):
     """Nothing that the program or the library promises rests on a definition that only proofs use."""
     assert [it.file for it in whole.reached().found.values() if "/inner/" in it.file] == []
 
 
+@pytest.mark.quick
 @pytest.mark.cases(170)
 def test_order(whole):
     """A file stands after those that it rests on."""
