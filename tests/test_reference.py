@@ -17,6 +17,7 @@ import reference  # noqa: E402
 
 # Two crates. By hand: `safe` rests on IsSafe (2 lines), Demand (4), with_cell (2), Move (3), of which the file of Moves comes first, and
 # not on `start`, which IsSafe binds, nor on `unused`. The contract of `answer` rests on Told (3) too, as its argument is of a type that it sees so.
+# The field `left` of Told alone (2) rests on nothing else.
 TREE = {
     "crates.txt": "# Two crates\nlow: thiserror\n\nhigh staticlib: low\n",
     "crates/low/specs/Moves.antt": """-- What moves.
@@ -128,6 +129,8 @@ def test_small_tree(small):
     assert (answer.head, answer.doc, [it.name for it in answer.clauses]) == (
         "pub fn answer(held: &Held, from: Net<Stream = TcpStream>) -> Result<u8, AllocError>", ["Returns what is so."], [None, "safe", "plain"])
     assert found(small.closure([(answer, answer.named(["safe"]))])) == ([(low, ["Move", "with_cell"]), (high, ["Demand", "IsSafe", "Told"])], 14)
+    left = small.definitions.find("Rattle.high.specs.Safe", "Told").only(("left",))
+    assert found(small.definitions.closure([left])) == ([(high, ["Told"])], 2)
     assert [*calls.calls_on_memory(small)] == [("high", ["answer"])]
 
 

@@ -62,6 +62,11 @@ class Definition:
         self.lines = [it for it in self.text.split("\n") if bare(it).strip()]
         self.constructors = re.findall(r"^  (?:pub )?([^\W\d]\w*) :", self.text, re.M) if re.match(r"pub data", self.text) else []
 
+    def only(self, fields):
+        """A record with these fields alone."""
+        kept = [it for it in self.text.split("\n") if not it.startswith("  pub ") or it.split()[1] in fields]
+        return Definition(self.module, self.file, self.name, self.first, self.above, kept)
+
     def paths(self):
         """The paths of names in it, but those that it binds itself: by an equation's patterns, by a binder or as a field."""
         fields = set(re.findall(r"^  pub (\w+) :", self.text, re.M))

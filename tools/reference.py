@@ -26,6 +26,11 @@ class Reference:
         (self.run,), (self.folders,), (self.into,), (self.check,) = map(self.calls.named, (RUN, FOLDERS, INTO, HEADLINE))
         self.exports = [it for it in self.calls.functions if it.source.crate == "postcopy_c" and it.is_public and 'extern "C"' in it.head]
 
+    def part_of(self, function, clause, record, fields):
+        """What some fields of a record rest on that a clause of a function gives."""
+        cited = self.calls.cited(function, function.named((clause,)))
+        return self.definitions.closure([it.only(fields) if it.name == record else it for it in cited if not isinstance(it, str)])
+
     def headline(self):
         """What the headline rests on: the claims of check_texts, without its clause about each other verdict."""
         return self.calls.closure([(self.check, [it for it in self.check.clauses if it.name != "verdict"])])
@@ -46,8 +51,8 @@ class Reference:
         rows = (
             ("the headline: `check_texts`", headline),
             ("that status 0 of `check` carries it",
-             self.calls.closure([(self.run, self.run.named(("headline", "bare_headline")))])),
-            ("that status 0 of `audit` of a folder carries it", self.calls.closure([(self.folders, self.folders.named(("clean",)))])),
+             self.part_of(self.run, "headlines", "CarriesHeadlines", ("checked",))),
+            ("that status 0 of `audit` of a folder carries it", self.part_of(self.folders, "folders", "ShowsFolders", ("clean",))),
             ("all that the program promises", self.calls.closure([(it, it.clauses) for it in (self.run, self.folders, self.into)])),
             ("all that the library for C promises", self.calls.closure([(it, it.clauses) for it in self.exports])),
             ("all that the two promise", self.reached()),

@@ -1,6 +1,7 @@
--- An `audit`, a `certify` or an `explain` that ends with status 0 shows a migrated session.
-use Rattle.std.proofs.Common.{◌≡◌, ◌∙◌, ℕ, List, [], ◌∷◌, Option, Some, None, Ok, inl, inr, refl, subst, sym, ap, arith, cond}
-use Rattle.std.specs.Prelude.{codes, map, Bool, true, false, nat_lt}
+-- A run that ends with status 0 shows the headline, or a migrated session.
+use Rattle.std.proofs.Common.{◌≡◌, ◌∙◌, ℕ, List, [], ◌∷◌, Option, Some, None, Ok, inl, inr, refl, subst, sym, arith, cond}
+use Rattle.std.specs.Prelude.{map, Bool, true, false, nat_lt}
+use Rattle.std.specs.Global.{Vec}
 use Rattle.std.specs.List.{AllByRecursion}
 use Rattle.std.proofs.lemmas.Bool.Decides.{nat_tests}
 use Rattle.clap.specs.Words.{Text}
@@ -13,7 +14,9 @@ use Rattle.audit_report.specs.declared.report.Report.{Report}
 use Rattle.audit_report.specs.declared.report.Report.TheVariants.{Clean, Shape, Knot, Faulty}
 use Rattle.audit_report.specs.Reports.{IsReport}
 use Rattle.audit_report.specs.ToldLines.{line_by, own}
+use Rattle.cert_check.specs.declared.verdict.Verdict.TheVariants.{Yes}
 use Rattle.completeness.specs.declared.lack.Extent.{Extent}
+use Rattle.judged_texts.specs.Checked.{HeadlineHolds, IsTextVerdict}
 use Rattle.session_answers.specs.declared.forms.Ask.{Ask}
 use Rattle.session_answers.specs.declared.forms.Story.{Story}
 use Rattle.session_answers.specs.Forms.{Tells, TellsStory}
@@ -22,28 +25,23 @@ use Rattle.session_answers.specs.Lacks.{TellsLack, lack_form, story_lack}
 use Rattle.judge_commands.specs.Answers.{how_much, story_telling}
 use Rattle.judge_commands.specs.ByTables.{IsExplainedByTable}
 use Rattle.judge_commands.specs.Completed.{IsAnswered}
-use Rattle.command_words.specs.declared.requests.Explains.{Explains}
+use Rattle.command_words.specs.declared.requests.Checks.{Checks}
 use Rattle.command_words.specs.declared.requests.Lists.{Lists}
-use Rattle.command_words.specs.declared.requests.OneText.{OneText}
-use Rattle.command_words.specs.declared.requests.OneText.TheVariants.{Certify, Audit}
-use Rattle.command_words.specs.declared.requests.OneText.TheVariants as one
-use Rattle.command_words.specs.declared.requests.Request.TheVariants.{One}
-use Rattle.command_words.specs.declared.requests.TwoTexts.TheVariants.{Explain}
-use Rattle.command_words.specs.Table.{plain_audit, plain_explanation}
-use Rattle.command_words.specs.Words.{IsPlain}
-use Rattle.command_words.proofs.Plain.{taken_plain}
-use Rattle.command_texts.specs.declared.answer.Fault.{Fault}
+use Rattle.command_words.specs.declared.requests.Request.TheVariants.{One, Two}
+use Rattle.command_words.specs.declared.requests.TwoTexts.TheVariants.{Check, Explain}
+use Rattle.command_words.specs.Words.{several_asked}
 use Rattle.command_texts.specs.declared.why.Telling.{Telling}
 use Rattle.command_texts.specs.declared.why.Telling.TheVariants.{Short, Full, Fields}
 use Rattle.command_texts.specs.Fields.{IsAnswerTold}
 use Rattle.command_texts.specs.Several.{Entry, IsRight, IsSaid, Said, entry_status, greater, said_status, worst}
-use Rattle.command_texts.specs.Told.{Ends, IsNamed}
+use Rattle.command_texts.specs.Told.{IsNamed}
 use Rattle.text_access.specs.Names.{Files}
 use Rattle.text_access.specs.Written.{Streams}
-use Rattle.commands.specs.Shown.{AsksAudit, IsTakenAsAudit, ShowsEachMigrated, ShowsFirstMigrated, ShowsMigrated, SpellsMigrated}
-use Rattle.commands.specs.Told.{EndsSeveral, IsListAnswer, IsOneAnswer, IsSettled, IsSettledList, IsTwoAnswer, ask_of, extent_of, list_ask, story_form}
-use Rattle.commands.proofs.Settled.{no_fault}
-use Rattle.commands.proofs.Shown.{without_asking}
+use Rattle.commands.specs.Runs.{IsRun}
+use Rattle.commands.specs.Shown.{CarriesHeadlines, HoldsOfBoth, Shows, SpellsMigrated}
+use Rattle.commands.specs.Told.{EndsSeveral, IsListAnswer, IsOneAnswer, IsSettledList, IsTwoAnswer, ask_of, extent_of, list_ask, story_form}
+use Rattle.commands.proofs.Settled.{no_fault, some_map}
+use Rattle.commands.proofs.Shown.{shows, without_asking, yes_as_told}
 
 -- ---- the law
 
@@ -92,24 +90,6 @@ module _ (law : CleanLaw) where
   first_migrated Full IsRefused story complete texts text h = lined_migrated story complete texts text h
   first_migrated Fields IsRefused story complete texts text h = lined_migrated story complete texts h.answer h.is_answer
 
-  -- ---- what ends with status 0
-
-  module _ (IsFault : Fault → Type 0) (old new : Streams) (status : ℕ) where
-    pub shows_one : (task : OneText) (IsText : List ℕ → Type 0) (IsBeside : List ℕ → ℕ → Option (List ℕ) → Option (List ℕ) → Type 0)
-        → IsSettled (Ends IsFault IsText (IsOneAnswer task) IsBeside old) new status → status ≡ 0 → ShowsMigrated IsText
-    shows_one task IsText IsBeside (inl h) zero =
-        let at = subst (λ (s : ℕ). Ends IsFault IsText (IsOneAnswer task) IsBeside old new (Ok s)) zero h.1 in
-        record { text = at.texts; is_text = at.are_texts; holds = one_migrated (how_much (ask_of task).form) _ (ask_of task) at.texts at.told.text at.told.is_answer }
-    shows_one task IsText IsBeside (inr h) zero = absurd (no_fault h.fault (sym zero ∙ h.is_status))
-
-    pub shows_first : (explains : Explains) (AreTexts : List ℕ × List ℕ → Type 0) (IsBeside : List ℕ × List ℕ → ℕ → Option (List ℕ) → Option (List ℕ) → Type 0)
-        → IsSettled (Ends IsFault AreTexts (IsTwoAnswer (Explain explains)) IsBeside old) new status → status ≡ 0 → ShowsFirstMigrated AreTexts
-    shows_first explains AreTexts IsBeside (inl h) zero =
-        let at = subst (λ (s : ℕ). Ends IsFault AreTexts (IsTwoAnswer (Explain explains)) IsBeside old new (Ok s)) zero h.1 in
-        let story = story_form explains.form in
-        record { texts = at.texts; are_texts = at.are_texts; holds = first_migrated (story_telling story) _ story (extent_of explains.demand) at.texts at.told.text at.told.is_answer }
-    shows_first explains AreTexts IsBeside (inr h) zero = absurd (no_fault h.fault (sym zero ∙ h.is_status))
-
   -- ---- each of several
 
   -- the greatest of two is 0 only if both are
@@ -121,33 +101,33 @@ module _ (law : CleanLaw) where
   said_migrated lists files HasSession IsRefused name s h zero =
       one_migrated (how_much (list_ask lists).form) _ (list_ask lists) s.text s.answer (subst (λ (status : ℕ). IsListAnswer lists s.text s.answer status) zero h.is_answer)
 
-  entry_migrated : (lists : Lists) (files : Files) (HasSession : List ℕ → List ℕ → Type 0) (IsRefused : List ℕ → Option ℕ → Type 0) (name : List ℕ) (said : Option Said) → IsRight files HasSession (IsListAnswer lists) IsRefused (record { name = name; said = said }) → said_status said ≡ 0 → ShowsMigrated (IsNamed name files HasSession None)
+  entry_migrated : (lists : Lists) (files : Files) (HasSession : List ℕ → List ℕ → Type 0) (IsRefused : List ℕ → Option ℕ → Type 0) (name : List ℕ) (said : Option Said) → IsRight files HasSession (IsListAnswer lists) IsRefused (record { name = name; said = said }) → said_status said ≡ 0 → Shows (IsNamed name files HasSession None) SpellsMigrated
   entry_migrated lists files HasSession IsRefused name None h zero = absurd cc
-  entry_migrated lists files HasSession IsRefused name (Some s) h zero = record { text = s.text; is_text = h.is_named; holds = said_migrated lists files HasSession IsRefused name s h zero }
+  entry_migrated lists files HasSession IsRefused name (Some s) h zero = record { texts = s.text; are_texts = h.is_named; holds = said_migrated lists files HasSession IsRefused name s h zero }
 
-  each_migrated : (lists : Lists) (files : Files) (HasSession : List ℕ → List ℕ → Type 0) (IsRefused : List ℕ → Option ℕ → Type 0) (es : List Entry) → AllByRecursion (IsRight files HasSession (IsListAnswer lists) IsRefused) es → 0 ≡ worst es → ShowsEachMigrated (λ name. IsNamed name files HasSession None) (map (λ e. e.name) es)
+  each_migrated : (lists : Lists) (files : Files) (HasSession : List ℕ → List ℕ → Type 0) (IsRefused : List ℕ → Option ℕ → Type 0) (es : List Entry) → AllByRecursion (IsRight files HasSession (IsListAnswer lists) IsRefused) es → 0 ≡ worst es → AllByRecursion (λ name. Shows (IsNamed name files HasSession None) SpellsMigrated) (map (λ e. e.name) es)
   each_migrated lists files HasSession IsRefused [] h zero = tt
   each_migrated lists files HasSession IsRefused (e ∷ es) h zero =
       let both = none_greater (nat_lt (entry_status e) (worst es)) (entry_status e) (worst es) refl zero in
       (entry_migrated lists files HasSession IsRefused e.name e.said h.0 both.0, each_migrated lists files HasSession IsRefused es h.1 (sym both.1))
 
   pub shows_each : (several : Lists × List Text) (files : Files) (HasSession : List ℕ → List ℕ → Type 0) (old new : Streams) (status : ℕ)
-      → IsSettledList (EndsSeveral several files HasSession old) new status → status ≡ 0 → ShowsEachMigrated (λ name. IsNamed name files HasSession None) several.1
+      → IsSettledList (EndsSeveral several files HasSession old) new status → status ≡ 0 → AllByRecursion (λ name. Shows (IsNamed name files HasSession None) SpellsMigrated) several.1
   shows_each several files HasSession old new status (inl h) zero =
       let at = subst (λ (s : ℕ). EndsSeveral several files HasSession old new (Ok s)) zero h.1 in
-      subst (ShowsEachMigrated (λ name. IsNamed name files HasSession None)) at.are_names (each_migrated several.0 files HasSession _ at.entries at.are_right at.is_status)
+      subst (AllByRecursion (λ name. Shows (IsNamed name files HasSession None) SpellsMigrated)) at.are_names (each_migrated several.0 files HasSession _ at.entries at.are_right at.is_status)
   shows_each several files HasSession old new status (inr h) zero = absurd (no_fault h.fault (sym zero ∙ h.is_status))
 
--- ---- words that ask for one of these commands
+-- ---- what a run with status 0 shows
 
-pub taken_audit : (words : List Text) (session : Text) → AsksAudit words session → IsTakenAsAudit words session
-taken_audit words session (inl (command, inl audit, is)) =
-    let taken = taken_plain words (codes "audit") (session ∷ []) (One (Audit plain_audit) session) (subst (λ c. IsPlain words c (session ∷ [])) audit is) refl in
-    record { task = Audit plain_audit; accepted = taken.accepted; asks = taken.given }
-taken_audit words session (inl (command, inr (inl certify), is)) =
-    let taken = taken_plain words (codes "certify") (session ∷ []) (One Certify session) (subst (λ c. IsPlain words c (session ∷ [])) certify is) refl in
-    record { task = Certify; accepted = taken.accepted; asks = taken.given }
-taken_audit words session (inl (command, inr (inr explain), is)) =
-    let taken = taken_plain words (codes "explain") (session ∷ []) (One (one.Explain plain_explanation) session) (subst (λ c. IsPlain words c (session ∷ [])) explain is) refl in
-    record { task = one.Explain plain_explanation; accepted = taken.accepted; asks = taken.given }
-taken_audit words session (inr is) = is
+module _ (verdicts : (session cert : List ℕ) → IsTextVerdict session cert Yes → HeadlineHolds session cert) (law : CleanLaw) (words : List Text) (files : Files) (HasSession : List ℕ → List ℕ → Type 0) (input : Option (List ℕ)) (before : Option (Vec ℕ)) (old new : Streams) (table : Option (Vec ℕ)) (status : ℕ) where
+  checked_holds : (checks : Checks) (texts : List ℕ × List ℕ) (text : List ℕ) → IsTwoAnswer (Check checks) texts text 0 → HoldsOfBoth texts
+  checked_holds checks texts text h = verdicts texts.0 texts.1 (yes_as_told checks.form (extent_of checks.demand) texts text h)
+
+  pub carried : IsRun words files HasSession input before old new table status → status ≡ 0 → CarriesHeadlines words files HasSession input
+  carried is zero = record {
+    checked = λ first second checks asks. shows _ _ (IsTwoAnswer (Check checks)) _ _ old new status (checked_holds checks) (is.told (Two (Check checks) first second) asks) zero;
+    clean = λ name task asks. shows _ _ (IsOneAnswer task) _ _ old new status (one_migrated law (how_much (ask_of task).form) _ (ask_of task)) (is.told (One task name) asks) zero;
+    lined = λ first second explains asks. shows _ _ (IsTwoAnswer (Explain explains)) _ _ old new status (first_migrated law (story_telling (story_form explains.form)) _ (story_form explains.form) (extent_of explains.demand)) (is.told (Two (Explain explains) first second) asks) zero;
+    each = λ accepted. some_map (several_asked words) _ _ (λ several h. shows_each law several files HasSession old new status h zero) (is.several accepted);
+  }

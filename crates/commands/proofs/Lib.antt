@@ -1,10 +1,12 @@
 pub mod Settled
+pub mod Done
 pub mod Judged
 pub mod Recorded
 pub mod Drawn
 pub mod Lined
 pub mod Shown
 pub mod Clean
+pub mod Ran
 pub mod WholeFolders
 pub mod Migrated
 pub mod Named

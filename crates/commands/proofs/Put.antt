@@ -1,10 +1,9 @@
 -- An answer that was made and put.
-use Rattle.std.proofs.Common.{◌≡◌, ◌∙◌, ◌⊎◌, ℕ, ◌<◌, ◌≤◌, List, [], Option, Some, None, IfSome, arith, inl, inr, option_map, sym, subst}
+use Rattle.std.proofs.Common.{◌≡◌, ◌∙◌, ◌⊎◌, ℕ, ◌<◌, List, [], Option, Some, None, IfSome, arith, inl, inr, option_map, sym, subst}
 use Rattle.std.specs.Global.{Vec}
 use Rattle.command_words.specs.declared.requests.Targets.{Targets}
 use Rattle.command_words.specs.Words.{target_names}
 use Rattle.command_texts.specs.declared.answer.Fault.{Fault}
-use Rattle.command_texts.specs.declared.answer.Fault.TheVariants.{File, Link, Threads, Output, Memory}
 use Rattle.command_texts.specs.Answers.{IsListStop, fault_line, fault_status}
 use Rattle.text_access.specs.Written.{AppendsFront, Gains, Streams}
 use Rattle.text_access.proofs.Fronts.{same_gains}
@@ -12,30 +11,20 @@ use Rattle.commands.specs.Puts.{IsOneNamed, IsPut, Places, name_at, under_if}
 use Rattle.commands.specs.Saving.{under}
 use Rattle.commands.specs.Runs.{IsMadeAndPut}
 use Rattle.commands.specs.Told.{IsFaultTold}
+use Rattle.commands.proofs.Settled.{fault_high}
 
 -- the status of what was put: its own, with nothing told, or that of a fault, which is told
 abbrev pub IsPutTold : ℕ → Option (List ℕ) → Option (List ℕ) → ℕ → Type 0
 IsPutTold status old new result = ((result ≡ status) × (new ≡ old)) ⊎ ((fault : Fault) × IsListStop fault × (result ≡ fault_status fault) × AppendsFront old new (fault_line fault))
 
-fault_range : (fault : Fault) → (2 < fault_status fault) × (fault_status fault ≤ 4)
-fault_range (File name why) = (omega arith, omega arith)
-fault_range Link = (omega arith, omega arith)
-fault_range Threads = (omega arith, omega arith)
-fault_range (Output name why) = (omega arith, omega arith)
-fault_range Memory = (omega arith, omega arith)
-
 -- a status below 3 is its own
 own_status : (status result : ℕ) (old new : Option (List ℕ)) → IsPutTold status old new result → result < 3 → (result ≡ status) × (new ≡ old)
 own_status status result old new (inl own) low = own
-own_status status result old new (inr (fault, stop, is, told)) low = absurd (omega (arith, low, is, (fault_range fault).0))
+own_status status result old new (inr (fault, stop, is, told)) low = absurd (omega (arith, low, is, fault_high fault))
 
 -- and so is 0
 pub own_zero : (status result : ℕ) (old new : Option (List ℕ)) → IsPutTold status old new result → result ≡ 0 → status ≡ 0
 own_zero status result old new told zero = sym (own_status status result old new told (omega (arith, zero))).0 ∙ zero
-
-pub put_known : (status result : ℕ) (old new : Option (List ℕ)) → status ≤ 4 → IsPutTold status old new result → result ≤ 4
-put_known status result old new known (inl own) = rw own.0 known
-put_known status result old new known (inr (fault, stop, is, told)) = rw is (fault_range fault).1
 
 -- a status above 2 is told, as that of a fault of what was made or of the putting
 pub put_fault : (status result : ℕ) (old behind new : Option (List ℕ)) → Gains old behind → (2 < status → IsFaultTold old behind status) → IsPutTold status behind new result → 2 < result → IsFaultTold old new result

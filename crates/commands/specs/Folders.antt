@@ -2,14 +2,19 @@
 use Rattle.std.specs.Prelude.{◌≡◌, ℕ, false, List, [], ◌∷◌, Option, Some, IfSome}
 use Rattle.std.specs.List.{AllByRecursion}
 use Rattle.clap.specs.Words.{Text}
+use Rattle.command_words.specs.declared.requests.Checks.{Checks}
+use Rattle.command_words.specs.declared.requests.Explains.{Explains}
 use Rattle.command_words.specs.declared.requests.Lacking.TheVariants.{Refused}
+use Rattle.command_words.specs.declared.requests.OneText.{OneText}
+use Rattle.command_words.specs.declared.requests.Request.TheVariants.{One, Two}
+use Rattle.command_words.specs.declared.requests.TwoTexts.TheVariants.{Check, Explain}
 use Rattle.command_words.specs.Words.{error_kinds, several_asked}
 use Rattle.command_texts.specs.Told.{IsNamed, NoSession, is_dash}
 use Rattle.judged_texts.specs.Checked.{HeadlineHolds}
 use Rattle.text_access.specs.Names.{Files}
 use Rattle.session_commands.specs.Files.{LosesNothing}
 use Rattle.session_commands.specs.Texts.{IsSessionText}
-use Rattle.commands.specs.Shown.{AsksAudit, AsksCheck, AsksExplanation, SpellsMigrated}
+use Rattle.commands.specs.Shown.{AsksFor, CarriesHeadlines, SpellsMigrated}
 
 -- the text of the session that a folder stands for
 abbrev pub SessionIn : Files → List ℕ → List ℕ → Type 0
@@ -29,22 +34,11 @@ pub record IsWholeWith (files : Files) (folder : List ℕ) (Holds : List ℕ →
   pub whole : LosesNothing is_text.is.chosen
   pub holds : Holds text
 
--- the same of each of these names that is a folder's
-abbrev pub IsEachWholeWith : Files → (List ℕ → Type 0) → List (List ℕ) → Type 0
-IsEachWholeWith files Holds names = AllByRecursion (λ name. IsFolder files name → IsWholeWith files name Holds) names
-
--- `check` of a folder ends with 0: the headline holds for its session and the certificate
-abbrev pub ChecksFolder : List Text → Files → Option (List ℕ) → ℕ → Type 0
-ChecksFolder words files input status = (folder cert : List ℕ) → IsFolder files folder → AsksCheck words folder cert → status ≡ 0 → (text : List ℕ) × IsNamed cert files NoSession input text × IsWholeWith files folder (λ session. HeadlineHolds session text)
-
--- `audit`, `certify` or `explain` of a folder ends with 0
-abbrev pub AuditsFolder : List Text → Files → ℕ → Type 0
-AuditsFolder words files status = (folder : List ℕ) → IsFolder files folder → AsksAudit words folder → status ≡ 0 → IsWholeWith files folder SpellsMigrated
-
--- `explain` of a folder, with the lines of a second text, ends with 0
-abbrev pub ExplainsFolder : List Text → Files → ℕ → Type 0
-ExplainsFolder words files status = (folder second : List ℕ) → IsFolder files folder → AsksExplanation words folder second → status ≡ 0 → IsWholeWith files folder SpellsMigrated
-
--- `audit` of several, of which some are folders, ends with 0
-abbrev pub AuditsFolders : List Text → Files → ℕ → Type 0
-AuditsFolders words files status = error_kinds words ≡ [] → IfSome (several_asked words) (λ asked. status ≡ 0 → IsEachWholeWith files SpellsMigrated asked.1)
+-- What status 0 shows over a disk: what it shows of any texts, with folders in the place of sessions; and if a session is
+-- a folder, that nothing of its files is lost.
+pub record ShowsFolders (words : List Text) (files : Files) (input : Option (List ℕ)) : Type 0 where
+  pub headlines : CarriesHeadlines words files (SessionIn files) input
+  pub checked : (folder cert : List ℕ) (checks : Checks) → IsFolder files folder → AsksFor words (Two (Check checks) folder cert) → (text : List ℕ) × IsNamed cert files NoSession input text × IsWholeWith files folder (λ session. HeadlineHolds session text)
+  pub clean : (folder : List ℕ) (task : OneText) → IsFolder files folder → AsksFor words (One task folder) → IsWholeWith files folder SpellsMigrated
+  pub lined : (folder second : List ℕ) (explains : Explains) → IsFolder files folder → AsksFor words (Two (Explain explains) folder second) → IsWholeWith files folder SpellsMigrated
+  pub each : error_kinds words ≡ [] → IfSome (several_asked words) (λ asked. AllByRecursion (λ name. IsFolder files name → IsWholeWith files name SpellsMigrated) asked.1)

@@ -6,3 +6,4 @@ pub mod Refused
 pub mod Saving
 pub mod Puts
 pub mod Runs
+pub mod inner

@@ -3,31 +3,38 @@ use Rattle.std.specs.Prelude.{◌≡◌, ◌≢◌, ◌<◌, ◌≤◌, ℕ, Lis
 use Rattle.std.specs.Global.{Vec}
 use Rattle.std.specs.Io.KnownBytes.{Keeps}
 use Rattle.clap.specs.Words.{Text}
+use Rattle.command_words.specs.declared.requests.Request.{Request}
 use Rattle.command_words.specs.declared.requests.Targets.{Targets}
 use Rattle.command_words.specs.Readings.{AreTargets}
 use Rattle.command_words.specs.Words.{AreAccepted, AreRefused, IsKindFor, asked, error_kinds, folders_asked, several_asked, target_names}
 use Rattle.text_access.specs.Names.{Files}
-use Rattle.text_access.specs.Written.{Streams}
+use Rattle.text_access.specs.Written.{BothGain, Streams}
 use Rattle.session_commands.specs.Texts.{WritesSession}
+use Rattle.commands.specs.Folders.{SessionIn}
 use Rattle.commands.specs.Puts.{IsOneNamed, IsPut, Places, name_at, under_if}
 use Rattle.commands.specs.Saving.{under}
 use Rattle.commands.specs.Refused.{IsRefusedBy}
-use Rattle.commands.specs.Told.{EndsAsked, EndsBare, EndsSeveral, HasLines, IsSettled, IsSettledList}
+use Rattle.commands.specs.Shown.{AsksFor}
+use Rattle.commands.specs.Told.{EndsAsked, EndsSeveral, HasLines, IsFaultTold, IsSettled, IsSettledList, bare_job}
 
 -- The program did what these words ask for, or refused them: what the output and the errors gained, the table of a
--- window's lines if there is one, and the status.
-pub record IsRun (words : List Text) (files : Files) (HasSession : List ℕ → List ℕ → Type 0) (input : Option (List ℕ)) (old new : Streams) (table : Option (Vec ℕ)) (status : ℕ) : Type 0 where
-  pub told : error_kinds words ≡ [] → IfSome (asked words) (λ job. IsSettled (EndsAsked job files HasSession input old) new status)
+-- window's lines, which was there before if there was one, and the status.
+pub record IsRun (words : List Text) (files : Files) (HasSession : List ℕ → List ℕ → Type 0) (input : Option (List ℕ)) (before : Option (Vec ℕ)) (old new : Streams) (table : Option (Vec ℕ)) (status : ℕ) : Type 0 where
+  pub told : (job : Request Text) → AsksFor words job → IsSettled (EndsAsked job files HasSession input old) new status
   pub several : error_kinds words ≡ [] → IfSome (several_asked words) (λ asked. IsSettledList (EndsSeveral asked files HasSession old) new status)
-  pub folders : error_kinds words ≡ [] → IfSome (folders_asked words) (λ asked. status ≡ 0 → WritesSession files.names_in files.bytes_of asked.1 asked.0 old.0 new.0)
-  pub unmade : error_kinds words ≡ [] → IfSome (folders_asked words) (λ asked. status ≡ 1 → Keeps old.0 new.0)
-  pub bare : length words ≤ 1 → IsSettled (EndsBare input old) new status
-  pub unasked : AreAccepted words → asked words ≡ None → several_asked words ≡ None → folders_asked words ≡ None → IsSettled (EndsBare input old) new status
+  pub folders : error_kinds words ≡ [] → IfSome (folders_asked words) (λ asked. (status ≡ 0 → WritesSession files.names_in files.bytes_of asked.1 asked.0 old.0 new.0) × (status ≡ 1 → Keeps old.0 new.0))
+  pub unasked : AreAccepted words → asked words ≡ None → several_asked words ≡ None → folders_asked words ≡ None → IsSettled (EndsAsked bare_job files HasSession input old) new status
   pub refused : AreRefused words → IsRefusedBy (IsKindFor words) old new status
-  pub misuse : status ≡ 2 → Keeps old.0 new.0
-  pub lines : error_kinds words ≡ [] → status ≡ 0 → IfSome (asked words) (λ job. HasLines job files.bytes_of old.0 new.0 None table)
-  pub unlined : asked words ≡ None → table ≡ None
-  pub kept : status ≢ 0 → table ≡ None
+  pub misuse : status ≡ 2 → AreRefused words × Keeps old.0 new.0
+  pub fault : 2 < status → IsFaultTold old.1 new.1 status
+  pub gains : BothGain old new
+  pub lines : (job : Request Text) → AsksFor words job → status ≡ 0 → HasLines job files.bytes_of old.0 new.0 before table
+  pub unlined : asked words ≡ None → table ≡ before
+  pub kept : status ≢ 0 → table ≡ before
+
+-- over a disk, folders stand in the place of sessions
+abbrev pub IsRunOver : List Text → Files → Option (List ℕ) → Option (Vec ℕ) → Streams → Streams → Option (Vec ℕ) → ℕ → Type 0
+IsRunOver words files = IsRun words files (SessionIn files)
 
 -- the files are those that the words name for what is written; words that are refused name none, nor does the program's
 -- own name alone

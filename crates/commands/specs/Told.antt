@@ -44,7 +44,7 @@ use Rattle.command_texts.specs.Answers.{IsHostFault, IsTextFault, fault_line, fa
 use Rattle.command_texts.specs.Fields.{IsAnswerTold}
 use Rattle.command_texts.specs.Reasons.{IsFirstRefused, IsRefusedAt, TellsBeside, TellsWhyOf}
 use Rattle.command_texts.specs.Several.{IsListStatus, StopsSeveral, Style, TellsSeveral}
-use Rattle.command_texts.specs.Told.{AreNamed, AreOfInput, Ends, IsNamed, NoSession}
+use Rattle.command_texts.specs.Told.{AreNamed, Ends, IsNamed, NoSession}
 use Rattle.text_access.specs.Names.{Files}
 use Rattle.text_access.specs.Written.{AppendsFront, Gains, Streams}
 use Rattle.judge_commands.specs.Answers.{AddsMisfitOf, how_much, story_telling, verdict_telling}
@@ -106,10 +106,6 @@ IsTwoAnswer Replay texts = IsReplayAnswer texts.0 texts.1
 IsTwoAnswer Steps texts = IsStepsAnswer texts.0 texts.1
 IsTwoAnswer (two.Explain explains) texts = IsAnswerTold (story_telling (story_form explains.form)) (IsFirstRefused (IsRefusedAt SpellsSession) (IsRefusedAt SpellsTable)) (IsExplainedByTable (story_form explains.form) (extent_of explains.demand)) texts
 
--- the answer if there are no words: that of `check` without options
-abbrev pub IsPlainCheck : List ℕ × List ℕ → List ℕ → ℕ → Type 0
-IsPlainCheck = IsTwoAnswer (Check plain)
-
 -- there is no note
 abbrev pub NoNote : {T : Type 0} → T → ℕ → List ℕ → Type 0
 NoNote texts status words = ⊥
@@ -164,6 +160,10 @@ EndsAsked (Draw topic first (Some second)) files HasSession input =
     Ends (IsFaultOfTwo first second) (AreNamed first second files HasSession NoSession input) (IsDrawAlongAnswer topic) (TellsBeside (IsRefusedAt SpellsSession) (IsRefusedAt SpellsOrder) AddsNothing NoNote first second)
 EndsAsked (Window pages name lines) files HasSession input = EndsWindow (window_of pages) name files.bytes_of
 
+-- what is asked for if there are no words: `check - -`
+abbrev pub bare_job : Request (List ℕ)
+bare_job = Two (Check plain) (codes "-") (codes "-")
+
 -- if the lines of a window are asked for, this is their table; otherwise nothing changes
 abbrev pub HasLines : Request (List ℕ) → (List ℕ → Option (List ℕ)) → Option (List ℕ) → Option (List ℕ) → Option (Vec ℕ) → Option (Vec ℕ) → Type 0
 HasLines (Window pages name (Some lines)) files old new before after = MatchOption after ⊥ (λ table. HasWindowLines (window_of pages) name files old new table.items)
@@ -198,10 +198,6 @@ pub record IsFaultTold (old new : Option (List ℕ)) (status : ℕ) : Type 0 whe
   pub gained : Gains old before
   pub told : AppendsFront before behind (fault_line fault)
   pub more : Gains behind new
-
--- if there are no words: the answer of `check` to the two texts of the input
-abbrev pub EndsBare : Option (List ℕ) → Streams → Streams → Result ℕ Fault → Type 0
-EndsBare input = Ends (IsFaultOfTwo (codes "-") (codes "-")) (AreOfInput input) IsPlainCheck (IsBesideTwo (Check plain) (codes "-") (codes "-"))
 
 -- lines follow the names of the sessions, and "2 of 3 sessions are clean" or the like is the last line; objects have
 -- the names in them

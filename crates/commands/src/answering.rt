@@ -51,8 +51,8 @@ where
     perform_one(console, &command, name)
 }
 
-/// Checks the texts under two names, which are read in this order.
-pub(crate) fn asked_check<'a, R: Threads + Sync, S: TextSource, I: Read + Send, O: Write, E: Write>(
+// Checks the texts under two names, which are read in this order.
+fn asked_check<'a, R: Threads + Sync, S: TextSource, I: Read + Send, O: Write, E: Write>(
     console: &mut Console<'_, R, S, I, O, E>,
     checks: Checks,
     first: &'a str,

@@ -1,7 +1,10 @@
 //! The program over a disk, whose folders stand in the place of sessions.
 
+ghost use Rattle.std.specs.Prelude.{◌≡◌};
+ghost use Rattle.command_words.specs.Words.{AreRefused};
 ghost use Rattle.text_access.specs.Names.{files_of};
-ghost use Rattle.commands.specs.Folders.{AuditsFolder, AuditsFolders, ChecksFolder, ExplainsFolder};
+ghost use Rattle.commands.specs.Folders.{ShowsFolders};
+ghost use Rattle.commands.specs.Runs.{IsRunOver};
 
 use crate::program::run;
 use command_texts::Console;
@@ -32,10 +35,9 @@ pub fn run_over_folders<
 ) -> u8
 where
     D::Text: Send,
-    ensures checked { ChecksFolder reading.entry (files_of (D.bytes_of console.old.texts.now.disk) (D.names_in console.old.texts.now.disk)) (I.remaining console.old.input) result }
-    ensures clean { AuditsFolder reading.entry (files_of (D.bytes_of console.old.texts.now.disk) (D.names_in console.old.texts.now.disk)) result }
-    ensures lined { ExplainsFolder reading.entry (files_of (D.bytes_of console.old.texts.now.disk) (D.names_in console.old.texts.now.disk)) result }
-    ensures each { AuditsFolders reading.entry (files_of (D.bytes_of console.old.texts.now.disk) (D.names_in console.old.texts.now.disk)) result }
+    ensures done { IsRunOver reading.entry (files_of (D.bytes_of console.old.texts.now.disk) (D.names_in console.old.texts.now.disk)) (I.remaining console.old.input) lines.old (O.contents console.old.output, E.contents console.old.errors) (O.contents console.new.output, E.contents console.new.errors) lines.new result }
+    ensures untouched { AreRefused reading.entry → (lines.new ≡ lines.old) × (I.remaining console.new.input ≡ I.remaining console.old.input) }
+    ensures folders { result ≡ 0 → ShowsFolders reading.entry (files_of (D.bytes_of console.old.texts.now.disk) (D.names_in console.old.texts.now.disk)) (I.remaining console.old.input) }
 {
     run(console, reading, lines)
 }

@@ -1,11 +1,11 @@
 //! The program with an answer that goes to a file.
 
-ghost use Rattle.std.specs.Prelude.{◌≡◌, ◌<◌, ◌≤◌, [], Some, IfSome};
+ghost use Rattle.std.specs.Prelude.{◌≡◌, ◌<◌, [], Some, None, IfSome};
 ghost use Rattle.command_words.specs.declared.requests.Targets.{Targets};
 ghost use Rattle.command_words.specs.Words.{target_names};
 ghost use Rattle.text_access.specs.Names.{files_of};
-ghost use Rattle.commands.specs.Folders.{AuditsFolder, AuditsFolders, ChecksFolder, ExplainsFolder, SessionIn};
-ghost use Rattle.commands.specs.Runs.{AreFiles, IsMadeAndPut, IsRun};
+ghost use Rattle.commands.specs.Folders.{ShowsFolders};
+ghost use Rattle.commands.specs.Runs.{AreFiles, IsMadeAndPut, IsRunOver};
 ghost use Rattle.commands.specs.Told.{IsFaultTold};
 
 use crate::program::run;
@@ -48,13 +48,9 @@ pub fn run_into<
 where
     D::Text: Send,
     requires { IfSome (A.written account) (λ text. (text ≡ []) × ((targets : Targets) → AreFiles reading targets → (target_names targets).1 ≡ A.name)) }
-    ensures known { result.0 ≤ 4 }
     ensures fault { 2 < result.0 → IsFaultTold (E.contents console.entry.errors) (E.contents result.1.errors) result.0 }
-    ensures put { S.is_known → IfSome (A.written account) (λ _. IsMadeAndPut (IsRun reading.entry (files_of (D.bytes_of console.entry.texts.now.disk) (D.names_in console.entry.texts.now.disk)) (SessionIn (files_of (D.bytes_of console.entry.texts.now.disk) (D.names_in console.entry.texts.now.disk))) (I.remaining console.entry.input) (Some [], E.contents console.entry.errors)) (AreFiles reading.entry) (S.named sink.old, O.contents console.entry.output) (S.named sink.new, O.contents result.1.output) (E.contents result.1.errors) result.0) }
-    ensures checked { ChecksFolder reading.entry (files_of (D.bytes_of console.entry.texts.now.disk) (D.names_in console.entry.texts.now.disk)) (I.remaining console.entry.input) result.0 }
-    ensures clean { AuditsFolder reading.entry (files_of (D.bytes_of console.entry.texts.now.disk) (D.names_in console.entry.texts.now.disk)) result.0 }
-    ensures lined { ExplainsFolder reading.entry (files_of (D.bytes_of console.entry.texts.now.disk) (D.names_in console.entry.texts.now.disk)) result.0 }
-    ensures each { AuditsFolders reading.entry (files_of (D.bytes_of console.entry.texts.now.disk) (D.names_in console.entry.texts.now.disk)) result.0 }
+    ensures put { S.is_known → IfSome (A.written account) (λ _. IsMadeAndPut (IsRunOver reading.entry (files_of (D.bytes_of console.entry.texts.now.disk) (D.names_in console.entry.texts.now.disk)) (I.remaining console.entry.input) None (Some [], E.contents console.entry.errors)) (AreFiles reading.entry) (S.named sink.old, O.contents console.entry.output) (S.named sink.new, O.contents result.1.output) (E.contents result.1.errors) result.0) }
+    ensures folders { result.0 ≡ 0 → ShowsFolders reading.entry (files_of (D.bytes_of console.entry.texts.now.disk) (D.names_in console.entry.texts.now.disk)) (I.remaining console.entry.input) }
 {
     let Console {
         rt,

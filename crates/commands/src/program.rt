@@ -1,24 +1,23 @@
 //! The program, from its words to its status.
 
-ghost use Rattle.std.specs.Prelude.{◌≡◌, ◌≢◌, ◌<◌, ◌≤◌, ◌⊎◌, ℕ, List, [], IfOk, IfSome, MatchResult, None, length, string_len, true};
-ghost use Rattle.std.specs.Io.KnownBytes.{Keeps};
+ghost use Rattle.std.specs.Prelude.{◌≡◌, ◌<◌, IfOk, MatchResult, length, option_and_then, string_len};
 ghost use Rattle.clap.specs.Words.{kind_of};
-ghost use Rattle.command_words.specs.Table.{folders_of, job_of, several_of};
-ghost use Rattle.command_words.specs.Words.{AreAccepted, AreRefused, IsKindFor, IsPlain, asked, asked_by, clashing, error_kinds, folders_asked, several_asked};
+ghost use Rattle.command_words.specs.Table.{asked_names, folders_of, job_of, several_of};
+ghost use Rattle.command_words.specs.Words.{AreRefused};
 ghost use Rattle.command_texts.specs.Answers.{fault_line, fault_status};
-ghost use Rattle.command_texts.specs.Told.{AreNamed, AreOfInput, IsNamed, NoSession};
 ghost use Rattle.text_access.specs.Names.{files_of};
-ghost use Rattle.text_access.specs.Written.{AppendsFront, BothGain, Gains};
-ghost use Rattle.session_commands.specs.Texts.{WritesSession};
-ghost use Rattle.commands.specs.Refused.{IsRefusalOf, IsRefusedBy};
-ghost use Rattle.commands.specs.Shown.{AsksAudit, AsksCheck, AsksExplanation, ShowsEachMigrated, ShowsFirstMigrated, ShowsHeadline, ShowsMigrated};
-ghost use Rattle.commands.specs.Told.{EndsAsked, EndsBare, EndsSeveral, HasLines, IsFaultTold, IsSettled, IsSettledList};
+ghost use Rattle.text_access.specs.Written.{AppendsFront, Gains};
+ghost use Rattle.commands.specs.Refused.{IsRefusalOf};
+ghost use Rattle.commands.specs.Runs.{IsRun};
+ghost use Rattle.commands.specs.Shown.{CarriesHeadlines};
+ghost use Rattle.commands.specs.Told.{bare_job};
+ghost use Rattle.commands.specs.inner.Done.{IsDone};
 
-use crate::answering::{asked_check, perform};
+use crate::answering::perform;
 use crate::laws::clean_sessions_are_migrated;
 use crate::several::asked_several;
 use command_texts::{ACCEPTED, Console, Fault, STANDARD_OUTPUT, USAGE, tell};
-use command_words::{Checks, Demand, Intent, Reading, VerdictForm};
+use command_words::{Checks, Demand, Intent, Job, Reading, Request, TwoTexts, VerdictForm};
 use judged_texts::headline_holds_at_yes;
 use session_commands::perform_session;
 use std::alloc::{AllocError, Global};
@@ -28,21 +27,15 @@ use std::sync::Wait;
 use std::thread::Threads;
 use text_access::{TextSource, write_or_why, write_whole};
 
-// Judges the two texts of the input.
-fn check_input<R: Threads + Sync, S: TextSource, I: Read + Send, O: Write, E: Write>(
-    console: &mut Console<'_, R, S, I, O, E>,
-) -> Result<u8, Fault<'static>>
-where
-    S::Text: Send,
-    ensures few { IfOk result (λ status. status < 2) }
-    ensures told { EndsBare (I.remaining console.old.input) (O.contents console.old.output, E.contents console.old.errors) (O.contents console.new.output, E.contents console.new.errors) result }
-    ensures gains { BothGain (O.contents console.old.output, E.contents console.old.errors) (O.contents console.new.output, E.contents console.new.errors) }
+// Returns what is asked for if there are no words: `check - -`.
+fn bare_job() -> Job<'static>
+    ensures { asked_names result ≡ bare_job }
 {
     let plain = Checks {
         form: VerdictForm::Line,
         demand: Demand::Safety,
     };
-    asked_check(console, plain, "-", "-")
+    Request::Two(TwoTexts::Check(plain), "-", "-")
 }
 
 // Returns the status of what was done, and reports its fault, if it has one.
@@ -103,56 +96,40 @@ fn refuse<O: Write, E: Write>(
     }
 }
 
-// Does what the words ask for, and reports a fault of it.
+// Does what the words ask for, and reports a fault of it. If they ask for nothing, checks the two texts of the input.
 fn grant<
     R: Threads + Wait + Sync + Net<Listener = TcpListener, Stream = TcpStream>,
     S: TextSource,
     I: Read + Send,
     O: Write,
     E: Write,
->(console: &mut Console<'_, R, S, I, O, E>, intent: Intent<'_>, lines: &mut Option<Vec<u8>>) -> u8
+>(
+    console: &mut Console<'_, R, S, I, O, E>,
+    intent: Option<Intent<'_>>,
+    lines: &mut Option<Vec<u8>>,
+) -> u8
 where
     S::Text: Send,
-    ensures known { (result ≢ 2) × (result ≤ 4) }
-    ensures fault { 2 < result → IsFaultTold (E.contents console.old.errors) (E.contents console.new.errors) result }
-    ensures job { IfSome (job_of intent.entry) (λ job. IsSettled (EndsAsked job (files_of (S.bytes_of console.old.texts.now) (S.names_in console.old.texts.now)) (S.text_in console.old.texts.now) (I.remaining console.old.input) (O.contents console.old.output, E.contents console.old.errors)) (O.contents console.new.output, E.contents console.new.errors) result) }
-    ensures several { IfSome (several_of intent.entry) (λ asked. IsSettledList (EndsSeveral asked (files_of (S.bytes_of console.old.texts.now) (S.names_in console.old.texts.now)) (S.text_in console.old.texts.now) (O.contents console.old.output, E.contents console.old.errors)) (O.contents console.new.output, E.contents console.new.errors) result) }
-    ensures folders { IfSome (folders_of intent.entry) (λ asked. result ≡ 0 → WritesSession (S.names_in console.old.texts.now) (S.bytes_of console.old.texts.now) asked.1 asked.0 (O.contents console.old.output) (O.contents console.new.output)) }
-    ensures unmade { IfSome (folders_of intent.entry) (λ asked. result ≡ 1 → Keeps (O.contents console.old.output) (O.contents console.new.output)) }
-    ensures lines { result ≡ 0 → IfSome (job_of intent.entry) (λ job. HasLines job (S.bytes_of console.old.texts.now) (O.contents console.old.output) (O.contents console.new.output) lines.old lines.new) }
-    ensures unlined { job_of intent.entry ≡ None → lines.new ≡ lines.old }
-    ensures kept { result ≢ 0 → lines.new ≡ lines.old }
-    ensures gains { BothGain (O.contents console.old.output, E.contents console.old.errors) (O.contents console.new.output, E.contents console.new.errors) }
+    ensures { IsDone (option_and_then job_of intent.entry) (option_and_then several_of intent.entry) (option_and_then folders_of intent.entry) (files_of (S.bytes_of console.old.texts.now) (S.names_in console.old.texts.now)) (S.text_in console.old.texts.now) (I.remaining console.old.input) lines.old (O.contents console.old.output, E.contents console.old.errors) (O.contents console.new.output, E.contents console.new.errors) lines.new result }
 {
     match intent {
-        Intent::Job(job) => {
+        None => {
+            let done = perform(console, bare_job(), lines);
+            settle(done, &mut console.errors)
+        }
+        Some(Intent::Job(job)) => {
             let done = perform(console, job, lines);
             settle(done, &mut console.errors)
         }
-        Intent::Several(several) => {
+        Some(Intent::Several(several)) => {
             let done = asked_several(console, &several);
             settle(done, &mut console.errors)
         }
-        Intent::Folders(folders) => {
+        Some(Intent::Folders(folders)) => {
             let done = perform_session(console, folders.lacking, folders.names.as_slice());
             settle(done, &mut console.errors)
         }
     }
-}
-
-// Judges the two texts of the input, if there are no words.
-fn check_bare<R: Threads + Sync, S: TextSource, I: Read + Send, O: Write, E: Write>(
-    console: &mut Console<'_, R, S, I, O, E>,
-) -> u8
-where
-    S::Text: Send,
-    ensures known { (result ≢ 2) × (result ≤ 4) }
-    ensures fault { 2 < result → IsFaultTold (E.contents console.old.errors) (E.contents console.new.errors) result }
-    ensures told { IsSettled (EndsBare (I.remaining console.old.input) (O.contents console.old.output, E.contents console.old.errors)) (O.contents console.new.output, E.contents console.new.errors) result }
-    ensures gains { BothGain (O.contents console.old.output, E.contents console.old.errors) (O.contents console.new.output, E.contents console.new.errors) }
-{
-    let done = check_input(console);
-    settle(done, &mut console.errors)
 }
 
 /// Runs the program: reads the texts that the words name, writes the command's answer to them, and returns the exit
@@ -204,36 +181,14 @@ pub fn run<
 >(console: &mut Console<'_, R, S, I, O, E>, reading: Reading<'_>, lines: &mut Option<Vec<u8>>) -> u8
 where
     S::Text: Send,
-    ensures known { result ≤ 4 }
-    ensures gains { BothGain (O.contents console.old.output, E.contents console.old.errors) (O.contents console.new.output, E.contents console.new.errors) }
-    ensures fault { 2 < result → IsFaultTold (E.contents console.old.errors) (E.contents console.new.errors) result }
-    ensures misuse { result ≡ 2 → Keeps (O.contents console.old.output) (O.contents console.new.output) }
-    ensures bare_usage { length reading.entry ≤ 1 → result ≢ 2 }
-    ensures bare { length reading.entry ≤ 1 → IsSettled (EndsBare (I.remaining console.old.input) (O.contents console.old.output, E.contents console.old.errors)) (O.contents console.new.output, E.contents console.new.errors) result }
-    ensures usage { AreAccepted reading.entry → result ≢ 2 }
-    ensures refused { AreRefused reading.entry → IsRefusedBy (IsKindFor reading.entry) (O.contents console.old.output, E.contents console.old.errors) (O.contents console.new.output, E.contents console.new.errors) result }
+    ensures done { IsRun reading.entry (files_of (S.bytes_of console.old.texts.now) (S.names_in console.old.texts.now)) (S.text_in console.old.texts.now) (I.remaining console.old.input) lines.old (O.contents console.old.output, E.contents console.old.errors) (O.contents console.new.output, E.contents console.new.errors) lines.new result }
     ensures untouched { AreRefused reading.entry → (lines.new ≡ lines.old) × (I.remaining console.new.input ≡ I.remaining console.old.input) }
-    ensures clash { error_kinds reading.entry ≡ [] → clashing reading.entry ≡ true → (result ≡ 2) ⊎ (result ≡ 4) }
-    ensures told { error_kinds reading.entry ≡ [] → IfSome (asked reading.entry) (λ job. IsSettled (EndsAsked job (files_of (S.bytes_of console.old.texts.now) (S.names_in console.old.texts.now)) (S.text_in console.old.texts.now) (I.remaining console.old.input) (O.contents console.old.output, E.contents console.old.errors)) (O.contents console.new.output, E.contents console.new.errors) result) }
-    ensures several { error_kinds reading.entry ≡ [] → IfSome (several_asked reading.entry) (λ asked. IsSettledList (EndsSeveral asked (files_of (S.bytes_of console.old.texts.now) (S.names_in console.old.texts.now)) (S.text_in console.old.texts.now) (O.contents console.old.output, E.contents console.old.errors)) (O.contents console.new.output, E.contents console.new.errors) result) }
-    ensures folders { error_kinds reading.entry ≡ [] → IfSome (folders_asked reading.entry) (λ asked. result ≡ 0 → WritesSession (S.names_in console.old.texts.now) (S.bytes_of console.old.texts.now) asked.1 asked.0 (O.contents console.old.output) (O.contents console.new.output)) }
-    ensures unmade { error_kinds reading.entry ≡ [] → IfSome (folders_asked reading.entry) (λ asked. result ≡ 1 → Keeps (O.contents console.old.output) (O.contents console.new.output)) }
-    ensures lines { error_kinds reading.entry ≡ [] → result ≡ 0 → IfSome (asked reading.entry) (λ job. HasLines job (S.bytes_of console.old.texts.now) (O.contents console.old.output) (O.contents console.new.output) lines.old lines.new) }
-    ensures unlined { asked reading.entry ≡ None → lines.new ≡ lines.old }
-    ensures kept { result ≢ 0 → lines.new ≡ lines.old }
-    ensures unasked { AreAccepted reading.entry → asked reading.entry ≡ None → several_asked reading.entry ≡ None → folders_asked reading.entry ≡ None → IsSettled (EndsBare (I.remaining console.old.input) (O.contents console.old.output, E.contents console.old.errors)) (O.contents console.new.output, E.contents console.new.errors) result }
-    ensures plain { (name : List ℕ) (names : List (List ℕ)) → IsPlain reading.entry name names → IfSome (asked_by name names) (λ job. (result ≢ 2) × IsSettled (EndsAsked job (files_of (S.bytes_of console.old.texts.now) (S.names_in console.old.texts.now)) (S.text_in console.old.texts.now) (I.remaining console.old.input) (O.contents console.old.output, E.contents console.old.errors)) (O.contents console.new.output, E.contents console.new.errors) result) }
-    ensures bare_headline { length reading.entry ≤ 1 → result ≡ 0 → ShowsHeadline (AreOfInput (I.remaining console.old.input)) }
-    ensures headline { (first second : List ℕ) → AsksCheck reading.entry first second → result ≡ 0 → ShowsHeadline (AreNamed first second (files_of (S.bytes_of console.old.texts.now) (S.names_in console.old.texts.now)) (S.text_in console.old.texts.now) NoSession (I.remaining console.old.input)) }
-    ensures clean_headline { (name : List ℕ) → AsksAudit reading.entry name → result ≡ 0 → ShowsMigrated (IsNamed name (files_of (S.bytes_of console.old.texts.now) (S.names_in console.old.texts.now)) (S.text_in console.old.texts.now) (I.remaining console.old.input)) }
-    ensures lined_headline { (first second : List ℕ) → AsksExplanation reading.entry first second → result ≡ 0 → ShowsFirstMigrated (AreNamed first second (files_of (S.bytes_of console.old.texts.now) (S.names_in console.old.texts.now)) (S.text_in console.old.texts.now) NoSession (I.remaining console.old.input)) }
-    ensures each_headline { error_kinds reading.entry ≡ [] → IfSome (several_asked reading.entry) (λ asked. result ≡ 0 → ShowsEachMigrated (λ name. IsNamed name (files_of (S.bytes_of console.old.texts.now) (S.names_in console.old.texts.now)) (S.text_in console.old.texts.now) None) asked.1) }
+    ensures headlines { result ≡ 0 → CarriesHeadlines reading.entry (files_of (S.bytes_of console.old.texts.now) (S.names_in console.old.texts.now)) (S.text_in console.old.texts.now) (I.remaining console.old.input) }
 {
     headline_holds_at_yes();
     clean_sessions_are_migrated();
     match reading.intent() {
-        Ok(Some(intent)) => grant(console, intent, lines),
-        Ok(None) => check_bare(console),
+        Ok(intent) => grant(console, intent, lines),
         Err(error) => refuse(
             console.alloc,
             &error,
