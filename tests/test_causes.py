@@ -11,6 +11,7 @@ import re
 import subprocess
 import sys
 
+from cause_model import cause_of
 from check_model import Session
 import pytest
 from cases import count, same
@@ -116,10 +117,10 @@ def is_explained(text, n):
     return False
 
 
-@pytest.mark.cases(2 * SMALL)
+@pytest.mark.cases(3 * SMALL)
 def test_small_reads(program, room):
     """A record is named as the cause of a wrong read at the target just where an order of the records explains the read; and a write is lost
-    just where none does, and the cell had the value before this write."""
+    just where none does, and the cell had the value before this write. This record, and what it is set against, are those of cause_model.py."""
     rng, kinds = random.Random(31), collections.Counter()
     while kinds.total() < SMALL:
         text = small_read(rng)
@@ -130,6 +131,8 @@ def test_small_reads(program, room):
             continue
         session, n, cause = Session(text), told["record"], told["cause"]
         kinds[cause["kind"]] += 1
+        named = [(it["log"], it["record"]) if "log" in it else None for it in (cause, cause.get("against", {}))]
+        same(f"the cause in {text}, and what it is set against", named, [*cause_of(SessionText(text), "read", "guest", n)])
         same(f"whether an order explains {text}", cause["kind"] not in UNEXPLAINED, is_explained(text, n))
         value, changed = int(session.guest[n][4]), [m for m in range(n) if session.guest[m][0] in "wz"]
         is_older = bool(changed) and any(session.cell_before(m, 0, 0) == value for m in range(changed[-1] + 1))

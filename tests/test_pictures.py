@@ -3,13 +3,13 @@
 Of some sessions a page is used often before it goes wrong. The further ones are recorded by random schedules of events, of half of them the lane carries some packets, and many are
 changed at a record, so that they have faults of every kind; others are small, and place pages behind a use as well as before
 it. They are the same in each run. Where `audit` refuses a session's
-text, `draw` has to say the same line. Else it has to write a well-formed picture with no script, of at most 203 rows, in which
+text, `draw` has to say the same line. Else it has to write a well-formed picture with no script, of at most 205 rows, in which
 each record of the order has its place in one row, in the order's sequence: of the order that the report has, of the found order
 as far as it goes where the report has none, and of the runs before the first bad one where runs are given. The heading has to
 be the report's first line, and then what `explain` says first, and to say which order that is, whether all show the fault, and how
 much there is. The row
-of the faulty record has to be marked, and that of the record which it concerns by its reason, which `explain` has to name;
-behind the order stand the next of each log, these two where it has not come to them, and a circle with its arrows. Each record's
+of the faulty record has to be marked, and those of the cause and of the record that this is set against, by cause_model.py, which
+`explain` has to name; behind the order stand the next of each log, these where it has not come to them, and a circle with its arrows. Each record's
 row has one title, and its label in a box that has room for it. Which records have a row of their own, and no fold, is what
 picture_rows.py says; where each box, arrow, stub, column and sign stands, how it is painted, and what the legend says of it, is
 what picture_shapes.py wants of the order. So it is in a picture of a page of some of them, whether it has a fault or not.
@@ -25,7 +25,7 @@ from cases import right
 from check_model import Session, run_not_walked
 from picture_model import Told, as_headed, is_in_every_order, sentences_of
 from picture_rows import own_rows
-from picture_shapes import shown_wrongly
+from picture_shapes import look_of, shown_wrongly
 from session_text import LOGS, SessionText
 from small_sessions import small_session
 from steps_model import recorded
@@ -33,7 +33,7 @@ from test_later_releases import over_the_lane
 from test_shown_orders import Program
 from world_model import REASONS
 
-MOST_ROWS = 203
+MOST_ROWS = 205
 RECORDED = 150
 SVG = "{http://www.w3.org/2000/svg}"
 
@@ -146,9 +146,9 @@ def arrows_of(picture, kind):
 
 
 def behind_wrongly(told, order, picture):
-    """What is wrong with the records behind the order, or None: the next of each log, the faulty one, what it concerns, and a circle."""
+    """What is wrong with the records behind the order, or None: the next of each log, the faulty one, the cause, what it is set against, and a circle."""
     logs, taken = told.session.logs, {log: sum(name[0] == log for name in order) for log in LOGS}
-    left = {(log, taken[log]) for log in LOGS if taken[log] < len(logs[log])} | ({told.fault, told.concerned, *told.circle} - {None} - set(order))
+    left = {(log, taken[log]) for log in LOGS if taken[log] < len(logs[log])} | ({told.fault, told.cause, told.against, *told.circle} - {None} - set(order))
     wanted = sorted(left, key=lambda name: (LOGS.index(name[0]), name[1]))
     found = [name_of(row)[1] for row in rows_of(picture) if is_behind(row)]
     if found != wanted:
@@ -158,12 +158,12 @@ def behind_wrongly(told, order, picture):
 
 
 def marked_wrongly(told, picture):
-    """What is wrong with the marks of the faulty record, or of a circle, and of the record that the fault concerns, or None."""
-    found = {mark: sorted(name_of(row)[1] for row in rows_of(picture) if mark in row.get("class").split()) for mark in ("faulty", "concerned")}
-    wanted = {"faulty": sorted({told.fault, *told.circle} - {None}), "concerned": sorted({told.concerned} - {None, told.fault})}
+    """What is wrong with the marks of the faulty record, or of a circle, of the cause and of what it is set against, or None."""
+    found = {mark: {name_of(row)[1] for row in rows_of(picture) if mark in row.get("class").split()} for mark in ("faulty", "cause", "against")}
+    wanted = {"faulty": {told.fault, *told.circle} - {None}, "cause": {told.cause} - {None}, "against": {told.against} - {None, told.fault, told.cause}}
     if found != wanted:
         return f"{found} marked, not {wanted}"
-    untold = [name for name in found["concerned"] if not told.names(name)]
+    untold = [name for name in {*found["cause"], *found["against"]} if not told.names(name)]
     return f"{untold} marked, which `explain` does not name" if untold else None
 
 
@@ -176,12 +176,12 @@ def boxed_wrongly(told, picture):
             continue
         number, label = (part.text for part in row.findall(f".//{SVG}tspan"))
         box, (_, name) = row.find(SVG + "rect"), name_of(row)
-        looks.add(box.get("class"))
+        looks.add(look_of(box, row))
         if (number, label) != (str(name[1]), told.label(name)):
             return f"a box {number!r} {label!r} of {name}, not {told.label(name)!r}"
-        if 7 * (len(number) + len(label)) + 38 > int(box.get("width")):
+        if 7 * (len(number) + len(label)) + 38 + 14 * (len(row.findall(SVG + "g")) > 1) > int(box.get("width")):
             return f"a box too narrow for {label!r}"
-    known = {box.get("class") for box in legend.iter(SVG + "rect")}
+    known = {look_of(box, entry) for entry in legend.findall(SVG + "g") for box in entry.findall(SVG + "rect")}
     return None if known == looks else f"a legend of {known}, and boxes of {looks}"
 
 
@@ -281,7 +281,7 @@ def used_often(text):
 
 def sent_often(repeats):
     """A page is released often before the halt, sent, and then sent again so often; what is placed of it is altered. So its `send`,
-    which the fault concerns, is neither among the first of its records nor among those nearest to the fault. Behind it the source
+    which this is set against, is neither among the first of its records nor among those nearest to the fault. Behind it the source
     sends another page, which does not concern the fault: a single record, if what comes next has a row."""
     one, two, three = ("%016x" % it for it in (5, 6, 7))
     logs = {
@@ -291,6 +291,18 @@ def sent_often(repeats):
         "pager": ["got 0", "ready", "got 1", f"place 0 2 {three}", "got 2", f"place 1 4 {two}"],
     }
     return "".join(["postcopy-session 1\npages 2\ncells 1\ninit 0\n", *("\n".join([f"{log} {len(records)}", *records, ""]) for log, records in logs.items()), "end\n"])
+
+
+def stale_often(repeats):
+    """A page is released often before the halt, and written, so what is written is none of the first. It is sent with another value,
+    and then sent again so often. So this `send`, which is the cause of the wrong read at the target, is far from the read."""
+    logs = {
+        "guest": [*["z 0 0"] * 8, "w 0 0 0 5", *["w 0 0 0 6"] * 2, "halt", "resume 1", "see 3", "r 0 0 0 5"],
+        "source": ["halted 11", "state", "send 0 %016x" % 5, *["again 2"] * repeats],
+        "link": ["down 1", "down 2"],
+        "pager": ["got 0", "ready", "got 1", "place 0 2 %016x" % 5],
+    }
+    return "".join(["postcopy-session 1\npages 1\ncells 1\ninit 0\n", *("\n".join([f"{log} {len(records)}", *records, ""]) for log, records in logs.items()), "end\n"])
 
 
 def never_resumed(repeats):
@@ -303,6 +315,7 @@ def sessions():
     yield "a guest that is never resumed", never_resumed(90)
     for repeats in range(36, 41):
         yield f"a page that is sent {repeats} times again", sent_often(repeats)
+        yield f"a page that is sent stale, and {repeats} times again", stale_often(repeats)
     for file in case_table.case_files("session"):
         with open(file, encoding="latin-1") as text:
             yield case_table.name_of(file), text.read()

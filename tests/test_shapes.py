@@ -36,7 +36,8 @@ FORMS = {
         "Tied": rf"tie from {NAME} to {NAME}", "TiedBehind": rf"tie behind from {NAME} to {NAME}"}},
     "boxes.rt": {
         "BoxKind": {
-            "Faulty": rf"{ROW}, faulty: {DONE}", "Concerned": rf"{ROW}, concerned(?:, behind)?: {DONE}.*", "OfPage": rf"{ROW}, of the page: {DONE}",
+            "Faulty": rf"{ROW}, faulty: {DONE}", "OwnCause": rf"{ROW}, faulty and the cause: {DONE}", "Cause": rf"{ROW}, the cause: {DONE}",
+            "Against": rf"{ROW}, against(?:, behind)?: {DONE}.*", "OfPage": rf"{ROW}, of the page: {DONE}",
             "Plain": rf"{ROW}, plain: {DONE}", "Tied": rf"{ROW}, faulty, behind: {DONE}; it has to come after .*",
             "Stuck": rf"{ROW}, stuck, behind: {DONE}; .*"},
         "Label": {"Recorded": rf"{ROW}, plain: read p\d+\[\d+\] = \d+ \| .*", "Amended": rf"{ROW}, faulty: read p\d+\[\d+\] = \d+, right: \d+ \| .*"}},
@@ -49,9 +50,10 @@ FORMS = {
         "FoundPart": "order: In the found order, as far as it goes", "Given": "order: Along the given runs",
         "GivenPart": r"order: Along the given runs, which are no merging: up to line \d+ of their text, which cannot be taken"}},
     "signs.rt": {"Sign": {
-        "Faulty": "legend: box-faulty: the faulty record", "Tied": "legend: box-faulty: waits for another of these",
+        "Faulty": "legend: box-faulty, cross: the faulty record", "OwnCause": "legend: box-faulty, cross, flag: the faulty record, also the cause",
+        "Cause": "legend: box-cause, flag: the cause", "Tied": "legend: box-faulty, cross: waits for another of these",
         "Tie": "legend: arrow-tied: has to come first", "TieBehind": "legend: arrow-tied, dashed: one behind it has to come first",
-        "Concerned": "legend: box-concerned, dashed: the record that its fault concerns", "OfPage": "legend: box-page: about the same page",
+        "Against": "legend: box-against, diamond, dashed: what it is set against", "OfPage": "legend: box-page: about the same page",
         "Plain": "legend: box: another record", "Stuck": "legend: box-stuck, dashed: the next of its log, not taken",
         "Arrow": "legend: arrow: is received", "Stub": "legend: arrow, dashed: is received; it has no row"}},
 }
@@ -80,7 +82,7 @@ def drawn(program, words):
 
 
 @pytest.mark.quick
-@pytest.mark.cases(228)
+@pytest.mark.cases(294)
 def test_shapes(program):
     told = set()
     for path in sorted(glob.glob(f"{TOP}/tests/shapes/*")):

@@ -268,7 +268,7 @@ def tests_of_showing(browser, program):
     browser.wait_for(lambda: browser.run("return document.getElementById('bar').hidden"), "a record stays marked in the text")
     browser.wait_for(lambda: browser.run("return document.activeElement.textContent") == "got 3", "the focus is lost with the mark")
     faulty = "const it = document.getElementById('picture').shadowRoot.querySelector('.faulty'); return it.ariaLabel"
-    same("the name of the faulty row", browser.run(faulty), "line 18 (source 4): the source sends page 1, faulty")
+    same("the name of the faulty row", browser.run(faulty), "line 18 (source 4): the source sends page 1, faulty, the cause")
 
 
 def tests_of_tour(browser, room, program):

@@ -7,7 +7,7 @@ import subprocess
 
 from cases import count, same
 from check_model import Session
-from picture_model import NAMES
+from cause_model import NAMES
 from session_text import SessionText
 from web_checks import TOP, read, words_of
 

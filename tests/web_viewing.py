@@ -91,8 +91,8 @@ def tests_of_picture(browser, url):
     browser.settle()
     row = "document.getElementById('picture').shadowRoot.querySelector('[data-line=\"{}\"]')"
     same("a long value in its box", browser.run(f"return {row.format(2566)}.querySelector('.words').textContent"), "read p7[0] = 287…674, right: 301…701")
-    cut = "return [...document.getElementById('picture').shadowRoot.querySelectorAll('.faulty .words, .concerned .words')].map((it) => it.scrollWidth > it.clientWidth)"
-    same("whether the box of the wrong record or of the lost write is cut", browser.run(cut), [False, False])
+    cut = "return [...document.getElementById('picture').shadowRoot.querySelectorAll('.faulty .words, .cause .words, .against .words')].map((it) => it.scrollWidth > it.clientWidth)"
+    same("whether the box of the wrong record, of its cause or of the lost write is cut", browser.run(cut), [False] * 3)
     browser.run(f"{row.format(2566)}.focus()")
     count("reads 2870600003493473674 in cell 0 of page 7" in browser.text("#hint"), f"the full value is not told: {browser.text('#hint')}")
     browser.run(f"{row.format(3003)}.dispatchEvent(new MouseEvent('mouseenter'))")

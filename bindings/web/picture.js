@@ -3,7 +3,7 @@
 "use strict";
 
 // In a tree of its own, so that its styles are its own.
-const OF_PICTURE = `:host { --faulty: light-dark(#c21e1e, #ff7b72); --concerned: light-dark(#9a6700, #e3b341); --of-page: light-dark(#0969da, #58a6ff); --stuck: light-dark(#a40e6e, #f778ba); --edge: light-dark(#818b98, #656c76) }
+const OF_PICTURE = `:host { --faulty: light-dark(#c21e1e, #ff7b72); --cause: light-dark(#6639ba, #b392f0); --against: light-dark(#9a6700, #e3b341); --of-page: light-dark(#0969da, #58a6ff); --stuck: light-dark(#a40e6e, #f778ba); --edge: light-dark(#818b98, #656c76) }
 * { box-sizing: border-box }
 .frame { container-type: inline-size }
 .sheet { --row: calc(26px * var(--zoom)); --gutter: calc(3.1rem * var(--zoom)); position: relative; width: calc(100% * max(1, var(--zoom))); font-size: calc(12px * var(--zoom)) }
@@ -18,15 +18,15 @@ const OF_PICTURE = `:host { --faulty: light-dark(#c21e1e, #ff7b72); --concerned:
 .fold { position: absolute; left: 50%; top: 50%; transform: translate(-50%, -50%); white-space: nowrap; max-width: 100%; overflow: hidden; text-overflow: ellipsis; padding: 0 .8em; border: 1px dotted var(--edge); border-radius: 1em; background: var(--paper); color: var(--soft) }
 .box { position: absolute; top: 50%; transform: translateY(-50%); display: flex; align-items: center; gap: .5em; padding: 0 .5em; height: calc(var(--row) - 5px * var(--zoom)); border: 1px solid var(--edge); border-radius: 4px; background: light-dark(#f6f8fa, #151b23) }
 .box .words { overflow: hidden; text-overflow: ellipsis; white-space: nowrap; flex: 1 1 auto } .box .number { color: var(--soft) }
-.box-page { border: 2px solid var(--of-page); background: light-dark(#dbeafe, #10305c) } .box-concerned { border: 2.5px dashed var(--concerned); background: light-dark(#fff3d6, #3b2a00) }
-.box-faulty { border: 3.5px solid var(--faulty); background: light-dark(#ffe3dc, #5a1414) } .box-stuck { border: 2px dotted var(--stuck); background: light-dark(#fbe7f3, #40122d) }
-.sign { font-weight: bold } .box-faulty .sign { color: var(--faulty) } .box-concerned .sign { color: var(--concerned) }
+.box-page { border: 2px solid var(--of-page); background: light-dark(#dbeafe, #10305c) } .box-against { border: 2.5px dashed var(--against); background: light-dark(#fff3d6, #3b2a00) }
+.box-faulty { border: 3.5px solid var(--faulty); background: light-dark(#ffe3dc, #5a1414) } .box-cause { border: 2.5px solid var(--cause); background: light-dark(#efe6fd, #2f1d55) } .box-stuck { border: 2px dotted var(--stuck); background: light-dark(#fbe7f3, #40122d) }
+.sign { font-weight: bold } .cross { color: var(--faulty) } .flag { color: var(--cause) } .diamond { color: var(--against) }
 .tip { position: absolute; top: calc(50% - 4px); border: 4px solid transparent } .tip.left { right: 100%; border-left: 7px solid var(--edge); border-right: 0 } .tip.right { left: 100%; border-right: 7px solid var(--edge); border-left: 0 }
 .tip.page.left { border-left-color: var(--of-page) } .tip.page.right { border-right-color: var(--of-page) } .tip.tied.left { border-left-color: var(--faulty) } .tip.tied.right { border-right-color: var(--faulty) }
 .stub::before { content: ""; position: absolute; top: -1px; width: 1em; border-top: 1.5px dashed var(--edge) } .stub.left::before { right: 5px } .stub.right::before { left: 5px }
 .record { cursor: pointer } .record:focus { outline: none } .record:is(:focus, .marked) .box { outline: 3px solid Highlight; outline-offset: 1px } .marked .line { font-weight: bold; color: inherit }
 .row.before .box, .row.after .box { outline: 2px solid var(--link); outline-offset: 1px } .row.before .line::before { content: "▲ " } .row.after .line::before { content: "▼ " } .row.now .line::after { content: " ▶" }
-.legend { display: flex; flex-wrap: wrap; gap: .3em 1.2em; margin: .8em 0 .2em; font-size: 12px; color: var(--soft) } .legend .box { position: static; transform: none; display: inline-flex; width: 2.4em; height: 1.3em; vertical-align: middle; margin-right: .4em; --zoom: 1; justify-content: center }
+.legend { display: flex; flex-wrap: wrap; gap: .3em 1.2em; margin: .8em 0 .2em; font-size: 12px; color: var(--soft) } .legend .box { position: static; transform: none; display: inline-flex; width: 2.4em; height: 1.3em; vertical-align: middle; margin-right: .4em; --zoom: 1; justify-content: center; gap: .2em; padding: 0 .1em }
 .legend .way { display: inline-block; width: 2.4em; border-top: 2px solid var(--edge); vertical-align: middle; margin-right: .4em } .legend .arrow-page { border-color: var(--of-page) } .legend .arrow-tied { border-color: var(--faulty); border-top-style: dashed } .legend .from-no-row { border-top-style: dashed }
 @container (max-width: 50rem) { .sheet { font-size: calc(11px * var(--zoom)) } .box { gap: .35em; padding: 0 .4em } .rows { margin-right: 2px } }
 @container (max-width: 30rem) {
@@ -40,7 +40,10 @@ const SVG = "http://www.w3.org/2000/svg", FIRST_ZOOM = 1, MOST_ZOOM = 4, ZOOM = 
 
 // The height of a row of the drawing.
 const HEIGHT = 26;
-const SIGNS = { "box-faulty": "✗", "box-concerned": "◆" };
+const SIGNS = { cross: "✗", flag: "⚑", diamond: "◆" };
+
+// What the marks of a row say to one who hears it.
+const SAID = { faulty: "faulty", cause: "the cause", against: "what it is set against" };
 
 // What the picture was read from, and what is shown of it.
 let picture, drawing, zoom = FIRST_ZOOM;
@@ -55,13 +58,15 @@ function readDrawing(svg) {
   const drawn = new DOMParser().parseFromString(svg, "image/svg+xml").documentElement;
   const number = (it, name) => +it.getAttribute(name);
   const columns = [...drawn.querySelectorAll("text[font-weight=bold][text-anchor=middle]")].map((it) => ({ name: it.textContent, x: number(it, "x") }));
+  // (the figures of a box stand from right to left)
+  const figures = (it) => [...it.querySelectorAll("path")].map((path) => path.getAttribute("class")).reverse();
   const nearest = (all, at, of) => all.reduce((best, it) => (Math.abs(of(it) - at) < Math.abs(of(best) - at) ? it : best), all[0]);
   const rows = [...drawn.querySelectorAll("g.row")].map((it) => {
     const box = it.querySelector("rect"), y = number(box, "y") + number(box, "height") / 2, kinds = [...it.classList];
     if (kinds.includes("fold-row")) return { y, fold: it.textContent };
     const [place, words] = it.querySelectorAll("tspan"), title = it.querySelector("title").textContent;
     const column = columns.indexOf(nearest(columns, number(box, "x") + number(box, "width") / 2, ({ x }) => x));
-    return { y, kinds, column, title, line: +title.match(/^line (\d+)/)[1], number: place.textContent, words: words.textContent, box: box.getAttribute("class") };
+    return { y, kinds, column, title, line: +title.match(/^line (\d+)/)[1], number: place.textContent, words: words.textContent, box: box.getAttribute("class"), figures: figures(it) };
   }).sort((one, other) => one.y - other.y);
   const records = rows.filter(({ line }) => line);
   const arrows = [...drawn.querySelectorAll("line[class^=arrow]")].filter((it) => !it.closest(".legend")).map((it) => {
@@ -72,7 +77,7 @@ function readDrawing(svg) {
   });
   const legend = [...drawn.querySelectorAll(".legend > g")].map((it) => {
     const sign = it.querySelector("rect, line");
-    return { kind: sign.getAttribute("class") + (sign.getAttribute("stroke-dasharray") === "3 2" ? " from-no-row" : ""), words: it.textContent };
+    return { kind: sign.getAttribute("class") + (sign.getAttribute("stroke-dasharray") === "3 2" ? " from-no-row" : ""), figures: figures(it), words: it.textContent };
   });
   return { columns, rows, records: new Map(records.map((it) => [it.line, it])), arrows, legend };
 }
@@ -119,11 +124,12 @@ function showRows(rows) {
   listenToRows();
 }
 
-function rowOfRecord({ kinds, column, title, line, number, words, box }, within, columns) {
-  const sign = SIGNS[box] ? [made("span", { className: "sign", textContent: SIGNS[box], ariaHidden: "true" })] : [];
+const signsOf = (figures) => figures.map((it) => made("span", { className: `sign ${it}`, textContent: SIGNS[it], ariaHidden: "true" }));
+
+function rowOfRecord({ kinds, column, title, line, number, words, box, figures }, within, columns) {
   // (an arrow from a record that has no row is a stub)
   const tips = drawing.arrows.filter((it) => it.to === line).map(({ from, kind, side }) => made("i", { className: `tip ${side} ${kind.slice("arrow-".length)} ${from === undefined ? "stub" : ""}` }));
-  const place = within(columns[column], made("span", { className: `box ${box}` }, made("span", { className: "number", textContent: number }), made("span", { className: "words", textContent: shortened(words) }), ...sign, ...tips));
+  const place = within(columns[column], made("span", { className: `box ${box}` }, made("span", { className: "number", textContent: number }), made("span", { className: "words", textContent: shortened(words) }), ...signsOf(figures), ...tips));
   const it = made("div", { className: kinds.join(" ") }, made("span", { className: "line", textContent: line }), place);
   Object.assign(it.dataset, { line, title });
   return it;
@@ -144,7 +150,7 @@ function arrowsOf(arrows, places, columns, count) {
 }
 
 function legendOf({ legend }) {
-  const signs = ({ kind }) => (kind.startsWith("arrow") ? made("span", { className: `way ${kind}` }) : made("span", { className: `box ${kind}`, textContent: SIGNS[kind] ?? "" }));
+  const signs = ({ kind, figures }) => (kind.startsWith("arrow") ? made("span", { className: `way ${kind}` }) : made("span", { className: `box ${kind}` }, ...signsOf(figures)));
   return made("div", { className: "legend" }, ...legend.map((it) => made("span", {}, signs(it), it.words)));
 }
 
@@ -182,7 +188,7 @@ function listenToRows() {
   rows.forEach((row, place) => {
     const { title, line } = row.dataset;
     row.setAttribute("role", "button");
-    row.setAttribute("aria-label", row.classList.contains("faulty") ? `${title}, faulty` : title);
+    row.setAttribute("aria-label", [title, ...Object.keys(SAID).filter((it) => row.classList.contains(it)).map((it) => SAID[it])].join(", "));
     row.setAttribute("tabindex", row === current ? 0 : -1);
     row.onclick = () => (marked === +line ? goToText() : mark(+line).then(() => goToRow(rowOf(line))));
     row.onkeydown = (event) => goAmongRows(event, rows, place);

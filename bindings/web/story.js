@@ -127,7 +127,7 @@ async function showBeside(session, page, line, current) {
   const found = await ask("order", session.file, { lines: [...drawing.records.keys()] });
   if (!current() || found.failure) return;
   const here = drawing.rows, there = rowsInOrder(found);
-  const isOfPage = (it) => it.line && (it.line === line || /of-page|concerned|faulty/.test(it.kinds.join(" ")) || /^(resume|halt)/.test(it.words));
+  const isOfPage = (it) => it.line && (it.line === line || /of-page|cause|against|faulty/.test(it.kinds.join(" ")) || /^(resume|halt)/.test(it.words));
   const items = (rows) => made("ol", {}, ...rows.filter(isOfPage).map((it) => made("li", { className: it.line === line ? "wrong" : "" }, wayTo(it, `line ${it.line}`, ` ${shortened(it.words)}`))));
   at("beside").replaceChildren(made("div", {}, made("strong", { textContent: "In this order, in which it goes wrong" }), items(here)), made("div", {}, made("strong", { textContent: "In the found order" }), items(there)));
   at("orders-beside").hidden = false;

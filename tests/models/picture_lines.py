@@ -5,12 +5,13 @@ record. Arrows are told by the records at whose boxes they begin and end.
 """
 import re
 
-from picture_shapes import SVG, Drawing, is_fold, name_of
+from picture_shapes import SVG, Drawing, is_fold, look_of, name_of
 
 ROW = 26
 
-# What the class of a box, and a dash, say.
-BOXES = {"box-faulty": "faulty", "box-concerned": "concerned", "box-page": "of the page", "box": "plain", "box-stuck": "stuck"}
+# What a box with its figures, and a dash, say.
+BOXES = {("box-faulty", "cross"): "faulty", ("box-faulty", "cross", "flag"): "faulty and the cause", ("box-cause", "flag"): "the cause",
+         ("box-against", "diamond"): "against", ("box-page",): "of the page", ("box",): "plain", ("box-stuck",): "stuck"}
 ARROWS = {("arrow", False): "arrow", ("arrow-page", False): "arrow of the page", ("arrow-tied", False): "tie", ("arrow-tied", True): "tie behind"}
 
 
@@ -34,7 +35,7 @@ def row_line(drawing, box):
     title = re.sub(r"^line \d+ \(\w+ \d+\): ", "", box.row.find(SVG + "title").text)
     behind = ", behind" if "behind" in box.row.get("class").split() else ""
     where = "no line" if margin is None else f"line {words(margin)}"
-    return f"box {at}: {where}, {log} {number if int(number) == place else (number, place)}, {BOXES[box.rect.get('class')]}{behind}: {done} | {title}"
+    return f"box {at}: {where}, {log} {number if int(number) == place else (number, place)}, {BOXES[look_of(box.rect, box.row)]}{behind}: {done} | {title}"
 
 
 def arrow_line(drawing, line):
@@ -50,7 +51,7 @@ def legend_line(entry):
     """The line of an entry of the legend."""
     sign = next(element for element in entry if element.tag in (SVG + "rect", SVG + "line"))
     dashed = ", dashed" if sign.get("stroke-dasharray") is not None else ""
-    return f"legend: {sign.get('class')}{dashed}: {words(entry.find(SVG + 'text'))}"
+    return f"legend: {', '.join(look_of(sign, entry))}{dashed}: {words(entry.find(SVG + 'text'))}"
 
 
 def lines_of(picture):

@@ -4,15 +4,12 @@ It goes by the session's text and by what `explain` says of it.
 """
 import re
 
+from cause_model import NAMES, cause_of, concerned_by, contents_at, page_of
 from check_model import Session
 from session_text import LOGS, SessionText
 
 WORDS = {"r": "read", "w": "write", "z": "release"}
 TOLD = re.compile(rf"line \d+ \(({'|'.join(LOGS)}) (\d+)\)")
-
-# What the numbers of a record name, in the order of its line.
-NAMES = {"resume": ["pager"], "see": ["pager"], "halted": ["guest"], "again": ["source"], "ask": ["link"], "up": ["pager"], "got": ["link"],
-         "pull": ["lane"], "fault": ["guest"], "join": ["pager"], "down": ["source"], "place": [None, "pager"], "skip": ["pager"]}
 
 
 def as_headed(lines):
@@ -33,60 +30,6 @@ def circle_of(report, told):
     """The records that wait for one another, by log and place, as `explain` names them."""
     lines = told.split("\n") if report.startswith("knot") else []
     return [(log, int(n)) for line in lines if line.startswith("  ") for log, n in [TOLD.search(line).groups()]]
-
-
-def page_of(record):
-    return int(record[2] if record[0] in "rwz" else record[1])
-
-
-def setter(session, n, page, cell):
-    """The last record of the guest before this one that gives a cell a value."""
-    sets = [m for m, rec in enumerate(session.guest[:n]) if rec[:1] + rec[2:4] == ["w", str(page), str(cell)] or rec[:1] + rec[2:3] == ["z", str(page)]]
-    return ("guest", sets[-1]) if sets else None
-
-
-def contents_at(session, record):
-    """The first cell in which a record's contents are not those of its page at the halt, with both values."""
-    page, contents = page_of(record), session.contents(record[-1])
-    right = session.at_halt(page)
-    cell = next(c for c in range(session.cells) if contents[c] != right[c])
-    return cell, contents[cell], right[cell]
-
-
-def concerned_by(session, head, log, place):
-    """The record that a faulty record concerns by its reason, by log and place, or None."""
-    kind, reason, record = head[0], head[3], session.logs[log][place]
-    if kind == "shape":
-        return concerned_by_shape(session, reason, place, record)
-    page = page_of(record)
-    changes = [n for n, rec in enumerate(session.guest[:session.halt()]) if rec[0] in "wz" and rec[2] == str(page)]
-    if reason == "read":
-        return setter(session, place, page, int(record[3]))
-    if reason == "stale":
-        return setter(session, session.halt(), page, contents_at(session, record)[0])
-    if reason in ("given", "unfit"):
-        return ("guest", changes[-1]) if changes else None
-    if reason in ("early", "twice"):
-        return next((("pager", n) for n in session.placements(page)), None)
-    if reason == "altered":
-        return next((("source", n) for n, rec in enumerate(session.source) if rec[:2] == ["send", str(page)]), None)
-    return "guest", session.first_use(page)
-
-
-def concerned_by_shape(session, reason, at, record):
-    if reason == "second-send":
-        return next(("source", n) for n, rec in enumerate(session.source) if rec[:2] == record[:2])
-    if reason == "both":
-        return "guest", session.resumed()
-    if reason == "named":
-        log = NAMES[record[0]][-1]
-        number = int(record[NAMES[record[0]].index(log) + 1])
-        return (log, number) if number < len(session.logs[log]) else None
-    if reason == "phases":
-        needs_resume = record[0] in ("miss", "see") or record[0] == "resume" and session.resumed() != at
-        place = session.resumed() if needs_resume else session.halt()
-        return ("guest", place) if place < len(session.guest) else None
-    return None
 
 
 def label_of(session, log, place):
@@ -132,14 +75,15 @@ class Told:
         self.session, self.text, self.report, self.told = Session(text), SessionText(text), report, told
         self.head = report.split("\n", 1)[0].split()
         self.circle = circle_of(report, told)
-        self.fault = self.concerned = None
+        self.fault = self.cause = self.against = None
         self.topic = None  # the page that was named
 
     def look_at(self, names):
         """Takes the name of the record at each line."""
         if self.head[0] in ("faulty", "shape"):
             self.fault = names[int(self.head[2])]
-            self.concerned = concerned_by(self.session, self.head, *self.fault)
+            self.cause, self.against = cause_of(self.text, self.head[3], *self.fault) if self.head[0] == "faulty" else (None, None)
+            self.against = self.against or concerned_by(self.session, self.head, *self.fault)
 
     def label(self, name):
         return faulty_label(self.session, self.head, *name) if name == self.fault else label_of(self.session, *name)

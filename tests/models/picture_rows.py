@@ -1,11 +1,11 @@
 """Which records of an order have a row of their own in a picture of a report, or of a page, and which are folded.
 
-A record is of interest where it is the halt or the resume, the faulty one or the one that the fault concerns; where it is about
+A record is of interest where it is the halt or the resume, the faulty one, the cause, or what this is set against; where it is about
 the page of the faulty record, or the page that was named, but before that one of the page's reads and writes only those that are told of; of a report
 without a page, where it receives another; and where such a record receives it. With them stand the neighbours of the faulty
 record. Of too many, the first eight and the last eight have rows, and forty on each side of the faulty one, or of the end of
-an order that stops, or of the resume; and in any case the record that the fault concerns. A single record between two that
-have rows has one too, and so has one at an end.
+an order that stops, or of the resume; and in any case the cause, and the record that it is set against. A single record between
+two that have rows has one too, and so has one at an end.
 """
 AT_ENDS, BESIDE = 8, 40
 
@@ -45,7 +45,7 @@ def middle_of(told, records, order):
 
 def concerns(told, records, page, middle, place, name):
     """Whether the record at a place of the order concerns what the picture is about."""
-    if word_of(records, name) in ("halt", "resume") or name in (told.fault, told.concerned):
+    if word_of(records, name) in ("halt", "resume") or name in (told.fault, told.cause, told.against):
         return True
     if page is None:
         return records.named(*name) is not None
@@ -65,7 +65,7 @@ def kept_places(told, records, order):
     wanted = sorted(wanted)
     rank = sum(place < middle for place in wanted)
     kept = {*wanted[:AT_ENDS], *wanted[max(0, len(wanted) - AT_ENDS):], *wanted[max(0, rank - BESIDE):rank + BESIDE + 1]}
-    return kept | ({order.index(told.concerned)} if told.concerned in order else set())
+    return kept | {order.index(name) for name in (told.cause, told.against) if name in order}
 
 
 def own_rows(told, records, order):

@@ -12,15 +12,21 @@ SHARED = 40  # half the room between two columns is less
 LETTER = 6  # the least width of a letter
 SIGN_HEIGHT, BESIDE = 16, 12  # of a sign of the legend, and of the room below the last one at least
 
-# What a row's class says of the record, and the box and the sign that go with it.
-BOXES = {"row record faulty": ("box-faulty", "cross"), "row record concerned": ("box-concerned", "diamond"),
-         "row record of-page": ("box-page", None), "row record": ("box", None), "row stuck": ("box-stuck", None)}
+# What a row's class says of the record, and the box and the figures that go with it, from right to left.
+BOXES = {"row record faulty": ("box-faulty", "cross"), "row record faulty cause": ("box-faulty", "cross", "flag"),
+         "row record cause": ("box-cause", "flag"), "row record against": ("box-against", "diamond"),
+         "row record of-page": ("box-page",), "row record": ("box",), "row stuck": ("box-stuck",)}
+
+# The outline of each figure, around its middle; the room to the right of the first one's middle, and from one to the next.
+OUTLINES = {"cross": "M-4 -4L4 4M-4 4L4 -4", "flag": "M-3 6L-3 -6L5 -3L-3 0", "diamond": "M0 -5L5 0L0 5L-5 0z"}
+FIGURE, NEXT_FIGURE = 12, 14
 
 # How each class is painted: fill, stroke, width of the stroke, dashes.
-PAINTS = {"box-faulty": ("#ffe3dc", "#c21e1e", "3.5", None), "box-concerned": ("#fff3d6", "#9a6700", "2.5", "7 3"),
+PAINTS = {"box-faulty": ("#ffe3dc", "#c21e1e", "3.5", None), "box-against": ("#fff3d6", "#9a6700", "2.5", "7 3"),
+          "box-cause": ("#efe6fd", "#6639ba", "2.5", None),
           "box-page": ("#dbeafe", "#0969da", "1.5", None), "box": ("#f6f8fa", "#818b98", None, None),
           "box-stuck": ("#fbe7f3", "#a40e6e", "2", "2 3"), "fold": ("#ffffff", "#818b98", None, "1 3"),
-          "cross": ("none", "#c21e1e", "2.5", None), "diamond": ("#9a6700", None, None, None),
+          "cross": ("none", "#c21e1e", "2.5", None), "diamond": ("#9a6700", None, None, None), "flag": ("#6639ba", "#6639ba", "1.5", None),
           "life": (None, "#d1d9e0", None, None), "paper": ("#ffffff", None, None, None),
           "ink": ("#1f2328", None, None, None), "soft": ("#59636e", None, None, None),
           "tip": ("#6e7781", None, None, None), "tip-page": ("#0969da", None, None, None), "tip-tied": ("#c21e1e", None, None, None)}
@@ -33,12 +39,13 @@ HEAD = {"viewBox": "0 0 8 8", "refX": "8", "refY": "4", "markerUnits": "userSpac
 TIP = "M0 0L8 4L0 8z"
 
 # On what texts stand, and the least contrast that they have with it, as WCAG 2.2 has it for texts.
-GROUNDS = ("paper", "fold", "box", "box-page", "box-concerned", "box-faulty", "box-stuck")
+GROUNDS = ("paper", "fold", "box", "box-page", "box-against", "box-cause", "box-faulty", "box-stuck")
 CONTRAST = 4.5
 
-# What the legend says of each sign: of a box or an arrow, and whether it is dashed.
-MEANINGS = {("box-faulty", False): {"the faulty record", "waits for another of these"},
-            ("box-concerned", True): {"the record that its fault concerns"}, ("box-page", False): {"about the same page"},
+# What the legend says of each sign: of a box with its figures, or an arrow, and whether it is dashed.
+MEANINGS = {("box-faulty", "cross", False): {"the faulty record", "waits for another of these"},
+            ("box-faulty", "cross", "flag", False): {"the faulty record, also the cause"}, ("box-cause", "flag", False): {"the cause"},
+            ("box-against", "diamond", True): {"what it is set against"}, ("box-page", False): {"about the same page"},
             ("box", False): {"another record"}, ("box-stuck", True): {"the next of its log, not taken"},
             ("arrow", False): {"is received"}, ("arrow", True): {"is received; it has no row"},
             ("arrow-tied", False): {"has to come first"}, ("arrow-tied", True): {"one behind it has to come first"}}
@@ -201,14 +208,26 @@ def painted_wrongly(drawing):
         words = box.row.get("class").replace(" behind", "")
         if words not in BOXES:
             return f"a row '{words}'"
-        kind, sign = BOXES[words]
-        signs = [path.get("class") for path in box.row.iter(SVG + "path")]
-        if box.rect.get("class") != kind or signs != [sign] * (sign is not None):
-            return f"a box {box.rect.get('class')} with {signs} in a row '{words}'"
-        for place in (group for group in box.row.findall(SVG + "g")):
-            x, y = map(int, re.match(r"translate\((\d+) (\d+)\)$", place.get("transform")).groups())
-            if not (box.right - 20 < x < box.right and y == box.middle):
-                return f"the sign of {name} at {x}, {y}"
+        if look_of(box.rect, box.row) != BOXES[words]:
+            return f"a box {look_of(box.rect, box.row)} in a row '{words}'"
+        wrong = figures_wrongly(box.row, box.right, box.middle)
+        if wrong:
+            return f"{wrong} in the box of {name}"
+    entries = (entry for entry in drawing.legend.findall(SVG + "g") if entry.find(SVG + "rect") is not None)
+    return next(filter(None, (figures_wrongly(entry, number(entry.find(SVG + "rect"), "width"), SIGN_HEIGHT // 2) for entry in entries)), None)
+
+
+def look_of(sign, group):
+    """The class of a box or an arrow, and the figures that stand with it."""
+    return (sign.get("class"), *(path.get("class") for path in group.iter(SVG + "path")))
+
+
+def figures_wrongly(group, right, middle):
+    """What is wrong with the figures in a box, or None: each has its outline, and its place beside the one before."""
+    for n, place in enumerate(group.findall(SVG + "g")):
+        path = place.find(SVG + "path")
+        if place.get("transform") != f"translate({right - FIGURE - n * NEXT_FIGURE} {middle})" or path.get("d") != OUTLINES[path.get("class")]:
+            return f"a figure {path.attrib} at {place.get('transform')}"
     return None
 
 
@@ -266,13 +285,13 @@ def explained_wrongly(drawing):
     found = set()
     for entry in drawing.legend.findall(SVG + "g"):
         sign = next(element for element in entry if element.tag in (SVG + "rect", SVG + "line"))
-        key = sign.get("class"), sign.get("stroke-dasharray") is not None
+        key = (*look_of(sign, entry), sign.get("stroke-dasharray") is not None)
         meaning = entry.find(SVG + "text").text
         if meaning not in MEANINGS.get(key, ()):
             return f"'{meaning}' of {key}"
         found.add((key, meaning))
     arrows = {(line.get("class").replace("-page", ""), line.get("stroke-dasharray") is not None) for line in drawing.lines if line.get("class") != "life"}
-    boxes = {(box.rect.get("class"), box.rect.get("stroke-dasharray") is not None) for box in drawing.boxes.values()}
+    boxes = {(*look_of(box.rect, box.row), box.rect.get("stroke-dasharray") is not None) for box in drawing.boxes.values()}
     occurs = arrows | boxes
     return None if {key for key, _ in found} == occurs else f"a legend of {sorted({key for key, _ in found})}, not {sorted(occurs)}"
 

@@ -31,7 +31,7 @@ next_falls : (fault : Option ℕ) (n : ℕ) → next_left fault (n + 1) ≤ next
 next_falls None n = omega arith
 next_falls (Some at) n = grind (arith, nat_tests)
 
-at_falls : (concerned : Option ℕ) (n : ℕ) → at_left concerned (n + 1) ≤ at_left concerned n
+at_falls : (at : Option ℕ) (n : ℕ) → at_left at (n + 1) ≤ at_left at n
 at_falls None n = omega arith
 at_falls (Some at) n = grind (arith, nat_tests)
 
@@ -39,15 +39,16 @@ next_spends : (fault : Option ℕ) (n : ℕ) → is_next_to fault n ≡ true →
 next_spends None n e = absurd (cc)
 next_spends (Some at) n e = grind (arith, nat_tests)
 
-at_spends : (concerned : Option ℕ) (n : ℕ) → is_at concerned n ≡ true → at_left concerned (n + 1) + 1 ≤ at_left concerned n
+at_spends : (at : Option ℕ) (n : ℕ) → is_at at n ≡ true → at_left at (n + 1) + 1 ≤ at_left at n
 at_spends None n e = absurd (cc)
 at_spends (Some at) n e = grind (arith, nat_tests)
 
 -- after a place, fewer places are certain where that one was
-pub spends : (fault concerned : Option ℕ) (n : ℕ) → 2 * certain_left fault concerned (n + 1) + cond (is_certain fault concerned n) 2 0 ≤ 2 * certain_left fault concerned n
-spends fault concerned n = go (is_next_to fault n) (is_at concerned n) refl refl
+pub spends : (fault cause against : Option ℕ) (n : ℕ) → 2 * certain_left fault cause against (n + 1) + cond (is_certain fault cause against n) 2 0 ≤ 2 * certain_left fault cause against n
+spends fault cause against n = go (is_next_to fault n) (is_at cause n) (is_at against n) refl refl refl
   where
-    go : (a b : Bool) → is_next_to fault n ≡ a → is_at concerned n ≡ b → 2 * certain_left fault concerned (n + 1) + cond (a || b) 2 0 ≤ 2 * certain_left fault concerned n
-    go true b e f = let h = next_spends fault n e in let k = at_falls concerned n in omega (arith, h, k)
-    go false true e f = let h = next_falls fault n in let k = at_spends concerned n f in omega (arith, h, k)
-    go false false e f = let h = next_falls fault n in let k = at_falls concerned n in omega (arith, h, k)
+    go : (a b c : Bool) → is_next_to fault n ≡ a → is_at cause n ≡ b → is_at against n ≡ c → 2 * certain_left fault cause against (n + 1) + cond (a || (b || c)) 2 0 ≤ 2 * certain_left fault cause against n
+    go true b c e f g = let h = next_spends fault n e in let k = at_falls cause n in let l = at_falls against n in omega (arith, h, k, l)
+    go false true c e f g = let h = next_falls fault n in let k = at_spends cause n f in let l = at_falls against n in omega (arith, h, k, l)
+    go false false true e f g = let h = next_falls fault n in let k = at_falls cause n in let l = at_spends against n g in omega (arith, h, k, l)
+    go false false false e f g = let h = next_falls fault n in let k = at_falls cause n in let l = at_falls against n in omega (arith, h, k, l)

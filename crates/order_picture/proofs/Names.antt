@@ -10,7 +10,7 @@ use Rattle.audit_model.specs.Names.{log_length}
 use Rattle.audit_model.specs.Mergings.{Cursors, at_start, run_names, spelled}
 use Rattle.audit_model.specs.Walks.{cursors_from, Walks}
 use Rattle.merge_runs.proofs.Walking.{walks_front, walk_back, walks_run, spelled_front, the_run}
-use Rattle.order_picture.specs.declared.focus.Mark.TheVariants.{Faulty, Concerned, OfPage, Plain}
+use Rattle.order_picture.specs.declared.focus.Mark.TheVariants.{Faulty, OwnCause, Cause, Against, OfPage, Plain}
 use Rattle.order_picture.specs.declared.focus.Focus.{Focus}
 use Rattle.order_picture.specs.Rows.{is_faulty}
 use Rattle.session_story.specs.Subjects.{page_of}
@@ -34,15 +34,17 @@ module _ (s : Recorded) (runs : List Run) (place : ℕ) (d : Run) (within : plac
           let more = spelled_front at_start (take (place + 1) runs) (drop (place + 1) runs) in
           walks_front s at_start (spelled (take (place + 1) runs)) more.0 (subst (λ (ns : List Name). Walks s at_start ns) (ap spelled (sym (take-append-drop (place + 1) runs)) ∙ more.1) walks)
 
-faulty_mark : (a b c : Bool) → is_faulty (cond a Faulty (cond b Concerned (cond c OfPage Plain))) ≡ a
-faulty_mark true b c = refl
-faulty_mark false true c = refl
-faulty_mark false false true = refl
-faulty_mark false false false = refl
+faulty_mark : (a b c d : Bool) → is_faulty (cond a (cond b OwnCause Faulty) (cond b Cause (cond c Against (cond d OfPage Plain)))) ≡ a
+faulty_mark true true c d = refl
+faulty_mark true false c d = refl
+faulty_mark false true c d = refl
+faulty_mark false false true d = refl
+faulty_mark false false false true = refl
+faulty_mark false false false false = refl
 
 -- the mark of the faulty record is its alone
 pub marks_fault : (s : Recorded) (focus : Focus) (name : Name) → is_faulty (mark_of s focus name) ≡ is_one focus.fault name
-marks_fault s focus name = faulty_mark (is_one focus.fault name) (is_one focus.concerned name) (is_page focus.page (page_of s name))
+marks_fault s focus name = faulty_mark (is_one focus.fault name) (is_one focus.cause name) (is_one focus.against name) (is_page focus.page (page_of s name))
 
 pub any_faulty : (s : Recorded) (focus : Focus) (names : List Name) → list_any (λ name. is_faulty (mark_of s focus name)) names ≡ list_any (is_one focus.fault) names
 any_faulty s focus names = ap (λ (f : Name → Bool). list_any f names) (λ i name. marks_fault s focus name i)

@@ -1,5 +1,5 @@
 -- The records that have a row after the order. Of those that the order does not take, these are the next of each log,
--- the faulty record, the record that its fault concerns, and those that wait for one another.
+-- the faulty record, the cause, the record that it is set against, and those that wait for one another.
 use Rattle.std.specs.Prelude.{ℕ, ◌-◌, ◌==◌, ◌||◌, Bool, List, Option, Some, None, filter, flat_map, is_some, position, slice_get, if◌then◌else◌}
 use Rattle.migration_types.specs.declared.records.LogName.{LogName}
 use Rattle.migration_types.specs.Receipts.{Name, logs}
@@ -19,7 +19,7 @@ use Rattle.order_picture.specs.declared.behind.Obstacle.TheVariants.{Waits, NotS
 use Rattle.order_picture.specs.declared.behind.Tie.{Tie}
 use Rattle.order_picture.specs.declared.picture.Picture.{Picture}
 use Rattle.order_picture.specs.declared.boxes.BoxKind.{BoxKind}
-use Rattle.order_picture.specs.declared.boxes.BoxKind.TheVariants.{Faulty, Concerned, Tied, Stuck}
+use Rattle.order_picture.specs.declared.boxes.BoxKind.TheVariants.{Faulty, OwnCause, Cause, Against, Tied, Stuck}
 use Rattle.order_picture.specs.Marks.{is_one}
 
 -- the place of a record among those that wait for one another
@@ -42,7 +42,7 @@ tie_of t name = None
 
 -- whether a record has a row even if the order does not reach it
 abbrev pub stands_out : Picture → Name → Bool
-stands_out p name = is_one p.focus.fault name || (is_one p.focus.concerned name || is_some (tie_of p.told name))
+stands_out p name = is_one p.focus.fault name || (is_one p.focus.cause name || (is_one p.focus.against name || is_some (tie_of p.told name)))
 
 -- whether a record that the order does not take has a row
 abbrev pub is_behind : Picture → Name → Bool
@@ -56,12 +56,17 @@ log_behind s p log = filter (is_behind p) (run_names log (cursors_of p.taken log
 abbrev pub names_behind : Recorded → Picture → List Name
 names_behind s p = flat_map (log_behind s p) logs
 
+-- what the box of the faulty record says about it: whether it is also the cause
+abbrev pub fault_kind : Picture → Name → BoxKind
+fault_kind p name = if is_one p.focus.cause name then OwnCause else Faulty
+
 -- what the box of a record after the order says about it
 abbrev pub kind_behind : Picture → Name → BoxKind
 kind_behind p name =
-    if is_one p.focus.fault name then Faulty
+    if is_one p.focus.fault name then fault_kind p name
     else if is_some (tie_of p.told name) then Tied
-    else if is_one p.focus.concerned name then Concerned
+    else if is_one p.focus.cause name then Cause
+    else if is_one p.focus.against name then Against
     else Stuck
 
 abbrev pub obstacle_by : Recorded → Picture → Name → Option Tie → Obstacle

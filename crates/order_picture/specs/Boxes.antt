@@ -26,12 +26,15 @@ line_in s name = if nat_lt name.1 (log_length s name.0) then line_of s name else
 -- what the label of a box shows: for the faulty record, its wrong value and the right one, if they are known
 abbrev pub label_in : Option Amended → BoxKind → Label
 label_in (Some amended) kind.Faulty = label.Amended
+label_in (Some amended) kind.OwnCause = label.Amended
 label_in amended kind = label.Recorded
 
 -- what the box of a record of the order with this mark says
 abbrev pub kind_of : Mark → BoxKind
 kind_of mark.Faulty = kind.Faulty
-kind_of mark.Concerned = kind.Concerned
+kind_of mark.OwnCause = kind.OwnCause
+kind_of mark.Cause = kind.Cause
+kind_of mark.Against = kind.Against
 kind_of mark.OfPage = kind.OfPage
 kind_of mark.Plain = kind.Plain
 

@@ -11,12 +11,15 @@ use Rattle.audit_model.specs.FoundOrder.{IsFoundOrder}
 use Rattle.audit_report.specs.declared.report.Report.{Report}
 use Rattle.audit_report.specs.declared.report.Report.TheVariants as report
 use Rattle.merge_runs.specs.Taken.{cursors_of}
+use Rattle.session_story.specs.declared.causes.Cause.{Cause}
 use Rattle.session_story.specs.declared.fault_stories.FaultStory.{FaultStory}
 use Rattle.session_story.specs.declared.topic_stories.FullPageStory.{FullPageStory}
 use Rattle.session_story.specs.declared.topic_stories.TopicStory.{TopicStory}
 use Rattle.session_story.specs.declared.topic_stories.TopicStory.TheVariants as told
 use Rattle.migration_types.specs.declared.topic.Topic.{Topic}
+use Rattle.session_story.specs.Causes.{cause_of}
 use Rattle.session_story.specs.Concerned.{concerned_of}
+use Rattle.session_story.specs.Named.{or_else}
 use Rattle.session_story.specs.Subjects.{page_of}
 use Rattle.session_story.specs.Topics.{IsTold, fault_in, page_in}
 use Rattle.order_picture.specs.declared.focus.Focus.{Focus}
@@ -51,25 +54,40 @@ abbrev pub page_for : Recorded → Report → TopicStory → Option ℕ
 page_for s r (told.Report explanation) = option_and_then (page_of s) (fault_of r)
 page_for s r t = number_in (page_in t)
 
--- what a picture is about, given the story: the faulty record, the page, and the record that the fault concerns
+-- the record that is the cause, if there is one
+abbrev pub blamed_in : Option Cause → Option Name
+blamed_in None = None
+blamed_in (Some cause) = cause.blamed
+
+-- the record that the cause is set against, if there is one
+abbrev pub against_in : Option Cause → Option Name
+against_in None = None
+against_in (Some cause) = cause.against
+
+-- the record that the cause of the story's fault is set against, or else the one that the fault concerns
+abbrev pub against_for : Recorded → TopicStory → Option Name
+against_for s t = or_else (against_in (cause_of t)) (concerned_of s t)
+
+-- what a picture is about, given the story: the faulty record, its page, the cause, and what it is set against
 pub record IsFocus (s : Recorded) (r : Report) (t : TopicStory) (focus : Focus) : Type 0 where
   pub fault : focus.fault ≡ fault_for r t
   pub page : focus.page ≡ page_for s r t
-  pub concerned : focus.concerned ≡ concerned_of s t
+  pub cause : focus.cause ≡ blamed_in (cause_of t)
+  pub against : focus.against ≡ against_for s t
 
 -- A picture of the records that the runs take, as far as they can be taken, with the story of the session on a topic.
 -- Each record has its place in one row, and there are few rows. The faulty record has a row of its own, and so have the
--- records next to it and the record that its fault concerns. The record that is marked as concerned is the one in the
--- story. Each row knows the row whose record it receives.
+-- records next to it, the cause, and the record that it is set against. Which records these are follows from the story.
+-- Each row knows the row whose record it receives.
 pub record IsPictureOf (s : Recorded) (r : Report) (topic : Topic) (runs : List Run) (p : Picture) : Type 0 where
   pub order : List Name
   pub part : IsOrderPart s runs order p.bad
   pub told : IsTold s r topic p.told
   pub focus : IsFocus s r p.told p.focus
   pub covers : Covers (mark_of s p.focus) p.rows.items order
-  pub few : length p.rows.items ≤ 203
+  pub few : length p.rows.items ≤ 205
   pub shown : shows_fault p.rows.items ≡ list_any (is_one p.focus.fault) order
-  pub certain : HasCertain (position (is_one p.focus.fault) order) (position (is_one p.focus.concerned) order) p.rows.items order
+  pub certain : HasCertain (position (is_one p.focus.fault) order) (position (is_one p.focus.cause) order) (position (is_one p.focus.against) order) p.rows.items order
   pub senders : p.senders.items ≡ map (sender_of s p.rows.items) p.rows.items
   pub taken : cursors_of p.taken ≡ cursors_from at_start order
 

@@ -8,7 +8,7 @@ use Rattle.audit_model.specs.Mergings.{at_start}
 use Rattle.audit_model.specs.Walks.{cursors_from}
 use Rattle.merge_runs.specs.Taken.{cursors_of}
 use Rattle.order_picture.specs.declared.focus.Mark.{Mark}
-use Rattle.order_picture.specs.declared.focus.Mark.TheVariants.{Faulty, Concerned, OfPage, Plain}
+use Rattle.order_picture.specs.declared.focus.Mark.TheVariants.{Faulty, OwnCause, Cause, Against, OfPage, Plain}
 use Rattle.order_picture.specs.declared.picture.PictureRow.{PictureRow}
 use Rattle.order_picture.specs.declared.picture.PictureRow.TheVariants.{Record, Fold}
 use Rattle.order_picture.specs.Marks.{is_one}
@@ -23,7 +23,9 @@ Covers mark (Fold counts ∷ rows) order = (folded rest : List Name) × (order �
 -- whether this is the mark of the faulty record
 abbrev pub is_faulty : Mark → Bool
 is_faulty Faulty = true
-is_faulty Concerned = false
+is_faulty OwnCause = true
+is_faulty Cause = false
+is_faulty Against = false
 is_faulty OfPage = false
 is_faulty Plain = false
 
@@ -63,11 +65,11 @@ abbrev pub is_at : Option ℕ → ℕ → Bool
 is_at None n = false
 is_at (Some at) n = at == n
 
--- whether a place of an order is next to the first place, or is the second
-abbrev pub is_certain : Option ℕ → Option ℕ → ℕ → Bool
-is_certain fault concerned n = is_next_to fault n || is_at concerned n
+-- whether a place of an order is next to that of the faulty record, or is that of the cause or of what it is set against
+abbrev pub is_certain : (fault cause against : Option ℕ) → ℕ → Bool
+is_certain fault cause against n = is_next_to fault n || (is_at cause n || is_at against n)
 
--- The records next to the faulty one have rows of their own, and so has the record that its fault concerns, wherever
--- they are in the order.
-abbrev pub HasCertain : (faulty concerned : Option ℕ) → List PictureRow → List Name → Type 0
-HasCertain faulty concerned rows order = (n : ℕ) (name : Name) → is_certain faulty concerned n ≡ true → slice_get order n ≡ Some name → has_row rows name ≡ true
+-- The records next to the faulty one have rows of their own, and so have the cause and the record that it is set
+-- against, wherever they are in the order.
+abbrev pub HasCertain : (fault cause against : Option ℕ) → List PictureRow → List Name → Type 0
+HasCertain fault cause against rows order = (n : ℕ) (name : Name) → is_certain fault cause against n ≡ true → slice_get order n ≡ Some name → has_row rows name ≡ true

@@ -8,16 +8,18 @@ use Rattle.order_picture.specs.declared.boxes.BoxKind.TheVariants as kind
 use Rattle.order_picture.specs.declared.shapes.Shape.{Shape}
 use Rattle.order_picture.specs.declared.shapes.Shape.TheVariants as shape
 use Rattle.order_picture.specs.declared.signs.Sign.{Sign}
-use Rattle.order_picture.specs.declared.signs.Sign.TheVariants.{Faulty, Tied, Tie, TieBehind, Concerned, OfPage, Plain, Stuck, Arrow, Stub}
+use Rattle.order_picture.specs.declared.signs.Sign.TheVariants.{Faulty, OwnCause, Cause, Tied, Tie, TieBehind, Against, OfPage, Plain, Stuck, Arrow, Stub}
 
 -- the signs, in the order of a legend
 abbrev pub signs : List Sign
-signs = Faulty ∷ Tied ∷ Tie ∷ TieBehind ∷ Concerned ∷ OfPage ∷ Plain ∷ Stuck ∷ Arrow ∷ Stub ∷ []
+signs = Faulty ∷ OwnCause ∷ Cause ∷ Tied ∷ Tie ∷ TieBehind ∷ Against ∷ OfPage ∷ Plain ∷ Stuck ∷ Arrow ∷ Stub ∷ []
 
 -- the sign for a box
 abbrev pub box_sign : BoxKind → Sign
 box_sign kind.Faulty = Faulty
-box_sign kind.Concerned = Concerned
+box_sign kind.OwnCause = OwnCause
+box_sign kind.Cause = Cause
+box_sign kind.Against = Against
 box_sign kind.OfPage = OfPage
 box_sign kind.Plain = Plain
 box_sign kind.Tied = Tied
@@ -40,15 +42,17 @@ sign_of other = None
 -- a sign's place in a legend
 abbrev pub number_of : Sign → ℕ
 number_of Faulty = 0
-number_of Tied = 1
-number_of Tie = 2
-number_of TieBehind = 3
-number_of Concerned = 4
-number_of OfPage = 5
-number_of Plain = 6
-number_of Stuck = 7
-number_of Arrow = 8
-number_of Stub = 9
+number_of OwnCause = 1
+number_of Cause = 2
+number_of Tied = 3
+number_of Tie = 4
+number_of TieBehind = 5
+number_of Against = 6
+number_of OfPage = 7
+number_of Plain = 8
+number_of Stuck = 9
+number_of Arrow = 10
+number_of Stub = 11
 
 abbrev pub is_sign : Sign → Option Sign → Bool
 is_sign sign None = false

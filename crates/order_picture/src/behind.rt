@@ -1,8 +1,8 @@
 //! The records that have a row after the order. Of those that the order does not take, these are the next of each log,
-//! the faulty record, the record that its fault concerns, and those that wait for one another.
+//! the faulty record, the cause, the record that it is set against, and those that wait for one another.
 
 ghost use Rattle.std.specs.Prelude.{◌≡◌, [], ◌∷◌, ◌++◌, filter, IfOk, OnOk};
-ghost use Rattle.order_picture.specs.Behind.{is_behind, kind_behind, log_behind, names_behind, obstacle_of, place_in, stands_out, tie_at, tie_of};
+ghost use Rattle.order_picture.specs.Behind.{fault_kind, is_behind, kind_behind, log_behind, names_behind, obstacle_of, place_in, stands_out, tie_at, tie_of};
 
 use crate::boxes::BoxKind;
 use crate::picture::Picture;
@@ -72,7 +72,8 @@ fn stands_out(picture: &Picture, name: Name) -> bool
     ensures { result ≡ stands_out picture.now name }
 {
     is_one(picture.focus.fault, name)
-        || is_one(picture.focus.concerned, name)
+        || is_one(picture.focus.cause, name)
+        || is_one(picture.focus.against, name)
         || tie_of(&picture.told, name).is_some()
 }
 
@@ -125,16 +126,29 @@ pub(crate) fn names_behind(
     Ok(names)
 }
 
+/// Returns what the box of the faulty record says about it.
+fn fault_kind(picture: &Picture, name: Name) -> BoxKind
+    ensures { result ≡ fault_kind picture.now name }
+{
+    if is_one(picture.focus.cause, name) {
+        BoxKind::OwnCause
+    } else {
+        BoxKind::Faulty
+    }
+}
+
 /// Returns what the box of a record after the order says about it.
 pub(crate) fn kind_behind(picture: &Picture, name: Name) -> BoxKind
     ensures { result ≡ kind_behind picture.now name }
 {
     if is_one(picture.focus.fault, name) {
-        BoxKind::Faulty
+        fault_kind(picture, name)
     } else if tie_of(&picture.told, name).is_some() {
         BoxKind::Tied
-    } else if is_one(picture.focus.concerned, name) {
-        BoxKind::Concerned
+    } else if is_one(picture.focus.cause, name) {
+        BoxKind::Cause
+    } else if is_one(picture.focus.against, name) {
+        BoxKind::Against
     } else {
         BoxKind::Stuck
     }

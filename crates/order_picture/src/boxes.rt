@@ -17,8 +17,12 @@ use std::alloc::AllocError;
 pub enum BoxKind {
     /// It is the faulty record.
     Faulty,
-    /// It is the record that the fault concerns.
-    Concerned,
+    /// It is the faulty record, which is also the cause.
+    OwnCause,
+    /// It is the record that is the cause.
+    Cause,
+    /// It is the record that the cause is set against.
+    Against,
     /// It is about the page that the picture is about.
     OfPage,
     /// It is another record of the order.
@@ -55,7 +59,7 @@ fn label_in(amended: &Option<Amended>, kind: BoxKind) -> Label
     ensures { result ≡ label_in amended.now kind }
 {
     match (amended, kind) {
-        (Some(_), BoxKind::Faulty) => Label::Amended,
+        (Some(_), BoxKind::Faulty | BoxKind::OwnCause) => Label::Amended,
         _ => Label::Recorded,
     }
 }
@@ -66,7 +70,9 @@ pub(crate) fn kind_of(mark: Mark) -> BoxKind
 {
     match mark {
         Mark::Faulty => BoxKind::Faulty,
-        Mark::Concerned => BoxKind::Concerned,
+        Mark::OwnCause => BoxKind::OwnCause,
+        Mark::Cause => BoxKind::Cause,
+        Mark::Against => BoxKind::Against,
         Mark::OfPage => BoxKind::OfPage,
         Mark::Plain => BoxKind::Plain,
     }

@@ -4,16 +4,16 @@ use crate::arrows::{ArrowKind, Seat};
 use crate::behind::Obstacle;
 use crate::boxes::{BoxKind, Label};
 use crate::elements::{
-    begin_at, begin_text, end_arrow, end_text, push, push_attribute, push_colours, push_ends,
-    push_length, push_paint, push_path,
+    begin_text, end_arrow, end_text, push, push_attribute, push_colours, push_ends, push_figures,
+    push_length, push_paint,
 };
 use crate::heading::Subject;
 use crate::labels::push_label;
 use crate::layout::{Columns, is_left_of, middle_of, top_of};
 use crate::style::{
-    APART, BOX, BOX_TOP, COLUMN, COLUMNS_LEFT, COLUMNS_TOP, CORNER, CROSS, DIAMOND, FOLD,
-    FOLD_BESIDE, FOLD_CORNER, FOLD_FRAME, FOLD_TOP, INK, LABEL, LETTER, MARGIN, NAMES, NUMBER_GAP,
-    Paint, ROW_TEXT, SIGN, SOFT, STUB, STUB_LINE, arrow_paint, box_paint, head_of,
+    APART, BOX, BOX_TOP, COLUMN, COLUMNS_LEFT, COLUMNS_TOP, CORNER, FIGURE, FOLD, FOLD_BESIDE,
+    FOLD_CORNER, FOLD_FRAME, FOLD_TOP, INK, LABEL, LETTER, MARGIN, NAMES, NUMBER_GAP, Paint,
+    ROW_TEXT, SOFT, STUB, STUB_LINE, arrow_paint, box_paint, head_of,
 };
 use crate::words::{LINES, push_records, push_title};
 use merge_runs::TakenCounts;
@@ -146,7 +146,9 @@ pub(crate) fn push_stub(
 fn row_class(kind: BoxKind) -> &'static [u8] {
     match kind {
         BoxKind::Faulty | BoxKind::Tied => b"row record faulty",
-        BoxKind::Concerned => b"row record concerned",
+        BoxKind::OwnCause => b"row record faulty cause",
+        BoxKind::Cause => b"row record cause",
+        BoxKind::Against => b"row record against",
         BoxKind::OfPage => b"row record of-page",
         BoxKind::Plain => b"row record",
         BoxKind::Stuck => b"row stuck",
@@ -180,22 +182,8 @@ fn push_record_line(out: &mut Vec<u8>, one: &RecordBox) -> Result<(), AllocError
     end_text(out)
 }
 
-/// Appends a sign at the right of a box.
-fn push_sign(
-    out: &mut Vec<u8>,
-    columns: Columns,
-    seat: Seat,
-    path: &[u8],
-    paint: Paint,
-) -> Result<(), AllocError> {
-    let x = columns.right(seat.log).saturating_sub(SIGN);
-    begin_at(out, x, middle_of(seat.row))?;
-    push_path(out, path, paint)?;
-    push(out, b"</g>")
-}
-
-/// Appends a box with its sign: a cross if the record is faulty or waits for another waiting record, and a diamond if
-/// the fault concerns it.
+/// Appends a box with its figures: a cross if the record is faulty or waits for another waiting record, a flag if it is
+/// the cause, and a diamond if the cause is set against it.
 fn push_box(
     out: &mut Vec<u8>,
     columns: Columns,
@@ -210,13 +198,8 @@ fn push_box(
     push_length(out, b"rx", CORNER)?;
     push_paint(out, box_paint(kind))?;
     push(out, b"/>")?;
-    match kind {
-        BoxKind::Faulty | BoxKind::Tied => {
-            push_sign(out, columns, seat, b"M-4 -4L4 4M-4 4L4 -4", CROSS)
-        }
-        BoxKind::Concerned => { push_sign(out, columns, seat, b"M0 -5L5 0L0 5L-5 0z", DIAMOND) }
-        _ => Ok(()),
-    }
+    let x = columns.right(seat.log).saturating_sub(FIGURE);
+    push_figures(out, x, middle_of(seat.row), kind)
 }
 
 /// Appends the number and the label in a record's box.

@@ -1,6 +1,7 @@
 //! The elements of SVG that a picture is made of.
 
-use crate::style::{ArrowHead, Paint};
+use crate::boxes::BoxKind;
+use crate::style::{ArrowHead, FIGURE_LETTERS, LETTER, Paint, figures_of};
 use std::alloc::AllocError;
 use text_lines::push_number;
 
@@ -96,6 +97,25 @@ pub(crate) fn push_path(out: &mut Vec<u8>, path: &[u8], paint: Paint) -> Result<
     push_attribute(out, b"d", path)?;
     push_colours(out, paint)?;
     push(out, b"/>")
+}
+
+/// Appends the figures of a box, from this middle of the first one to the left.
+pub(crate) fn push_figures(
+    out: &mut Vec<u8>,
+    x: u64,
+    y: u64,
+    kind: BoxKind,
+) -> Result<(), AllocError> {
+    let mut x = x;
+    for figure in figures_of(kind) {
+        if let Some(figure) = figure {
+            begin_at(out, x, y)?;
+            push_path(out, figure.outline, figure.paint)?;
+            push(out, b"</g>")?;
+            x = x.saturating_sub(LETTER.saturating_mul(FIGURE_LETTERS as u64));
+        }
+    }
+    Ok(())
 }
 
 /// Appends the head of an arrow, which lines then refer to.

@@ -1,22 +1,28 @@
-//! What a picture is about: a faulty record, what its fault concerns, and a page.
+//! What a picture is about: a faulty record, the cause, the record that it is set against, and a page.
 
 ghost use Rattle.std.specs.Prelude.{◌≡◌, option_and_then};
 ghost use Rattle.session_story.specs.Subjects.{page_of};
-ghost use Rattle.order_picture.specs.Marks.{is_page, mark_of};
-ghost use Rattle.order_picture.specs.Pictures.{fault_for, fault_of, faulty_in, number_in, page_for, IsFocus};
+ghost use Rattle.order_picture.specs.Marks.{fault_mark, is_page, mark_of};
+ghost use Rattle.order_picture.specs.Pictures.{against_for, against_in, blamed_in, fault_for, fault_of, faulty_in, number_in, page_for, IsFocus};
 
 use crate::records::is_one;
 use audit_report::Report;
 use migration_types::{PageNo, Session};
-use session_story::{FaultStory, FullPageStory, Name, TopicStory, concerned_of, page_of};
+use session_story::{
+    Cause, FaultStory, FullPageStory, Name, TopicStory, cause_of, concerned_of, page_of,
+};
 
 /// Why a record stands out.
 #[derive(Clone, Copy)]
 pub enum Mark {
     /// It is the faulty record that the picture is about.
     Faulty,
-    /// It is the record that the fault concerns.
-    Concerned,
+    /// It is the faulty record, which is also the cause.
+    OwnCause,
+    /// It is the record that is the cause.
+    Cause,
+    /// It is the record that the cause is set against.
+    Against,
     /// It is about the page that the picture is about.
     OfPage,
     Plain,
@@ -27,8 +33,10 @@ pub enum Mark {
 pub struct Focus {
     /// The faulty record: the report's, or that of the first fault of the story's page.
     pub fault: Option<Name>,
-    /// The record that the fault concerns.
-    pub concerned: Option<Name>,
+    /// The record that is the cause of the fault.
+    pub cause: Option<Name>,
+    /// The record that the cause is set against, or else the one that the fault concerns.
+    pub against: Option<Name>,
     /// The page of the report's faulty record, or the page of the story.
     pub page: Option<PageNo>,
 }
@@ -43,15 +51,29 @@ fn is_page(page: Option<PageNo>, other: Option<PageNo>) -> bool
     }
 }
 
+/// Returns the mark of the faulty record.
+fn fault_mark(focus: &Focus, name: Name) -> Mark
+    ensures { result ≡ fault_mark focus.now name }
+{
+    if is_one(focus.cause, name) {
+        Mark::OwnCause
+    } else {
+        Mark::Faulty
+    }
+}
+
 /// Returns the mark of a record.
 pub(crate) fn mark_of(session: &Session, focus: &Focus, name: Name) -> Mark
     ensures { result ≡ mark_of session.now focus.now name }
 {
     if is_one(focus.fault, name) {
-        return Mark::Faulty;
+        return fault_mark(focus, name);
     }
-    if is_one(focus.concerned, name) {
-        return Mark::Concerned;
+    if is_one(focus.cause, name) {
+        return Mark::Cause;
+    }
+    if is_one(focus.against, name) {
+        return Mark::Against;
     }
     if focus.page.is_some() && is_page(focus.page, page_of(session, name)) {
         return Mark::OfPage;
@@ -121,13 +143,44 @@ fn page_for(session: &Session, report: &Report, told: &TopicStory) -> Option<Pag
     }
 }
 
+/// Returns the record that is the cause, if there is one.
+fn blamed_in(cause: &Option<Cause>) -> Option<Name>
+    ensures { result ≡ blamed_in cause.now }
+{
+    match cause {
+        Some(cause) => cause.blamed,
+        None => None,
+    }
+}
+
+/// Returns the record that the cause is set against, if there is one.
+fn against_in(cause: &Option<Cause>) -> Option<Name>
+    ensures { result ≡ against_in cause.now }
+{
+    match cause {
+        Some(cause) => cause.against,
+        None => None,
+    }
+}
+
+/// Returns the record that the cause of the story's fault is set against, or else the one that the fault concerns.
+fn against_for(session: &Session, told: &TopicStory) -> Option<Name>
+    ensures { result ≡ against_for session.now told.now }
+{
+    match against_in(&cause_of(told)) {
+        Some(name) => Some(name),
+        None => concerned_of(session, told),
+    }
+}
+
 /// Returns what a picture is about, given the story.
 pub(crate) fn focus_of(session: &Session, report: &Report, told: &TopicStory) -> Focus
     ensures { IsFocus session.now report.now told.now result }
 {
     Focus {
         fault: fault_for(report, told),
-        concerned: concerned_of(session, told),
+        cause: blamed_in(&cause_of(told)),
+        against: against_for(session, told),
         page: page_for(session, report, told),
     }
 }

@@ -1,10 +1,10 @@
 //! Which records of an order have a row of their own: those of the page, except that of its reads and writes before the
 //! faulty record only those in the story do; the records that these receive; the halt and the resume; and those next to
-//! the faulty record. If these are too many, only the first, the last, those nearest to the faulty record, and the one
-//! that its fault concerns.
+//! the faulty record. If these are too many, only the first, the last, those nearest to the faulty record, the cause, and
+//! the record that it is set against.
 
 use crate::focus::{Focus, Mark, mark_of};
-use crate::rows::Certain;
+use crate::rows::{Certain, is_certain};
 use migration_types::{GuestRec, LOG_COUNT, LogName, Run, Session, logs};
 use session_story::{Name, TopicStory, tells_of};
 use std::alloc::{AllocError, Global};
@@ -111,7 +111,7 @@ fn concerns(keeping: &Keeping<'_>, place: usize, name: Name) -> bool {
         Mark::OfPage => {
             place > keeping.middle || !uses(keeping.session, name) || tells_of(keeping.told, name.1)
         }
-        Mark::Faulty | Mark::Concerned => true,
+        Mark::Faulty | Mark::OwnCause | Mark::Cause | Mark::Against => true,
     }
 }
 
@@ -208,13 +208,10 @@ fn want_beside(flags: &mut Flags, order: &[Name], place: usize) {
 /// next to the faulty one.
 fn concerned(alloc: Global, keeping: &Keeping<'_>, order: &[Name]) -> Result<Flags, AllocError> {
     let mut flags = Flags::of(alloc, keeping.session)?;
-    want_at(&mut flags, keeping.session, order, keeping.certain.fault);
-    want_at(
-        &mut flags,
-        keeping.session,
-        order,
-        keeping.certain.concerned,
-    );
+    let certain = keeping.certain;
+    for place in [certain.fault, certain.cause, certain.against] {
+        want_at(&mut flags, keeping.session, order, place);
+    }
     let mut at: usize = 0;
     for run in keeping.runs {
         let to = at.saturating_add(run.count as usize);
@@ -287,9 +284,9 @@ impl Room {
     }
 }
 
-/// Leaves the marks of those places for which there is room, and of this one. Also marks a single place between two of
-/// them, or between one and an end: it takes no more room than a fold of it.
-fn keep(marks: &mut Vec<bool>, middle: usize, concerned: Option<usize>) {
+/// Leaves the marks of those places for which there is room, and of those that are certain. Also marks a single place
+/// between two of them, or between one and an end: it takes no more room than a fold of it.
+fn keep(marks: &mut Vec<bool>, middle: usize, certain: Certain) {
     let room = Room::of(marks, middle);
     let mut at: usize = 0;
     let mut next: usize = 0;
@@ -300,7 +297,7 @@ fn keep(marks: &mut Vec<bool>, middle: usize, concerned: Option<usize>) {
         if !*mark {
             continue;
         }
-        if room.has(at) || concerned == Some(place) {
+        if room.has(at) || is_certain(certain, place) {
             if next.saturating_add(1) == place {
                 want(marks, next);
             }
@@ -325,6 +322,6 @@ pub(crate) fn kept_in(
     let flags = concerned(alloc, keeping, order)?;
     let mut kept = vec![in alloc; false; order.len()]?;
     mark_places(&mut kept, &flags, keeping.runs, order);
-    keep(&mut kept, keeping.middle, keeping.certain.concerned);
+    keep(&mut kept, keeping.middle, keeping.certain);
     Ok(kept)
 }

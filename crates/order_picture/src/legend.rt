@@ -3,24 +3,26 @@
 use crate::arrows::ArrowKind;
 use crate::boxes::BoxKind;
 use crate::elements::{
-    begin_at, begin_text, end_arrow, end_text, push, push_ends, push_length, push_paint, push_path,
+    begin_at, begin_text, end_arrow, end_text, push, push_ends, push_figures, push_length,
+    push_paint,
 };
 use crate::signs::Sign;
 use crate::style::{
-    CORNER, CROSS, DIAMOND, ENTRY, INK, LEGEND_BESIDE, LEGEND_IN_LINE, LEGEND_LINE, MEANING_LEFT,
+    CORNER, ENTRY, FIGURE, INK, LEGEND_BESIDE, LEGEND_IN_LINE, LEGEND_LINE, MEANING_LEFT,
     MEANING_TOP, Paint, SIGN_HEIGHT, SIGN_WIDTH, STUB_LINE, arrow_paint, box_paint, head_of,
 };
 use crate::words::meaning_of;
 use std::alloc::AllocError;
 
-/// Appends a box.
+/// Appends a box with its figures.
 fn push_box(out: &mut Vec<u8>, kind: BoxKind) -> Result<(), AllocError> {
     push(out, b"<rect")?;
     push_paint(out, box_paint(kind))?;
     push_length(out, b"width", SIGN_WIDTH)?;
     push_length(out, b"height", SIGN_HEIGHT)?;
     push_length(out, b"rx", CORNER)?;
-    push(out, b"/>")
+    push(out, b"/>")?;
+    push_figures(out, SIGN_WIDTH - FIGURE, SIGN_HEIGHT / 2, kind)
 }
 
 /// Appends an arrow.
@@ -32,29 +34,20 @@ fn push_arrow(out: &mut Vec<u8>, paint: Paint, kind: ArrowKind) -> Result<(), Al
     end_arrow(out, head_of(kind))
 }
 
-/// Appends the box of a faulty record.
-fn push_faulty(out: &mut Vec<u8>) -> Result<(), AllocError> {
-    push_box(out, BoxKind::Faulty)?;
-    push_path(out, b"M18 4L26 12M18 12L26 4", CROSS)
-}
-
-/// Appends the box of the record that the fault concerns.
-fn push_concerned(out: &mut Vec<u8>) -> Result<(), AllocError> {
-    push_box(out, BoxKind::Concerned)?;
-    push_path(out, b"M22 3L27 8L22 13L17 8z", DIAMOND)
-}
-
 /// Appends a sign.
 fn push_sign(out: &mut Vec<u8>, sign: Sign) -> Result<(), AllocError> {
     match sign {
-        Sign::Faulty | Sign::Tied => push_faulty(out),
+        Sign::Faulty => push_box(out, BoxKind::Faulty),
+        Sign::OwnCause => push_box(out, BoxKind::OwnCause),
+        Sign::Cause => push_box(out, BoxKind::Cause),
+        Sign::Tied => push_box(out, BoxKind::Tied),
         Sign::Tie => push_arrow(out, arrow_paint(ArrowKind::Tied), ArrowKind::Tied),
         Sign::TieBehind => push_arrow(
             out,
             arrow_paint(ArrowKind::TiedBehind),
             ArrowKind::TiedBehind,
         ),
-        Sign::Concerned => push_concerned(out),
+        Sign::Against => push_box(out, BoxKind::Against),
         Sign::OfPage => push_box(out, BoxKind::OfPage),
         Sign::Plain => push_box(out, BoxKind::Plain),
         Sign::Stuck => push_box(out, BoxKind::Stuck),

@@ -21,7 +21,7 @@ use session_story::{Name, TopicStory};
 use std::alloc::{AllocError, Global};
 
 /// The greatest number of rows in a picture.
-pub const MOST_ROWS: usize = 203;
+pub const MOST_ROWS: usize = 205;
 
 /// A row of a picture.
 #[derive(Clone, Copy)]
@@ -148,9 +148,9 @@ fn rows_in(
     is_whole: bool,
 ) -> Result<Vec<PictureRow>, AllocError>
     ensures covers { IfOk result (λ rows. Covers (mark_of session.now focus.now) rows.items order.now) }
-    ensures few { IfOk result (λ rows. length rows.items ≤ 203) }
+    ensures few { IfOk result (λ rows. length rows.items ≤ 205) }
     ensures shown { IfOk result (λ rows. shows_fault rows.items ≡ list_any (is_one focus.now.fault) order.now) }
-    ensures certain { IfOk result (λ rows. HasCertain (position (is_one focus.now.fault) order.now) (position (is_one focus.now.concerned) order.now) rows.items order.now) }
+    ensures certain { IfOk result (λ rows. HasCertain (position (is_one focus.now.fault) order.now) (position (is_one focus.now.cause) order.now) (position (is_one focus.now.against) order.now) rows.items order.now) }
 {
     let certain = Certain::of(focus, order);
     let middle = middle_of(session, certain.fault, order, is_whole);

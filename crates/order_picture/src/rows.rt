@@ -18,8 +18,8 @@ use migration_types::{LogName, Session};
 use session_story::Name;
 use std::alloc::{AllocError, Global};
 
-/// The greatest number of rows besides those of the faulty record, of its neighbours and of the record that its fault
-/// concerns, the folds before each of these, and the fold at the end.
+/// The greatest number of rows besides those of the faulty record, of its neighbours, of the cause and of the record that
+/// it is set against, the folds before each of these, and the fold at the end.
 const MOST_OTHERS: usize = 194;
 
 /// The rows so far.
@@ -40,7 +40,7 @@ pub(crate) struct Building {
 fn is_faulty(mark: Mark) -> bool
     ensures { result ≡ is_faulty mark }
 {
-    matches!(mark, Mark::Faulty)
+    matches!(mark, Mark::Faulty | Mark::OwnCause)
 }
 
 impl Building {
@@ -224,31 +224,35 @@ fn is_at(at: Option<usize>, n: usize) -> bool
     }
 }
 
-/// The places in an order of the faulty record and of the record that its fault concerns, if the order has them.
+/// The places in an order of the faulty record, of the cause and of the record that it is set against, if the order has
+/// them.
 #[derive(Clone, Copy)]
 pub(crate) struct Certain {
     pub fault: Option<usize>,
-    pub concerned: Option<usize>,
+    pub cause: Option<usize>,
+    pub against: Option<usize>,
 }
 
 impl Certain {
     /// Returns the places in an order of what a picture is about.
     pub(crate) fn of(focus: &Focus, order: &[Name]) -> Self
         ensures fault { result.fault ≡ position (is_one focus.now.fault) order.now }
-        ensures concerned { result.concerned ≡ position (is_one focus.now.concerned) order.now }
+        ensures cause { result.cause ≡ position (is_one focus.now.cause) order.now }
+        ensures against { result.against ≡ position (is_one focus.now.against) order.now }
     {
         Certain {
             fault: place_of(order, focus.fault),
-            concerned: place_of(order, focus.concerned),
+            cause: place_of(order, focus.cause),
+            against: place_of(order, focus.against),
         }
     }
 }
 
 /// Returns whether the record at a place of an order always has a row.
-fn is_certain(certain: Certain, n: usize) -> bool
-    ensures { result ≡ is_certain certain.fault certain.concerned n }
+pub(crate) fn is_certain(certain: Certain, n: usize) -> bool
+    ensures { result ≡ is_certain certain.fault certain.cause certain.against n }
 {
-    is_next_to(certain.fault, n) || is_at(certain.concerned, n)
+    is_next_to(certain.fault, n) || is_at(certain.cause, n) || is_at(certain.against, n)
 }
 
 /// Returns the place of a record in an order, if there is that record and the order has it.
@@ -293,8 +297,8 @@ fn take_all(
 ) -> Result<(), AllocError>
     requires start { IsBuilt (mark_of session.now focus.now) building.old [] }
     ensures built { OnOk result (IsBuilt (mark_of session.now focus.now) building.new order.now) }
-    ensures few { OnOk result (length building.new.rows.items + building.new.room + 2 * building.new.fault_left ≤ length building.old.rows.items + building.old.room + 2 * building.old.fault_left + 6) }
-    ensures certain { OnOk result (HasCertain certain.fault certain.concerned building.new.rows.items order.now) }
+    ensures few { OnOk result (length building.new.rows.items + building.new.room + 2 * building.new.fault_left ≤ length building.old.rows.items + building.old.room + 2 * building.old.fault_left + 8) }
+    ensures certain { OnOk result (HasCertain certain.fault certain.cause certain.against building.new.rows.items order.now) }
 {
     for n in 0..order.len() {
         let is_wanted = wanted.get(n).copied().unwrap_or(false);
@@ -314,9 +318,9 @@ pub(crate) fn rows_of(
     certain: Certain,
 ) -> Result<Vec<PictureRow>, AllocError>
     ensures covers { IfOk result (λ rows. Covers (mark_of session.now focus.now) rows.items order.now) }
-    ensures few { IfOk result (λ rows. length rows.items ≤ 203) }
+    ensures few { IfOk result (λ rows. length rows.items ≤ 205) }
     ensures shown { IfOk result (λ rows. shows_fault rows.items ≡ list_any (is_one focus.now.fault) order.now) }
-    ensures certain { IfOk result (λ rows. HasCertain certain.fault certain.concerned rows.items order.now) }
+    ensures certain { IfOk result (λ rows. HasCertain certain.fault certain.cause certain.against rows.items order.now) }
 {
     let mut building = Building::new(alloc);
     take_all(session, focus, order, wanted, certain, &mut building)?;

@@ -13,14 +13,18 @@ use std::alloc::{AllocError, Global};
 pub enum Sign {
     /// The box of the faulty record.
     Faulty,
+    /// The box of the faulty record that is also the cause.
+    OwnCause,
+    /// The box of the record that is the cause.
+    Cause,
     /// The box of a record that waits for another waiting record.
     Tied,
     /// The arrow to such a record from the one that it receives.
     Tie,
     /// The arrow to such a record from one that comes before the one that it receives.
     TieBehind,
-    /// The box of the record that the fault concerns.
-    Concerned,
+    /// The box of the record that the cause is set against.
+    Against,
     /// The box of a record of the page.
     OfPage,
     /// The box of another record.
@@ -34,15 +38,17 @@ pub enum Sign {
 }
 
 /// Returns the signs, in the order of a legend.
-fn signs() -> [Sign; 10]
+fn signs() -> [Sign; 12]
     ensures { result ≡ signs }
 {
     [
         Sign::Faulty,
+        Sign::OwnCause,
+        Sign::Cause,
         Sign::Tied,
         Sign::Tie,
         Sign::TieBehind,
-        Sign::Concerned,
+        Sign::Against,
         Sign::OfPage,
         Sign::Plain,
         Sign::Stuck,
@@ -57,7 +63,9 @@ fn box_sign(kind: BoxKind) -> Sign
 {
     match kind {
         BoxKind::Faulty => Sign::Faulty,
-        BoxKind::Concerned => Sign::Concerned,
+        BoxKind::OwnCause => Sign::OwnCause,
+        BoxKind::Cause => Sign::Cause,
+        BoxKind::Against => Sign::Against,
         BoxKind::OfPage => Sign::OfPage,
         BoxKind::Plain => Sign::Plain,
         BoxKind::Tied => Sign::Tied,
@@ -94,15 +102,17 @@ fn number_of(sign: Sign) -> usize
 {
     match sign {
         Sign::Faulty => 0,
-        Sign::Tied => 1,
-        Sign::Tie => 2,
-        Sign::TieBehind => 3,
-        Sign::Concerned => 4,
-        Sign::OfPage => 5,
-        Sign::Plain => 6,
-        Sign::Stuck => 7,
-        Sign::Arrow => 8,
-        Sign::Stub => 9,
+        Sign::OwnCause => 1,
+        Sign::Cause => 2,
+        Sign::Tied => 3,
+        Sign::Tie => 4,
+        Sign::TieBehind => 5,
+        Sign::Against => 6,
+        Sign::OfPage => 7,
+        Sign::Plain => 8,
+        Sign::Stuck => 9,
+        Sign::Arrow => 10,
+        Sign::Stub => 11,
     }
 }
 

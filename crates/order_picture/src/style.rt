@@ -58,9 +58,12 @@ pub(crate) const LEAST_GUEST_HALF: u64 = 122;
 /// The greatest width of a letter in a label.
 pub(crate) const LETTER: u64 = 7;
 
-/// The width of a box besides its letters: a margin on each side, the free space between number and label, and the
-/// sign.
+/// The width of a box besides its letters: a margin on each side, the free space between number and label, and one
+/// figure.
 pub(crate) const BESIDE: u64 = 44;
+
+/// The letters that have room in the place of a second figure.
+pub(crate) const FIGURE_LETTERS: usize = 2;
 
 /// How far below a row's top its box begins.
 pub(crate) const BOX_TOP: u64 = 3;
@@ -77,8 +80,8 @@ pub(crate) const LABEL: u64 = 7;
 /// The free space between a record's number and its label.
 pub(crate) const NUMBER_GAP: u64 = 7;
 
-/// How far to the left of a box's right edge the middle of its sign is.
-pub(crate) const SIGN: u64 = 12;
+/// How far to the left of a box's right edge the middle of its figure is.
+pub(crate) const FIGURE: u64 = 12;
 
 /// How far below a row's top the frame of a fold begins.
 pub(crate) const FOLD_TOP: u64 = 4;
@@ -155,6 +158,8 @@ const BROWN: &[u8] = b"#9a6700";
 
 const BLUE: &[u8] = b"#0969da";
 
+const PURPLE: &[u8] = b"#6639ba";
+
 /// The whole picture.
 pub(crate) const PAPER: Paint = Paint {
     class: b"paper",
@@ -200,23 +205,59 @@ pub(crate) const FOLD_FRAME: Paint = Paint {
     dashes: b"1 3",
 };
 
+/// A figure in a box: its outline, around its middle, and its paint.
+#[derive(Clone, Copy)]
+pub(crate) struct Figure {
+    pub outline: &'static [u8],
+    pub paint: Paint,
+}
+
 /// The cross in the faulty record's box.
-pub(crate) const CROSS: Paint = Paint {
-    class: b"cross",
-    fill: b"none",
-    stroke: RED,
-    width: b"2.5",
-    dashes: b"",
+const CROSS: Figure = Figure {
+    outline: b"M-4 -4L4 4M-4 4L4 -4",
+    paint: Paint {
+        class: b"cross",
+        fill: b"none",
+        stroke: RED,
+        width: b"2.5",
+        dashes: b"",
+    },
 };
 
-/// The diamond in the box of the record that the fault concerns.
-pub(crate) const DIAMOND: Paint = Paint {
-    class: b"diamond",
-    fill: BROWN,
-    stroke: b"",
-    width: b"",
-    dashes: b"",
+/// The flag in the box of the record that is the cause.
+const FLAG: Figure = Figure {
+    outline: b"M-3 6L-3 -6L5 -3L-3 0",
+    paint: Paint {
+        class: b"flag",
+        fill: PURPLE,
+        stroke: PURPLE,
+        width: b"1.5",
+        dashes: b"",
+    },
 };
+
+/// The diamond in the box of the record that the cause is set against.
+const DIAMOND: Figure = Figure {
+    outline: b"M0 -5L5 0L0 5L-5 0z",
+    paint: Paint {
+        class: b"diamond",
+        fill: BROWN,
+        stroke: b"",
+        width: b"",
+        dashes: b"",
+    },
+};
+
+/// Returns the figures in a record's box, from right to left.
+pub(crate) fn figures_of(kind: BoxKind) -> [Option<Figure>; 2] {
+    match kind {
+        BoxKind::Faulty | BoxKind::Tied => [Some(CROSS), None],
+        BoxKind::OwnCause => [Some(CROSS), Some(FLAG)],
+        BoxKind::Cause => [Some(FLAG), None],
+        BoxKind::Against => [Some(DIAMOND), None],
+        BoxKind::OfPage | BoxKind::Plain | BoxKind::Stuck => [None, None],
+    }
+}
 
 /// The end of an arrow from a record that has no row.
 pub(crate) const STUB_LINE: Paint = Paint {
@@ -230,15 +271,22 @@ pub(crate) const STUB_LINE: Paint = Paint {
 /// Returns the paint of a record's box.
 pub(crate) fn box_paint(kind: BoxKind) -> Paint {
     match kind {
-        BoxKind::Faulty | BoxKind::Tied => Paint {
+        BoxKind::Faulty | BoxKind::OwnCause | BoxKind::Tied => Paint {
             class: b"box-faulty",
             fill: b"#ffe3dc",
             stroke: RED,
             width: b"3.5",
             dashes: b"",
         },
-        BoxKind::Concerned => Paint {
-            class: b"box-concerned",
+        BoxKind::Cause => Paint {
+            class: b"box-cause",
+            fill: b"#efe6fd",
+            stroke: PURPLE,
+            width: b"2.5",
+            dashes: b"",
+        },
+        BoxKind::Against => Paint {
+            class: b"box-against",
             fill: b"#fff3d6",
             stroke: BROWN,
             width: b"2.5",
@@ -364,7 +412,8 @@ pub(crate) const DARK_COLOURS: &[u8] = b"<style>
 .paper, .fold { fill: #0d1117 } .fold { stroke: #656c76 }
 .ink { fill: #e6edf3 } .soft { fill: #9da7b1 } .life { stroke: #3d444d }
 .box { fill: #151b23; stroke: #656c76 } .box-page { fill: #10305c; stroke: #58a6ff }
-.box-concerned { fill: #3b2a00; stroke: #e3b341 } .diamond { fill: #e3b341 }
+.box-cause { fill: #2f1d55; stroke: #b392f0 } .flag { fill: #b392f0; stroke: #b392f0 }
+.box-against { fill: #3b2a00; stroke: #e3b341 } .diamond { fill: #e3b341 }
 .box-faulty { fill: #5a1414; stroke: #ff7b72 } .cross { stroke: #ff7b72 }
 .box-stuck { fill: #40122d; stroke: #f778ba }
 .arrow { stroke: #9198a1 } .tip { fill: #9198a1 } .arrow-page { stroke: #58a6ff } .tip-page { fill: #58a6ff }

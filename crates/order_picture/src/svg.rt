@@ -5,6 +5,7 @@ ghost use Rattle.audit_report.specs.Reports.{IsReport};
 ghost use Rattle.order_picture.specs.Svg.{IsPictureText, IsPictureTextAlong, IsSvg};
 
 use crate::arrows::Seat;
+use crate::boxes::BoxKind;
 use crate::drawing::{
     Arrow, RecordBox, push_arrow, push_column, push_fold, push_margin_name, push_record, push_stub,
 };
@@ -17,7 +18,9 @@ use crate::picture::Picture;
 use crate::planning::{plan_along, plan_on};
 use crate::shapes::{Shape, picture_shapes};
 use crate::shown::Shown;
-use crate::style::{COLUMNS_LEFT, DARK_COLOURS, FONT, FONTS, LEGEND_GAP, PAPER, heads};
+use crate::style::{
+    COLUMNS_LEFT, DARK_COLOURS, FIGURE_LETTERS, FONT, FONTS, LEGEND_GAP, PAPER, figures_of, heads,
+};
 use audit_report::{Report, push_first_line};
 use migration_types::{LOG_COUNT, Run, Session, Topic};
 use session_story::TopicStory;
@@ -85,12 +88,21 @@ fn arrow_of(shape: &Shape) -> Option<Arrow> {
     }
 }
 
-/// Returns how many letters the label of a box has, with its number.
+/// Returns how many letters have room in the place of a box's second figure, if it has one.
+fn letters_besides(kind: BoxKind) -> usize {
+    if figures_of(kind)[1].is_some() {
+        FIGURE_LETTERS
+    } else {
+        0
+    }
+}
+
+/// Returns how many letters the label of a box has, with its number and with what stands in the place of letters.
 fn letters_of(alloc: Global, subject: Subject<'_>, one: &RecordBox) -> Result<usize, AllocError> {
     let mut label = Vec::new(alloc);
     push_number(&mut label, one.name.1)?;
     push_label(&mut label, subject, one)?;
-    Ok(label.len())
+    Ok(label.len().saturating_add(letters_besides(one.kind)))
 }
 
 /// Returns the size of the picture of these shapes: it has a row for each record and each fold, and columns as wide as

@@ -98,10 +98,12 @@ pub(crate) fn push_order(out: &mut Vec<u8>, order: OrderShown) -> Result<(), All
 pub(crate) fn meaning_of(sign: Sign) -> &'static [u8] {
     match sign {
         Sign::Faulty => b"the faulty record",
+        Sign::OwnCause => b"the faulty record, also the cause",
+        Sign::Cause => b"the cause",
         Sign::Tied => b"waits for another of these",
         Sign::Tie => b"has to come first",
         Sign::TieBehind => b"one behind it has to come first",
-        Sign::Concerned => b"the record that its fault concerns",
+        Sign::Against => b"what it is set against",
         Sign::OfPage => b"about the same page",
         Sign::Plain => b"another record",
         Sign::Stuck => b"the next of its log, not taken",

@@ -18,8 +18,8 @@ pub record AreRowsAlong (s : Recorded) (focus : Focus) (runs : List Run) (a : Ro
   pub order : List Name
   pub part : IsOrderPart s runs order a.bad
   pub covers : Covers (mark_of s focus) a.rows.items order
-  pub few : length a.rows.items ≤ 203
+  pub few : length a.rows.items ≤ 205
   pub shown : shows_fault a.rows.items ≡ list_any (is_one focus.fault) order
-  pub certain : HasCertain (position (is_one focus.fault) order) (position (is_one focus.concerned) order) a.rows.items order
+  pub certain : HasCertain (position (is_one focus.fault) order) (position (is_one focus.cause) order) (position (is_one focus.against) order) a.rows.items order
   pub senders : a.senders.items ≡ map (sender_of s a.rows.items) a.rows.items
   pub taken : cursors_of a.taken ≡ cursors_from at_start order

@@ -31,8 +31,8 @@ abbrev pub Extends : List PictureRow → List PictureRow → Type 0
 Extends before after = (more : List PictureRow) × (after ≡ before ++ more)
 
 -- of the first places of an order, this many, those that are certain have rows
-abbrev pub HasCertainBelow : (fault concerned : Option ℕ) → List PictureRow → List Name → ℕ → Type 0
-HasCertainBelow fault concerned rows order k = (n : ℕ) → n < k → (name : Name) → is_certain fault concerned n ≡ true → slice_get order n ≡ Some name → has_row rows name ≡ true
+abbrev pub HasCertainBelow : (fault cause against : Option ℕ) → List PictureRow → List Name → ℕ → Type 0
+HasCertainBelow fault cause against rows order k = (n : ℕ) → n < k → (name : Name) → is_certain fault cause against n ≡ true → slice_get order n ≡ Some name → has_row rows name ≡ true
 
 abbrev pub next_left : Option ℕ → ℕ → ℕ
 next_left None n = 0
@@ -43,5 +43,5 @@ at_left None n = 0
 at_left (Some at) n = if nat_lt n (at + 1) then 1 else 0
 
 -- from this place on, at most this many places are certain
-abbrev pub certain_left : Option ℕ → Option ℕ → ℕ → ℕ
-certain_left fault concerned n = next_left fault n + at_left concerned n
+abbrev pub certain_left : (fault cause against : Option ℕ) → ℕ → ℕ
+certain_left fault cause against n = next_left fault n + (at_left cause n + at_left against n)

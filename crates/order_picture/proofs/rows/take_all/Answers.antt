@@ -24,19 +24,20 @@ loop-n-preserved c =
     let order = c.args.order.now in
     let n = c.loop-n.n in
     let fault = c.args.certain.fault in
-    let concerned = c.args.certain.concerned in
+    let cause = c.args.certain.cause in
+    let against = c.args.certain.against in
     let mark = mark_of c.args.session.now c.args.focus.now in
     let before = c.loop-n.building in
     let after = c.take_next.new.building in
     let lt : n < length order = omega arith in
-    let left = spends fault concerned n in
+    let left = spends fault cause against n in
     let few = subst (λ (b : Bool). length after.rows.items + after.room + 2 * after.fault_left ≤ length before.rows.items + before.room + 2 * before.fault_left + cond b 2 0) c.is_certain-is_certain.ensures c.in_ok-take_next.ensures.few in
     record {
       built = subst (λ (names : List Name). IsBuilt mark after names) (sym (take_more order n no_name lt)) (c.in_ok-take_next.ensures.built (take n order) c.loop-n.invariant.built);
       few = omega (arith, few, left, c.loop-n.invariant.few);
       certain =
           below_more
-          (λ (k : ℕ). (name : Name) → is_certain fault concerned k ≡ true → slice_get order k ≡ Some name → has_row after.rows.items name ≡ true)
+          (λ (k : ℕ). (name : Name) → is_certain fault cause against k ≡ true → slice_get order k ≡ Some name → has_row after.rows.items name ≡ true)
           n
           (λ k below name certain at. still_has before.rows.items after.rows.items name c.in_ok-take_next.ensures.more (c.loop-n.invariant.certain k below name certain at))
           (λ name certain at. subst (λ (other : Name). has_row after.rows.items other ≡ true) (get_or_from_slice_get order n name no_name at) (c.in_ok-take_next.ensures.own (c.is_certain-is_certain.ensures ∙ certain)));
