@@ -1,5 +1,5 @@
 -- The rows of a picture as shapes: the boxes of records, and the folded records.
-use Rattle.std.specs.Prelude.{ℕ, ◌+◌, List, Option, Some, None, length, map, nat_lt, if◌then◌else◌}
+use Rattle.std.specs.Prelude.{ℕ, ◌+◌, List, Option, Some, length, map, nat_lt, if◌then◌else◌}
 use Rattle.std.specs.List.{enumerate_from}
 use Rattle.migration_types.specs.Receipts.{Name}
 use Rattle.migration_types.specs.Sessions.{Recorded, line_of}
