@@ -28,7 +28,7 @@ const OF_PICTURE = `:host { --faulty: light-dark(#c21e1e, #ff7b72); --cause: lig
 .row.before .box, .row.after .box { outline: 2px solid var(--link); outline-offset: 1px } .row.before .line::before { content: "▲ " } .row.after .line::before { content: "▼ " } .row.now .line::after { content: " ▶" }
 .legend { display: flex; flex-wrap: wrap; gap: .3em 1.2em; margin: .8em 0 .2em; font-size: 12px; color: var(--soft) } .legend .box { position: static; transform: none; display: inline-flex; width: 2.4em; height: 1.3em; vertical-align: middle; margin-right: .4em; --zoom: 1; justify-content: center; gap: .2em; padding: 0 .1em }
 .legend .way { display: inline-block; width: 2.4em; border-top: 2px solid var(--edge); vertical-align: middle; margin-right: .4em } .legend .arrow-page { border-color: var(--of-page) } .legend .arrow-tied { border-color: var(--faulty); border-top-style: dashed } .legend .from-no-row { border-top-style: dashed }
-@container (max-width: 50rem) { .sheet { font-size: calc(11px * var(--zoom)) } .box { gap: .35em; padding: 0 .4em } .rows { margin-right: 2px } }
+@container (max-width: 50rem) { .sheet { font-size: calc(11px * var(--zoom)) } .box { gap: .2em; padding: 0 .25em } .rows { margin-right: 2px } }
 @container (max-width: 30rem) {
   .sheet { --row: calc(50px * var(--zoom)); --gutter: calc(2.3rem * var(--zoom)); font-size: calc(11px * var(--zoom)) }
   .box { gap: .3em; padding: 0 .25em } .box .words { white-space: normal; line-height: 1.1; max-height: 100%; overflow-wrap: anywhere } .box .number { display: none }
