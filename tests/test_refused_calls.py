@@ -59,7 +59,7 @@ REFUSED = {
     "target_side": "GuestBook::new GuestBook::access GuestBook::halt TargetBook::access PagerBook::new PagerBook::pop PagerBook::pull "
                    "PagerBook::next_fault PagerBook::deliver PagerBook::tick",
     "session_core": "Core::start Core::step Core::session run",
-    "guest_script": "read_script write_script read_events write_events",
+    "guest_script": "read_script read_events",
     "host_threads": "migrate migrate_over migrate_tcp",
 }
 

@@ -60,10 +60,6 @@ pub two_lanes : (lane : Option (List Fate)) (line : List ℕ) (more rest : List 
 two_lanes None line more rest is e = absurd (not_both (sym (cons_parts line (codes "lanes 1") more rest e).0 ∙ is))
 two_lanes (Some fates) line more rest is e = (fates, refl, (cons_parts line (codes "lanes 2") more ((lane_key ++ fates_text fates) ∷ rest) e).1)
 
-pub no_lanes : (lane : Option (List Fate)) (line : List ℕ) (more rest : List (List ℕ)) → line ≢ codes "lanes 1" → line ≢ codes "lanes 2" → line ∷ more ≡ with_lanes Two lane rest → ⊥
-no_lanes None line more rest one two e = one (cons_parts line (codes "lanes 1") more rest e).0
-no_lanes (Some fates) line more rest one two e = two (cons_parts line (codes "lanes 2") more ((lane_key ++ fates_text fates) ∷ rest) e).0
-
 second_lanes : (l k : Option (List Fate)) (x y : List (List ℕ)) → with_lanes Two l x ≡ with_lanes Two k y → (l ≡ k) × (x ≡ y)
 second_lanes None k x y e = let come = one_lane k (codes "lanes 1") x y refl e in (sym come.0, come.1)
 second_lanes (Some fates) k x y e =

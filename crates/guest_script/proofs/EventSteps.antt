@@ -9,10 +9,8 @@ use Rattle.std.proofs.lemmas.List.{append-nil, length-map, length-replicate}
 use Rattle.text_lines.specs.Text.{Begins, IsUnambiguous}
 use Rattle.text_lines.specs.Counted.{Part, IsWhole, counted}
 use Rattle.text_lines.proofs.Cut.{unambiguous}
-use Rattle.text_lines.specs.Text.{ended}
 use Rattle.text_lines.proofs.Sections.{counted_agree, section_end, section_push}
 use Rattle.session_grammar.proofs.Lists.{spelled_same}
-use Rattle.session_grammar.proofs.Sections.{ended_then}
 use Rattle.guest_script.specs.inner.Plain.{plain_events}
 use Rattle.migration_types.specs.Limits.{most_records}
 use Rattle.migration_events.specs.declared.events.Event.{Event}
@@ -162,9 +160,3 @@ events_unambiguous = unambiguous SpellsEvents plain_events
     (λ v a b s t. s.1 ∙ sym t.1)
 
 -- ---- writing
-
-pub events_written : (v : List Event) (a b c : List ℕ) → a ≡ events_header ++ 10 ∷ [] → b ≡ a ++ ended (counted events_key event_line v []) → c ≡ b ++ (closing ++ 10 ∷ []) → c ≡ ended (event_lines v)
-events_written v a b c pa pb pc =
-    let first = ended_then [] a b (events_header ∷ []) (counted events_key event_line v []) pa pb in
-    let all = ended_then [] b c (events_header ∷ counted events_key event_line v []) (closing ∷ []) first pc in
-    all ∙ ap (λ (t : List (List ℕ)). ended (events_header ∷ (events_key ++ decimal (length v)) ∷ t)) (append_assoc (map event_line v) [] (closing ∷ []))

@@ -1,10 +1,10 @@
--- A script's lines tell the script, and what is written is its text.
-use Rattle.std.proofs.Common.{◌≡◌, ℕ, ◌+◌, ◌<◌, List, [], ◌∷◌, ◌++◌, length, map, take, get_or, refl, sym, ap, subst, ◌∙◌, append_assoc, arith}
+-- A script's lines tell the script.
+use Rattle.std.proofs.Common.{◌≡◌, ℕ, ◌+◌, List, [], ◌∷◌, ◌++◌, length, map, refl, sym, ap, subst, ◌∙◌, append_assoc, arith}
 use Rattle.std.specs.List.{AllByRecursion}
-use Rattle.std.specs.Prelude.{Option, Result, Ok, Err, OnOk}
+use Rattle.std.specs.Prelude.{Option}
 use Rattle.std.specs.Fmt.{decimal}
-use Rattle.std.proofs.lemmas.List.{append-nil, append_cancel_left, map-append, take_more}
-use Rattle.text_lines.specs.Text.{ended, IsUnambiguous}
+use Rattle.std.proofs.lemmas.List.{append_cancel_left}
+use Rattle.text_lines.specs.Text.{IsUnambiguous}
 use Rattle.text_lines.specs.Counted.{counted}
 use Rattle.text_lines.proofs.Cut.{unambiguous}
 use Rattle.text_lines.proofs.Sections.{counted_agree, section_end}
@@ -19,11 +19,10 @@ use Rattle.session_grammar.specs.Grammar.{pages_key, cells_key, init_key, page_l
 use Rattle.session_grammar.proofs.Laws.{extent_same}
 use Rattle.session_grammar.proofs.Lists.{spelled_same}
 use Rattle.session_grammar.proofs.Values.{init_page_tells}
-use Rattle.session_grammar.proofs.Sections.{ended_then}
 use Rattle.guest_script.specs.declared.vcpus.Vcpu.{Vcpu}
 use Rattle.guest_script.specs.declared.script.Scenario.{Scenario}
 use Rattle.guest_script.specs.Scenarios.{VcpuFits, IsScenario}
-use Rattle.guest_script.specs.Scripts.{script_header, pivots_key, window_key, down_key, up_key, vcpus_key, fates_text, op_line, counts_line, vcpu_onto, vcpus_onto, vcpus_lines, with_lanes, lanes_lines, up_lines, down_lines, window_lines, pivots_lines, cells_lines, pages_lines, script_lines, SpellsScript}
+use Rattle.guest_script.specs.Scripts.{script_header, pivots_key, window_key, down_key, up_key, vcpus_key, fates_text, op_line, counts_line, vcpus_onto, vcpus_lines, lanes_lines, up_lines, down_lines, window_lines, pivots_lines, cells_lines, pages_lines, script_lines, SpellsScript}
 use Rattle.guest_script.specs.inner.ScriptHeld.{vcpu_of}
 use Rattle.guest_script.specs.inner.ScriptPlain.{plain_script}
 use Rattle.guest_script.proofs.ByVersion.{header_tells, lanes_append, lanes_tell}
@@ -31,7 +30,7 @@ use Rattle.guest_script.proofs.TextLists.{cons_parts, keyed_same}
 use Rattle.guest_script.proofs.LateOps.{late_op}
 use Rattle.guest_script.proofs.ScriptTells.{counts_tell, fates_tell, op_tells}
 use Rattle.guest_script.proofs.ScriptSteps.{few_init}
-use Rattle.guest_script.proofs.ScriptVcpus.{vcpus_append, vcpus_push}
+use Rattle.guest_script.proofs.ScriptVcpus.{vcpus_append}
 
 -- ---- no script's lines begin another's
 
@@ -102,59 +101,3 @@ pub scripts_unambiguous : IsUnambiguous SpellsScript
 scripts_unambiguous = unambiguous SpellsScript plain_script
     (λ v w a more s t. lines_tell v w more s.0 t.0 (ap (λ (x : List (List ℕ)). x ++ more) (sym s.1) ∙ t.1))
     (λ v a b s t. s.1 ∙ sym t.1)
-
--- ---- writing
-
--- one operation more
-pub op_written : (old now new : List ℕ) (ops : List Op) (i : ℕ) (op : Op) → i < length ops → now ≡ old ++ ended (map op_line (take i ops)) → op ≡ get_or ops i op → new ≡ now ++ (op_line op ++ 10 ∷ []) → new ≡ old ++ ended (map op_line (take (i + 1) ops))
-op_written old now new ops i op lt w is e =
-    ended_then old now new (map op_line (take i ops)) (op_line op ∷ []) w e
-    ∙ ap (λ (t : List (List ℕ)). old ++ ended t) (ap (λ (x : Op). map op_line (take i ops) ++ op_line x ∷ []) is ∙ sym (map-append op_line (take i ops) (get_or ops i op ∷ [])) ∙ ap (map op_line) (sym (take_more ops i op lt)))
-
--- one virtual processor more
-pub vcpu_written : (old now new : List ℕ) (vcpus : List Vcpu) (i : ℕ) (vcpu : Vcpu) → i < length vcpus → now ≡ old ++ ended (vcpus_onto (take i vcpus) []) → vcpu ≡ get_or vcpus i vcpu → new ≡ now ++ ended (vcpu_onto vcpu []) → new ≡ old ++ ended (vcpus_onto (take (i + 1) vcpus) [])
-vcpu_written old now new vcpus i vcpu lt w is e =
-    ended_then old now new (vcpus_onto (take i vcpus) []) (vcpu_onto vcpu []) w e
-    ∙ ap (λ (t : List (List ℕ)). old ++ ended t) (vcpus_append (take i vcpus) [] (vcpu_onto vcpu []) ∙ sym (vcpus_push (take i vcpus) vcpu []) ∙ ap (λ (t : Vcpu). vcpus_onto (take i vcpus ++ t ∷ []) []) is ∙ ap (λ (t : List Vcpu). vcpus_onto t []) (sym (take_more vcpus i vcpu lt)))
-
--- a virtual processor's own lines
-pub own_written : (old a b c : List ℕ) (vcpu : Vcpu) → a ≡ old ++ (counts_line (length vcpu.before_move) (length vcpu.after_move) ++ 10 ∷ []) → b ≡ a ++ ended (map op_line vcpu.before_move) → c ≡ b ++ ended (map op_line vcpu.after_move) → c ≡ old ++ ended (vcpu_onto vcpu [])
-own_written old a b c vcpu pa pb pc =
-    let counts = counts_line (length vcpu.before_move) (length vcpu.after_move) in
-    let early = ended_then old a b (counts ∷ []) (map op_line vcpu.before_move) pa pb in
-    ended_then old b c (counts ∷ map op_line vcpu.before_move) (map op_line vcpu.after_move) early pc
-    ∙ ap (λ (t : List (List ℕ)). old ++ ended (counts ∷ (map op_line vcpu.before_move ++ t))) (sym (append-nil (map op_line vcpu.after_move)))
-
-pub own_if : {E : Type 0} (old a b c : List ℕ) (vcpu : Vcpu) (result : Result (Unit {0}) E) → a ≡ old ++ (counts_line (length vcpu.before_move) (length vcpu.after_move) ++ 10 ∷ []) → b ≡ a ++ ended (map op_line vcpu.before_move) → OnOk result (c ≡ b ++ ended (map op_line vcpu.after_move)) → OnOk result (c ≡ old ++ ended (vcpu_onto vcpu []))
-own_if old a b c vcpu (Ok done) pa pb pc = own_written old a b c vcpu pa pb pc
-own_if old a b c vcpu (Err fault) pa pb pc = tt
-
-pub script_written : (s : Scenario) (a b c d e f g h l i j k : List ℕ) → a ≡ script_header s.version ++ 10 ∷ [] → b ≡ a ++ (pages_key ++ decimal s.geometry.pages ++ 10 ∷ []) → c ≡ b ++ (cells_key ++ decimal s.geometry.cells ++ 10 ∷ []) → d ≡ c ++ ended (counted init_key page_line s.init []) → e ≡ d ++ (pivots_key ++ decimal s.pivots ++ 10 ∷ []) → f ≡ e ++ (window_key ++ decimal s.window ++ 10 ∷ []) → g ≡ f ++ (down_key ++ fates_text s.down ++ 10 ∷ []) → h ≡ g ++ (up_key ++ fates_text s.up ++ 10 ∷ []) → l ≡ h ++ ended (with_lanes s.version s.lane []) → i ≡ l ++ (vcpus_key ++ decimal (length s.vcpus) ++ 10 ∷ []) → j ≡ i ++ ended (vcpus_onto s.vcpus []) → k ≡ j ++ (closing ++ 10 ∷ []) → k ≡ ended (script_lines s)
-script_written s a b c d e f g h l i j k pa pb pc pd pe pf pg ph pl pi pj pk =
-    let p = pages_key ++ decimal s.geometry.pages in
-    let q = cells_key ++ decimal s.geometry.cells in
-    let one = script_header s.version ∷ [] in
-    let two = script_header s.version ∷ p ∷ [] in
-    let three = script_header s.version ∷ p ∷ q ∷ [] in
-    let wb = ended_then [] a b one (p ∷ []) pa pb in
-    let wc = ended_then [] b c two (q ∷ []) wb pc in
-    let wd = ended_then [] c d three (counted init_key page_line s.init []) wc pd in
-    let pivots = pivots_key ++ decimal s.pivots in
-    let window = window_key ++ decimal s.window in
-    let down = down_key ++ fates_text s.down in
-    let up = up_key ++ fates_text s.up in
-    let many = vcpus_key ++ decimal (length s.vcpus) in
-    let wf = ended_then d e f (pivots ∷ []) (window ∷ []) pe pf in
-    let wg = ended_then d f g (pivots ∷ window ∷ []) (down ∷ []) wf pg in
-    let wh = ended_then d g h (pivots ∷ window ∷ down ∷ []) (up ∷ []) wg ph in
-    let lanes = with_lanes s.version s.lane [] in
-    let wl = ended_then d h l (pivots ∷ window ∷ down ∷ up ∷ []) lanes wh pl in
-    let wj = ended_then l i j (many ∷ []) (vcpus_onto s.vcpus []) pi pj in
-    let rest = many ∷ (vcpus_onto s.vcpus [] ++ closing ∷ []) in
-    let ends = ended_then l j k (many ∷ vcpus_onto s.vcpus []) (closing ∷ []) wj pk in
-    let wk = ended_then d l k (pivots ∷ window ∷ down ∷ up ∷ lanes) rest wl ends in
-    let tail = pivots ∷ window ∷ down ∷ up ∷ (lanes ++ rest) in
-    let whole = ended_then [] d k (three ++ counted init_key page_line s.init []) tail wd wk in
-    let front = script_header s.version ∷ p ∷ q ∷ (init_key ++ decimal (length s.init)) ∷ [] in
-    let behind : lanes ++ rest ≡ lanes_lines s = lanes_append s.version s.lane [] rest ∙ ap (λ (t : List (List ℕ)). with_lanes s.version s.lane (many ∷ t)) (vcpus_append s.vcpus [] (closing ∷ [])) in
-    whole ∙ ap (λ (t : List (List ℕ)). ended (front ++ t)) (append_assoc (map page_line s.init) [] tail ∙ ap (λ (t : List (List ℕ)). map page_line s.init ++ (pivots ∷ window ∷ down ∷ up ∷ t)) behind)

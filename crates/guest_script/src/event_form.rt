@@ -1,9 +1,9 @@
 //! Lines of events.
 
-ghost use Rattle.std.specs.Prelude.{◌≡◌, ◌≢◌, ℕ, List, [], ◌∷◌, ◌++◌, IfOk, OnOk, OnErr, MatchOption};
+ghost use Rattle.std.specs.Prelude.{◌≡◌, ◌≢◌, [], ◌∷◌, ◌++◌, IfOk, OnOk, OnErr, MatchOption};
 ghost use Rattle.migration_events.specs.declared.events.Event.{Event as Said};
 ghost use Rattle.migration_events.specs.declared.events.Fate.{Fate as Met};
-ghost use Rattle.guest_script.specs.Events.{event_line, fate_word, guest_key, link_key, EventFits};
+ghost use Rattle.guest_script.specs.Events.{event_line, fate_word, link_key, EventFits};
 ghost use Rattle.guest_script.specs.inner.EventKinds.{IsAlone};
 
 use crate::keys::{GUEST_KEY, fate_word_of, link_key_of};

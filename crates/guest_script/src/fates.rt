@@ -1,14 +1,14 @@
 //! Lines of delivery outcomes.
 
-ghost use Rattle.std.specs.Prelude.{◌≡◌, ◌≢◌, ◌≤◌, ◌<◌, ℕ, List, [], ◌∷◌, ◌++◌, length, map, IfOk, IfErr, OnOk, MatchOption};
+ghost use Rattle.std.specs.Prelude.{◌≡◌, ◌≢◌, ◌≤◌, ◌<◌, List, ◌++◌, length, map, IfOk, IfErr, MatchOption};
 ghost use Rattle.migration_events.specs.declared.events.Fate.{Fate as Met};
 ghost use Rattle.guest_script.specs.Scripts.{fate_letter, fates_text};
 
 use crate::MOST_FATES;
 use migration_events::Fate;
 use migration_types::Seq;
-use std::alloc::{AllocError, Global};
-use text_lines::{FaultKind, Wanted, after_key, end_line, is_line};
+use std::alloc::Global;
+use text_lines::{FaultKind, Wanted, after_key, is_line};
 
 /// The word for no delivery outcomes.
 const NONE: &[u8] = b"-";
@@ -23,18 +23,6 @@ fn fate_of(letter: u8) -> Option<Fate>
         b'r' => Some(Fate::Repeat),
         b'b' => Some(Fate::Back),
         _ => None,
-    }
-}
-
-/// Returns the letter of a delivery outcome.
-fn letter_of(fate: Fate) -> u8
-    ensures { result ≡ fate_letter fate }
-{
-    match fate {
-        Fate::Deliver => b'd',
-        Fate::Lose => b'l',
-        Fate::Repeat => b'r',
-        Fate::Back => b'b',
     }
 }
 
@@ -77,27 +65,4 @@ pub fn read_fates(alloc: Global, line: &[u8], key: &[u8]) -> Result<Seq<Fate>, F
 /// Returns what is allowed at a line of delivery outcomes.
 pub fn wanted_fates(what: &'static str, forms: &'static [&'static str]) -> Wanted {
     Wanted::one(what, forms).within(1, MOST_FATES)
-}
-
-/// Appends a line that is a key and delivery outcomes. Fails only if memory runs out.
-pub fn push_fates(out: &mut Vec<u8>, key: &[u8], fates: &[Fate]) -> Result<(), AllocError>
-    ensures { OnOk result (out.new.items ≡ out.old.items ++ (key.now ++ fates_text fates.now ++ 10 ∷ [])) }
-{
-    out.extend_from_slice(key)?;
-    if fates.is_empty() {
-        out.extend_from_slice(NONE)?;
-    } else {
-        push_letters(out, fates)?;
-    }
-    end_line(out)
-}
-
-/// Appends the letters of delivery outcomes.
-fn push_letters(out: &mut Vec<u8>, fates: &[Fate]) -> Result<(), AllocError>
-    ensures { OnOk result (out.new.items ≡ out.old.items ++ map fate_letter fates.now) }
-{
-    for fate in fates {
-        out.push(letter_of(*fate))?;
-    }
-    Ok(())
 }

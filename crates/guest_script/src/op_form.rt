@@ -1,25 +1,20 @@
 //! Lines of operations.
 
-ghost use Rattle.std.specs.Prelude.{◌≡◌, ◌≢◌, ◌≤◌, ◌<◌, ◌^◌, ℕ, List, [], ◌∷◌, ◌++◌, map, IfOk, IfErr, IfSome, OnOk, OnErr, MatchOption};
+ghost use Rattle.std.specs.Prelude.{◌≡◌, ◌≢◌, ◌≤◌, ◌<◌, ◌^◌, ℕ, IfOk, IfErr, OnOk, OnErr, MatchOption};
 ghost use Rattle.std.specs.Fmt.{decimal};
-ghost use Rattle.text_lines.specs.Text.{ended};
 ghost use Rattle.migration_types.specs.Extents.{IsExtent};
 ghost use Rattle.migration_events.specs.declared.ops.Op.{Op as Done};
-ghost use Rattle.guest_script.specs.Scripts.{counts_line, op_line, place_text, value_text, vcpu_onto, vcpus_onto};
+ghost use Rattle.guest_script.specs.Scripts.{counts_line, op_line, place_text, value_text};
 ghost use Rattle.guest_script.specs.Moments.{OpFitsAt};
 ghost use Rattle.guest_script.specs.inner.Ops.{TakesOp};
 ghost use Rattle.guest_script.specs.inner.ScriptHeld.{small_machine};
 
 use crate::keys::{READ_KEY, RELEASE_KEY, VCPU_KEY, WRITE_KEY};
-use crate::{MOST_OPS, Vcpu, When, may_release};
+use crate::{MOST_OPS, When, may_release};
 use migration_events::Op;
 use migration_types::PageNo;
 use session_grammar::Sizes;
-use std::alloc::AllocError;
-use text_lines::{
-    FaultKind, Wanted, after_key, end_line, number_then, push_keyed, push_number, push_then,
-    read_decimal,
-};
+use text_lines::{FaultKind, Wanted, after_key, number_then, read_decimal};
 
 /// Returns a number of at most `limit` that a text spells.
 fn read_limited(text: &[u8], limit: u64) -> Option<u64>
@@ -126,67 +121,4 @@ pub fn read_counts(line: &[u8]) -> Result<(u32, u32), FaultKind>
 pub fn wanted_counts() -> Wanted {
     let what = "the numbers of operations before and after the move of a virtual processor";
     Wanted::one(what, &["vcpu N N"]).within(0, MOST_OPS)
-}
-
-/// Appends the line of an operation.
-fn push_op(out: &mut Vec<u8>, op: Op) -> Result<(), AllocError>
-    ensures { OnOk result (out.new.items ≡ out.old.items ++ (op_line op ++ 10 ∷ [])) }
-{
-    match op {
-        Op::Read { page, cell } => {
-            out.extend_from_slice(READ_KEY)?;
-            push_then(out, page.number())?;
-            push_number(out, cell)?;
-            end_line(out)
-        }
-        Op::Write { page, cell, value } => {
-            out.extend_from_slice(WRITE_KEY)?;
-            push_then(out, page.number())?;
-            push_then(out, cell)?;
-            push_number(out, value)?;
-            end_line(out)
-        }
-        Op::Release { page } => push_keyed(out, RELEASE_KEY, page.number()),
-    }
-}
-
-/// Appends the lines of operations.
-fn push_ops(out: &mut Vec<u8>, ops: &[Op]) -> Result<(), AllocError>
-    ensures { OnOk result (out.new.items ≡ out.old.items ++ ended (map op_line ops.now)) }
-{
-    for op in ops {
-        push_op(out, *op)?;
-    }
-    Ok(())
-}
-
-/// Appends the line with the numbers of operations before and after a move.
-fn push_counts(out: &mut Vec<u8>, before: usize, after: usize) -> Result<(), AllocError>
-    ensures { OnOk result (out.new.items ≡ out.old.items ++ (counts_line before after ++ 10 ∷ [])) }
-{
-    out.extend_from_slice(VCPU_KEY)?;
-    push_then(out, before)?;
-    push_number(out, after)?;
-    end_line(out)
-}
-
-/// Appends the lines of a virtual processor.
-fn push_vcpu(out: &mut Vec<u8>, vcpu: &Vcpu) -> Result<(), AllocError>
-    ensures { OnOk result (out.new.items ≡ out.old.items ++ ended (vcpu_onto vcpu.now [])) }
-{
-    let before = vcpu.before_move.as_slice();
-    let after = vcpu.after_move.as_slice();
-    push_counts(out, before.len(), after.len())?;
-    push_ops(out, before)?;
-    push_ops(out, after)
-}
-
-/// Appends the lines of virtual processors. Fails only if memory runs out.
-pub fn push_vcpus(out: &mut Vec<u8>, vcpus: &[Vcpu]) -> Result<(), AllocError>
-    ensures { OnOk result (out.new.items ≡ out.old.items ++ ended (vcpus_onto vcpus.now [])) }
-{
-    for vcpu in vcpus {
-        push_vcpu(out, vcpu)?;
-    }
-    Ok(())
 }

@@ -1,6 +1,6 @@
 //! Why a scenario is no script.
 
-ghost use Rattle.std.specs.Prelude.{◌≡◌, ◌≤◌, ◌<◌, length, MatchBool, MatchOption};
+ghost use Rattle.std.specs.Prelude.{◌≤◌, ◌<◌, MatchBool, MatchOption};
 ghost use Rattle.std.specs.List.{AllByRecursion};
 ghost use Rattle.migration_types.specs.Pages.{AreInitPages, AreZeros, InitPageFits};
 ghost use Rattle.guest_script.specs.Moments.{OpFitsAt};
