@@ -1,8 +1,9 @@
 -- The digits of a cell, as they are written.
-use Rattle.std.proofs.Common.{◌≡◌, ℕ, zero, suc, ◌+◌, ◌/◌, ◌%◌, ◌<◌, List, [], ◌∷◌, cond, get_or, refl, ap, ◌∙◌, arith, nat_lt, bit_and}
+use Rattle.std.proofs.Common.{◌≡◌, ℕ, ◌+◌, ◌/◌, ◌%◌, ◌<◌, List, [], ◌∷◌, cond, get_or, refl, sym, ap, ◌∙◌, arith, nat_lt, bit_and}
 use Rattle.std.specs.List.{AllByRecursion}
 use Rattle.std.specs.Simd.Lanes.{top}
 use Rattle.std.specs.Int.{w64, to_be_bytes}
+use Rattle.std.proofs.lemmas.List.FromFn.{get_or-map-range_with_len}
 use Rattle.std.proofs.lemmas.Nat.{and_mask}
 use Rattle.hex.specs.Hex.{encode_with, lower_digits}
 use Rattle.text_lines.specs.Contents.{cell_text}
@@ -11,23 +12,7 @@ abbrev pub written : ℕ → ℕ
 written n = (n + cond (top 7 (cond (nat_lt n 10) 255 0)) 48 87) % 256
 
 written_at : (n : ℕ) → n < 16 → written n ≡ get_or lower_digits n 0
-written_at zero lt = refl
-written_at (suc zero) lt = refl
-written_at (suc (suc zero)) lt = refl
-written_at (suc (suc (suc zero))) lt = refl
-written_at (suc (suc (suc (suc zero)))) lt = refl
-written_at (suc (suc (suc (suc (suc zero))))) lt = refl
-written_at (suc (suc (suc (suc (suc (suc zero)))))) lt = refl
-written_at (suc (suc (suc (suc (suc (suc (suc zero))))))) lt = refl
-written_at (suc (suc (suc (suc (suc (suc (suc (suc zero)))))))) lt = refl
-written_at (suc (suc (suc (suc (suc (suc (suc (suc (suc zero))))))))) lt = refl
-written_at (suc (suc (suc (suc (suc (suc (suc (suc (suc (suc zero)))))))))) lt = refl
-written_at (suc (suc (suc (suc (suc (suc (suc (suc (suc (suc (suc zero))))))))))) lt = refl
-written_at (suc (suc (suc (suc (suc (suc (suc (suc (suc (suc (suc (suc zero)))))))))))) lt = refl
-written_at (suc (suc (suc (suc (suc (suc (suc (suc (suc (suc (suc (suc (suc zero))))))))))))) lt = refl
-written_at (suc (suc (suc (suc (suc (suc (suc (suc (suc (suc (suc (suc (suc (suc zero)))))))))))))) lt = refl
-written_at (suc (suc (suc (suc (suc (suc (suc (suc (suc (suc (suc (suc (suc (suc (suc zero))))))))))))))) lt = refl
-written_at (suc (suc (suc (suc (suc (suc (suc (suc (suc (suc (suc (suc (suc (suc (suc (suc n)))))))))))))))) lt = absurd (omega arith)
+written_at n lt = sym (get_or-map-range_with_len written 0 16 n n 0 lt (omega arith))
 
 abbrev pub two_written : List ℕ → List ℕ
 two_written [] = []
