@@ -23,4 +23,4 @@ pub use sizes::Sizes;
 pub use stage::Stage;
 pub use versions::{read_header, session_header};
 pub use wanting::{wanted_behind, wanted_item};
-pub use writing::{push_contents, push_page};
+pub use writing::{cell_digits, push_contents, push_page};

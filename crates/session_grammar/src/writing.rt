@@ -31,31 +31,45 @@ pub fn push_contents(out: &mut Vec<u8>, cells: &[u64]) -> Result<(), AllocError>
     let mut rest = cells;
     while let Some((four, after)) = rest.split_first_chunk::<4>() {
         let digits = [
-            cell_digits(four[0]),
-            cell_digits(four[1]),
-            cell_digits(four[2]),
-            cell_digits(four[3]),
+            digits_of_two(four[0], four[1]).to_array(),
+            digits_of_two(four[2], four[3]).to_array(),
         ];
         out.extend_from_slice(digits.as_flattened())?;
         rest = after;
     }
     for value in rest {
-        out.extend_from_slice(&cell_digits(*value))?;
+        out.extend_from_slice(&cell_digits(*value).to_array())?;
     }
     Ok(())
 }
 
 /// Returns the sixteen digits of a cell's value.
 #[inline(always)]
-fn cell_digits(value: u64) -> [u8; 16]
+pub fn cell_digits(value: u64) -> u8x16
     ensures { result ≡ cell_text value }
 {
-    let bytes = u8x8::from_array(value.to_be_bytes());
-    let high = bytes >> u8x8::splat(4);
-    let low = bytes & u8x8::splat(15);
-    let numbers: u8x16 = high.shuffle(low, [0, 8, 1, 9, 2, 10, 3, 11, 4, 12, 5, 13, 6, 14, 7, 15]);
-    let first = numbers
-        .simd_lt(u8x16::splat(10))
-        .select(u8x16::splat(b'0'), u8x16::splat(b'a' - 10));
-    (numbers + first).to_array()
+    digits_of_two(value, 0).extract::<0, 16>()
+}
+
+/// Returns the sixteen digits of a cell's value, and those of a second one.
+#[inline(always)]
+fn digits_of_two(first: u64, second: u64) -> u8x32
+    ensures { result ≡ cell_text first ++ cell_text second }
+{
+    let bytes: u8x16 = u64x2::from_array([first, second])
+        .to_le_bytes()
+        .swizzle([7, 6, 5, 4, 3, 2, 1, 0, 15, 14, 13, 12, 11, 10, 9, 8]);
+    let high = bytes >> u8x16::splat(4);
+    let low = bytes & u8x16::splat(15);
+    let numbers: u8x32 = high.shuffle(
+        low,
+        [
+            0, 16, 1, 17, 2, 18, 3, 19, 4, 20, 5, 21, 6, 22, 7, 23, 8, 24, 9, 25, 10, 26, 11, 27,
+            12, 28, 13, 29, 14, 30, 15, 31,
+        ],
+    );
+    let letters = numbers
+        .simd_lt(u8x32::splat(10))
+        .select(u8x32::splat(0), u8x32::splat(b'a' - 10 - b'0'));
+    numbers + u8x32::splat(b'0') + letters
 }

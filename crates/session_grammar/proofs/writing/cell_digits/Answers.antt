@@ -1,5 +1,7 @@
-use Rattle.session_grammar.proofs.Digits.{cell_written}
+use Rattle.std.proofs.Common.{refl}
+use Rattle.hex.specs.Hex.{encode_with}
 use Rattle.session_grammar.proofs.writing.cell_digits.Goals as goal
 
 pub returns : goal.returns
-returns c = rw c.to_be_bytes-bytes.ensures (cell_written c.args.value)
+unfolding encode_with
+returns c = rw c.digits_of_two.ensures refl
