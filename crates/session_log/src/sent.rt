@@ -2,13 +2,13 @@
 
 ghost use Rattle.std.specs.Prelude.{◌≡◌, ◌<◌, ◌^◌, IfSome, IsTrue, length};
 ghost use Rattle.std.specs.List.{AllByRecursion};
-ghost use Rattle.text_lines.specs.Contents.{contents_text};
+ghost use Rattle.text_lines.specs.Contents.{cell_text, contents_text};
 ghost use Rattle.migration_types.specs.Contents.{IsContent};
 
 use migration_types::{Contents, PageNo, Shared, SourceRec};
-use session_grammar::Sizes;
+use session_grammar::{Sizes, cell_digits};
 use std::alloc::Global;
-use text_lines::read_cell;
+use std::simd::prelude::*;
 
 /// What was sent of each page first. What is placed is most often the same, and then shares its memory. That these are the contents
 /// that a placement names is nowhere relied on: what is placed is compared with them as it is read.
@@ -100,12 +100,24 @@ fn spells(values: &[u64], text: &[u8]) -> bool
             return false;
         }
         let (word, after) = rest.split_at(16);
-        if read_cell(word) != Some(value) {
+        if !is_cell(value, word) {
             return false;
         }
         rest = after;
     }
     rest.is_empty()
+}
+
+/// Returns whether a text of this length is the digits of a cell's value.
+#[inline(always)]
+fn is_cell(value: u64, text: &[u8]) -> bool
+    requires { length text.now ≡ 16 }
+    ensures { IsTrue result → text.now ≡ cell_text value }
+{
+    cell_digits(value)
+        .simd_eq(u8x16::from_slice(text))
+        .to_bitmask()
+        == 65_535
 }
 
 /// Returns what these records send of each page first, unless memory runs out.
