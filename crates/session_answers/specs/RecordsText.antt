@@ -77,29 +77,24 @@ report_parts (story.Knot knot) = waiting_parts knot.waits.items
 report_parts (story.Faulty f more) = fault_parts f
 report_parts (story.Clean counts) = []
 
--- the first fault of a page, if it has one, and the page's story
-abbrev pub first_parts : Option FaultStory → List Part
-first_parts None = []
-first_parts (Some f) = faulty_part f
+-- those of a story, if there is one
+abbrev pub parts_in : {A : Type 0} → (A → List Part) → Option A → List Part
+parts_in parts None = []
+parts_in parts (Some x) = parts x
 
-abbrev pub full_parts : Option FullPageStory → List Part
-full_parts None = []
-full_parts (Some t) = first_parts t.fault ++ page_parts t.story t.handover
+-- the first fault of a page, if it has one, and the page's story
+abbrev pub full_parts : FullPageStory → List Part
+full_parts t = parts_in faulty_part t.fault ++ page_parts t.story t.handover
 
 -- the record at a line, what its shape concerns if the report names it for that, and the story of its page
-abbrev pub misshapen_parts : Option ShapeStory → List Part
-misshapen_parts None = []
-misshapen_parts (Some t) = shape_parts t
-
-abbrev pub line_parts : Option LineStory → List Part
-line_parts None = []
-line_parts (Some t) = part role.Named t.log (Some t.place) ∷ misshapen_parts t.shape ++ full_parts t.page
+abbrev pub line_parts : LineStory → List Part
+line_parts t = part role.Named t.log (Some t.place) ∷ parts_in shape_parts t.shape ++ parts_in full_parts t.page
 
 -- the parts of the story on a topic
 abbrev pub parts_of : TopicStory → List Part
 parts_of (topic.Report e) = report_parts e
-parts_of (topic.Page number t) = full_parts t
-parts_of (topic.Line line t) = line_parts t
+parts_of (topic.Page number t) = parts_in full_parts t
+parts_of (topic.Line line t) = parts_in line_parts t
 
 -- the record of a part, with its line number mapped, if the part has a number and the session has the record
 abbrev pub told_at : (ℕ → ℕ) → Recorded → Role → LogName → Option ℕ → List ToldRecord

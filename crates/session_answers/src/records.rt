@@ -1,8 +1,8 @@
 //! The records that the story of a session names, each with its role.
 
-ghost use Rattle.std.specs.Prelude.{◌≡◌, ◌++◌, Some, IfOk, OnOk};
+ghost use Rattle.std.specs.Prelude.{◌≡◌, ◌++◌, List, Some, IfOk, OnOk};
 ghost use Rattle.std.specs.List.{flat_map};
-ghost use Rattle.session_answers.specs.RecordsText.{fault_parts, faulty_part, first_parts, full_parts, line_parts, misshapen_parts, page_parts, parts_of, records_of, report_parts, role_word, shape_parts, told, told_at, told_record, waiting_parts};
+ghost use Rattle.session_answers.specs.RecordsText.{fault_parts, faulty_part, full_parts, line_parts, page_parts, parts_in, parts_of, records_of, report_parts, role_word, shape_parts, told, told_at, told_record, waiting_parts};
 
 use crate::fields::{push_number_under, push_word_under};
 use crate::lists::Item;
@@ -97,12 +97,35 @@ impl Item for ToldRecord {
 #[derive(Clone, Copy)]
 struct Part(Role, LogName, Option<u32>);
 
-/// Adds the part that has a fault of a page.
-fn push_faulty(parts: &mut Vec<Part>, story: &FaultStory) -> Result<(), AllocError>
-    ensures { OnOk result (parts.new.items ≡ parts.old.items ++ faulty_part story.now) }
+/// A story that names records.
+trait Parts {
+    ghost use Rattle.session_answers.specs.declared.records.Part.{Part};
+
+    /// The records that it names.
+    ghost named: { Self → List Part };
+
+    /// Adds them.
+    fn push(&self, parts: &mut Vec<Part>) -> Result<(), AllocError>
+        ensures { OnOk result (parts.new.items ≡ parts.old.items ++ named self.now) };
+}
+
+/// Adds the parts of a story, if there is one.
+fn push_in<T: Parts>(parts: &mut Vec<Part>, told: &Option<T>) -> Result<(), AllocError>
+    ensures { OnOk result (parts.new.items ≡ parts.old.items ++ parts_in T.named told.now) }
 {
-    let fault = &story.fault;
-    parts.extend_from_slice(&[Part(Role::Faulty, fault.log, Some(fault.place))])
+    match told {
+        Some(story) => story.push(parts),
+        None => Ok(()),
+    }
+}
+
+impl Parts for FaultStory {
+    ghost named = { faulty_part };
+
+    fn push(&self, parts: &mut Vec<Part>) -> Result<(), AllocError> {
+        let fault = &self.fault;
+        parts.extend_from_slice(&[Part(Role::Faulty, fault.log, Some(fault.place))])
+    }
 }
 
 /// Adds the parts that say how a page came to the target, and what became of it there.
@@ -124,24 +147,44 @@ fn push_page(parts: &mut Vec<Part>, page: &PageStory, handover: &Handover) -> Re
     ])
 }
 
+impl Parts for ShapeStory {
+    ghost named = { shape_parts };
+
+    fn push(&self, parts: &mut Vec<Part>) -> Result<(), AllocError> {
+        let fault = &self.fault;
+        parts.extend_from_slice(&[
+            Part(Role::Faulty, fault.log, Some(fault.place)),
+            Part(Role::Sent, LogName::Source, self.sent),
+            Part(Role::Resume, LogName::Guest, resumed_by(self)),
+        ])
+    }
+}
+
+impl Parts for FullPageStory {
+    ghost named = { full_parts };
+
+    fn push(&self, parts: &mut Vec<Part>) -> Result<(), AllocError> {
+        push_in(parts, &self.fault)?;
+        push_page(parts, &self.story, &self.handover)
+    }
+}
+
+impl Parts for LineStory {
+    ghost named = { line_parts };
+
+    fn push(&self, parts: &mut Vec<Part>) -> Result<(), AllocError> {
+        parts.extend_from_slice(&[Part(Role::Named, self.log, Some(self.place))])?;
+        push_in(parts, &self.shape)?;
+        push_in(parts, &self.page)
+    }
+}
+
 /// Adds the parts of a fault and of its page.
 fn push_fault(parts: &mut Vec<Part>, story: &FaultStory) -> Result<(), AllocError>
     ensures { OnOk result (parts.new.items ≡ parts.old.items ++ fault_parts story.now) }
 {
-    push_faulty(parts, story)?;
+    story.push(parts)?;
     push_page(parts, &story.page, &story.handover)
-}
-
-/// Adds the record that does not have the right shape, and the first sending of its page, or the resume of its guest.
-fn push_shape(parts: &mut Vec<Part>, story: &ShapeStory) -> Result<(), AllocError>
-    ensures { OnOk result (parts.new.items ≡ parts.old.items ++ shape_parts story.now) }
-{
-    let fault = &story.fault;
-    parts.extend_from_slice(&[
-        Part(Role::Faulty, fault.log, Some(fault.place)),
-        Part(Role::Sent, LogName::Source, story.sent),
-        Part(Role::Resume, LogName::Guest, resumed_by(story)),
-    ])
 }
 
 /// Adds the records that wait for one another.
@@ -159,56 +202,11 @@ fn push_report(parts: &mut Vec<Part>, explanation: &Explanation) -> Result<(), A
     ensures { OnOk result (parts.new.items ≡ parts.old.items ++ report_parts explanation.now) }
 {
     match explanation {
-        Explanation::Shape(story) => push_shape(parts, story),
+        Explanation::Shape(story) => story.push(parts),
         Explanation::Knot(knot) => push_waits(parts, &knot.waits),
         Explanation::Faulty { story, .. } => push_fault(parts, story),
         Explanation::Clean(_) => Ok(()),
     }
-}
-
-/// Adds a page's first fault, if it has one.
-fn push_first(parts: &mut Vec<Part>, fault: &Option<FaultStory>) -> Result<(), AllocError>
-    ensures { OnOk result (parts.new.items ≡ parts.old.items ++ first_parts fault.now) }
-{
-    match fault {
-        Some(story) => push_faulty(parts, story),
-        None => Ok(()),
-    }
-}
-
-/// Adds the parts of a page with its first fault, if there is a page.
-fn push_full(parts: &mut Vec<Part>, told: &Option<FullPageStory>) -> Result<(), AllocError>
-    ensures { OnOk result (parts.new.items ≡ parts.old.items ++ full_parts told.now) }
-{
-    match told {
-        Some(page) => {
-            push_first(parts, &page.fault)?;
-            push_page(parts, &page.story, &page.handover)
-        }
-        None => Ok(()),
-    }
-}
-
-/// Adds what the shape of a record concerns, if the story has that.
-fn push_misshapen(parts: &mut Vec<Part>, shape: &Option<ShapeStory>) -> Result<(), AllocError>
-    ensures { OnOk result (parts.new.items ≡ parts.old.items ++ misshapen_parts shape.now) }
-{
-    match shape {
-        Some(story) => push_shape(parts, story),
-        None => Ok(()),
-    }
-}
-
-/// Adds the record at a line, and the parts of its story, if there is a record.
-fn push_line(parts: &mut Vec<Part>, told: &Option<LineStory>) -> Result<(), AllocError>
-    ensures { OnOk result (parts.new.items ≡ parts.old.items ++ line_parts told.now) }
-{
-    let Some(line) = told else {
-        return Ok(());
-    };
-    parts.extend_from_slice(&[Part(Role::Named, line.log, Some(line.place))])?;
-    push_misshapen(parts, &line.shape)?;
-    push_full(parts, &line.page)
 }
 
 /// Returns the parts of the story on a topic.
@@ -218,8 +216,8 @@ fn parts_of(alloc: Global, told: &TopicStory) -> Result<Vec<Part>, AllocError>
     let mut parts = Vec::new(alloc);
     match told {
         TopicStory::Report(explanation) => push_report(&mut parts, explanation)?,
-        TopicStory::Page(_, page) => push_full(&mut parts, page)?,
-        TopicStory::Line(_, line) => push_line(&mut parts, line)?,
+        TopicStory::Page(_, page) => push_in(&mut parts, page)?,
+        TopicStory::Line(_, line) => push_in(&mut parts, line)?,
     }
     Ok(parts)
 }

@@ -10,6 +10,6 @@ returns c =
     let old = c.args.parts.now.items in
     let story = c.args.story.now in
     let page = page_parts story.page story.handover in
-    on_ok c.push_page.result (c.push_page.new.parts.items ≡ c.push_faulty.new.parts.items ++ page) (c.push_page.new.parts.items ≡ old ++ fault_parts story)
-    (λ e. e ∙ ap (λ (t : List Part). t ++ page) c.in_ok-push_faulty.ensures ∙ append_assoc old (faulty_part story) page)
+    on_ok c.push_page.result (c.push_page.new.parts.items ≡ c.push.new.parts.items ++ page) (c.push_page.new.parts.items ≡ old ++ fault_parts story)
+    (λ e. e ∙ ap (λ (t : List Part). t ++ page) c.in_ok-push.ensures ∙ append_assoc old (faulty_part story) page)
     c.push_page.ensures
