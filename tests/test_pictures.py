@@ -6,10 +6,10 @@ it. They are the same in each run. Where `audit` refuses a session's
 text, `draw` has to say the same line. Else it has to write a well-formed picture with no script, of at most 205 rows, in which
 each record of the order has its place in one row, in the order's sequence: of the order that the report has, of the found order
 as far as it goes where the report has none, and of the runs before the first bad one where runs are given. The heading has to
-be the report's first line, and then what `explain` says first, and to say which order that is, whether all show the fault, and how
-much there is. The row
-of the faulty record has to be marked, and those of the cause and of the record that this is set against, by cause_model.py, which
-`explain` has to name; behind the order stand the next of each log, these where it has not come to them, and a circle with its arrows. Each record's
+be the report's first line, and then what `explain` says first, which names the cause, and where that shows, and to say which
+order that is, whether all show the fault, and how much there is. The row of the faulty record has to be marked, and those of
+the cause and of the record that this is set against, by cause_model.py, which `explain` has to name; behind the order stand the
+next of each log, these where it has not come to them, and a circle with its arrows. Each record's
 row has one title, and its label in a box that has room for it. Which records have a row of their own, and no fold, is what
 picture_rows.py says; where each box, arrow, stub, column and sign stands, how it is painted, and what the legend says of it, is
 what picture_shapes.py wants of the order. So it is in a picture of a page of some of them, whether it has a fault or not.
@@ -23,7 +23,7 @@ import pytest
 import test_random_schedules as schedules
 from cases import right
 from check_model import Session, run_not_walked
-from picture_model import Told, as_headed, is_in_every_order, sentences_of
+from picture_model import Told, is_in_every_order, sentences_of
 from picture_rows import own_rows
 from picture_shapes import look_of, shown_wrongly
 from session_text import LOGS, SessionText
@@ -75,9 +75,11 @@ def headed_wrongly(told, shown, picture):
     wanted = told.report.split("\n", 1)[0] + "\n"
     if [picture.find(SVG + "title").text, first] != [wanted] * 2:
         return f"the heading {first!r}"
-    sentences = " ".join(sentences_of(told.report, told.told))
-    if " ".join(found[:-2]) != sentences:
+    sentences = sentences_of(told.report, told.told)
+    if " ".join(found[:-2]) != " ".join(sentences):
         return f"the heading {found[:-2]}, not {sentences!r}"
+    if told.cause and "({} {})".format(*told.cause) not in sentences[0]:
+        return f"the heading {sentences[0]!r}, which does not name the cause {told.cause}"
     if found[-2] != shown:
         return f"the heading {found[-2]!r}, not {shown!r}"
     facts = facts_of(told.session)
@@ -221,11 +223,11 @@ def drawn_wrongly(program, session, runs=None):
 def page_headed_wrongly(told, picture):
     """What is wrong with the heading of a picture of a page, or None."""
     title, *found, order, facts = [line.text for line in picture.findall(SVG + "text")]
-    first, *lines = as_headed(told.told.splitlines())
+    first, *lines = told.told.splitlines()
     shown = "In the found order" if first == "clean" else "In the order that shows the first fault of the session"
     if (title, order, facts) != (f"{first}\n", shown, facts_of(told.session)):
         return f"the heading {[title, order, facts]}"
-    wanted = [lines[0], *[line for line in lines if told.fault and line.startswith(f"Line {told.head[2]} (")][:1]]
+    wanted = lines[:2] if told.fault else lines[:1]
     return None if " ".join(found) == " ".join(wanted) else f"the heading {found}, not {wanted}"
 
 

@@ -12,18 +12,13 @@ WORDS = {"r": "read", "w": "write", "z": "release"}
 TOLD = re.compile(rf"line \d+ \(({'|'.join(LOGS)}) (\d+)\)")
 
 
-def as_headed(lines):
-    """Lines that `explain` writes, of which that on the wrong record says so as a heading does: without what went wrong before."""
-    return [re.sub(r"^It shows at l(ine \d+ \(\w+ \d+\)): ", r"L\1 is wrong: ", line) for line in lines]
-
-
 def sentences_of(report, told):
-    """What `explain` says first: what is wrong and why, or that nothing is."""
+    """What a heading has of what `explain` says: what goes wrong and where it shows or why, or that nothing is wrong."""
     lines = told.split("\n")[1:-1]
-    if report.startswith("faulty"):
-        lines = as_headed(lines)
-        lines = lines[next(n for n, line in enumerate(lines) if " is wrong: " in line):]
-    return lines[:2] if report.startswith(("faulty", "shape")) else lines[:1]
+    if not report.startswith(("faulty", "shape")):
+        return lines[:1]
+    shows = [line for line in lines if line.startswith("It shows at ")]
+    return [lines[0], *(shows or lines[1:])[:1]]
 
 
 def circle_of(report, told):

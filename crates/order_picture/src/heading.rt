@@ -29,8 +29,8 @@ pub(crate) struct Subject<'a> {
     pub told: &'a TopicStory,
 }
 
-/// Appends the first sentences of a story, each on a line of its own: what is wrong, or that nothing is. Fails only if
-/// memory runs out.
+/// Appends the first sentences of a story, each on a line of its own: the cause of what is wrong, or that nothing is.
+/// Fails only if memory runs out.
 fn push_summary(out: &mut String, session: &Session, told: &TopicStory) -> Result<(), AllocError>
     ensures { OnOk result (Adds (AreWritten (λ _. IsLine) (told_first session.now told.now)) (string_bytes out.old) (string_bytes out.new)) }
 {

@@ -20,7 +20,7 @@ use Rattle.audit_model.specs.Shape.{delivery, passes}
 use Rattle.page_facts.specs.Tables.{first_before}
 use Rattle.audit_report.specs.declared.report.Report.{Report}
 use Rattle.audit_report.specs.declared.report.Report.TheVariants as report
-use Rattle.session_story.specs.Causes.{came_to}
+use Rattle.session_story.specs.Causes.{came_to, cause_by}
 use Rattle.session_story.specs.Named.{named_by}
 use Rattle.session_story.specs.Concerned.{resumed_by}
 use Rattle.session_story.specs.Pages.{is_access_after}
@@ -28,7 +28,7 @@ use Rattle.session_story.specs.Explained.{is_used_by}
 use Rattle.session_story.specs.RecordValues.{value_at}
 use Rattle.session_story.specs.Waits.{next_in}
 use Rattle.session_story.specs.declared.counting.Counts.{Counts}
-use Rattle.session_story.specs.declared.causes.CauseKind.TheVariants as kind
+use Rattle.session_story.specs.declared.causes.CauseKind.{CauseKind}
 use Rattle.session_story.specs.declared.explanations.Explanation.{Explanation}
 use Rattle.session_story.specs.declared.explanations.Explanation.TheVariants as explained
 use Rattle.session_story.specs.declared.fault_stories.PageCause.{PageCause}
@@ -127,27 +127,35 @@ faulty_told s f = say.Wrong (f.fault.log, f.fault.place) ∷ [] ++ wrong_told s 
 abbrev pub source_of : FaultStory → Option Sentence
 source_of f = if is_used_by f.page.found.touch f.fault.place then None else Some say.AtSource
 
--- that a page never comes, given its first use at the target
-unfoldable pub never_told : PageStory → Option ℕ → List Sentence
-never_told page None = []
-never_told page (Some touch) = say.GoesWrong page.page kind.NeverPlaced (Guest, touch) ∷ say.CameTo (came_to page) ∷ []
+-- how a page goes wrong, with this record; or that no record explains what it has
+abbrev pub goes_wrong : ℕ → CauseKind → Option Name → Sentence
+goes_wrong page kind None = say.Unexplained page
+goes_wrong page kind (Some name) = say.GoesWrong page kind name
 
--- what went wrong before a wrong read
+-- the cause of a fault
+abbrev pub cause_told : FaultStory → Sentence
+cause_told f = goes_wrong f.page.page (cause_by f).kind (cause_by f).blamed
+
+-- what is to be said of the cause of a wrong read
 unfoldable pub wrongly_told : Recorded → FaultStory → PageCause → List Sentence
-wrongly_told s f (Sent w) = say.GoesWrong f.page.page kind.StaleSend (Source, w.place) ∷ [] ++ contents_told s (Source, w.place) w.held
-wrongly_told s f (Placed w) = say.GoesWrong f.page.page kind.Altered (Pager, w.place) ∷ [] ++ contents_told s (Pager, w.place) w.held
-wrongly_told s f (Zeroed q) = say.GoesWrong f.page.page kind.Zeroed (Pager, q) ∷ [] ++ plain_told page.Unfit f.page.changed None
-wrongly_told s f (PlacedAgain q) = say.GoesWrong f.page.page kind.PlacedAgain (Pager, q) ∷ [] ++ plain_told page.Twice None f.page.found.placement
-wrongly_told s f (PlacedOver q seen) = say.GoesWrong f.page.page kind.PlacedOver (Pager, q) ∷ [] ++ over_told q f.page.found.touch seen f.page.found.look
-wrongly_told s f (UsedEarly n seen) = say.GoesWrong f.page.page kind.Early (Guest, n) ∷ [] ++ early_told f.page.found.placement seen f.page.found.look
-wrongly_told s f Unplaced = never_told f.page f.page.found.touch
-wrongly_told s f (Lost l) = say.GoesWrong f.page.page kind.LostWrite (Guest, l.change) ∷ say.Keeps f.fault.place l.since ∷ [] ++ listed (source_of f)
-wrongly_told s f Unrecorded = say.Unexplained f.page.page ∷ [] ++ listed (source_of f)
+wrongly_told s f (Sent w) = contents_told s (Source, w.place) w.held
+wrongly_told s f (Placed w) = contents_told s (Pager, w.place) w.held
+wrongly_told s f (Zeroed q) = plain_told page.Unfit f.page.changed None
+wrongly_told s f (PlacedAgain q) = plain_told page.Twice None f.page.found.placement
+wrongly_told s f (PlacedOver q seen) = over_told q f.page.found.touch seen f.page.found.look
+wrongly_told s f (UsedEarly n seen) = early_told f.page.found.placement seen f.page.found.look
+wrongly_told s f Unplaced = say.CameTo (came_to f.page) ∷ []
+wrongly_told s f (Lost l) = say.Keeps f.fault.place l.since ∷ [] ++ listed (source_of f)
+wrongly_told s f Unrecorded = listed (source_of f)
 
--- a fault, after what went wrong before, if the story has that
+-- the record at which the cause shows
+abbrev pub shows_of : FaultStory → Sentence
+shows_of f = say.Shows (f.fault.log, f.fault.place)
+
+-- a fault, after its cause, if the story has that
 unfoldable pub caused_told : Recorded → FaultStory → Option PageCause → List Sentence
 caused_told s f None = faulty_told s f
-caused_told s f (Some cause) = wrongly_told s f cause ++ (say.Shows (f.fault.log, f.fault.place) ∷ [] ++ wrong_told s f f.detail)
+caused_told s f (Some cause) = cause_told f ∷ [] ++ wrongly_told s f cause ++ (shows_of f ∷ [] ++ wrong_told s f f.detail)
 
 unfoldable pub fault_told : Recorded → FaultStory → List Sentence
 fault_told s f = caused_told s f f.cause
@@ -302,17 +310,22 @@ told_in_full s r (told.Report e) = explained_told s e
 told_in_full s r (told.Page number t) = page_topic s r number t
 told_in_full s r (told.Line line t) = line_topic s r line t
 
--- ---- the first sentences: what is wrong, or that nothing is
+-- ---- the first sentences: the cause of what is wrong, or that nothing is
+
+-- a fault: its cause and where that shows, or if the story has none, the faulty record and what is wrong with it
+unfoldable pub caused_first : Recorded → FaultStory → Option PageCause → List Sentence
+caused_first s f None = faulty_told s f
+caused_first s f (Some cause) = cause_told f ∷ shows_of f ∷ []
 
 unfoldable pub explained_first : Recorded → Explanation → List Sentence
 explained_first s (explained.Shape t) = shape_told s t
 explained_first s (explained.Knot knot) = say.NoOrder ∷ []
-explained_first s (explained.Faulty f more) = faulty_told s f
+explained_first s (explained.Faulty f more) = caused_first s f f.cause
 explained_first s (explained.Clean counts) = say.Clean ∷ []
 
 unfoldable pub fault_first : Recorded → Option FaultStory → List Sentence
 fault_first s None = []
-fault_first s (Some f) = faulty_told s f
+fault_first s (Some f) = caused_first s f f.cause
 
 unfoldable pub page_first : Recorded → ℕ → Option FullPageStory → List Sentence
 page_first s number None = say.NoPage number s.geometry.pages ∷ []

@@ -1,15 +1,14 @@
 //! The sentences about a page's fault.
 
 ghost use Rattle.std.specs.Prelude.{◌≡◌, ◌++◌, OnOk};
-ghost use Rattle.story_words.specs.Sentences.{caused_told, contents_of, contents_told, early_told, fault_told, faulty_told, first_sending, order_of, origin_at, origin_by, origin_of, over_told, place_of, plain_told, never_told, source_of, unseen_told, wrong_told, wrongly_told};
+ghost use Rattle.story_words.specs.Sentences.{caused_first, caused_told, cause_told, contents_of, contents_told, early_told, fault_told, faulty_told, first_sending, order_of, origin_at, origin_by, origin_of, over_told, place_of, plain_told, shows_of, source_of, unseen_told, wrong_told, wrongly_told};
 
 use crate::Sentence;
 use crate::listing::push_if;
 use audit_model::{PageReason, delivery};
 use migration_types::{LogName, PagerRec, Session, SourceRec};
 use session_story::{
-    CauseKind, CellValue, Detail, FaultStory, Look, Name, PageCause, PageStory, came_to,
-    is_used_by, value_at,
+    CellValue, Detail, FaultStory, Look, Name, PageCause, came_to, cause_by, is_used_by, value_at,
 };
 use std::alloc::AllocError;
 
@@ -214,7 +213,7 @@ fn push_wrong(
 
 /// Appends which record is faulty, and what is wrong with it.
 #[tactic(auto, unfolding(crate::specs::Sentences::faulty_told))]
-pub(crate) fn push_faulty(
+fn push_faulty(
     out: &mut Vec<Sentence>,
     session: &Session,
     story: &FaultStory,
@@ -225,26 +224,27 @@ pub(crate) fn push_faulty(
     push_wrong(out, session, story)
 }
 
-/// Appends that a page never comes, given its first use at the target.
-#[tactic(auto, unfolding(crate::specs::Sentences::never_told))]
-fn push_never(
-    out: &mut Vec<Sentence>,
-    page: &PageStory,
-    touch: Option<u32>,
-) -> Result<(), AllocError>
-    ensures { OnOk result (out.new.items ≡ out.old.items ++ never_told page.now touch) }
+/// Returns how a page goes wrong, or that no record explains what it has.
+fn cause_told(story: &FaultStory) -> Sentence
+    ensures { result ≡ cause_told story.now }
 {
-    match touch {
-        Some(touch) => out.extend_from_slice(&[
-            Sentence::GoesWrong {
-                page: page.page,
-                kind: CauseKind::NeverPlaced,
-                name: (LogName::Guest, touch),
-            },
-            Sentence::CameTo(came_to(page)),
-        ]),
-        None => Ok(()),
+    let page = story.page.page;
+    let cause = cause_by(story);
+    match cause.blamed {
+        Some(name) => Sentence::GoesWrong {
+            page,
+            kind: cause.kind,
+            name,
+        },
+        None => Sentence::Unexplained(page),
     }
+}
+
+/// Returns the record at which the cause of a fault shows.
+fn shows_of(story: &FaultStory) -> Sentence
+    ensures { result ≡ shows_of story.now }
+{
+    Sentence::Shows((story.fault.log, story.fault.place))
 }
 
 /// Returns that a read is at the source, if it is.
@@ -258,7 +258,7 @@ fn source_of(story: &FaultStory) -> Option<Sentence>
     }
 }
 
-/// Appends what went wrong before a wrong read.
+/// Appends what is to be said of the cause of a wrong read.
 #[tactic(auto, unfolding(crate::specs::Sentences::wrongly_told))]
 fn push_wrongly(
     out: &mut Vec<Sentence>,
@@ -268,62 +268,28 @@ fn push_wrongly(
 ) -> Result<(), AllocError>
     ensures { OnOk result (out.new.items ≡ out.old.items ++ wrongly_told session.now story.now cause.now) }
 {
-    let page = story.page.page;
     let changed = story.page.changed;
     let found = &story.page.found;
     match *cause {
         PageCause::Sent(wrong) => {
-            let name = (LogName::Source, wrong.place);
-            let kind = CauseKind::StaleSend;
-            out.extend_from_slice(&[Sentence::GoesWrong { page, kind, name }])?;
-            push_contents(out, session, name, wrong.held)
+            push_contents(out, session, (LogName::Source, wrong.place), wrong.held)
         }
         PageCause::Placed(wrong) => {
-            let name = (LogName::Pager, wrong.place);
-            let kind = CauseKind::Altered;
-            out.extend_from_slice(&[Sentence::GoesWrong { page, kind, name }])?;
-            push_contents(out, session, name, wrong.held)
+            push_contents(out, session, (LogName::Pager, wrong.place), wrong.held)
         }
-        PageCause::Zeroed(place) => {
-            let name = (LogName::Pager, place);
-            let kind = CauseKind::Zeroed;
-            out.extend_from_slice(&[Sentence::GoesWrong { page, kind, name }])?;
-            push_plain(out, PageReason::Unfit, changed, None)
-        }
-        PageCause::Again(place) => {
-            let name = (LogName::Pager, place);
-            let kind = CauseKind::PlacedAgain;
-            out.extend_from_slice(&[Sentence::GoesWrong { page, kind, name }])?;
-            push_plain(out, PageReason::Twice, None, found.placement)
-        }
-        PageCause::Over { place, seen } => {
-            let name = (LogName::Pager, place);
-            let kind = CauseKind::PlacedOver;
-            out.extend_from_slice(&[Sentence::GoesWrong { page, kind, name }])?;
-            push_over(out, place, found.touch, seen, found.look)
-        }
-        PageCause::Early { place, seen } => {
-            let name = (LogName::Guest, place);
-            let kind = CauseKind::Early;
-            out.extend_from_slice(&[Sentence::GoesWrong { page, kind, name }])?;
-            push_early(out, found.placement, seen, found.look)
-        }
-        PageCause::Unplaced => push_never(out, &story.page, found.touch),
+        PageCause::Zeroed(_) => push_plain(out, PageReason::Unfit, changed, None),
+        PageCause::Again(_) => push_plain(out, PageReason::Twice, None, found.placement),
+        PageCause::Over { place, seen } => push_over(out, place, found.touch, seen, found.look),
+        PageCause::Early { seen, .. } => push_early(out, found.placement, seen, found.look),
+        PageCause::Unplaced => out.extend_from_slice(&[Sentence::CameTo(came_to(&story.page))]),
         PageCause::Lost(lost) => {
-            let name = (LogName::Guest, lost.change);
-            let kind = CauseKind::LostWrite;
-            let read = story.fault.place;
-            let since = lost.since;
-            out.extend_from_slice(&[
-                Sentence::GoesWrong { page, kind, name },
-                Sentence::Keeps { read, since },
-            ])?;
+            out.extend_from_slice(&[Sentence::Keeps {
+                read: story.fault.place,
+                since: lost.since,
+            }])?;
             push_if(out, source_of(story))
         }
-        PageCause::Unrecorded => {
-            out.extend_from_slice(&[Sentence::Unexplained(page)])?;
-            push_if(out, source_of(story))
-        }
+        PageCause::Unrecorded => push_if(out, source_of(story)),
     }
 }
 
@@ -339,8 +305,9 @@ fn push_caused(
 {
     match cause {
         Some(cause) => {
+            out.extend_from_slice(&[cause_told(story)])?;
             push_wrongly(out, session, story, cause)?;
-            out.extend_from_slice(&[Sentence::Shows((story.fault.log, story.fault.place))])?;
+            out.extend_from_slice(&[shows_of(story)])?;
             push_wrong(out, session, story)
         }
         None => push_faulty(out, session, story),
@@ -357,6 +324,23 @@ pub(crate) fn push_fault(
     ensures { OnOk result (out.new.items ≡ out.old.items ++ fault_told session.now story.now) }
 {
     push_caused(out, session, story, &story.cause)
+}
+
+/// Appends the first sentences about a page's fault: this cause and where it shows, or if there is none, the faulty record
+/// and what is wrong with it.
+#[tactic(auto, unfolding(crate::specs::Sentences::caused_first))]
+pub(crate) fn push_caused_first(
+    out: &mut Vec<Sentence>,
+    session: &Session,
+    story: &FaultStory,
+    cause: &Option<PageCause>,
+) -> Result<(), AllocError>
+    ensures { OnOk result (out.new.items ≡ out.old.items ++ caused_first session.now story.now cause.now) }
+{
+    match cause {
+        Some(_) => out.extend_from_slice(&[cause_told(story), shows_of(story)]),
+        None => push_faulty(out, session, story),
+    }
 }
 
 /// Returns how an order of the records shows a fault.

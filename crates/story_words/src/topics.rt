@@ -5,7 +5,7 @@ ghost use Rattle.story_words.specs.Sentences.{explained_first, explained_told, f
 
 use crate::Sentence;
 use crate::counts::push_counts;
-use crate::faults::{order_of, push_fault, push_faulty};
+use crate::faults::{order_of, push_caused_first, push_fault};
 use crate::knots::push_knot;
 use crate::listing::push_if;
 use crate::pages::push_story;
@@ -245,7 +245,7 @@ fn push_explained_first(
     match explanation {
         Explanation::Shape(story) => push_shape(out, session, story),
         Explanation::Knot(_) => out.extend_from_slice(&[Sentence::NoOrder]),
-        Explanation::Faulty { story, .. } => push_faulty(out, session, story),
+        Explanation::Faulty { story, .. } => push_caused_first(out, session, story, &story.cause),
         Explanation::Clean(_) => out.extend_from_slice(&[Sentence::Clean]),
     }
 }
@@ -260,7 +260,7 @@ fn push_fault_first(
     ensures { OnOk result (out.new.items ≡ out.old.items ++ fault_first session.now fault.now) }
 {
     match fault {
-        Some(story) => push_faulty(out, session, story),
+        Some(story) => push_caused_first(out, session, story, &story.cause),
         None => Ok(()),
     }
 }
@@ -319,7 +319,7 @@ fn push_first(
     }
 }
 
-/// Returns the first sentences of a story: what is wrong, or that nothing is. Fails only if memory runs out.
+/// Returns the first sentences of a story: the cause of what is wrong, or that nothing is. Fails only if memory runs out.
 pub fn told_first(
     alloc: Global,
     session: &Session,
