@@ -42,7 +42,7 @@ pub struct Focus {
 }
 
 /// Returns whether both are the same page.
-fn is_page(page: Option<PageNo>, other: Option<PageNo>) -> bool
+pub(crate) fn is_page(page: Option<PageNo>, other: Option<PageNo>) -> bool
     ensures { result ≡ is_page page other }
 {
     match (page, other) {

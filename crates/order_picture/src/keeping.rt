@@ -3,10 +3,10 @@
 //! the faulty record. If these are too many, only the first, the last, those nearest to the faulty record, the cause, and
 //! the record that it is set against.
 
-use crate::focus::{Focus, Mark, mark_of};
+use crate::focus::{Focus, is_page};
 use crate::rows::{Certain, is_certain};
 use migration_types::{GuestRec, LOG_COUNT, LogName, Run, Session, logs};
-use session_story::{Name, TopicStory, tells_of};
+use session_story::{Name, TopicStory, page_of, tells_of};
 use std::alloc::{AllocError, Global};
 
 /// How many are kept at each end of the order.
@@ -95,23 +95,21 @@ pub(crate) struct Keeping<'a> {
     pub middle: usize,
 }
 
-/// Returns whether a picture is about the order: its story is that of the report, and the report names no record of a
+/// Returns whether a record concerns what the picture is about: a page, or the order if the report names no record of a
 /// page.
-fn is_of_order(keeping: &Keeping<'_>) -> bool {
-    keeping.focus.page.is_none() && matches!(keeping.told, TopicStory::Report(_))
-}
-
-/// Returns whether a record concerns what the picture is about: a page, or the order.
 fn concerns(keeping: &Keeping<'_>, place: usize, name: Name) -> bool {
-    if hands_over(keeping.session, name) {
+    let session = keeping.session;
+    if hands_over(session, name) {
         return true;
     }
-    match mark_of(keeping.session, keeping.focus, name) {
-        Mark::Plain => is_of_order(keeping) && keeping.session.named(name).is_some(),
-        Mark::OfPage => {
-            place > keeping.middle || !uses(keeping.session, name) || tells_of(keeping.told, name.1)
+    match keeping.focus.page {
+        Some(_) => {
+            is_page(keeping.focus.page, page_of(session, name))
+                && (place > keeping.middle
+                    || !uses(session, name)
+                    || tells_of(keeping.told, name.1))
         }
-        Mark::Faulty | Mark::OwnCause | Mark::Cause | Mark::Against => true,
+        None => matches!(keeping.told, TopicStory::Report(_)) && session.named(name).is_some(),
     }
 }
 
