@@ -71,3 +71,40 @@ def test_no_xml():
 @pytest.mark.parametrize("words, memory", [(["-m", "512"], 512 << 20), (["-m", "2G"], 2 << 30), (["-m", "size=1024M,slots=2"], 1 << 30), ([], 0)])
 def test_memory_of_words(words, memory):
     assert page_target.memory_of_words(["qemu", *words]) == memory
+
+
+class Answers:
+    """A source's monitor, with a capability that is on and states that come one after another."""
+
+    def __init__(self, capability, *states):
+        self.capability, self.states, self.is_closed = capability, [*states], False
+
+    def __call__(self, command):
+        if command == "query-migrate-capabilities":
+            return [{"capability": name, "state": name == self.capability} for name in ("postcopy-ram", "release-ram")]
+        status, is_running = self.states[0]
+        if command == "query-status":
+            self.states.pop(0)
+            return {"running": is_running}
+        return {"status": status}
+
+    def close(self):
+        self.is_closed = True
+
+
+MOVES = ("none", True), ("active", True), ("postcopy-active", False), ("completed", False)
+
+
+def test_words_of_a_monitor():
+    monitor = Answers("postcopy-ram", *MOVES)
+    assert list(page_source.words_of_qmp(monitor)) == ["halt", "end"]
+    assert monitor.is_closed
+
+
+@pytest.mark.parametrize("states", [MOVES, MOVES[:2] + MOVES[3:]], ids=["post-copy", "pre-copy"])
+def test_source_that_gives_pages_up(states):
+    """What it has sent is zeros when it is hashed: nothing is recorded, whether there was a switch or not."""
+    monitor = Answers("release-ram", *states)
+    with pytest.raises(page_source.Lost, match="release-ram: the source gives pages up before"):
+        list(page_source.words_of_qmp(monitor))
+    assert monitor.is_closed

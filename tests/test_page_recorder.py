@@ -281,6 +281,35 @@ def test_page_that_never_came(sides):
     same("without completeness", (whole.returncode, "has no end" in whole.stderr), (1, True))
 
 
+NOTHING = ", where the source had nothing"
+
+
+@pytest.mark.parametrize("page, words, nothing", [(402, ["give=402"], NOTHING), (403, [], "")], ids=["nothing", "zeros"])
+def test_nothing_that_never_came(sides, page, words, nothing):
+    """A page that comes for nobody, as one that is unplugged. That the source had nothing there is told, and makes nothing clean; of zeros it is not told."""
+    sides.run_target(f"drop={page}")
+    sides.run_source(of=words)
+    verdict = sides.judged()
+    same("verdict", (verdict.word, verdict.is_clean, verdict.told[-1]), (f"incomplete page {page}", False, f"page {page}, block 0 + {page * 4096:#x}: it never came{nothing}"))
+
+
+def test_all_that_never_came(sides):
+    """What was left is there, and each of the others behind the last page that was put in place is told, with how many there are."""
+    sides.run_target("last=501")
+    sides.run_source(of=["give=599"])
+    verdict = sides.judged()
+    same("places", (verdict.word, len(verdict.places), verdict.told[-11:]), ("incomplete page 502", 118, [
+        *(f"page {page}, block 0 + {page * 4096:#x}: it never came" for page in range(502, 512)), "and 108 more pages. Of all 118, the source had nothing in 1: never used, given back, or unplugged"]))
+
+
+def test_given_back(sides):
+    """A page that the guest gave back once pre-copy had sent it: the target kept what was sent."""
+    sides.run_target()
+    sides.run_source(of=["give=6"])
+    verdict = sides.judged()
+    same("verdict", (verdict.word, verdict.is_clean, verdict.told), ("faulty", False, [f"page 6, block 0 + 0x6000: altered{NOTHING}"]))
+
+
 def test_target_that_dies(sides):
     same("the process", sides.run_target("die=402").returncode, -signal.SIGKILL)
     sides.run_source()

@@ -74,7 +74,8 @@ def made(row, fault, folder, emulator):
     put_in = migration.put_in() if fault else []
     if put_in and not verdict.is_clean and sorted(verdict.places) == sorted(f"{PC_RAM} + {page * PAGE:#x}" for page in put_in):
         return TOLD
-    if not verdict.is_clean and outcome != SILENT and (not fault or put_in and fault in faults.FOUND_BY_QEMU):
+    has_ended = verdict.word.startswith("incomplete") or fault in faults.FOUND_BY_QEMU  # for another cause, before the fault could be told
+    if not verdict.is_clean and outcome != SILENT and (not fault or put_in and has_ended):
         return FAILED
     if verdict.is_clean and not put_in:
         return NOT_PUT_IN if fault else CLEAN

@@ -10,6 +10,7 @@ import time
 
 import build
 from files import naming, write
+from kinds import UNFIT
 from page_target import KEY_VARIABLE, take_folder
 from qmp import Gone, Hangs, Qmp, Refused
 from roots import die_with_parent
@@ -18,7 +19,8 @@ SECONDS_BETWEEN_QUESTIONS = 0.05
 SWITCHED = ("postcopy-active", "postcopy-paused", "postcopy-recover", "postcopy-recover-setup", "completed")
 NEVER = ("failed", "cancelled")
 STOPPED = "stopped"  # the observer's word for the target of a pre-copy
-NAMES = "names"  # the file of the names that QEMU has for its blocks
+NAMES, ABSENT = "names", "absent"  # the files of the names that QEMU has for its blocks, and of the ranges of pages in which there was nothing
+RELEASING = "release-ram"  # the capability of a source that gives up what it has sent
 
 
 class Lost(Exception):
@@ -64,6 +66,12 @@ class Monitor(Qmp):
         return "".join(f"{int(length, 16)} {name}\n" for name, length in found)
 
 
+def require_kept(monitor):
+    """Raises Lost if the source gives up the pages that it has sent."""
+    if any(one["state"] for one in monitor("query-migrate-capabilities") if one["capability"] == RELEASING):
+        raise Lost(f"{RELEASING}: {UNFIT[RELEASING]}")
+
+
 def words_of_qmp(monitor):
     """Yields the observer's words. QEMU answers under its lock, so the package of a halt is complete when an answer tells of the halt."""
     states = States()
@@ -74,6 +82,7 @@ def words_of_qmp(monitor):
             first = first if status == first else None
             word = states.word(None if first else status, monitor("query-status")["running"])
             if word:
+                require_kept(monitor)
                 yield word
             if word and word != "halt":
                 return

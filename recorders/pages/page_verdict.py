@@ -1,4 +1,5 @@
 """What the program says of both sides of a recording by page contents, with the places of pages in QEMU's memory."""
+import bisect
 import json
 import os
 import subprocess
@@ -7,11 +8,12 @@ from dataclasses import dataclass
 
 import build
 from judge import program
-from page_source import NAMES
+from page_source import ABSENT, NAMES
 from page_target import BLOCKS
 
 PAGE = 4096
 MOST_TOLD = 10
+NOTHING = ", where the source had nothing"
 
 
 @dataclass
@@ -52,6 +54,14 @@ def place_of(page, blocks):
         if block.first <= page < block.first + block.pages:
             return f"{block.name or f'block {number}'} + {(page - block.first) * PAGE:#x}"
     return "in no block"
+
+
+def absent_among(pages, source):
+    """Returns those of the pages in which there was nothing at the source: they were never used, or given back."""
+    ranges = [(int(first), int(count)) for first, count in map(str.split, lines(f"{source}/{ABSENT}") or [])]
+    starts = [first for first, _ in ranges]
+    found = ((page, bisect.bisect_right(starts, page) - 1) for page in pages)
+    return {page for page, at in found if at >= 0 and page < sum(ranges[at])}
 
 
 def ask(*words):
@@ -95,25 +105,33 @@ def judged(target, source):
             _, why, status = ask("session", "--cut", target, source, "-o", f"{room}/session")
             if status:
                 raise build.Missing(why.strip() or said.strip())
-        return verdict_of(f"{room}/session", blocks, is_whole, [] if is_whole else [line[9:] for line in said.splitlines()[:-1]])  # but for what `session` is told to do
+        said = [] if is_whole else [line[9:] for line in said.splitlines()[:-1]]  # but for what `session` is told to do
+        return verdict_of(f"{room}/session", blocks, is_whole, said, lambda pages: absent_among(pages, source))
 
 
-def verdict_of(session, blocks, is_whole, said):
+def verdict_of(session, blocks, is_whole, said, absent):
     answer, error, status = ask("audit", "--all", "--format", "json", session)
     if status not in (0, 1):
         raise build.Missing(error.strip())
-    found = json.loads(answer)
+    found, pages = json.loads(answer), sum(block.pages for block in blocks)
     word, wrong = found["verdict"], [(page["page"], page["reason"]) for page in found.get("pages", [])]
     if word != "faulty":
         answer, _, _ = ask("audit", "--complete-pages", "--quiet", session)
         word = answer.strip()
         if word.startswith("incomplete page"):
-            wrong.insert(0, (int(word.split()[-1]), "it never came"))
-    places = [place_of(page, blocks) for page, _ in wrong]
-    told = [*said, *(f"page {page}, {place}: {reason}" for (page, reason), place in zip(wrong[:MOST_TOLD], places))]
+            wrong[:0] = [(page, "it never came") for page in not_placed_in(session, pages)]
+    places, nothing = [place_of(page, blocks) for page, _ in wrong], absent([page for page, _ in wrong])
+    told = [*said, *(f"page {page}, {place}: {reason}{NOTHING if page in nothing else ''}" for (page, reason), place in zip(wrong[:MOST_TOLD], places))]
     if len(wrong) > MOST_TOLD:
-        told.append(f"and {len(wrong) - MOST_TOLD} more pages")
-    return Verdict(word, told, is_whole, tuple(places), sum(block.pages for block in blocks), unwritten_in(session))
+        told.append(f"and {len(wrong) - MOST_TOLD} more pages" + (f". Of all {len(wrong)}, the source had nothing in {len(nothing)}: never used, given back, or unplugged" if nothing else ""))
+    return Verdict(word, told, is_whole, tuple(places), pages, unwritten_in(session))
+
+
+def not_placed_in(session, pages):
+    """Returns the pages, of so many, that were not put in place."""
+    with open(session, encoding="ascii") as file:
+        placed = {int(line.split(" ", 2)[1]) for line in file if line.startswith("place ")}
+    return [page for page in range(pages) if page not in placed]
 
 
 def unwritten_in(session):

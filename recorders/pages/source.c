@@ -55,6 +55,7 @@ static struct blocks blocks;
 struct look {
     struct blocks blocks;
     uint64_t *hashes;
+    uint8_t *absent; /* of each page: 1 if there is nothing */
     _Atomic int error; /* an errno, or ENDED */
     int64_t nanoseconds;
 };
@@ -84,15 +85,17 @@ static void __attribute__((noreturn)) refuse(const char *what, int error)
 
 /* Looks. */
 
-/* Whether none of these pages was ever used, so that all are zeros. (In memory that has a file, the file may have them.) */
-static int is_unused(const struct block *block, uint64_t page, uint64_t count)
+/* Marks which of these pages were never used, or given back, so that they are zeros. Returns whether all are. (In memory that has a file, the
+   file may have them.) */
+static int mark_absent(const struct block *block, uint64_t page, uint64_t count, uint8_t *absent)
 {
-    uint64_t entries[PART], any = 0;
+    uint64_t entries[PART];
+    int all = 1;
     if (!block->is_anonymous || pread(page_map, entries, count * 8, (off_t)((block->start / PAGE + page) * 8)) != (ssize_t)(count * 8))
         return 0;
     for (uint64_t at = 0; at < count; at++)
-        any |= entries[at] & IS_THERE;
-    return !any;
+        all &= absent[at] = !(entries[at] & IS_THERE);
+    return all;
 }
 
 static void hash_part(uint64_t part, void *of)
@@ -103,7 +106,7 @@ static void hash_part(uint64_t part, void *of)
     while (part >= (block->length / PAGE + PART - 1) / PART)
         part -= (block++->length / PAGE + PART - 1) / PART;
     uint64_t page = part * PART, left = block->length / PAGE - page, count = left < PART ? left : PART;
-    if (is_unused(block, page, count))
+    if (mark_absent(block, page, count, look->absent + block->first + page))
         return;
     ssize_t got = pread(memory, buffer, count * PAGE, (off_t)(block->start + page * PAGE));
     if (got != (ssize_t)(count * PAGE))
@@ -119,7 +122,8 @@ static void *look_at_all(void *of)
     int64_t began = now();
     look->error = find_blocks(process, &look->blocks);
     look->hashes = look->error ? NULL : calloc(look->blocks.pages, sizeof *look->hashes);
-    if (!look->error && !look->hashes)
+    look->absent = look->error ? NULL : calloc(look->blocks.pages, 1);
+    if (!look->error && !(look->hashes && look->absent))
         look->error = ENOMEM;
     for (unsigned at = 0; at < look->blocks.count; at++)
         parts += (look->blocks.at[at].length / PAGE + PART - 1) / PART;
@@ -178,12 +182,31 @@ static postcopy_log *opened(const char *party, uint32_t first)
     return log;
 }
 
-/* Refuses a look that was not made. Otherwise writes the blocks, and returns 0 or an errno. */
+/* Writes a line for each range of pages in which there was nothing. Returns 0 or an errno. */
+static int write_absent(const struct look *look)
+{
+    char path[4096];
+    if (snprintf(path, sizeof path, "%s/absent", folder) >= (int)sizeof path)
+        return ENAMETOOLONG;
+    FILE *file = fopen(path, "we");
+    if (!file)
+        return errno;
+    for (uint64_t page = 0, first; page < look->blocks.pages; page++) {
+        for (first = page; page < look->blocks.pages && look->absent[page]; page++) {
+        }
+        if (page > first)
+            fprintf(file, "%lu %lu\n", first, page - first);
+    }
+    return fclose(file) ? errno : 0;
+}
+
+/* Refuses a look that was not made. Otherwise writes the blocks, and what was absent. Returns 0 or an errno. */
 static int begin_to_record(const struct look *look)
 {
     if (!look->hashes || look->error)
         refuse("its memory cannot be read", look->error == ENDED ? ESRCH : look->error);
-    return write_blocks(folder, &look->blocks);
+    int error = write_blocks(folder, &look->blocks);
+    return error ? error : write_absent(look);
 }
 
 static void end_recording(int error)

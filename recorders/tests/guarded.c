@@ -1,12 +1,13 @@
 /*
  * A process with two blocks of memory like a QEMU's: 600 private pages, and 40 of a memory file. Its words say what it does.
  *
- *     guarded source ..     fills the pages, and waits for the end of standard input
+ *     guarded source ..     fills the pages, and waits for the end of standard input. With `give=P` it gives page P of the first block back
  *     guarded target N ..   fills the first N pages of each block, at most 20 of the second, guards both by userfaultfd, puts the other pages in place, and takes the
  *                           guards away. Each further word is done once, with page P of all pages, the first block's first:
  *
  *         flip=P     its contents have another bit
  *         drop=P     it is not put in place
+ *         last=P     nor is any page behind it
  *         twice=P    it is put in place twice
  *         write=P    it is written to when all pages are there
  *         die=P      the process is killed before it
@@ -102,7 +103,7 @@ static void migrate(long left)
         for (long at = 0; at < (long)pages_of[block]; at++, page++) {
             if (page == number("die="))
                 kill(getpid(), SIGKILL);
-            if (at >= (block && left > 20 ? 20 : left) && page != number("drop="))
+            if (at >= (block && left > 20 ? 20 : left) && page != number("drop=") && (number("last=") < 0 || page <= number("last=")))
                 put(memory[block] + (uint64_t)at * PAGE, page);
             if (page == number("twice="))
                 put(memory[block] + (uint64_t)at * PAGE, page);
@@ -145,6 +146,8 @@ int main(int count, char **word)
     if (is_source) {
         if (number("plug") >= 0)
             plugged();
+        if (number("give=") >= 0)
+            check(madvise(memory[0] + (uint64_t)number("give=") * PAGE, PAGE, MADV_DONTNEED) == 0, "madvise");
         puts("filled");
         fflush(stdout);
         while (getchar() != EOF) {
