@@ -556,6 +556,17 @@ def test_campaign(tmp_path):
         "| twice: a page comes twice | 1 of 1 not clean, and QEMU says so itself |"])
 
 
+@pytest.mark.parametrize("source, target", [("postcopy-active", "postcopy-paused"), ("postcopy-active", "ended"), ("completed", "postcopy-active")])
+def test_side_that_waits_for_nobody(monkeypatch, tmp_path, source, target):
+    """A migration of which one side goes on alone is given up soon."""
+    monkeypatch.setattr(page_migration, "SECONDS_FOR_LAST", 0.1)
+    migration = page_migration.Migration(page_migration.Settings(), tmp_path, None, lambda line: None)
+    migration.stands, migration.left = {"source": source, "target": target}.get, lambda: ""
+    began = time.monotonic()
+    same("outcome", migration.follow(), f"source {source}, target {target}")
+    same("soon", time.monotonic() - began < page_migration.SECONDS / 4, True)
+
+
 def test_pages_of_a_fault(tmp_path):
     """The pages that the relay has put a fault in, but for those that it has handed on again since."""
     migration = page_migration.Migration(page_migration.Settings(fault="keep-drop"), tmp_path, None, None)

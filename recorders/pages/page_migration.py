@@ -250,15 +250,17 @@ class Migration:
 
     def follow(self):
         """Waits until the migration is at its end, and says how far it is. Returns what the QEMUs say."""
-        until, said = time.monotonic() + SECONDS, 0.0
-        while not (self.is_over() and self.stands("target") in ENDED) and time.monotonic() < until:
+        until, said, still = time.monotonic() + SECONDS, 0.0, None  # `still`: since when one side waits for nobody
+        while not all(self.stands(side) in ENDED for side in SIDES) and time.monotonic() < until:
             if self.relay and self.relay.was_cut.is_set():
                 self.recover()
+                still = None
             if time.monotonic() > said + 1:
                 said = time.monotonic()
                 self.say(f"source {self.stands('source')}, target {self.stands('target')}{self.left()}")
-            if (self.is_over() or all(self.stands(side) in (*ENDED, PAUSED) for side in SIDES)) and time.monotonic() > said + 0.5:
-                until = min(until, time.monotonic() + SECONDS_FOR_LAST)
+            still = (still or time.monotonic()) if any(self.stands(side) in (*ENDED, PAUSED) for side in SIDES) else None
+            if still and time.monotonic() > still + SECONDS_FOR_LAST:
+                break
             time.sleep(0.02)
         return ", ".join(f"{side} {self.stands(side)}" for side in ("source", "target"))
 
