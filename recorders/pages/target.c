@@ -37,6 +37,7 @@ __asm__(".symver dlsym, dlsym@GLIBC_2.2.5");
 #define WP_ASYNC (1 << 15) /* UFFD_FEATURE_WP_ASYNC, which older headers do not have */
 #define IS_PROTECTED (UINT64_C(1) << 57) /* of an entry of a page map: write-protected by userfaultfd */
 #define PART 256 /* pages that a thread takes at once */
+#define FEW 4096 /* pages that are hashed sooner than other threads have begun and ended, on a machine with other work */
 #define ENTRIES 4096
 
 enum { ABSENT, LEFT, PLACED };                  /* a page */
@@ -181,7 +182,14 @@ static void hash_part(uint64_t part, void *of)
 
 static void hash_marked(const struct block *block, const uint8_t *marks, uint64_t *into)
 {
-    share((block->length / PAGE + PART - 1) / PART, hash_part, &(struct marked){block, marks, into});
+    struct marked marked = {block, marks, into};
+    uint64_t parts = (block->length / PAGE + PART - 1) / PART, count = 0;
+    for (uint64_t page = 0; page < block->length / PAGE; page++)
+        count += marks[page];
+    if (count > FEW)
+        share(parts, hash_part, &marked);
+    for (uint64_t part = 0; count <= FEW && part < parts; part++)
+        hash_part(part, &marked);
 }
 
 /* Write-protects the marked pages. (An absent page stays as it is: QEMU could put no zeros there once it is protected.) */
