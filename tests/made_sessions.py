@@ -7,6 +7,7 @@ import re
 import subprocess
 import sys
 
+import forked
 from case_table import case_files
 from recorded_model import Unfit, session_of
 from session_text import LOGS, SessionText
@@ -80,7 +81,9 @@ def files_of(session, folder, parts=1, chance=None, lengths=None):
 
 
 def run_script(program, *words, **more):
-    """Runs recorders/session by this program."""
+    """Runs recorders/session by this program, in a fork where nothing is to be done before."""
+    if {*more} <= {"cwd"}:
+        return forked.run(f"{TOP}/recorders/session", *words, env={"POSTCOPY": program}, encoding="ascii", **more)
     return subprocess.run([sys.executable, f"{TOP}/recorders/session", *words], capture_output=True, encoding="ascii", timeout=120,
                           env={**os.environ, "POSTCOPY": program}, **more)
 

@@ -14,6 +14,7 @@ import xml.etree.ElementTree as ElementTree
 from urllib.parse import unquote
 
 from case_table import CASES
+import forked
 import pytest
 from cases import same
 from sarif_shape import faults
@@ -25,15 +26,19 @@ SCRIPT, REPORT, SESSION = f"{TOP}/share/bin/postcopy-annotate", f"{TOP}/share/bi
 NAMES = ("plain", "a:b,c%d", "<&\">'", "-dash", "two words", "\u00e9")
 CONTENTS = {"clean": "handover", "early": "early-access", "knot": "circle-of-receipts", "shape": "wrong-shape", "refused": "leading-zero"}
 
-# What no output has as it is, by Unicode's table, and a letter of each other kind.
-ODD = dict.fromkeys(it for it in map(chr, range(sys.maxunicode + 1)) if unicodedata.category(it) in ("Cc", "Cf", "Zl", "Zp"))
+# A letter of each kind that an output has as it is.
 EVEN = "aZ0 .,:;%&<>'\"\\#?=\u00a0\u00e9\u0301\u05d0\u4e00\ue000\U0001f600"
+
+
+def is_odd(letter):
+    """Whether no output has this as it is, by Unicode's table."""
+    return unicodedata.category(letter) in ("Cc", "Cf", "Zl", "Zp")
 
 
 def odd_names(count, size):
     """So many names of files, with so many odd characters each, among others: each odd one, and others at random."""
     chance = random.Random(7)
-    odd = [*ODD][1:]  # (no name has the first)
+    odd = [*filter(is_odd, map(chr, range(1, sys.maxunicode + 1)))]
     letters = odd + chance.choices([*odd, "\ufffe", "\uffff", "\udc80", "\udcff"], k=size * count - len(odd))
     return ["n" + "".join(chance.sample(letters[at::count] + chance.choices(EVEN, k=4), size + 4)) for at in range(count)]
 
@@ -55,9 +60,8 @@ class Tests:
         return subprocess.run([self.program, "audit", *names], cwd=self.room, stdin=subprocess.DEVNULL, capture_output=True, text=True).stderr
 
     def told(self, *words, program=None):
-        words = [SCRIPT, "--program", program or self.program, *words]
-        child = subprocess.run(words, cwd=self.room, stdin=subprocess.DEVNULL, capture_output=True, text=True)
-        return child.returncode, child.stdout, child.stderr
+        ran = forked.run(SCRIPT, "--program", program or self.program, *words, cwd=self.room, encoding="utf-8")
+        return ran.returncode, ran.stdout, ran.stderr
 
     def wanted(self, name):
         """The place, the reason and the text that are to be told of a session, or None of a clean one."""
@@ -197,7 +201,7 @@ class Tests:
         self.same("a name that is not there", self.told("no\nthing", "clean")[1], '"no\\u000athing": not judged: no such file or directory\n')
 
     def no_odd_character(self, what, text):
-        self.same(f"odd characters in {what}", sorted({it for it in text.replace("\n", "") if it in ODD or it in "\ufffe\uffff"}), [])
+        self.same(f"odd characters in {what}", sorted({it for it in text.replace("\n", "") if is_odd(it) or it in "\ufffe\uffff"}), [])
 
     def thousand_names(self):
         """Names with odd characters, in each form: none is told as it is, and the name is read back."""
@@ -230,8 +234,7 @@ class Tests:
         for name in odd_names(6, 40):
             for script, words in ((SCRIPT, (name,)), (REPORT, (name, "-o", "report")), (SESSION, (name,)), (SESSION, (name, "-o", f"{name}/{name}"))):
                 for more in ((), (f"--{name}",)):
-                    child = subprocess.run([sys.executable, script, *words, *more], cwd=self.room, stdin=subprocess.DEVNULL, capture_output=True,
-                                           env={**os.environ, "POSTCOPY": self.program if not more else f"./{name}"})
+                    child = forked.run(script, *words, *more, cwd=self.room, env={"POSTCOPY": self.program if not more else f"./{name}"})
                     what = f"what {os.path.basename(script)} tells of {ascii((words, more))}"
                     self.same(f"whether something is said: {what}", (child.returncode > 0, bool(child.stdout + child.stderr)), (True, True))
                     self.no_odd_character(what, child.stdout.decode() + child.stderr.decode())

@@ -10,8 +10,8 @@ import os
 import re
 import shutil
 import subprocess
-import sys
 
+import forked
 import pytest
 from cases import leave_out, same
 from made_sessions import script_of_traces
@@ -133,7 +133,7 @@ class Tests:
                     file.write(traces[log])
             elif os.path.exists(f"{self.room}/{log}.trace"):
                 os.remove(f"{self.room}/{log}.trace")
-        ran = subprocess.run([sys.executable, "-B", SCRIPT, self.room, *options], capture_output=True, encoding="ascii")
+        ran = forked.run(SCRIPT, self.room, *options, encoding="ascii")
         return ran.stdout, ran.stderr, ran.returncode
 
     def answer(self, command, *texts):
