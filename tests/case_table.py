@@ -21,10 +21,11 @@ import tempfile
 TOP = os.path.dirname(os.path.dirname(os.path.realpath(__file__)))
 TABLES = f"{TOP}/tests/cases"
 LINES = ("stdout", "stderr", "stdin", "checked")
+# Where the environment says which folder has all cases.
+LAID_OUT = "TESTS_CASES"
 
 
 def write(name, text):
-    os.makedirs(os.path.dirname(name), exist_ok=True)
     with open(name, "x", encoding="utf-8") as file:
         file.write(text)
 
@@ -64,8 +65,9 @@ def lay_out_case(folder, lines):
         elif word == "file":
             file, _, text = rest.partition(" ")
             name = f"{at}/{file}"
-            if text:
+            if "/" in file:
                 os.makedirs(os.path.dirname(name), exist_ok=True)
+            if text:
                 shutil.copyfile(f"{place_of(text, folder)}/{text}", name)
             else:
                 write(name, "")
@@ -109,8 +111,10 @@ if __name__ == "__main__":
     if len(sys.argv) != 2 or os.path.exists(sys.argv[1]):
         sys.exit(__doc__)
     lay_out(sys.argv[1])
+elif LAID_OUT in os.environ:
+    CASES = os.environ[LAID_OUT]
 else:
-    # A folder with those of all cases, which goes with this process.
+    # A folder with those of all cases, which goes with this process. conftest.py tells it to those that pytest starts.
     ROOM = tempfile.mkdtemp(prefix="postcopy-cases-")
     atexit.register(shutil.rmtree, ROOM, ignore_errors=True)
     CASES = lay_out(f"{ROOM}/cases")

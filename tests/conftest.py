@@ -3,12 +3,15 @@
 A test tries one case, or many that it counts by the functions of cases.py: it fails where one of them does, and where there were fewer
 than its mark `cases` says. A part that is left out is told with the reason, at the end.
 """
+import atexit
 import os
+import shlex
 import shutil
 import subprocess
 import sys
 import tempfile
 
+import case_table
 import cases
 import pytest
 from made_once import MadeOnce
@@ -116,7 +119,21 @@ class Told:
         print(f"{self.counts['passed']} passed, {self.counts['failed']} failed{left_out}")
 
 
+def have_scripts_run_by_this_interpreter():
+    """Puts a `python3` before all others that is this interpreter, and not one that looks for another, as a tool of versions does for tenths of a second."""
+    room = tempfile.mkdtemp(prefix="postcopy-python-")
+    atexit.register(shutil.rmtree, room, ignore_errors=True)
+    with open(f"{room}/python3", "w", encoding="utf-8") as file:
+        file.write(f'#!/bin/sh\nexec {shlex.quote(sys.executable)} "$@"\n')
+    os.chmod(file.name, 0o755)
+    os.environ["PATH"] = f"{room}:{os.environ['PATH']}"
+
+
 def pytest_configure(config):
+    if case_table.LAID_OUT not in os.environ:
+        # (the processes of xdist share what this one has made)
+        os.environ[case_table.LAID_OUT] = case_table.CASES
+        have_scripts_run_by_this_interpreter()
     cases.ends_at_first, cases.most = config.getoption("--first"), config.getoption("--up-to")
     if cases.ends_at_first:
         config.option.maxfail = 1
