@@ -2,10 +2,10 @@
 
 ghost use Rattle.std.specs.Prelude.{◌≡◌, ◌==◌, ℕ, Option, Some, false, length, replicate, slice_index_or, IfOk};
 ghost use Rattle.std.specs.List.{list_any};
-ghost use Rattle.audit_model.specs.Shape.{down_sending, goes_down, lane_sending, passes};
-ghost use Rattle.session_story.specs.Counted.{is_delivered_down, is_delivered_up, is_undelivered_packet, is_undelivered_request, up_asking};
+ghost use Rattle.audit_model.specs.Shape.{goes_down, lane_sending, passes};
+ghost use Rattle.session_story.specs.Counted.{is_delivered_down, is_delivered_up, is_undelivered_packet, is_undelivered_request};
 ghost use Rattle.session_story.specs.Scans.{how_many};
-ghost use Rattle.session_story.specs.inner.Delivered.{AreMarked, AreMarks, is_unmarked_packet, is_unmarked_request};
+ghost use Rattle.session_story.specs.inner.Delivered.{AreMarked, AreMarks, is_unmarked_packet, is_unmarked_request, link_number};
 
 use crate::scans::{RecordQuestion, count_of};
 use migration_types::{LaneRec, LinkRec, PagerRec, Session, SourceRec};
@@ -23,40 +23,27 @@ trait Deliveries {
         ensures { result ≡ delivered self.now rec.now };
 }
 
-/// What the link delivers to the target's side.
+/// What the link delivers to one side.
 #[derive(Clone, Copy)]
-struct LinkDown;
-
-/// What the link delivers to the source's side.
-#[derive(Clone, Copy)]
-struct LinkUp;
+enum LinkTo {
+    Target,
+    Source,
+}
 
 /// What the lane delivers to the target's side.
 #[derive(Clone, Copy)]
 struct LaneDown;
 
-impl Deliveries for LinkDown {
+impl Deliveries for LinkTo {
     type Record = LinkRec;
 
-    ghost delivered = { λ _. down_sending };
+    ghost delivered = { link_number };
 
     fn delivered(&self, rec: &LinkRec) -> Option<u32> {
-        match *rec {
-            LinkRec::Down { sending } => Some(sending),
-            LinkRec::Up { .. } => None,
-        }
-    }
-}
-
-impl Deliveries for LinkUp {
-    type Record = LinkRec;
-
-    ghost delivered = { λ _. up_asking };
-
-    fn delivered(&self, rec: &LinkRec) -> Option<u32> {
-        match *rec {
-            LinkRec::Up { asking } => Some(asking),
-            LinkRec::Down { .. } => None,
+        match (self, *rec) {
+            (LinkTo::Target, LinkRec::Down { sending }) => Some(sending),
+            (LinkTo::Source, LinkRec::Up { asking }) => Some(asking),
+            _ => None,
         }
     }
 }
@@ -116,7 +103,7 @@ fn delivered_down(alloc: Global, session: &Session) -> Result<Vec<bool>, AllocEr
 {
     let mut marks = no_marks(alloc, session.source().len())?;
     mark_delivered(&mut marks, &LaneDown, session.lane());
-    mark_delivered(&mut marks, &LinkDown, session.link());
+    mark_delivered(&mut marks, &LinkTo::Target, session.link());
     Ok(marks)
 }
 
@@ -125,7 +112,7 @@ fn delivered_up(alloc: Global, session: &Session) -> Result<Vec<bool>, AllocErro
     ensures { IfOk result (λ marks. AreMarks (is_delivered_up session.now) (length session.now.pager) marks.items) }
 {
     let mut marks = no_marks(alloc, session.pager().len())?;
-    mark_delivered(&mut marks, &LinkUp, session.link());
+    mark_delivered(&mut marks, &LinkTo::Source, session.link());
     Ok(marks)
 }
 
