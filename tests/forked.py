@@ -43,15 +43,23 @@ def ended(script, code, words):
     return 0
 
 
-def run(script, *words, cwd=None, env=None, timeout=120, encoding=None):
-    """What a script does with no input, as subprocess.run tells it, and what it wrote, as bytes or text. After so many seconds it is ended."""
+def input_of(given):
+    if not given:
+        return os.open(os.devnull, os.O_RDONLY)
+    file = os.memfd_create("input")
+    os.pwrite(file, given, 0)
+    return file
+
+
+def run(script, *words, given=b"", cwd=None, env=None, timeout=120, encoding=None):
+    """What a script does, as subprocess.run tells it, and what it wrote, as bytes or text. After so many seconds it is ended."""
     code, pipes = code_of(script), [os.pipe(), os.pipe()]
     child = os.fork()
     if child == 0:
         status = 1
         try:
             signal.alarm(timeout)
-            for number, file in enumerate((os.open(os.devnull, os.O_RDONLY), *(writing for _, writing in pipes))):
+            for number, file in enumerate((input_of(given), *(writing for _, writing in pipes))):
                 os.dup2(file, number)
             told = sys.__stdout__
             sys.stdin, sys.stdout = open(0, closefd=False), open(1, "w", encoding=told.encoding, errors=told.errors, closefd=False)

@@ -9,11 +9,11 @@ import gzip
 import os
 import random
 import re
-import subprocess
 import sys
 import xml.etree.ElementTree as ElementTree
 from fractions import Fraction
 
+import forked
 import pytest
 from cases import count, same
 
@@ -26,8 +26,8 @@ import timed  # noqa: E402
 pytestmark = pytest.mark.quick
 
 
-def run(*words, given=None):
-    return subprocess.run(words, input=given, capture_output=True, text=True, check=False)
+def run(*words, given=""):
+    return forked.run(*words, given=given.encode(), encoding="utf-8")
 
 
 # Scripts of traces.
