@@ -1,6 +1,9 @@
 """The recorder by page contents: what a source's monitor says, and the XML of a target of libvirt."""
+import contextlib
 import os
+import socket
 import sys
+import threading
 import xml.etree.ElementTree as tree
 
 import pytest
@@ -108,3 +111,23 @@ def test_source_that_gives_pages_up(states):
     with pytest.raises(page_source.Lost, match="release-ram: the source gives pages up before"):
         list(page_source.words_of_qmp(monitor))
     assert monitor.is_closed
+
+
+def answer(listener):
+    """Answers as a QEMU's monitor: greets each that connects, one after another, and says that the guest runs."""
+    while True:
+        with listener.accept()[0] as connection, contextlib.suppress(OSError):  # who only asks whose socket it is, goes
+            connection.sendall(b'{"QMP": {}}\n')
+            while connection.recv(1 << 16):
+                connection.sendall(b'{"return": {"running": true}}\n')
+
+
+def test_monitor_by_its_socket(tmp_path):
+    """The words have the name of the socket alone."""
+    with socket.socket(socket.AF_UNIX) as listener:
+        listener.bind(f"{tmp_path}/qmp")
+        listener.listen()
+        threading.Thread(target=answer, args=(listener,), daemon=True).start()
+        monitor = page_source.Monitor(f"{tmp_path}/qmp")
+        assert (monitor.process, monitor("query-status")) == (os.getpid(), {"running": True})
+        monitor.close()

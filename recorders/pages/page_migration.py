@@ -122,7 +122,7 @@ class Migration:
 
     def begin_to_watch(self, key, faults):
         observer = Observer(f"{self.folder}/source", key, self.machines["source"].process.pid)
-        monitor = Monitor(self.room.name("watch"), lambda: True)
+        monitor = Monitor(self.room.name("watch"))
         observer.name_blocks(monitor.names())
         self.say(f"the source has {observer.pages} pages of {observer.blocks} blocks")
         watching = threading.Thread(target=watch, args=(observer, words_of_qmp(monitor), self.say, faults))

@@ -47,8 +47,12 @@ class States:
 
 
 class Monitor(Qmp):
-    """A QEMU's monitor, which remembers whether the guest was stopped last: QEMU may end before it can be asked."""
+    """A monitor of the QEMU `process`, which remembers whether the guest was stopped last: QEMU may end before it can be asked."""
     is_stopped = False
+
+    def __init__(self, path):
+        self.process = process_of_socket(path)
+        super().__init__(path, lambda: os.path.exists(f"/proc/{self.process}"))
 
     def line(self):
         answer = super().line()
