@@ -86,14 +86,15 @@ def install(packages):
         sys.exit(1)
 
 
-def outside(words, packages):
-    """Installs what is missing of the packages, each by a command of it, and runs the script again in namespaces and a temporary folder that
-    end with it. Gives its status."""
+def outside(words, packages, fetch=lambda: None):
+    """Installs what is missing of the packages, each by a command of it, has `fetch` get what else comes from a network, and runs the script again in
+    namespaces, which have none, and a temporary folder that end with it. Gives its status."""
     os.environ["PATH"] += ":/usr/local/sbin:/usr/sbin:/sbin"
     if os.geteuid() != 0:
         say(f"{NAME}: hosts can be made by root alone")
         return NO_HOSTS
     install(packages)
+    fetch()
     made = subprocess.run([*UNSHARED, "--net", "sh", "-c", "mount -t tmpfs run /run && ip netns add a && ip link add x type veth peer name y netns a && ip netns exec a true"])
     if made.returncode != 0:
         say(f"{NAME}: network namespaces, veth or mounts are forbidden here, so that there are no hosts")

@@ -82,6 +82,11 @@ def lines_of_page():
     return dict(zip(names + of_precopy, [*found, *precopy.splitlines()]))
 
 
+def fetch():
+    """Gets what the hosts cannot: they have no network but their own."""
+    debian.get(say)
+
+
 def make_store(room):
     """What both hosts have: the guests, and the certificates."""
     for folder in "store", "pki":
