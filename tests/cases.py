@@ -1,4 +1,6 @@
 """The cases of the test that runs: how many came out as wanted, which did not, and what was left out."""
+import itertools
+
 import pytest
 
 # So many characters of a value are told, and so many cases of a test that failed.
@@ -7,23 +9,30 @@ MOST, TOLD = 400, 40
 
 class Cases:
     def __init__(self):
-        self.passed, self.failed, self.left_out = 0, [], []
+        self.passed, self.failed, self.left_out, self.item = 0, [], [], None
 
     def made(self):
         return self.passed + len(self.failed)
 
 
 running = Cases()
-# Whether a test ends at its first case that failed, and after how many cases it ends, where a number is given.
-ends_at_first, most = False, None
+# Whether a test ends at its first case that failed; after how many cases it ends, and which item of its list it tries alone, where
+# numbers are given.
+ends_at_first, most, alone = False, None, None
 
 
 def begin():
     """A test begins."""
     global running
     running = Cases()
-# Whether a test ends at its first case that failed.
-ends_at_first = False
+
+
+def each(items, through=iter):
+    """The items of the test's list, or what comes of them through a function. One that failed is told by its number, by which it can be tried alone."""
+    for running.item, made in enumerate(through(itertools.islice(items, alone, None if alone is None else alone + 1)), alone or 0):
+        yield made
+    if alone is not None:
+        pytest.skip(f"all items but {alone}")
 
 
 def count(is_well, what):
@@ -35,7 +44,8 @@ def count(is_well, what):
         if len(running.failed) <= TOLD:
             print(f"failed: {what}")
         if ends_at_first:
-            pytest.fail(f"case {running.made()} failed, and the others are left out", pytrace=False)
+            of = "" if running.item is None else f" of item {running.item}"
+            pytest.fail(f"case {running.made()}{of} failed, and the others are left out", pytrace=False)
     if most is not None and running.made() >= most:
         pytest.skip(f"the cases after the first {most}")
     return bool(is_well)

@@ -29,6 +29,7 @@ def pytest_addoption(parser):
     group.addoption("--all", action="store_true", help="also the cases that the gate leaves out, since they take minutes")
     group.addoption("--first", action="store_true", help="end at the first case that fails")
     group.addoption("--up-to", type=int, metavar="N", help="end each test after so many cases")
+    group.addoption("--item", type=int, metavar="N", help="try this item alone of each test's list")
     group.addoption("--calls", help="the program that the tests of the crates' calls run; one is compiled where none is given")
     group.addoption("--counts", action="store_true", help="tell how many cases each test tried")
     group.addoption("--times", metavar="FILE", help="write how many seconds of processor each test took, the longest first")
@@ -86,7 +87,7 @@ class Told:
     """What is told after all tests: how many cases there were, what was left out, and the sums."""
 
     def __init__(self):
-        self.cases, self.left_out, self.counts, self.seconds = {}, [], {"passed": 0, "failed": 0, "skipped": 0}, {}
+        self.cases, self.left_out, self.told, self.counts, self.seconds = {}, [], [], {"passed": 0, "failed": 0, "skipped": 0}, {}
 
     def pytest_runtest_logreport(self, report):
         if report.when == "call" or report.outcome != "passed":
@@ -96,6 +97,8 @@ class Told:
                 self.seconds[report.nodeid] = self.seconds.get(report.nodeid, 0) + value
             elif report.when == "call" and name == "cases":
                 self.cases[report.nodeid] = value
+            elif report.when == "call" and name == "told":
+                self.told += [value] * bool(value)
             elif report.when == "call":
                 self.left_out.append((report.nodeid, value))
         if report.skipped:
@@ -109,6 +112,8 @@ class Told:
             with open(config.getoption("--times"), "w", encoding="utf-8") as file:
                 file.writelines(f"{self.seconds[it]:8.2f} {it}\n" for it in sorted(self.seconds, key=self.seconds.get, reverse=True))
                 file.write(f"{sum(self.seconds.values()):8.2f} all\n")
+        for what in self.told:
+            terminalreporter.write_line(what)
         for test, what in self.left_out:
             terminalreporter.write_line(f"left out: {test}: {what}")
         terminalreporter.write_line(f"{sum(self.cases.values()):,} cases")
@@ -134,7 +139,7 @@ def pytest_configure(config):
         # (the processes of xdist share what this one has made)
         os.environ[case_table.LAID_OUT] = case_table.CASES
         have_scripts_run_by_this_interpreter()
-    cases.ends_at_first, cases.most = config.getoption("--first"), config.getoption("--up-to")
+    cases.ends_at_first, cases.most, cases.alone = config.getoption("--first"), config.getoption("--up-to"), config.getoption("--item")
     if cases.ends_at_first:
         config.option.maxfail = 1
     if config.getoption("--times"):

@@ -11,7 +11,7 @@ import os
 import subprocess
 
 import pytest
-from cases import same
+from cases import each, same
 from check_model import Session as Judged
 from session_text import LOGS, SessionText
 from test_explained import is_large, made_texts
@@ -67,6 +67,6 @@ class Tests:
 @pytest.mark.cases(4400)
 def test_all_faults(program):
     tests = Tests(program)
-    for file, text in [it for it in made_texts() if not is_large(it[1])][1::3]:
+    for file, text in each([it for it in made_texts() if not is_large(it[1])][1::3]):
         tests.session(os.path.relpath(file, TOP), text)
     same("sessions with faults on more than one page", tests.most > 1, True)

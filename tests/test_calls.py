@@ -16,7 +16,7 @@ import subprocess
 import cases
 import pytest
 from call_crates import CALLS, listed, modules_with_tests
-from cases import count
+from cases import count, each
 from planted_programs import program_with_bodies
 
 # How long one test may take, in seconds, on a slow machine that other work uses too, and where a wrong body may wait for ever. Most end
@@ -33,7 +33,7 @@ def test_calls(made_once, pytestconfig, module):
     told = subprocess.run([program, "--list"], stdin=subprocess.DEVNULL, stdout=subprocess.PIPE, text=True).stdout
     tests = re.findall(rf"^({module}::\w+): test$", told, re.M)
     assert len(tests) == MODULES[module]
-    for test in tests:
+    for test in each(tests):
         ran = subprocess.run([program, test], stdin=subprocess.DEVNULL, stdout=subprocess.PIPE, stderr=subprocess.STDOUT, errors="replace",
                              timeout=SHORT_LIMIT if cases.ends_at_first else LIMIT)
         count(ran.returncode == 0, f"{test}: {ran.stdout[-3000:]}")

@@ -19,7 +19,7 @@ import subprocess
 
 from case_table import case_files
 import pytest
-from cases import count
+from cases import count, each
 from note_model import note, was_owed
 from session_text import RECEIPTS, SessionText
 from test_explained import is_large
@@ -176,18 +176,23 @@ def compare(program, folder, text, counts, early):
                 counts["pages alone"] = counts.get("pages alone", 0) + 1
 
 
+def sessions():
+    """Those of the folders, and these with changes."""
+    for text in known():
+        try:
+            is_whole = missing(SessionText(text), WHOLE) is None
+        except (IndexError, ValueError):
+            continue
+        rng = random.Random(text)
+        yield from (text, *(changed(rng, text) for _ in range(0 if is_large(text) else CHANGES if is_whole else 2)))
+
+
 @pytest.mark.slow
 @pytest.mark.cases(4100)
 def test_completeness(program, room):
-    rng, counts, early = random.Random(20), {}, set()
-    for text in known():
-        try:
-            SessionText(text)
-        except (IndexError, ValueError):
-            continue
-        whole = missing(SessionText(text), WHOLE) is None
-        for each in [text] + [changed(rng, text) for _ in range(0 if is_large(text) else CHANGES if whole else 2)]:
-            compare(program, room, each, counts, early)
+    counts, early = {}, set()
+    for text in each(sessions()):
+        compare(program, room, text, counts, early)
     for kind in ("halt", "returned", "resume", "page", "all", "done", "line"):
         count(counts.get(f"incomplete {kind}"), f"no session lacks this first: {kind}")
     for word in ("all", "done"):

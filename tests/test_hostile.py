@@ -25,7 +25,7 @@ from typing import NamedTuple
 
 import pytest
 from case_table import case_file
-from cases import right
+from cases import each, right
 from check_model import Session, run_not_walked, verdict
 from expected_words import place_of, texts_beyond, texts_of
 from note_model import NO_USE, note
@@ -834,7 +834,7 @@ def pool(program, room, refusing):
 @pytest.mark.cases(800)
 def test_refused(program, room, pool, is_all):
     """Each open, read and write is refused in turn."""
-    for found in pool.map(refused_in_turn, [*SHOWN, *(larger_session(program, f"{room}/larger") if is_all else [])]):
+    for found in each([*SHOWN, *(larger_session(program, f"{room}/larger") if is_all else [])], lambda some: pool.map(refused_in_turn, some)):
         for wrong in found:
             right(wrong)
 

@@ -22,7 +22,7 @@ from concurrent.futures import ThreadPoolExecutor
 
 import pytest
 import test_random_schedules as schedules
-from cases import right
+from cases import each, right
 from check_model import Session, verdict
 from report_model import first_line, judgement
 from session_text import SessionText
@@ -249,7 +249,7 @@ def test_later_releases(program):
         texts.append(with_a_change(rng, carried) if seed % 4 == 3 else with_a_back(random.Random(seed), carried) if seed % 8 == 5 else carried)
     found = set()
     with ThreadPoolExecutor(os.cpu_count()) as pool:
-        for seed, (kind, wrong) in enumerate(pool.map(lambda text: judged(program, text), texts)):
+        for seed, (kind, wrong) in each(enumerate(texts), lambda some: pool.map(lambda it: (it[0], judged(program, it[1])), some)):
             found.add(kind)
             right(wrong, f"session {seed}")
     kinds = ("clean", "clean, with a fresh page", "early", "read", "over")

@@ -20,7 +20,7 @@ import subprocess
 
 import cases
 import pytest
-from cases import leave_out, right
+from cases import each, leave_out, right
 from guests import AFTER, BEFORE, guest_log, random_op, strays_from_the_script, wrong_read
 from session_text import SessionText
 from steps_model import Script, contents_of
@@ -346,7 +346,7 @@ def scripts():
 @pytest.mark.cases(1070)
 def test_migrations(program):
     kinds = set()
-    for name, text, words, runs in scripts():
+    for name, text, words, runs in each(scripts()):
         for run in range(runs):
             right(fault_of(program, text, ["migrate", *words], kinds), f"{name}, run {run}")
     assert "pull" in kinds, "no run took a page from a lane"

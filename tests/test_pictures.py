@@ -21,7 +21,7 @@ import xml.etree.ElementTree as ElementTree
 import case_table
 import pytest
 import test_random_schedules as schedules
-from cases import right
+from cases import each, right
 from check_model import Session, run_not_walked
 from picture_model import Told, is_in_every_order, sentences_of
 from picture_rows import own_rows
@@ -339,7 +339,7 @@ def sessions():
 @pytest.mark.cases(2300)
 def test_pictures(program, room):
     kinds, asked = set(), Program(program, room)
-    for number, (name, session) in enumerate(sessions()):
+    for number, (name, session) in each(enumerate(sessions())):
         found, kind = drawn_wrongly(asked, session)
         kinds.add(kind)
         right(found, name)

@@ -11,10 +11,11 @@ import os
 import random
 import subprocess
 from concurrent.futures import ProcessPoolExecutor
+from functools import partial
 
 from case_table import case_files, name_of
 import pytest
-from cases import right
+from cases import each, right
 from guests import AFTER, BEFORE, guest_log, random_op, strays_from_the_script
 from steps_model import Migration, Script, contents_of, recorded
 
@@ -126,10 +127,9 @@ def found_in(script, events):
 
 
 def tried(program, seed):
-    """What a schedule shows, how many events it has, and what is wrong. Half of them are of the second version, and half of
-    these have a lane."""
+    """A schedule's number, what it shows, and what is wrong. Half of them are of the second version, and half of these have a lane."""
     script, events = random_schedule(seed // 2, seed % 2 + 1)
-    return found_in(script, events), events.count("\n") - 3, fault_of(program, script, events, recorded(script, events))
+    return seed, (found_in(script, events), fault_of(program, script, events, recorded(script, events)))
 
 
 def folder_fault(program, folder):
@@ -166,8 +166,7 @@ def test_folders(program):
 def test_random_schedules(program):
     found = set()
     with ProcessPoolExecutor(os.cpu_count()) as pool:
-        seeds = range(SCHEDULES)
-        for seed, (shown, _, wrong) in zip(seeds, pool.map(tried, [program] * SCHEDULES, seeds, chunksize=5)):
+        for seed, (shown, wrong) in each(range(SCHEDULES), lambda seeds: pool.map(partial(tried, program), seeds, chunksize=5)):
             found |= shown
             right(wrong, f"schedule {seed}")
     wanted = RECORDS | {(event, what) for event in EVENTS for what in (0, 1, 2, 3, "something", "nothing")}

@@ -10,7 +10,7 @@ import os
 import subprocess
 
 import pytest
-from cases import count, same
+from cases import count, each, same
 from test_objects import is_refused
 
 TOP = os.path.dirname(os.path.dirname(os.path.realpath(__file__)))
@@ -139,7 +139,7 @@ def test_refusals(program, room):
     """What is told of each text, by the command that wants one of its kind, by `explain`, and in an object."""
     for name in ("handover/session", "two-wait-for-a-page/script", "two-wait-for-a-page/events"):
         os.symlink(f"{TOP}/examples/{name}", f"{room}/{os.path.basename(name)}")
-    for kind, text, place, told in TOLD:
+    for kind, text, place, told in each(TOLD):
         words = KINDS[kind][2].split(" ")
         ran = subprocess.run([program, *words], input=given(text), stdout=subprocess.PIPE, stderr=subprocess.PIPE, cwd=room)
         said = ran.stderr.decode("ascii").split("\n")

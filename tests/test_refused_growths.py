@@ -16,7 +16,7 @@ import subprocess
 import pytest
 import test_hostile as hostile
 from case_table import case_file
-from cases import right
+from cases import each, right
 from command_table import commands
 from test_saved import Run, recorded
 
@@ -191,7 +191,7 @@ NO_COMMAND = ((), ("--help",), ("--version",), ("help", "audit"), ("-",))
 
 def refuse(given, is_all):
     """Of each combination, what went wrong itself, and then for each growth that is refused."""
-    for turn, (words, text, is_old, between) in enumerate(given):
+    for turn, (words, text, is_old, between) in each(enumerate(given)):
         tries = Tries(words, text, is_old)
         right(tries.wrong)
         for first, last in chosen(tries.growths, turn, between, is_all):

@@ -13,7 +13,7 @@ import xml.etree.ElementTree as ElementTree
 
 import pytest
 from case_table import case_file
-from cases import count, right, same
+from cases import count, each, right, same
 from picture_lines import lines_of
 from picture_shapes import Drawing, looks_wrongly
 
@@ -85,7 +85,7 @@ def drawn(program, words):
 @pytest.mark.cases(294)
 def test_shapes(program):
     told = set()
-    for path in sorted(glob.glob(f"{TOP}/tests/shapes/*")):
+    for path in each(sorted(glob.glob(f"{TOP}/tests/shapes/*"))):
         words, *wanted = read(path).splitlines()
         found, what = drawn(program, words.split(" ")), os.path.basename(path)
         for n, line in enumerate(wanted):
