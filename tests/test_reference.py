@@ -15,6 +15,9 @@ import calls  # noqa: E402
 import definitions  # noqa: E402
 import reference  # noqa: E402
 
+# (one process reads the tree's sources)
+pytestmark = pytest.mark.xdist_group("reference")
+
 # Two crates. By hand: `safe` rests on IsSafe (2 lines), Demand (4), with_cell (2), Move (3), of which the file of Moves comes first, and
 # not on `start`, which IsSafe binds, nor on `unused`. The contract of `answer` rests on Told (3) too, as its argument is of a type that it sees so.
 # The field `left` of Told alone (2) rests on nothing else.

@@ -82,6 +82,10 @@ def commands(prefix):
     return list(commands_of(prefix))
 
 
+# Those that need a copy of the tree, or the files of a release, which one process makes once.
+of_a_tree = pytest.mark.xdist_group("release")
+
+
 @pytest.fixture(scope="module")
 def tree(tmp_path_factory):
     return copy_of_tree(f"{tmp_path_factory.mktemp('tree')}/tree")
@@ -275,6 +279,7 @@ def test_removal_without_a_right(room):
     os.chmod(prefix, 0o755)
 
 
+@of_a_tree
 @pytest.mark.cases(2)
 def test_library_without_room(tree):
     """A library that cannot be put into a checkout: that is told, and no part of it stays."""
@@ -482,6 +487,7 @@ def copy_of_tree(place):
     return place
 
 
+@of_a_tree
 @pytest.mark.cases(14)
 def test_release(tree, release, room):
     """Files of a release, made twice in two places, and when none are made."""
@@ -537,6 +543,7 @@ def shell_lines(name):
     return re.findall(r"^ +(?:- )?run: (.*)$|^    - (.*)$|^RUN (.*)$", text, re.M)
 
 
+@of_a_tree
 @pytest.mark.cases(11)
 def test_workflows(tree, room):
     """The shell lines of the workflows and of the container, with folders of the test in place of those that they name. Those that
@@ -593,6 +600,7 @@ def lines_below(part):
     return own + [line for its in part.values() for line in lines_below(its)]
 
 
+@of_a_tree
 @pytest.mark.qemu
 @pytest.mark.slow
 @pytest.mark.cases(6)
@@ -620,6 +628,7 @@ def test_workflow_of_qemu(tree, room, program):
     same("the folder", len(read(f"{room}/work/migrations/results").splitlines()), 2)
 
 
+@of_a_tree
 @pytest.mark.cases(4)
 def test_archive(release, room):
     """The archive, unpacked anywhere."""
@@ -639,6 +648,7 @@ def test_archive(release, room):
         same("the paths that pkg-config tells", found, [f"{at}/include", f"{at}/lib"])
 
 
+@of_a_tree
 @pytest.mark.cases(7)
 def test_packages(release, room):
     """The packages for Debian: who keeps them, lintian, an installation into a folder, and its removal."""
@@ -683,6 +693,7 @@ def test_packages(release, room):
     same("what stays of the packages", [it for it in (*files_below(root), *folders_below(root)) if not f"{it}/".startswith(("./", "var/"))], [])
 
 
+@of_a_tree
 @pytest.mark.cases(3)
 def test_wheel(release, room):
     """The wheel of an index: its tag, what it holds, and that pip takes it."""
