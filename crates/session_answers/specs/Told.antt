@@ -4,7 +4,6 @@ use Rattle.text_lines.specs.Text.{ended}
 use Rattle.migration_types.specs.Sessions.{Recorded}
 use Rattle.audit_report.specs.declared.report.Report.{Report}
 use Rattle.audit_report.specs.ReportText.{first_line_by}
-use Rattle.audit_report.specs.ToldLines.{own}
 use Rattle.audit_report.specs.MissingText.{missing_text}
 use Rattle.audit_report.specs.RefusalText.{refusal_text}
 use Rattle.completeness.specs.declared.lack.Lack.{Lack}
@@ -29,10 +28,6 @@ pub record IsToldText (tell : ℕ → ℕ) (s : Recorded) (r : Report) (topic : 
   pub words : List ℕ
   pub are_words : AreWordsOn (λ _. IsLine) s r topic words
   pub text_is : text ≡ ended (first_line_by tell r ∷ []) ++ words
-
--- the text of the story of the report
-abbrev pub IsExplainedText : Recorded → Report → List ℕ → Type 0
-IsExplainedText s r text = IsToldText own s r topic.Report text
 
 -- the line that says what is missing, with its line number mapped, and then the words about what the session lacks
 pub record IsLackingText (tell : ℕ → ℕ) (s : Recorded) (m : Lack) (text : List ℕ) : Type 0 where

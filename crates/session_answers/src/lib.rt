@@ -22,4 +22,4 @@ pub use objects::{
 };
 pub use reports::{print_refusal, print_told};
 pub use stories::{print_story, print_story_refusal};
-pub use telling::{print_explained, print_missing, print_refused, print_topic, words_on};
+pub use telling::{print_missing, print_refused, print_topic, words_on};

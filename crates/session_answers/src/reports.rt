@@ -1,6 +1,6 @@
 //! The report on a session, written in a form.
 
-ghost use Rattle.std.specs.Prelude.{◌≡◌, IfOk};
+ghost use Rattle.std.specs.Prelude.{IfOk};
 ghost use Rattle.page_facts.specs.FaultyPages.{AreFaultyPages};
 ghost use Rattle.audit_report.specs.Reports.{IsReport, JudgesPages, ReportFits};
 ghost use Rattle.session_answers.specs.Judged.{Refused, Reported};

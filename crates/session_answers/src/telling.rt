@@ -3,11 +3,9 @@
 ghost use Rattle.std.specs.Prelude.{IfOk, string_bytes};
 ghost use Rattle.audit_report.specs.Reports.{IsReport};
 ghost use Rattle.completeness.specs.Complete.{IsFirstMissing};
-ghost use Rattle.session_answers.specs.Told.{AreWordsOn, IsExplainedText, IsLackingText, IsRefusedText, IsToldText};
+ghost use Rattle.session_answers.specs.Told.{AreWordsOn, IsLackingText, IsRefusedText, IsToldText};
 
-use audit_report::{
-    Lines, OwnLines, Report, push_first_line_by, push_missing, push_refused_session_by,
-};
+use audit_report::{Lines, Report, push_first_line_by, push_missing, push_refused_session_by};
 use completeness::Lack;
 use migration_types::{Session, Topic};
 use session_story::tell;
@@ -55,19 +53,6 @@ pub fn print_topic<L: Lines>(
     push_first_line_by(&mut text, lines, report)?;
     text.extend_from_slice(words.as_bytes())?;
     Ok(text)
-}
-
-/// Returns the story of the report on a session, in words, after the report's first line, as [`print_topic`] does, with
-/// the line numbers of the session's own text. Fails only if memory runs out.
-pub fn print_explained(
-    alloc: Global,
-    session: &Session,
-    report: &Report,
-) -> Result<Vec<u8>, AllocError>
-    requires { IsReport session.now report.now }
-    ensures { IfOk result (λ text. IsExplainedText session.now report.now text.items) }
-{
-    print_topic(alloc, &OwnLines, session, report, Topic::Report)
 }
 
 /// Returns what a clean session lacks, in words, after the line that says it, with its line numbers from `lines`. Each
