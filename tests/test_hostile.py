@@ -39,7 +39,6 @@ TOLD = 99
 MEMORY = b"out of memory\n"
 NO_MERGING = b"-: these runs do not take each record of the session once, after the record that it names\n"
 NOTE = f"note: {NO_USE}\n".encode()
-NOT_THE_SAME = b": it is read four times and has to be the same each time, as a pipe is not: name a file that stays\n"
 
 # A session with a record of each kind, and scripts with an operation of each, at the limits of their fields.
 KINDS = b"""postcopy-session 1
@@ -406,9 +405,8 @@ SHOWN = (
 
 
 def read_in_order(words, names):
-    """The inputs of a command as they are opened and read: a recording four times, and a table of lines after its session."""
-    inputs = sorted((word for word in words.split()[1:] if word in names or word == "-"), key=lambda it: it == "lines")
-    return inputs * 4 if words.startswith("window ") else inputs
+    """The inputs of a command as they are opened and read: a table of lines after its session."""
+    return sorted((word for word in words.split()[1:] if word in names or word == "-"), key=lambda it: it == "lines")
 
 
 def failed(name, why):
@@ -447,19 +445,12 @@ def refused_in_turn(case):
     starved = Outcome(4, b"", MEMORY)
     inputs = read_in_order(words, names)
     shared = inputs == ["-", "-"]
-    # (of a recording it is not told why)
-    not_whole = "the text was not read to its end" if words.startswith("window ") else None
     for n in range(1, reads + 1):
         # Each input is read until it ends: by two reads.
         name = inputs[0] if shared else inputs[(n - 1) // 2]
-        same(f"read {n} {n} {errno.EIO}", failed(name, not_whole or "input/output error"))
+        same(f"read {n} {n} {errno.EIO}", failed(name, "input/output error"))
         same(f"read {n} {n} {errno.EINTR}", plain)
         same(f"read {n} {n} {errno.ENOMEM}", starved)
-    if words.startswith("window ") and plain.status == 0:
-        # (a later time there is nothing more, as in a pipe, or in a file that was cut)
-        changed = Outcome(3, b"", b"file recording\nrecording" + NOT_THE_SAME)
-        for n in range(3, reads + 1, 2):
-            same(f"read {n} {n} none", changed)
     for n in range(1, opens + 1 if plain.status < 2 else 1):
         name = [it for it in inputs if it != "-"][n - 1]
         same(f"open {n} {n} {errno.EACCES}", failed(name, "permission denied"))
@@ -588,7 +579,7 @@ UNREAD = (
     ("check session .", ".", FOLDER),
     ("replay session .", ".", FOLDER),
     ("steps script .", ".", FOLDER),
-    ("window - 0 1", "-", NOT_THE_SAME.decode().strip().removeprefix(": ")),
+    ("window - 0 1", "-", None),
     ("window . 0 1", ".", NO_SESSION),
     ("window missing 0 1", "missing", NO_FILE),
     ("explain --lines . session", ".", FOLDER),

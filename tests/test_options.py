@@ -191,7 +191,7 @@ HELP = {
     "draw": ("Draw the records of a session as SVG, in the order of its report or of runs. Example: postcopy draw session -o picture.svg",
              {"<SESSION>": SESSION, "[RUNS]": RUNS}, PICKED),
     "window": ("Write the session of some pages of a recording. Example: postcopy window recording 4096 1024 -o session",
-               {"<RECORDING>": "Recording file, of any size. It is read four times, so it cannot be - or a pipe", "<FIRST>": "Number of the first page", "<COUNT>": "Number of pages"}, LINED),
+               {"<INPUT>": "Folder with files of recorders, of a recording of any size. Or a session file, or - for standard input", "<FIRST>": "Number of the first page", "<COUNT>": "Number of pages"}, LINED),
     "session": ("Make the session of the files that recorders left in folders. Example: postcopy session recording -o session",
                 {"<FOLDER>...": "Folder with files of recorders. A recording may be spread over several folders"},
                 {"--cut": "If something is missing, write what is left, cut so that no record names one that is missing"}),

@@ -24,7 +24,7 @@ from test_saved import Run, recorded
 VALUES = {"--output": ["new"], "--lines": ["lines", "./new"], "--page": ["0"], "--line": ["9"]}
 
 # The file that is given for a word, and what is given for one that is a number.
-FILES = {"SESSION": "session", "CERT": "certificate", "RUNS": "runs", "SCRIPT": "script", "EVENTS": "events", "RECORDING": "session", "FOLDER": "session"}
+FILES = {"SESSION": "session", "CERT": "certificate", "RUNS": "runs", "SCRIPT": "script", "EVENTS": "events", "INPUT": "session", "FOLDER": "session"}
 NUMBERS = {"FIRST": ["0"], "COUNT": ["1", "9"]}
 
 # Where the files are. The sessions of `whole` and `spread` are folders of recorders' files, the second with another one beside it; that of

@@ -1,11 +1,12 @@
 """Cuts windows out of recordings, and compares each with that of a slow model, and has windows explained by the recording's lines.
 
-The model is window_model.py, which refuses nothing: the line at which a recording is refused comes of text_judge.py. Cut are the
-recordings of made_recordings.py, each through several windows; texts with a change in some line, cut short, or with numbers at
-their limits; and recordings with more pages, and more records in a log, than a session has. Where a session has the right shape
+The model is window_model.py, which refuses nothing: the line at which a session is refused comes of text_judge.py. Cut are the
+sessions of made_recordings.py, each through several windows; texts with a change in some line, cut short, or with numbers at
+their limits; and sessions with many pages, and many records in a log. Where a session has the right shape
 and an order, the window of all its pages has to be judged as it is. Where no record names what is not there,
-bindings/python/postcopy/sessions.py has to cut the same, and so has recorders/session of the files that recorders write, also where it cuts many
-windows out of larger ones. A recording of some hundred megabytes is cut in memory of a small part of it.
+bindings/python/postcopy/sessions.py has to cut the same, and so has `window` of a folder with the files that recorders write, and
+recorders/session of these, also where it cuts many windows out of larger ones. A recording of some hundred megabytes, of a machine
+that is larger than any session's, is cut out of its files in memory of a small part of it.
 
 What `explain --lines` says has to be what `explain` says, with each number after the word `line` or `Line` told by the table.
 """
@@ -31,17 +32,21 @@ from postcopy.sessions import Session
 # How many sessions are recorded of random schedules, and how many are of random records; of how many windows explanations are asked.
 RECORDED, RANDOM, EXPLAINED = 150, 500, 40
 
+# What is told of a folder from which the file with the recording's name is gone.
+GONE = ("{0}: note: the file recording-name is gone, which each recorder writes; that the files are of one recording is known by their "
+        "second lines\n")
+
 # The recording that is larger than the memory that may be used for it: so many bytes of each, about.
 LARGE, LITTLE = 320_000_000, 40_000_000
 
 # What is told of a refused recording, and of a line to which only a line feed is lacking.
 REFUSED = re.compile(r"recording:\d+:\d+: (this is |found |the text )[ -~]+\n")
 LINE_FEED = "expected a line feed after "
+NOTHING = '-:1:1: the text is empty; expected "postcopy-session 1", "postcopy-session 2" or "postcopy-session 3"\n'
 CUT = 'cut:4:6: the text ends in the middle of a line, after "init "; expected N, a number from 0 to 4, as in "init N"\n'
 
-# What is told below `file NAME` of a recording that cannot be read four times.
+# What is told of pages that the machine does not have.
 OUTSIDE = "recording: the window has no page, or one that the machine of this recording does not have\n"
-NOT_THE_SAME = ": it is read four times and has to be the same each time, as a pipe is not: name a file that stays\n"
 
 
 class Tests:
@@ -79,7 +84,7 @@ class Tests:
 
     def why(self, what, told, errors):
         """What is told of a refused recording: its line, and as expected what is not refused there; and of a window that is none, why."""
-        if not told.startswith("recording-text line "):
+        if not told.startswith("session-text line "):
             self.same(f"the errors of {what}", errors, OUTSIDE if told == "no-such-pages\n" else "")
             return
         self.same(f"the words of {what}", REFUSED.fullmatch(errors) is not None, True)
@@ -91,7 +96,7 @@ class Tests:
             is_there = again == told and place_of(more)[1] <= place_of(errors)[1] and LINE_FEED not in more
             self.same(f"what {errors!r} of {what} expects", is_there, False)
         for changed in texts_beyond(errors.rstrip("\n"), self.has("recording")):
-            self.same(f"whether {changed.splitlines()[line - 1]!r} in the place of {errors!r} of {what} is refused", refusal_line("recording", changed.encode("latin-1")), line)
+            self.same(f"whether {changed.splitlines()[line - 1]!r} in the place of {errors!r} of {what} is refused", refusal_line("session", changed.encode("latin-1")), line)
 
     def is_cut(self, what, first, count, told, lines):
         """Whether what is told of a window of the file `recording` is this, with these lines; with none where there is no window."""
@@ -107,9 +112,9 @@ class Tests:
 
 def wanted_of(text, first, count):
     """The model's answer: the window and its lines, or the line that is written where there is none."""
-    line = refusal_line("recording", text.encode("latin-1"))
+    line = refusal_line("session", text.encode("latin-1"))
     if line is not None:
-        return f"recording-text line {line}\n", None
+        return f"session-text line {line}\n", None
     if count == 0 or first + count > pages_of(text):
         return "no-such-pages\n", None
     return window(text, first, count)
@@ -121,7 +126,7 @@ def windows_of_all(tests, rng):
     for texts, most in ((known_texts(), 6), (list(recorded_texts(rng, RECORDED)), 4), ([(f"random {it}", random_text(rng)) for it in range(RANDOM)], 3)):
         for what, text in texts:
             tests.put("recording", text)
-            line = refusal_line("recording", text.encode("latin-1"))
+            line = refusal_line("session", text.encode("latin-1"))
             for first, count in some_windows(rng, pages_of(text), most) if line is None else [(0, 1)]:
                 found = tests.cut(what, text, first, count)
                 if found and count == pages_of(text):
@@ -185,9 +190,31 @@ def script(tests, *words):
     return run_script(tests.program, *words, cwd=tests.room)
 
 
+def cut_out_of_a_folder(tests, what, text, folder):
+    """The windows of the files of a session, where these lack nothing, are those of what `session` writes of them, with the same lines."""
+    files_of(SessionText(text), f"{tests.room}/{folder}", 2, random.Random(5))
+    session, errors, status = tests.run("session", folder)
+    pages = pages_of(text)
+    for first, count in ((0, pages), (pages - 1, 1), (0, pages + 1)):
+        told = tests.run("window", folder, first, count, "--lines", f"lines-{folder}")
+        if status:
+            wanted = ("", f"{errors}file {folder}\n{folder}: its files make no session\n", 3)
+            tests.same(f"the window {first} {count} of the files of {what}, which lack something", told, wanted)
+            tests.note("lacking")
+        elif first + count > pages:
+            wanted = ("no-such-pages\n", GONE.format(folder) + OUTSIDE.replace("recording:", f"{folder}:"), 1)
+            tests.same(f"the window {first} {count} of the files of {what}", told, wanted)
+        else:
+            cut, lines = window(session, first, count)
+            tests.same(f"the window {first} {count} of the files of {what}", told, (cut, GONE.format(folder), 0))
+            tests.same(f"the lines of the window {first} {count} of the files of {what}", tests.has(f"lines-{folder}"), lines_text(lines))
+            tests.note("cut out of files")
+
+
 def cut_by_the_recorders(tests, judged):
     """recorders/session writes the whole recording, out of which the windows that it cuts itself are cut."""
     for number, (what, text) in enumerate(judged[::12]):
+        cut_out_of_a_folder(tests, what, text, f"of-{number}")
         if "\nlane 0\n" in text:
             continue
         folder, size = f"by-{number}", max(1, pages_of(text) // 2)
@@ -235,7 +262,7 @@ def wrong_words(tests):
     """What is no command, and what is not read; the files of the answer stay as they were."""
     text = text_of(f"{TOP}/examples/recording/session")
     tests.put("recording", text)
-    tests.put("-", text)  # a file of this name can be read, and is not meant
+    tests.put("-", "no session\n")  # a file of this name can be read, and is not meant
     tests.put("kept", "as it was\n")
     tests.put("cut", text[:40])
     os.mkdir(f"{tests.room}/folder")
@@ -247,12 +274,12 @@ def wrong_words(tests):
     tests.put("table", "as it was\n")
     both = ("-o", "kept", "--lines", "table")
     for words, wanted in (
-        (("-", 0, 1), ("", f"file -\n-{NOT_THE_SAME}", 3)),
+        (("-", 4, 1), ("session-text line 1\n", NOTHING, 1)),
         (("none", 0, 1), ("", "file none\nnone: no such file or directory\n", 3)),
         (("folder", 0, 1), ("", "session: folder: there is no file of a recorder, PARTY.PROCESS.N\nfile folder\nfolder: its files make no session\n", 3)),
         (("recording", 4, 1), ("no-such-pages\n", OUTSIDE, 1)),
         (("recording", 0, 0), ("no-such-pages\n", OUTSIDE, 1)),
-        (("cut", 0, 1), ("recording-text line 4\n", CUT, 1)),
+        (("cut", 0, 1), ("session-text line 4\n", CUT, 1)),
     ):
         tests.same(f"window {words}", tests.run("window", *words), wanted)
         tests.same(f"window {words} into files", tests.run("window", *words, *both), wanted)
@@ -272,22 +299,23 @@ def wrong_words(tests):
 
 
 def pipes(tests):
-    """A recording that comes by a pipe is no fault of the text: it cannot be read four times."""
+    """A session's text may come by a pipe; a file in a folder may not, since it is read several times."""
     text = text_of(f"{TOP}/examples/recording/session")
     tests.put("recording", text)
     told = tests.run("window", "recording", 1, 2)[0]
+    tests.same("the window of the input", tests.run("window", "-", 1, 2, given=text), (told, "", 0))
     os.mkfifo(f"{tests.room}/pipe")
-    for name, line in (("pipe", "{cat} > pipe & {window} pipe 1 2; kill $! 2> {null}; wait"), ("/dev/stdin", "{cat} | {window} /dev/stdin 1 2"),
-                       ("/dev/fd/7", "{window} /dev/fd/7 1 2 7< <({cat})"), ("/dev/fd/7", "{window} /dev/fd/7 1 2 -o kept --lines table 7< <({cat})")):
-        tests.put("kept", "as it was\n")
-        tests.put("table", "as it was\n")
+    for line in ("{cat} > pipe & {window} pipe 1 2; kill $! 2> {null}; wait", "{cat} | {window} /dev/stdin 1 2", "{window} /dev/fd/7 1 2 7< <({cat})"):
         line = "timeout 20 " + line if line.startswith("{window}") else line.replace("{window}", "timeout 20 {window}")
         line = line.format(cat="cat recording", window=f"'{tests.program}' window", null=os.devnull)
         ran = subprocess.run(["bash", "-c", line], cwd=tests.room, stdin=subprocess.DEVNULL, capture_output=True, text=True)
-        tests.same(f"the window of a pipe by {line}", (ran.stdout, ran.stderr), ("", f"file {name}\n{name}{NOT_THE_SAME}"))
-        tests.same(f"the files of {line}", (tests.has("kept"), tests.has("table")), ("as it was\n", "as it was\n"))
-    ran = subprocess.run([tests.program, "window", "/dev/stdin", "1", "2"], cwd=tests.room, stdin=open(f"{tests.room}/recording", "rb"), capture_output=True, text=True)
-    tests.same("the window of a file that is standard input", (ran.stdout, ran.stderr, ran.returncode), (told, "", 0))
+        tests.same(f"the window of a pipe by {line}", (ran.stdout, ran.stderr), (told, ""))
+    files_of(SessionText(text), f"{tests.room}/piped")
+    os.remove(f"{tests.room}/piped/guest.1.0")
+    os.mkfifo(f"{tests.room}/piped/guest.1.0")
+    output, errors, status = tests.run("window", "piped", 1, 2)
+    wanted = "file piped/guest.1.0\npiped/guest.1.0: it is read several times and has to be the same each time, as a pipe is not\n"
+    tests.same("the window of a folder with a pipe", (output, errors, status), ("", wanted + "file piped\npiped: its files make no session\n", 3))
 
 
 # The recording's lines in an explanation.
@@ -297,7 +325,7 @@ def explained(tests, rng, whole):
     """What `explain --lines` says of windows, of the report, of a page, of a line, and as an object."""
     texts = [(what, text) for what, text, _, _ in whole if len(text) < 10000]
     for what, text in rng.sample(texts, min(EXPLAINED, len(texts))) + known_texts()[:20]:
-        if refusal_line("recording", text.encode("latin-1")) is not None:
+        if refusal_line("session", text.encode("latin-1")) is not None:
             cut, lines = text, [2 * line for line in range(1, text.count("\n") + 1)]
         else:
             first = rng.randrange(pages_of(text))
@@ -386,22 +414,24 @@ def larger(tests, rng):
 
 
 def memory(tests):
-    """A recording of which a window is cut in memory of a small part of it. What is of other pages stands at the end of each log, so
-    that nothing that is kept has another number for it, and the model need not see it."""
+    """A recording of a machine that is larger than any session's, of which a window is cut in memory of a small part of it. What is of other
+    pages stands at the end of each log, so that nothing that is kept has another number for it, and the model need not see it."""
     few = SessionText(text_of(f"{TOP}/examples/recording/session"))
+    few.tell_in(3)
     contents = few.head[4].split(" ")[2]
     cells = len(contents) // 16
-    more = {"guest": f"r 63 4000000000 0 {2**64 - 1}\n", "source": f"send 4000000000 {'0123456789abcdef' * cells}\n", "pager": "want 4000000000\n"}
-    numbers = {log: LARGE // len(more) // len(line) for log, line in more.items()}
+    more = {"guest": f"r 63 4000000000 0 {2**64 - 1}", "source": f"send 4000000000 {'0123456789abcdef' * cells}", "pager": "want 4000000000"}
+    numbers = {log: LARGE // len(more) // (len(line) + 8) for log, line in more.items()}
     pages = pages_of(few.text())
     cut, lines = window(few.text(), 0, pages)
-    with open(f"{tests.room}/large", "w", encoding="ascii") as file:
-        file.write("\n".join([few.head[0], "pages 4000000001", *few.head[2:], ""]))
-        for log in few.told():
-            file.write(f"{log} {len(few.logs[log]) + numbers.get(log, 0)}\n" + "".join(f"{record}\n" for record in few.logs[log]))
-            for part in range(0, numbers.get(log, 0), 10_000):
-                file.write(more[log] * min(10_000, numbers[log] - part))
-        file.write("end\n")
+    os.mkdir(f"{tests.room}/large")
+    for log, records in (("machine", ["pages 4000000001 " + few.head[2].split(" ")[1], *few.head[4:]]), *((log, few.logs[log]) for log in few.told())):
+        length = len(records) + numbers.get(log, 0)
+        with open(f"{tests.room}/large/{log}.1.0", "w", encoding="ascii") as file:
+            file.write(f"postcopy-records 1\nrecording made\nlog {log} 0 0\n" + "".join(f"{number} {record}\n" for number, record in enumerate(records)))
+            for part in range(len(records), length, 10_000):
+                file.write("".join(f"{number} {more[log]}\n" for number in range(part, min(part + 10_000, length))))
+            file.write(f"end {length}\n")
 
     def moved(line):
         return line + sum(number for log, number in numbers.items() if line >= few.line(log, len(few.logs[log])))
@@ -411,9 +441,8 @@ def memory(tests):
         limit = {}
         leave_out("the limit on memory, within which the program does not begin")
     found = tests.run("window", "large", 0, pages, "--lines", "table", **limit)
-    tests.same("the window of a recording that is larger than memory", found, (cut, "", 0))
+    tests.same("the window of a recording that is larger than memory", found, (cut, GONE.format("large"), 0))
     tests.same("its lines", tests.has("table"), lines_text(map(moved, lines)))
-    os.remove(f"{tests.room}/large")
 
 
 def beyond_in_python(tests):
@@ -449,7 +478,7 @@ def test_windows(tests):
     refusals(tests, rng)
     explained(tests, rng, whole)
     larger(tests, rng)
-    assert {*tests.kinds} >= {"cut", "recording-text", "no-such-pages", "judged alike", "knots", "told by other lines"}
+    assert {*tests.kinds} >= {"cut", "session-text", "no-such-pages", "judged alike", "knots", "told by other lines", "cut out of files"}
 
 
 @pytest.mark.parametrize("part", (

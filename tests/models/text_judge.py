@@ -23,10 +23,8 @@ def sized(pages, in_all, records):
 
 
 SMALL, LARGE = sized(2**16, 2**20, 2**20), sized(2**24, 2**24, 2**27)
-# The limits of sessions and of certificates by their version. A recording has its own, of whatever version it is.
+# The limits of sessions and of certificates by their version.
 OF_VERSION = {1: SMALL, 2: SMALL, 3: LARGE}
-WIDE = Limits(2**63 - 1, lambda pages: 512, 2**63 - 1, 2**63 - 1)
-RECORDING = dict.fromkeys(OF_VERSION, WIDE)
 
 NUMBER = re.compile("0|[1-9][0-9]*")
 
@@ -100,18 +98,14 @@ def machine(line, limits=SMALL):
     return pages, cells
 
 
-def session(line, of_version=OF_VERSION):
-    version = keyed(line(), "postcopy-session", 1, max(of_version))
-    limits = of_version[version]
+def session(line):
+    version = keyed(line(), "postcopy-session", 1, max(OF_VERSION))
+    limits = OF_VERSION[version]
     pages, cells = machine(line, limits)
     for log in logs_of(version):
         kinds = {kind: fields for kind, fields in RECORDS[log].items() if version >= SINCE.get(kind, 1)}
         for _ in range(keyed(line(), log, 0, limits.records)):
             fielded(line(), kinds, pages, cells, limits)
-
-
-def recording(line):
-    session(line, RECORDING)
 
 
 def runs(line, version):
@@ -191,7 +185,7 @@ def events(line):
             keyed(event, "guest", 0, 63)
 
 
-TEXTS = {"session": session, "recording": recording, "certificate": certificate, "runs": order, "script": script, "events": events}
+TEXTS = {"session": session, "certificate": certificate, "runs": order, "script": script, "events": events}
 
 
 def refusal_line(kind, text):

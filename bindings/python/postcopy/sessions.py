@@ -71,7 +71,7 @@ class Session:
 
     def lines(self) -> Iterator[str]:
         """Yields the lines of the text, each with its line feed. The machine and the logs may have any size: then they are those of a
-        recording, from which the program's command `window` cuts sessions. Raises ValueError if a page has too many cells."""
+        recording, of which `windows` makes sessions. Raises ValueError if a page has too many cells."""
         if self.cells > MOST_CELLS:
             raise ValueError(f"{self.cells} cells are too many: a page has at most {MOST_CELLS}")
         version = self.version()

@@ -34,13 +34,13 @@ module _ (files : Files) (HasSession : List ℕ → List ℕ → Type 0) (input 
   ended : IfOk done IsListStatus → IfOk done (λ s. s ≡ 3 → TellsOneUnread old.1 errors) → BothGain old (output, errors) → IsTold done status errors new → Gains errors new → IsEnded old (output, new) status
   ended own unread gained told more = (no_misuse done status errors new own told, told_of_list done status old.1 errors new own unread gained.1 told, (gained.0, both_gain _ _ _ gained.1 more))
 
-  pub job_done : (job : Request Text) → IfOk done (λ s. s < 2) → EndsAsked job files HasSession input old (output, errors) done → (done ≡ Ok 0 → HasLines job files.bytes_of old.0 output before table) → (done ≢ Ok 0 → table ≡ before) → BothGain old (output, errors) → IsTold done status errors new → Gains errors new → IsDone (Some job) None None files HasSession input before old (output, new) table status
+  pub job_done : (job : Request Text) → IfOk done (λ s. s < 2) → EndsAsked job files HasSession input old (output, errors) done → (done ≡ Ok 0 → HasLines job files HasSession input old.0 output before table) → (done ≢ Ok 0 → table ≡ before) → BothGain old (output, errors) → IsTold done status errors new → Gains errors new → IsDone (Some job) None None files HasSession input before old (output, new) table status
   job_done job few ends lines kept gained told more = record {
     told = settled (EndsAsked job files HasSession input old) done status output errors new few ends told;
     listed = tt;
     made = tt;
     unasked = λ none. absurd cc;
-    lines = well_lines (HasLines job files.bytes_of old.0 output before table) done status errors new told lines;
+    lines = well_lines (HasLines job files HasSession input old.0 output before table) done status errors new told lines;
     unlined = λ none. absurd cc;
     kept = kept_lines (table ≡ before) done status errors new told kept;
     ended = ended (few_list done few) (few_read done (TellsOneUnread old.1 errors) few) gained told more;

@@ -58,8 +58,8 @@ module _ (words : List Text) (files : Files) (HasSession : List ℕ → List ℕ
         misuse = λ two. absurd (all.ended.0 two);
         fault = all.ended.1;
         gains = all.ended.2;
-        lines = λ job asks zero. by_asking words (λ (job : Request Text). HasLines job files.bytes_of old.0 new.0 before table)
-            (λ job taken. some_given (asked words) job (λ (job : Request Text). HasLines job files.bytes_of old.0 new.0 before table) taken.given (all.lines zero))
+        lines = λ job asks zero. by_asking words (λ (job : Request Text). HasLines job files HasSession input old.0 new.0 before table)
+            (λ job taken. some_given (asked words) job (λ (job : Request Text). HasLines job files HasSession input old.0 new.0 before table) taken.given (all.lines zero))
             (λ few. all.unlined (none few)) job asks;
         unlined = all.unlined;
         kept = all.kept;

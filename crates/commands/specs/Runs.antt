@@ -28,7 +28,7 @@ pub record IsRun (words : List Text) (files : Files) (HasSession : List ℕ → 
   pub misuse : status ≡ 2 → AreRefused words × Keeps old.0 new.0
   pub fault : 2 < status → IsFaultTold old.1 new.1 status
   pub gains : BothGain old new
-  pub lines : (job : Request Text) → AsksFor words job → status ≡ 0 → HasLines job files.bytes_of old.0 new.0 before table
+  pub lines : (job : Request Text) → AsksFor words job → status ≡ 0 → HasLines job files HasSession input old.0 new.0 before table
   pub unlined : asked words ≡ None → table ≡ before
   pub kept : status ≢ 0 → table ≡ before
 

@@ -5,7 +5,7 @@ use Rattle.command_words.specs.declared.requests.Request.{Request}
 use Rattle.command_words.specs.declared.requests.Request.TheVariants.{One, Two, Migrate, Draw, Window}
 use Rattle.command_words.specs.declared.requests.Pages.{Pages}
 use Rattle.windows.specs.declared.pages.Window.{Window as CutWindow}
-use Rattle.windows.specs.Windows.{EndsWindow, HasWindowLines}
+use Rattle.session_commands.specs.Windows.{EndsWindow, HasWindowLines}
 use Rattle.command_words.specs.declared.requests.Demand.{Demand}
 use Rattle.command_words.specs.declared.requests.Demand.TheVariants.{Safety}
 use Rattle.command_words.specs.declared.requests.Demand.TheVariants as demand
@@ -158,16 +158,16 @@ EndsAsked (Draw topic name None) files HasSession input =
     Ends (IsFaultOf name) (IsNamed name files HasSession input) (IsDrawAnswer topic) (TellsWhyOf (IsRefusedAt SpellsSession) NoNote Short name)
 EndsAsked (Draw topic first (Some second)) files HasSession input =
     Ends (IsFaultOfTwo first second) (AreNamed first second files HasSession NoSession input) (IsDrawAlongAnswer topic) (TellsBeside (IsRefusedAt SpellsSession) (IsRefusedAt SpellsOrder) AddsNothing NoNote first second)
-EndsAsked (Window pages name lines) files HasSession input = EndsWindow (window_of pages) name files.bytes_of
+EndsAsked (Window pages name lines) files HasSession input = EndsWindow (window_of pages) name files HasSession input
 
 -- what is asked for if there are no words: `check - -`
 abbrev pub bare_job : Request (List ℕ)
 bare_job = Two (Check plain) (codes "-") (codes "-")
 
 -- if the lines of a window are asked for, this is their table; otherwise nothing changes
-abbrev pub HasLines : Request (List ℕ) → (List ℕ → Option (List ℕ)) → Option (List ℕ) → Option (List ℕ) → Option (Vec ℕ) → Option (Vec ℕ) → Type 0
-HasLines (Window pages name (Some lines)) files old new before after = MatchOption after ⊥ (λ table. HasWindowLines (window_of pages) name files old new table.items)
-HasLines other files old new before after = after ≡ before
+abbrev pub HasLines : Request (List ℕ) → Files → (List ℕ → List ℕ → Type 0) → Option (List ℕ) → Option (List ℕ) → Option (List ℕ) → Option (Vec ℕ) → Option (Vec ℕ) → Type 0
+HasLines (Window pages name (Some lines)) files HasSession input old new before after = MatchOption after ⊥ (λ table. HasWindowLines (window_of pages) name files HasSession input old new table.items)
+HasLines other files HasSession input old new before after = after ≡ before
 
 -- it failed with a fault, and the errors report it, with its status
 pub record TellsFault (EndsSo : Streams → Result ℕ Fault → Type 0) (new : Streams) (status : ℕ) : Type 0 where

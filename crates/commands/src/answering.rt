@@ -11,7 +11,7 @@ ghost use Rattle.command_texts.specs.Told.{AreNamed, Ends, IsNamed, NoSession};
 ghost use Rattle.text_access.specs.Names.{files_of};
 ghost use Rattle.text_access.specs.Written.{BothGain};
 ghost use Rattle.host_commands.specs.Migrations.{IsMigrateAnswer};
-ghost use Rattle.windows.specs.Windows.{EndsWindow, HasWindowLines};
+ghost use Rattle.session_commands.specs.Windows.{EndsWindow, HasWindowLines};
 ghost use Rattle.commands.specs.Told.{EndsAsked, FirstHas, HasLines, IsBesideOne, IsBesideTwo, IsOneAnswer, IsTwoAnswer, NoNote, window_of};
 
 use crate::drawing::{DrawAlongCommand, DrawCommand};
@@ -24,13 +24,14 @@ use guest_script::{Script, ScriptParts};
 use host_commands::{StepsCommand, migrate_read};
 use judge_commands::{AuditCommand, CheckCommand, ExplainByTable, ReplayCommand};
 use migration_types::Topic;
+use session_commands::perform_window;
 use std::alloc::Global;
 use std::io::{Read, Write};
 use std::net::{Net, TcpListener, TcpStream};
 use std::sync::Wait;
 use std::thread::Threads;
 use text_access::TextSource;
-use windows::{Window, perform_window};
+use windows::Window;
 
 // Runs a command on the text under a name.
 fn asked_one<'a, R: Threads + Sync, S: TextSource, I: Read + Send, O: Write, E: Write>(
@@ -196,18 +197,20 @@ where
     }
 }
 
-// Cuts the window of these pages out of the recording under a name. Also makes the table of its lines if a file is
-// named for it.
-fn asked_window<'a, R, S: TextSource, I, O: Write, E: Write>(
+// Cuts the window of these pages out of the recording that a folder makes, or of the session under a name. Also makes the
+// table of its lines if a file is named for it.
+fn asked_window<'a, R: Threads + Sync, S: TextSource, I: Read + Send, O: Write, E: Write>(
     console: &mut Console<'_, R, S, I, O, E>,
     pages: Pages,
     name: &'a str,
     lined: bool,
     lines: &mut Option<Vec<u8>>,
 ) -> Result<u8, Fault<'a>>
+where
+    S::Text: Send,
     ensures few { IfOk result (λ status. status < 2) }
-    ensures told { EndsWindow (window_of pages) name.entry.now (S.bytes_of console.old.texts.now) (O.contents console.old.output, E.contents console.old.errors) (O.contents console.new.output, E.contents console.new.errors) result }
-    ensures lines { lined ≡ true → result ≡ Ok 0 → MatchOption lines.new ⊥ (λ table. HasWindowLines (window_of pages) name.entry.now (S.bytes_of console.old.texts.now) (O.contents console.old.output) (O.contents console.new.output) table.items) }
+    ensures told { EndsWindow (window_of pages) name.entry.now (files_of (S.bytes_of console.old.texts.now) (S.names_in console.old.texts.now)) (S.text_in console.old.texts.now) (I.remaining console.old.input) (O.contents console.old.output, E.contents console.old.errors) (O.contents console.new.output, E.contents console.new.errors) result }
+    ensures lines { lined ≡ true → result ≡ Ok 0 → MatchOption lines.new ⊥ (λ table. HasWindowLines (window_of pages) name.entry.now (files_of (S.bytes_of console.old.texts.now) (S.names_in console.old.texts.now)) (S.text_in console.old.texts.now) (I.remaining console.old.input) (O.contents console.old.output) (O.contents console.new.output) table.items) }
     ensures unlined { lined ≡ false → lines.new ≡ lines.old }
     ensures kept { result ≢ Ok 0 → lines.new ≡ lines.old }
     ensures gains { BothGain (O.contents console.old.output, E.contents console.old.errors) (O.contents console.new.output, E.contents console.new.errors) }
@@ -236,7 +239,7 @@ where
     S::Text: Send,
     ensures few { IfOk result (λ status. status < 2) }
     ensures told { EndsAsked (asked_names job.entry) (files_of (S.bytes_of console.old.texts.now) (S.names_in console.old.texts.now)) (S.text_in console.old.texts.now) (I.remaining console.old.input) (O.contents console.old.output, E.contents console.old.errors) (O.contents console.new.output, E.contents console.new.errors) result }
-    ensures lines { result ≡ Ok 0 → HasLines (asked_names job.entry) (S.bytes_of console.old.texts.now) (O.contents console.old.output) (O.contents console.new.output) lines.old lines.new }
+    ensures lines { result ≡ Ok 0 → HasLines (asked_names job.entry) (files_of (S.bytes_of console.old.texts.now) (S.names_in console.old.texts.now)) (S.text_in console.old.texts.now) (I.remaining console.old.input) (O.contents console.old.output) (O.contents console.new.output) lines.old lines.new }
     ensures kept { result ≢ Ok 0 → lines.new ≡ lines.old }
     ensures gains { BothGain (O.contents console.old.output, E.contents console.old.errors) (O.contents console.new.output, E.contents console.new.errors) }
 {

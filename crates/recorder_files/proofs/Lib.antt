@@ -1,3 +1,4 @@
+pub mod Behind
 pub mod Elements
 pub mod Needs
 pub mod Cuts

@@ -2,6 +2,7 @@
 //! of logs that are not whole.
 #![tactic(auto)]
 
+mod buffers;
 mod delivering;
 mod describing;
 mod file_names;

@@ -6,9 +6,9 @@ ghost use Rattle.memchr.specs.Find.{IsFirstByte, is_byte2};
 ghost use Rattle.recorder_files.specs.Said.{longest_line, IsWritten};
 ghost use Rattle.recorder_files.specs.inner.Finding.{AreAll, AreRead, Finds, IsLongAt, IsMoreAt, IsReadFault, SameBytes, Takes};
 
+use crate::buffers::{move_front, read_behind};
 use crate::files::FileFault;
 use memchr::memchr2;
-use recordings::{RecordingFault, move_front, read_behind};
 use std::io::Read;
 use std::simd::prelude::*;
 
@@ -163,10 +163,7 @@ fn find_reading<R: Read>(
     move_front(buffer, start, end);
     let mut kept = end - start;
     for _ in 0..u64::MAX {
-        let filled = match read_behind(reader, buffer, kept) {
-            Ok(filled) => filled,
-            Err(fault) => return Err(fault_of(fault)),
-        };
+        let filled = read_behind(reader, buffer, kept)?;
         if filled == kept {
             return Ok((0, filled, NextLine::End));
         }
@@ -238,15 +235,5 @@ pub(crate) fn take_end<R: Read>(
         Ok(None) => Ok(()),
         Ok(Some(_)) => Err(FileFault::Line(number)),
         Err(fault) => Err(fault),
-    }
-}
-
-/// Returns the fault for a read.
-fn fault_of(fault: RecordingFault) -> FileFault
-    ensures { IsReadFault result }
-{
-    match fault {
-        RecordingFault::Memory => FileFault::Memory,
-        _ => FileFault::File,
     }
 }

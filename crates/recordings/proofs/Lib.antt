@@ -1,12 +1,2 @@
 pub mod Fitting
-pub mod Lines
-pub mod Small
 pub mod Tells
-pub mod TextLaws
-pub mod Goes
-pub mod Refusing
-pub mod Taking
-pub mod Texts
-pub mod Coming
-pub mod Pieces
-pub mod Values

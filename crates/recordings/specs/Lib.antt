@@ -1,7 +1,4 @@
-pub mod Lines
-pub mod Reading
 pub mod Recordings
 pub mod Seen
 pub mod Wide
-pub mod Walking
 pub mod inner

@@ -1,4 +1,2 @@
 -- Definitions that only proofs use.
 pub mod Held
-pub mod Stands
-pub mod Goings

@@ -16,3 +16,4 @@ pub mod Counts
 pub mod Few
 pub mod Late
 pub mod Seen
+pub mod Answered

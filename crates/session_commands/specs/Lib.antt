@@ -6,4 +6,5 @@ pub mod Telling
 pub mod Facts
 pub mod Written
 pub mod Unresumed
+pub mod Windows
 pub mod inner

@@ -3,6 +3,7 @@
 ghost use Rattle.std.specs.Prelude.{◌≡◌, [], ◌∷◌, IfOk};
 ghost use Rattle.command_words.specs.declared.requests.Lacking.TheVariants.{Refused};
 ghost use Rattle.session_commands.specs.Texts.{IsSessionText};
+ghost use Rattle.text_access.specs.Written.{Gains};
 
 use crate::gathering::gather_session;
 use crate::gone::tell_name_gone;
@@ -47,14 +48,46 @@ fn session_in<D: TextSource>(disk: &D, alloc: Global, folder: &str) -> io::Resul
     Ok(Some(name))
 }
 
-// Says how the session's text in a folder is named, if the folder has one and no file of a recorder.
-fn tell_session_in<D: TextSource, E: Write>(disk: &D, alloc: Global, folder: &str, errors: &mut E) {
-    let Ok(Some(name)) = session_in(disk, alloc, folder) else {
+// Writes a text, and a name as shown. Returns whether all of it was written.
+#[tactic(auto, using(crate::proofs::Gained::front, crate::proofs::Gained::both))]
+fn write_named<E: Write>(errors: &mut E, front: &[u8], name: &str) -> bool
+    ensures { Gains (E.contents errors.old) (E.contents errors.new) }
+{
+    if !write_whole(errors, front) {
+        return false;
+    }
+    write_shown(errors, name)
+}
+
+// Says how the session's text is named that is in a folder.
+#[tactic(auto, using(crate::proofs::Gained::front, crate::proofs::Gained::both))]
+fn tell_named<E: Write>(folder: &str, name: &str, errors: &mut E)
+    ensures { Gains (E.contents errors.old) (E.contents errors.new) }
+{
+    if !write_named(errors, b"session: ", folder) {
         return;
-    };
-    let begun = write_whole(errors, b"session: ") && write_shown(errors, folder);
-    if begun && write_whole(errors, b": it has a file session: to read that, name ") {
-        let _ = write_shown(errors, name.as_str()) && write_whole(errors, b"\n");
+    }
+    if write_named(
+        errors,
+        b": it has a file session: to read that, name ",
+        name,
+    ) {
+        write_whole(errors, b"\n");
+    }
+}
+
+// Says how the session's text in a folder is named, if the folder has one and no file of a recorder.
+#[tactic(auto, using(crate::proofs::Gained::same))]
+pub(crate) fn tell_session_in<D: TextSource, E: Write>(
+    disk: &D,
+    alloc: Global,
+    folder: &str,
+    errors: &mut E,
+)
+    ensures { Gains (E.contents errors.old) (E.contents errors.new) }
+{
+    if let Ok(Some(name)) = session_in(disk, alloc, folder) {
+        tell_named(folder, name.as_str(), errors);
     }
 }
 

@@ -5,6 +5,7 @@ ghost use Rattle.command_words.specs.declared.requests.Lacking.TheVariants.{Refu
 ghost use Rattle.session_grammar.specs.Grammar.{SpellsSession};
 ghost use Rattle.text_lines.specs.Text.{IsSpelling};
 ghost use Rattle.text_access.specs.Names.{names_of};
+ghost use Rattle.text_access.specs.Written.{Gains};
 ghost use Rattle.session_commands.specs.Found.{AreCompressed, AreFound};
 ghost use Rattle.session_commands.specs.declared.found.FoundLogs.{FoundLogs as Found};
 ghost use Rattle.walked_sessions.specs.Held.{HasMet, IsHeld};
@@ -29,7 +30,7 @@ use walked_sessions::{HeldRecording, Room, Senders};
 
 /// Why files give no session.
 #[derive(Drop)]
-enum Unmade {
+pub(crate) enum Unmade {
     /// It was said.
     Said,
     /// It is not yet said.
@@ -146,7 +147,10 @@ fn gather<S: TextSource, E: Write>(
 }
 
 /// Says why there is no session, unless it was said, and returns the error of that.
-fn say<E: Write>(alloc: Global, why: Unmade, errors: &mut E) -> io::Error {
+#[tactic(auto, using(crate::proofs::Gained::same))]
+pub(crate) fn say<E: Write>(alloc: Global, why: Unmade, errors: &mut E) -> io::Error
+    ensures { Gains (E.contents errors.old) (E.contents errors.new) }
+{
     let Unmade::Stopped(stop) = why else {
         return io::Error::from(ErrorKind::InvalidData);
     };

@@ -1,5 +1,7 @@
 //! Recorders' folders from which the file with the recording's name is gone.
 
+ghost use Rattle.text_access.specs.Written.{Gains};
+
 use command_texts::write_line_on;
 use recorder_files::NAME_FILE;
 use std::alloc::{AllocError, Global};
@@ -13,12 +15,15 @@ const GONE: &str =
 
 /// Reports that the file with the recording's name is gone from a recorder's folder, if it is, as far as that can be known.
 /// Fails only if memory runs out.
+#[tactic(auto, using(crate::proofs::Gained::same, crate::proofs::Gained::front))]
 pub(crate) fn tell_name_gone<D: TextSource, E: Write>(
     disk: &D,
     alloc: Global,
     folder: &str,
     errors: &mut E,
-) -> Result<(), AllocError> {
+) -> Result<(), AllocError>
+    ensures { Gains (E.contents errors.old) (E.contents errors.new) }
+{
     match disk.names(alloc, folder) {
         Ok(names) => {
             if !names.iter().any(|name| name.as_str() == NAME_FILE) {

@@ -1,5 +1,5 @@
 //! The recorders' files in folders: they are found, and what they lack is told in words. The command `session` writes the text of their
-//! session as they are read; without a text the session is held. With that, a folder stands in the place of a session.
+//! session as they are read; without a text the session is held. With that, a folder stands in the place of a session. The command `window` writes the session of some pages.
 #![tactic(auto)]
 
 mod compressed;
@@ -26,9 +26,11 @@ mod surveys;
 mod system_errors;
 mod telling;
 mod walk_stops;
+mod windowing;
 mod words;
 mod wrong_records;
 
 pub use folders::{ErrorSink, WithFolders};
 pub use gathering::gather_session;
 pub use performing::perform_session;
+pub use windowing::perform_window;

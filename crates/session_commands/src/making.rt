@@ -53,7 +53,7 @@ fn walk<S: TextSource, V: Visitor>(
     requires machine { IsMachine (extent_of machine.now) }
     ensures { IfOk result (λ is_whole. (w : WalksFiles V.Met machine.now [] (bytes_in (S.bytes_of files.now.texts.now) files.now.logs.now) visitor.new) × (IsTrue is_whole ↔ HasNoHole w.made)) }
 {
-    match walk_logs(alloc, machine, Vec::new(alloc), files, messages, visitor) {
+    match walk_logs(alloc, machine, &[], files, messages, visitor) {
         Ok(is_whole) => Ok(is_whole),
         Err(fault) => Err(walk_stop(alloc, files.texts, machine, files.logs, fault)),
     }

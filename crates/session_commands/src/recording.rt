@@ -6,10 +6,10 @@ ghost use Rattle.recordings.specs.Wide.{extent_of};
 
 use crate::files::OpenedLogs;
 use migration_types::MOST_CELLS;
-use recordings::{BEYOND, Visitor, WideInit, WideMachine};
+use recordings::{BEYOND, Visited, Visitor, WideInit, WideMachine};
 use std::alloc::Global;
 use text_access::TextSource;
-use walked_sessions::{Messages, Visited, WalkFault, walk_logs};
+use walked_sessions::{Messages, WalkFault, walk_logs};
 
 /// The recording that files make: the machine, its initial pages, the files, and the messages in them.
 #[derive(Drop)]
@@ -37,17 +37,18 @@ impl<S: TextSource> Visited for FileRecording<'_, S> {
 
     ghost is_recording = { λ self s. IsOfFiles S.bytes_of self s };
 
-    fn visit<V: Visitor>(self, alloc: Global, visitor: &mut V) -> Result<(), WalkFault> {
-        let FileRecording {
-            machine,
-            init,
-            files,
-            messages,
-        } = self;
-        if !is_machine(&machine) {
+    fn visit<V: Visitor>(&self, alloc: Global, visitor: &mut V) -> Result<(), WalkFault> {
+        if !is_machine(&self.machine) {
             return Err(WalkFault::Changed);
         }
-        match walk_logs(alloc, &machine, init, &files, messages, visitor) {
+        match walk_logs(
+            alloc,
+            &self.machine,
+            self.init.as_slice(),
+            &self.files,
+            self.messages,
+            visitor,
+        ) {
             Ok(_) => Ok(()),
             Err(fault) => Err(fault),
         }

@@ -1,12 +1,16 @@
 -- What a visitor meets of a log, with one record more.
-use Rattle.std.proofs.Common.{◌≡◌, ℕ, zero, suc, ◌+◌, false, ◌⊎◌, inl, inr, List, [], ◌∷◌, ◌++◌, length, Option, Some, refl, sym, ap, subst, ◌∙◌, arith, length-append}
+use Rattle.std.proofs.Common.{◌≡◌, ℕ, zero, suc, ◌+◌, ◌<◌, false, get_or, map, take, ◌⊎◌, inl, inr, List, [], ◌∷◌, ◌++◌, length, Option, Some, refl, sym, ap, subst, ◌∙◌, arith, length-append}
 use Rattle.std.specs.Prelude.{IfSome, slice_get}
 use Rattle.std.specs.Option.{option_to_list}
+use Rattle.std.proofs.lemmas.List.{take_more}
 use Rattle.std.proofs.lemmas.Option.{same_Some, slice_get_within}
 use Rattle.migration_types.specs.declared.records.SourceRec.{SourceRec}
 use Rattle.migration_types.specs.declared.records.PagerRec.{PagerRec}
 use Rattle.migration_types.specs.Sessions.{Recorded}
-use Rattle.recordings.specs.Seen.{with_source, with_pager, BeforeLink}
+use Rattle.recordings.specs.Seen.{with_init, with_source, with_pager, BeforeLink}
+use Rattle.recordings.specs.Wide.{extent_of, init_of}
+use Rattle.recordings.specs.declared.machine.WideMachine.{WideMachine}
+use Rattle.recordings.specs.declared.wide.WideInit.{WideInit}
 use Rattle.recorder_files.specs.declared.delivering.Message.{Message}
 use Rattle.recorder_files.specs.declared.raw.RawSource.{RawSource}
 use Rattle.recorder_files.specs.declared.raw.RawPager.{RawPager}
@@ -18,6 +22,7 @@ use Rattle.walked_sessions.specs.declared.takers.SourceTaker.{SourceTaker}
 use Rattle.walked_sessions.specs.declared.takers.PagerTaker.{PagerTaker}
 use Rattle.walked_sessions.specs.Walks.{AreNumbered, IsDown, IsNumberOf, IsUp}
 use Rattle.walked_sessions.specs.inner.Passing.{HasPassed, Passes}
+use Rattle.walked_sessions.specs.inner.Walking.{begun_with}
 use Rattle.walked_sessions.specs.inner.Meeting.{MeetsGuest, MeetsLane, MeetsLink, MeetsPager, MeetsSource, with_pagers, with_sources}
 use Rattle.walked_sessions.proofs.Passing.{are_numbers_there, has_passed_more, has_passed_none}
 
@@ -51,6 +56,18 @@ numbered_more {R} {S} numbered IsNumber raws recs raw rec k n e is_number is wer
     go j other found (inl er) (inr (same, _)) = absurd (omega (arith, slice_get_within raws j other er, same, were.many))
     go j other found (inr (same, _)) (inl es) = absurd (omega (arith, slice_get_within recs j found es, same, were.many))
     go j other found (inr (same, one)) (inr (_, two)) = (n, subst (λ m. IsNumber m other n) (e ∙ sym same) (subst (λ r. IsNumber k r n) (sym one) is_number), two ∙ (is ∙ ap (numbered n) (sym one)))
+
+-- ---- the initial pages
+
+map_end : {A B : Type 0} (f : A → B) (xs : List A) (x : A) → map f (xs ++ x ∷ []) ≡ map f xs ++ f x ∷ []
+map_end f [] x = refl
+map_end f (y ∷ xs) x = ap (λ l. f y ∷ l) (map_end f xs x)
+
+pub init_met : {V : Type 0} (Met : V → Recorded → Type 0) (v : V) (machine : WideMachine) (init : List WideInit) (i : ℕ) (p : WideInit) → i < length init → p ≡ get_or init i p → Met v (with_init (begun_with machine (take i init)) (init_of p)) → Met v (begun_with machine (take (i + 1) init))
+init_met Met v machine init i p lt is met =
+    let one : take (i + 1) init ≡ take i init ++ p ∷ [] = take_more init i p lt ∙ ap (λ q. take i init ++ q ∷ []) (sym is) in
+    let all : map init_of (take (i + 1) init) ≡ map init_of (take i init) ++ init_of p ∷ [] = ap (map init_of) one ∙ map_end init_of (take i init) p in
+    subst (λ pages. Met v (record { version = machine.version; geometry = extent_of machine; init = pages; guest = []; source = []; link = []; lane = []; pager = [] })) (sym all) met
 
 -- ---- the guest
 

@@ -3,8 +3,8 @@
 ghost use Rattle.std.specs.Prelude.{◌≡◌, ◌↔◌, [], false, IfErr, IfOk, IsTrue, OnOk, length, map};
 ghost use Rattle.migration_types.specs.Sessions.{Recorded};
 ghost use Rattle.recordings.specs.Recordings.{IsMachine};
-ghost use Rattle.recordings.specs.Seen.{BeforeLane, BeforePager};
-ghost use Rattle.recordings.specs.Wide.{extent_of, lane_of, link_of};
+ghost use Rattle.recordings.specs.Seen.{BeforeGuest, BeforeLane, BeforePager, with_init};
+ghost use Rattle.recordings.specs.Wide.{extent_of, init_of, lane_of, link_of};
 ghost use Rattle.recorder_files.specs.declared.noting.Delivered.{Delivered as Noted};
 ghost use Rattle.walked_sessions.specs.Faults.{IsWalkFault};
 ghost use Rattle.walked_sessions.specs.Walks.{HasNoHole, WalksFiles, lane_delivery, link_delivery};
@@ -20,19 +20,28 @@ use recorder_files::{Delivered, Message, RawPager, RawSource};
 use recordings::{Visitor, WideGuest, WideInit, WideLane, WideLink, WideMachine};
 use std::alloc::{AllocError, Global};
 
+/// Meets an initial page.
+fn meet_page<V: Visitor>(alloc: Global, page: &WideInit, visitor: &mut V) -> Result<(), AllocError>
+    ensures { OnOk result ((d : Recorded) → BeforeGuest d → V.Met visitor.old d → V.Met visitor.new (with_init d (init_of page.now))) }
+{
+    visitor.init(page.another(alloc)?)?;
+    Ok(())
+}
+
 /// Meets the machine and the initial pages.
 fn walk_start<V: Visitor>(
+    alloc: Global,
     machine: &WideMachine,
-    init: Vec<WideInit>,
+    init: &[WideInit],
     visitor: &mut V,
 ) -> Result<(), AllocError>
     requires new { V.IsNew visitor.old }
     requires machine { IsMachine (extent_of machine.now) }
-    ensures { OnOk result (V.Met visitor.new (begun_with machine.now init.items)) }
+    ensures { OnOk result (V.Met visitor.new (begun_with machine.now init.now)) }
 {
     visitor.machine(machine)?;
-    for page in init {
-        visitor.init(page)?;
+    for i in 0..init.len() {
+        meet_page(alloc, &init[i], visitor)?;
     }
     Ok(())
 }
@@ -309,18 +318,18 @@ fn are_all(guest: bool, source: bool, link: bool, lane: bool, pager: bool) -> bo
 pub fn walk_logs<F: LogFiles, V: Visitor>(
     alloc: Global,
     machine: &WideMachine,
-    init: Vec<WideInit>,
+    init: &[WideInit],
     files: &F,
     messages: &Messages,
     visitor: &mut V,
 ) -> Result<bool, WalkFault>
     requires new { V.IsNew visitor.old }
     requires machine { IsMachine (extent_of machine.now) }
-    ensures walked { IfOk result (λ whole. (w : WalksFiles V.Met machine.now init.items (F.bytes_of files.now) visitor.new) × (IsTrue whole ↔ HasNoHole w.made)) }
+    ensures walked { IfOk result (λ whole. (w : WalksFiles V.Met machine.now init.now (F.bytes_of files.now) visitor.new) × (IsTrue whole ↔ HasNoHole w.made)) }
     ensures refused { IfErr result (IsWalkFault machine.now (F.bytes_of files.now) messages.now) }
 {
     let delivered = &messages.delivered;
-    walk_start(machine, init, visitor)?;
+    walk_start(alloc, machine, init, visitor)?;
     let guest = walk_guest(alloc, machine, files, visitor)?;
     let source = walk_source(alloc, machine, files, delivered, visitor)?;
     let link = walk_link(alloc, machine, files, delivered, visitor)?;

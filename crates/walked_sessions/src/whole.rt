@@ -6,10 +6,10 @@ ghost use Rattle.walked_sessions.specs.Written.{Writes};
 ghost use Rattle.walked_sessions.specs.inner.Made.{IsKept, IsNothing};
 
 use crate::text::Text;
-use crate::visited::Visited;
 use crate::visiting::{Begun, Opened, TextWriter};
 use crate::write_faults::{PushFault, WriteFault};
 use recorder_files::Front;
+use recordings::Visited;
 use std::alloc::Global;
 use std::io::Write;
 use std::marker::Brand;

@@ -10,7 +10,5 @@ pub mod Windowed
 pub mod Lineage
 pub mod Seen
 pub mod Same
-pub mod Read
 pub mod Later
-pub mod Told
 pub mod Written

@@ -1,6 +1,6 @@
 -- Four passes over one recording settle: the fourth finds the marks again that the third found.
-use Rattle.std.proofs.Common.{◌≡◌, ℕ, suc, Bool, List, [], ◌∷◌, refl, sym, ap, ◌∙◌, subst}
-use Rattle.std.specs.Prelude.{max, nat_lt, Result, Ok, Err, IfErr}
+use Rattle.std.proofs.Common.{◌≡◌, ℕ, suc, Bool, List, [], ◌∷◌, refl, sym, ap, ◌∙◌}
+use Rattle.std.specs.Prelude.{max, nat_lt}
 use Rattle.migration_types.specs.declared.records.GuestRec.{GuestRec}
 use Rattle.migration_types.specs.declared.records.GuestRec.TheVariants.{Read, Write, Release, Miss, Halt, Resume, See}
 use Rattle.migration_types.specs.declared.records.SourceRec.{SourceRec}
@@ -12,20 +12,11 @@ use Rattle.migration_types.specs.declared.records.LaneRec.TheVariants.{Down as L
 use Rattle.migration_types.specs.declared.records.PagerRec.{PagerRec}
 use Rattle.migration_types.specs.declared.records.PagerRec.TheVariants.{Got, Pull, Ready, Fault, Join, Want, Place, Zero, Skip, All}
 use Rattle.migration_types.specs.Sessions.{Recorded}
-use Rattle.text_lines.specs.Text.{IsSpelling}
-use Rattle.recordings.specs.Recordings.{SpellsRecording}
-use Rattle.recordings.proofs.Values.{recordings_unambiguous}
 use Rattle.audit_model.specs.Windows.{Numbers, newest}
-use Rattle.windows.specs.declared.faults.CutFault.{CutFault}
-use Rattle.windows.specs.declared.faults.CutFault.TheVariants.{Recording, Outside, Changed}
 use Rattle.windows.specs.declared.marking.Marks.{Marks}
-use Rattle.windows.specs.declared.pages.Window.{Window}
 use Rattle.windows.specs.inner.Marks.{has_mark, is_mark}
-use Rattle.windows.specs.Pages.{numbers_of}
 use Rattle.windows.specs.inner.Guided.{repeats_by, source_by, link_by, lane_by, taking_by, pager_by, guest_marks, guest_by, reach_by, further_by}
 use Rattle.windows.specs.inner.Met.{Found, AreSame}
-use Rattle.windows.specs.Cuts.{IsNotCutBy}
-use Rattle.windows.specs.inner.Settled.{IsFoundIn, IsNotWrittenBy}
 use Rattle.windows.proofs.Rights.{map_same}
 
 -- what any two passes find alike
@@ -167,30 +158,7 @@ module _ (number : Numbers) (s : Recorded) (k k' m m' : Marks) (f : Found number
       }
 
 -- the fourth pass over one recording finds the marks of the third
-settled_again : (number : Numbers) (s : Recorded) (m0 m1 m2 m3 m4 : Marks) → Found number m0 m1 s → Found number m1 m2 s → Found number m2 m3 s → Found number m3 m4 s → AreSame m3 m4
+pub settled_again : (number : Numbers) (s : Recorded) (m0 m1 m2 m3 m4 : Marks) → Found number m0 m1 s → Found number m1 m2 s → Found number m2 m3 s → Found number m3 m4 s → AreSame m3 m4
 settled_again number s m0 m1 m2 m3 m4 f1 f2 f3 f4 =
     let told = first_same number s m0 m1 m1 m2 f1 f2 in
     third_same number s m2 m3 m3 m4 f3 f4 (second_same number s m1 m2 m2 m3 f2 f3 told)
-
--- what is found in a text is what is found of its one recording
-found_of : (w : Window) (known found : Marks) (text : List ℕ) (s : Recorded) → IsSpelling SpellsRecording s text → IsFoundIn w known found text → Found (numbers_of w) known found s
-found_of w known found text s spelled is = subst (Found (numbers_of w) known found) (recordings_unambiguous.one_value is.s s text is.spelled spelled) is.is_found
-
-never_changed : (w : Window) (m0 m1 m2 m3 : Marks) (text : List ℕ) (fault : CutFault) → IsFoundIn w m0 m1 text → IsFoundIn w m1 m2 text → IsFoundIn w m2 m3 text → IsNotWrittenBy w m3 text fault → IsNotCutBy w text fault
-never_changed w m0 m1 m2 m3 text (Recording fault) f1 f2 f3 h = h
-never_changed w m0 m1 m2 m3 text Outside f1 f2 f3 h = h
-never_changed w m0 m1 m2 m3 text Changed f1 f2 f3 h =
-    let four = h.is_found in
-    let spelled = four.spelled in
-    h.others (settled_again (numbers_of w) four.s m0 m1 m2 m3 h.found (found_of w m0 m1 text four.s spelled f1) (found_of w m1 m2 text four.s spelled f2) (found_of w m2 m3 text four.s spelled f3) four.is_found)
-
--- why a fourth pass writes no window is why there is none, where all four went over one text
-pub refused_once : {T : Type 0} (w : Window) (m0 m1 m2 m3 : Marks) (One Two Three Four : List ℕ → Type 0) (r : Result T CutFault) →
-    ((text : List ℕ) → One text → IsFoundIn w m0 m1 text) →
-    ((text : List ℕ) → Two text → IsFoundIn w m1 m2 text) →
-    ((text : List ℕ) → Three text → IsFoundIn w m2 m3 text) →
-    IfErr r (λ fault. (text : List ℕ) → Four text → IsNotWrittenBy w m3 text fault) →
-    IfErr r (λ fault. (text : List ℕ) → One text → Two text → Three text → Four text → IsNotCutBy w text fault)
-refused_once w m0 m1 m2 m3 One Two Three Four (Ok out) f1 f2 f3 h = tt
-refused_once w m0 m1 m2 m3 One Two Three Four (Err fault) f1 f2 f3 h = λ text one two three four.
-    never_changed w m0 m1 m2 m3 text fault (f1 text one) (f2 text two) (f3 text three) (h text four)

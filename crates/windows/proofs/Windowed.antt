@@ -1,6 +1,6 @@
 -- What is written by marks that are right is the window.
-use Rattle.std.proofs.Common.{◌≡◌, ℕ, ◌-◌, Bool, List, map, Option, Some, refl, ap, ◌∙◌, subst}
-use Rattle.std.specs.Prelude.{IfSome, IfErr, Result, Ok, Err}
+use Rattle.std.proofs.Common.{◌≡◌, ℕ, ◌-◌, Bool, List, map, refl, ap, ◌∙◌, subst}
+use Rattle.std.specs.Prelude.{IfErr, IfOk, Result, Ok, Err}
 use Rattle.migration_types.specs.declared.records.LogName.TheVariants.{Guest, Source, Link, Lane, Pager}
 use Rattle.migration_types.specs.declared.records.GuestRec.{GuestRec}
 use Rattle.migration_types.specs.declared.records.GuestRec.TheVariants.{Read, Write, Release, Miss, Halt, Resume, See}
@@ -13,11 +13,9 @@ use Rattle.migration_types.specs.declared.records.LaneRec.TheVariants.{Down as L
 use Rattle.migration_types.specs.declared.records.PagerRec.{PagerRec}
 use Rattle.migration_types.specs.declared.records.PagerRec.TheVariants.{Got, Pull, Ready, Fault, Join, Want, Place, Zero, Skip, All}
 use Rattle.migration_types.specs.Sessions.{Recorded}
-use Rattle.text_lines.specs.Text.{ended, IsSpelling}
+use Rattle.text_lines.specs.Text.{ended}
 use Rattle.session_grammar.specs.Grammar.{session_lines}
 use Rattle.session_grammar.specs.Records.{guest_line, source_line, link_line, lane_line, pager_line}
-use Rattle.recordings.specs.Recordings.{SpellsRecording}
-use Rattle.recordings.specs.Walking.{Walks}
 use Rattle.audit_model.specs.Windows.{keeps_init, Numbers, new_page, kept_in, rank, marks, window, new_guest, new_source, new_link, new_lane, new_pager}
 use Rattle.windows.specs.declared.marking.Guide.{Guide}
 use Rattle.windows.specs.declared.marking.Marks.{Marks}
@@ -26,15 +24,16 @@ use Rattle.windows.specs.declared.sections.Sections.{Sections}
 use Rattle.windows.specs.declared.pages.Window.{Window}
 use Rattle.windows.specs.declared.visiting.Marking.{Marking}
 use Rattle.windows.specs.declared.visiting.Writing.{Writing}
-use Rattle.windows.specs.inner.Settled.{FindsOthers, IsFoundIn, IsInside, IsNotWrittenBy, Meets}
+use Rattle.windows.specs.inner.Settled.{IsFoundIn, IsNotWrittenBy, IsUnwritten, Meets}
 use Rattle.windows.specs.Pages.{numbers_of}
 use Rattle.windows.specs.inner.Guided.{reach_by, new_guest_by, new_source_by, new_link_by, new_lane_by, new_pager_by}
 use Rattle.windows.specs.inner.Met.{AreRight, Found, AreSame, Written, IsSection, lines_of}
 use Rattle.windows.specs.declared.faults.CutFault.{CutFault}
+use Rattle.windows.specs.declared.faults.CutFault.TheVariants.{Recording, Outside, Changed, Memory}
 use Rattle.windows.specs.declared.session.WindowText.{WindowText}
 use Rattle.windows.specs.inner.Parts.{AreSections}
 use Rattle.windows.specs.Origins.{origins}
-use Rattle.windows.specs.Cuts.{IsOf, IsBeyond, IsOutside, IsWindowOf}
+use Rattle.windows.specs.Cuts.{IsCutOf, IsOf, IsBeyond, IsOutside, IsWindowOf}
 use Rattle.windows.proofs.Rights.{reach_same, right, map_same}
 
 lines_as : {A : Type 0} (line : A → List ℕ) (f g : A → A) (ms ns : List Bool) (log : List A) (section : Section) → ((x : A) → f x ≡ g x) → ms ≡ ns → IsSection section (lines_of line f ms log) → IsSection section (map line (map g (kept_in ns log)))
@@ -106,47 +105,41 @@ module _ (number : Numbers) (s : Recorded) (known found : Marks) (f : Found numb
     pager = lines_as pager_line (new_pager_by number known) (new_pager s number) known.pager.kept (marks s number Pager) s.pager written.pager pager_rec r.pager is.pager;
   }
 
--- what was met of a text that is known
-walked_known : {V : Type 0} (Met : V → Recorded → Type 0) (known : Option (List ℕ)) (visitor : V) (text : List ℕ) → known ≡ Some text → Walks Met known visitor → (s : Recorded) × IsSpelling SpellsRecording s text × Met visitor s
-walked_known Met known visitor text e walks =
-    let here : IfSome (Some text) (λ xs. walks.text ≡ xs) = subst (λ o. IfSome o (λ xs. walks.text ≡ xs)) e walks.is_known in
-    (walks.s, subst (IsSpelling SpellsRecording walks.s) here walks.spelled, walks.met)
+-- why a pass that writes met no window, where it went by this guide
+pub not_written : {W F : Type 0} (Is : Recorded → Type 0) (guide : Guide) (writing : Writing W) (w : Window) (marks : Marks) (s : Recorded) (fault : CutFault F) → guide ≡ record { window = w; known = marks } → Is s → writing.guide ≡ guide → Meets writing s → IsUnwritten writing w fault → IsNotWrittenBy Is w marks fault
+not_written Is guide writing w marks s (Recording fault) by is at met h = tt
+not_written Is guide writing w marks s Outside by is at met h = record { s = s; is = is; outside = subst (IsBeyond w) (ap (λ x. x.pages) met.found.extent) h }
+not_written Is guide writing w marks s Changed by is at met h =
+    let same : writing.guide ≡ record { window = w; known = marks } = at ∙ by in
+    record {
+      s = s;
+      is = is;
+      found = writing.found;
+      is_found = subst (λ g. Found (numbers_of g.window) g.known writing.found s) same met.found;
+      others = subst (λ g. ¬ AreSame g.known writing.found) same h;
+    }
+not_written Is guide writing w marks s Memory by is at met h = tt
 
--- what a pass that writes met, where it went by this guide
-pub refused_by : {W : Type 0} (guide : Guide) (writing : Writing W) (w : Window) (marks : Marks) (known : Option (List ℕ)) (r : Result WindowText CutFault) → guide ≡ record { window = w; known = marks } → Walks (λ a d. (a.guide ≡ guide) × Meets a d) known writing →
-    IfErr r (λ fault. (s : Recorded) (text : List ℕ) → IsSpelling SpellsRecording s text → Meets writing s → writing.guide.window ≡ w → IsNotWrittenBy w writing.guide.known text fault) →
-    IfErr r (λ fault. (text : List ℕ) → known ≡ Some text → IsNotWrittenBy w marks text fault)
-refused_by guide writing w marks known (Ok out) by walks refused = tt
-refused_by guide writing w marks known (Err fault) by walks refused = λ text e.
-    let met = walked_known (λ a d. (a.guide ≡ guide) × Meets a d) known writing text e walks in
-    let is : writing.guide ≡ record { window = w; known = marks } = met.2.0 ∙ by in
-    subst (λ m. IsNotWrittenBy w m text fault) (ap (λ g. g.known) is) (refused met.0 text met.1 met.2.1 (ap (λ g. g.window) is))
+pub unwritten : {W F : Type 0} (Is : Recorded → Type 0) (guide : Guide) (writing : Writing W) (w : Window) (marks : Marks) (s : Recorded) (r : Result WindowText (CutFault F)) → guide ≡ record { window = w; known = marks } → Is s → writing.guide ≡ guide → Meets writing s → IfErr r (IsUnwritten writing w) → IfErr r (IsNotWrittenBy Is w marks)
+unwritten Is guide writing w marks s (Ok out) by is at met h = tt
+unwritten Is guide writing w marks s (Err fault) by is at met h = not_written Is guide writing w marks s fault by is at met h
 
-pub outside_of : {W : Type 0} (writing : Writing W) (w : Window) (s : Recorded) (text : List ℕ) → IsSpelling SpellsRecording s text → Meets writing s → IsBeyond w writing.found.machine.pages → IsOutside w text
-outside_of writing w s text spelled met beyond = record {
-  s = s;
-  spelled = spelled;
-  outside = subst (IsBeyond w) (ap (λ x. x.pages) met.found.extent) beyond;
-}
-
-pub others_found : {W : Type 0} (writing : Writing W) (w : Window) (s : Recorded) (text : List ℕ) → IsSpelling SpellsRecording s text → Meets writing s → writing.guide.window ≡ w → ¬ AreSame writing.guide.known writing.found → FindsOthers w writing.guide.known text
-others_found writing w s text spelled met by others = record {
-  found = writing.found;
-  is_found = record { s = s; spelled = spelled; is_found = subst (λ v. Found (numbers_of v) writing.guide.known writing.found s) by met.found };
-  others = others;
-}
+-- what it wrote is the window of what it met
+pub written : {W F : Type 0} (Is : Recorded → Type 0) (guide : Guide) (writing : Writing W) (w : Window) (marks : Marks) (s : Recorded) (r : Result WindowText (CutFault F)) → guide ≡ record { window = w; known = marks } → Is s → writing.guide ≡ guide → Meets writing s → IfOk r (λ out. (s : Recorded) → Meets writing s → writing.guide.window ≡ w → IsWindowOf w s out) → IfOk r (IsCutOf Is w)
+written Is guide writing w marks s (Ok out) by is at met cut = record { s = s; is = is; cut = cut s met (ap (λ g. g.window) (at ∙ by)) }
+written Is guide writing w marks s (Err fault) by is at met cut = tt
 
 -- what a pass that marks alone found, where it went by this guide
-pub found_by : {W : Type 0} (guide : Guide) (marking : Marking W) (w : Window) (marks : Marks) (known : Option (List ℕ)) (text : List ℕ) → guide ≡ record { window = w; known = marks } → known ≡ Some text → Walks (λ a d. (a.guide ≡ guide) × Found (numbers_of a.guide.window) a.guide.known a.found d) known marking → IsFoundIn w marks marking.found text
-found_by guide marking w marks known text by e walks =
-    let met = walked_known (λ a d. (a.guide ≡ guide) × Found (numbers_of a.guide.window) a.guide.known a.found d) known marking text e walks in
-    record { s = met.0; spelled = met.1; is_found = subst (λ g. Found (numbers_of g.window) g.known marking.found met.0) (met.2.0 ∙ by) met.2.1 }
+pub found_by : {W : Type 0} (Is : Recorded → Type 0) (guide : Guide) (marking : Marking W) (w : Window) (marks : Marks) (s : Recorded) → guide ≡ record { window = w; known = marks } → Is s → marking.guide ≡ guide → Found (numbers_of marking.guide.window) marking.guide.known marking.found s → IsOf w marking.found.machine.pages → IsFoundIn Is w marks marking.found
+found_by Is guide marking w marks s by is at met within = record {
+  s = s;
+  is = is;
+  is_found = subst (λ g. Found (numbers_of g.window) g.known marking.found s) (at ∙ by) met;
+  inside = subst (IsOf w) (ap (λ x. x.pages) met.extent) within;
+}
 
--- and the window is of the machine that it met
-pub inside_by : {W : Type 0} (guide : Guide) (marking : Marking W) (w : Window) (marks : Marks) (known : Option (List ℕ)) (text : List ℕ) → guide ≡ record { window = w; known = marks } → known ≡ Some text → Walks (λ a d. (a.guide ≡ guide) × Found (numbers_of a.guide.window) a.guide.known a.found d) known marking → IsOf w marking.found.machine.pages → IsInside w text
-inside_by guide marking w marks known text by e walks within =
-    let met = walked_known (λ a d. (a.guide ≡ guide) × Found (numbers_of a.guide.window) a.guide.known a.found d) known marking text e walks in
-    record { s = met.0; spelled = met.1; inside = subst (IsOf w) (ap (λ x. x.pages) met.2.1.extent) within }
+pub outside_by : {W : Type 0} (Is : Recorded → Type 0) (marking : Marking W) (w : Window) (s : Recorded) → Is s → Found (numbers_of marking.guide.window) marking.guide.known marking.found s → IsBeyond w marking.found.machine.pages → IsOutside Is w
+outside_by Is marking w s is met beyond = record { s = s; is = is; outside = subst (IsBeyond w) (ap (λ x. x.pages) met.extent) beyond }
 
 -- where a pass found the marks again that it went by, what it wrote is the window
 pub window_of : {W : Type 0} (writing : Writing W) (w : Window) (s : Recorded) (out : WindowText) → Meets writing s → writing.guide.window ≡ w → AreSame writing.guide.known writing.found → IsOf w writing.found.machine.pages →

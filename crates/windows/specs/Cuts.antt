@@ -1,13 +1,11 @@
 -- The results of cutting a window out of a recording.
-use Rattle.std.specs.Prelude.{◌≡◌, ℕ, ◌+◌, ◌<◌, ◌≤◌, ◌⊎◌, List, Some, Option, IfSome}
+use Rattle.std.specs.Prelude.{◌≡◌, ℕ, ◌+◌, ◌<◌, ◌≤◌, ◌⊎◌}
 use Rattle.migration_types.specs.Sessions.{Recorded}
-use Rattle.text_lines.specs.Text.{ended, IsSpelling}
+use Rattle.text_lines.specs.Text.{ended}
 use Rattle.session_grammar.specs.Grammar.{session_lines}
-use Rattle.recordings.specs.Recordings.{SpellsRecording}
-use Rattle.recordings.specs.Walking.{IsRefusedBy}
 use Rattle.audit_model.specs.Windows.{window}
 use Rattle.windows.specs.declared.faults.CutFault.{CutFault}
-use Rattle.windows.specs.declared.faults.CutFault.TheVariants.{Recording, Outside, Changed}
+use Rattle.windows.specs.declared.faults.CutFault.TheVariants.{Recording, Outside, Changed, Memory}
 use Rattle.windows.specs.declared.pages.Window.{Window}
 use Rattle.windows.specs.declared.session.WindowText.{WindowText}
 use Rattle.windows.specs.Pages.{numbers_of}
@@ -27,32 +25,27 @@ pub record IsWindowOf (w : Window) (s : Recorded) (out : WindowText) : Type 0 wh
   pub text_is : out.text.items ≡ ended (session_lines (window (numbers_of w) w.count s))
   pub lines_are : out.lines.items ≡ origins (numbers_of w) s
 
--- the text is a recording's, and this is its window
-pub record IsCutOf (w : Window) (text : List ℕ) (out : WindowText) : Type 0 where
+-- this is the window of such a recording
+pub record IsCutOf (Is : Recorded → Type 0) (w : Window) (out : WindowText) : Type 0 where
   pub s : Recorded
-  pub spelled : IsSpelling SpellsRecording s text
+  pub is : Is s
   pub cut : IsWindowOf w s out
 
--- the text is a recording's, and its machine does not have these pages
-pub record IsOutside (w : Window) (text : List ℕ) : Type 0 where
+-- the machine of such a recording does not have these pages
+pub record IsOutside (Is : Recorded → Type 0) (w : Window) : Type 0 where
   pub s : Recorded
-  pub spelled : IsSpelling SpellsRecording s text
+  pub is : Is s
   pub outside : IsBeyond w s.geometry.pages
 
--- Why there is no window of this text. If it changed while it was read, the readers did not all give this text.
-abbrev pub IsNotCutBy : Window → List ℕ → CutFault → Type 0
-IsNotCutBy w text (Recording fault) = IsRefusedBy (Some text) fault
-IsNotCutBy w text Outside = IsOutside w text
-IsNotCutBy w text Changed = ⊥
+-- this is the one such recording
+pub record IsOnly (Is : Recorded → Type 0) (s : Recorded) : Type 0 where
+  pub is : Is s
+  pub only : (t : Recorded) → Is t → t ≡ s
 
--- What a fault says about a text, whatever the readers gave. If the text changed, it says nothing.
-abbrev pub IsTold : Window → List ℕ → CutFault → Type 0
-IsTold w text (Recording fault) = IsNotCutBy w text (Recording fault)
-IsTold w text Outside = IsNotCutBy w text Outside
-IsTold w text Changed = Unit {0}
-
--- this holds of a text that was read, which is what was there if that is known
-pub record OfRead (known : Option (List ℕ)) (Holds : List ℕ → Type 0) : Type 0 where
-  pub text : List ℕ
-  pub is_known : IfSome known (λ xs. text ≡ xs)
-  pub holds : Holds text
+-- Why there is no window of such a recording. If it changed, there is not just one. Nothing is said if it was not gone
+-- through, or memory ran out.
+abbrev pub IsNotCutBy : {F : Type 0} → (Recorded → Type 0) → Window → CutFault F → Type 0
+IsNotCutBy Is w (Recording fault) = Unit {0}
+IsNotCutBy Is w Outside = IsOutside Is w
+IsNotCutBy Is w Changed = (s : Recorded) → IsOnly Is s → ⊥
+IsNotCutBy Is w Memory = Unit {0}

@@ -2,6 +2,4 @@ pub mod Pages
 pub mod Origins
 pub mod Cuts
 pub mod inner
-pub mod Windows
-pub mod Found
 pub mod Tables

@@ -4,5 +4,4 @@ pub mod Marks
 pub mod Met
 pub mod Parts
 pub mod Settled
-pub mod Answered
 pub mod Plain

@@ -1,18 +1,14 @@
 //! Why a window could not be cut.
 
-use recordings::RecordingFault;
-use thiserror::Error;
-
-/// Why a window could not be cut.
-#[derive(Clone, Copy, Debug, PartialEq, Eq, Error)]
-pub enum CutFault {
-    /// There is no recording.
-    #[error("{0}")]
-    Recording(RecordingFault),
+/// Why a window could not be cut. `F` is why a recording is not gone through.
+#[derive(Drop)]
+pub enum CutFault<F> {
+    /// The recording was not gone through.
+    Recording(F),
     /// The window has no page, or one that the machine does not have.
-    #[error("the window has no page, or one that the machine has not")]
     Outside,
-    /// The readers did not give the same text.
-    #[error("the recording changed while it was read")]
+    /// The recording changed between two passes over it.
     Changed,
+    /// Memory ran out.
+    Memory,
 }

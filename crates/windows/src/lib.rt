@@ -1,5 +1,5 @@
-//! Windows of recordings: the session of some of its pages, cut out of a recording's text in four passes over it; the
-//! command that writes one; and tables of lines, which say for each line of a text which line of another text it was.
+//! Windows of recordings: the session of some of its pages, cut out of a recording in four passes over it; and tables of
+//! lines, which say for each line of a text which line of another text it was.
 #![tactic(auto)]
 
 mod anew;
@@ -16,8 +16,6 @@ mod session;
 mod settling;
 mod tables;
 mod visiting;
-mod wanting;
-mod windowing;
 mod writing;
 
 pub use cutting::cut;
@@ -25,5 +23,4 @@ pub use faults::CutFault;
 pub use laws::origins_are_told;
 pub use pages::Window;
 pub use session::WindowText;
-pub use tables::TableParts;
-pub use windowing::perform_window;
+pub use tables::{TableParts, push_table};

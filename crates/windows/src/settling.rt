@@ -1,27 +1,27 @@
 //! The window that a pass has written.
 
-ghost use Rattle.std.specs.Prelude.{◌≡◌, true, false, ℕ, List, IfOk, IfErr};
-ghost use Rattle.text_lines.specs.Text.{IsSpelling};
+ghost use Rattle.std.specs.Prelude.{◌≡◌, true, false, IfOk, IfErr};
 ghost use Rattle.migration_types.specs.Sessions.{Recorded};
-ghost use Rattle.recordings.specs.Recordings.{SpellsRecording};
 ghost use Rattle.windows.specs.inner.Met.{AreSame};
 ghost use Rattle.windows.specs.Cuts.{IsOf, IsWindowOf};
-ghost use Rattle.windows.specs.inner.Settled.{Meets, IsNotWrittenBy};
+ghost use Rattle.windows.specs.inner.Settled.{Meets, IsUnwritten};
 
 use crate::faults::CutFault;
 use crate::origins::line_origins;
 use crate::pages::Window;
 use crate::session::{WindowText, session_text};
 use crate::visiting::Writing;
-use recordings::RecordingFault;
 use std::alloc::{AllocError, Global};
 
 impl<W> Writing<W> {
     /// Returns the window of the recording that it met, if it went by this window.
-    #[tactic(auto, using(crate::proofs::Windowed::outside_of, crate::proofs::Windowed::others_found))]
-    pub(crate) fn window_text(&self, alloc: Global, window: Window) -> Result<WindowText, CutFault>
+    pub(crate) fn window_text<F: Drop>(
+        &self,
+        alloc: Global,
+        window: Window,
+    ) -> Result<WindowText, CutFault<F>>
         ensures cut { IfOk result (λ out. (s : Recorded) → Meets self.now s → self.now.guide.window ≡ window → IsWindowOf window s out) }
-        ensures refused { IfErr result (λ fault. (s : Recorded) (text : List ℕ) → IsSpelling SpellsRecording s text → Meets self.now s → self.now.guide.window ≡ window → IsNotWrittenBy window self.now.guide.known text fault) }
+        ensures refused { IfErr result (IsUnwritten self.now window) }
     {
         if !window.is_of(self.found.machine.pages) {
             return Err(CutFault::Outside);
@@ -31,7 +31,7 @@ impl<W> Writing<W> {
         }
         match self.settled_text(alloc, window) {
             Ok(out) => Ok(out),
-            Err(_) => Err(CutFault::Recording(RecordingFault::Memory)),
+            Err(_) => Err(CutFault::Memory),
         }
     }
 

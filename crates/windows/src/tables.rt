@@ -27,7 +27,7 @@ fn push_row(out: &mut Vec<u8>, line: &u64) -> Result<(), AllocError>
 }
 
 /// Appends the text of a table. Fails only if memory runs out.
-pub(crate) fn push_table(out: &mut Vec<u8>, table: &[u64]) -> Result<(), AllocError>
+pub fn push_table(out: &mut Vec<u8>, table: &[u64]) -> Result<(), AllocError>
     ensures { OnOk result (out.new.items ≡ out.old.items ++ table_text table.now) }
 {
     for line in table {

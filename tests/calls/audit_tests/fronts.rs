@@ -2,7 +2,8 @@
 
 use crate::numbers::Numbers;
 use recorder_files::{Front, Naming};
-use recordings::walk;
+use recordings::Visited;
+use session_log::read_session;
 use std::alloc::{AllocError, Global};
 use text_lines::{push_keyed, push_line, push_number};
 
@@ -157,7 +158,8 @@ fn told(front: Front) -> [usize; 5] {
 /// The greatest front of a recording, or none if its text is refused.
 fn greatest_front(alloc: Global, text: &[u8]) -> Option<Front> {
     let mut naming = Naming::new(alloc);
-    walk(alloc, &mut &*text, &mut naming).ok()?;
+    let session = read_session(alloc, text).ok()?;
+    session.visit(alloc, &mut naming).ok()?;
     Some(naming.greatest_front())
 }
 
@@ -231,7 +233,8 @@ fn front_expecting(alloc: Global, text: &[u8], count: u64) -> Option<Front> {
         pager: count,
     };
     let mut naming = Naming::expecting(alloc, expected);
-    walk(alloc, &mut &*text, &mut naming).ok()?;
+    let session = read_session(alloc, text).ok()?;
+    session.visit(alloc, &mut naming).ok()?;
     Some(naming.greatest_front())
 }
 

@@ -22,7 +22,7 @@ pub record IsDone (asked : Option (Request Text)) (several : Option (Lists × Li
   pub listed : IfSome several (λ asked. IsSettledList (EndsSeveral asked files HasSession old) new status)
   pub made : IfSome folders (λ asked. (status ≡ 0 → WritesSession files.names_in files.bytes_of asked.1 asked.0 old.0 new.0) × (status ≡ 1 → Keeps old.0 new.0))
   pub unasked : asked ≡ None → several ≡ None → folders ≡ None → IsSettled (EndsAsked bare_job files HasSession input old) new status
-  pub lines : status ≡ 0 → IfSome asked (λ job. HasLines job files.bytes_of old.0 new.0 before table)
+  pub lines : status ≡ 0 → IfSome asked (λ job. HasLines job files HasSession input old.0 new.0 before table)
   pub unlined : asked ≡ None → table ≡ before
   pub kept : status ≢ 0 → table ≡ before
   pub ended : IsEnded old new status

@@ -1,5 +1,5 @@
 -- A buffer with bytes of a file, and the next line in it.
-use Rattle.std.specs.Prelude.{◌≡◌, ℕ, suc, ◌+◌, ◌≤◌, ◌⊎◌, List, [], ◌∷◌, ◌++◌, length, slice_range, Option, Some, None, IfSome}
+use Rattle.std.specs.Prelude.{◌≡◌, ℕ, suc, ◌+◌, ◌≤◌, ◌⊎◌, List, [], ◌∷◌, ◌++◌, length, slice_range, Option, Some, None, IfSome, take}
 use Rattle.std.specs.List.{AllByRecursion}
 use Rattle.std.specs.Io.KnownBytes.{Consumes, IsAtEnd}
 use Rattle.text_lines.specs.Text.{ended}
@@ -9,6 +9,15 @@ use Rattle.recorder_files.specs.declared.files.FileFault.TheVariants.{Line as Fa
 use Rattle.recorder_files.specs.declared.pieces.Cut.{Cut}
 use Rattle.recorder_files.specs.declared.pieces.NextLine.{NextLine}
 use Rattle.recorder_files.specs.declared.pieces.NextLine.TheVariants.{Line, End, Long}
+
+-- bytes were read after those at the front of a buffer; there is none only if nothing is left
+pub record ReadsBehind (old new : Option (List ℕ)) (before after : List ℕ) (kept filled : ℕ) : Type 0 where
+  pub bytes : List ℕ
+  pub front : take filled after ≡ take kept before ++ bytes
+  pub consumed : Consumes old new bytes
+  pub within : filled ≤ length after
+  pub more : kept ≤ filled
+  pub at_end : filled ≡ kept → IsAtEnd new
 
 -- nothing is left, or a byte 0 comes first
 abbrev pub StopsAt : Option (List ℕ) → List ℕ → Type 0

@@ -18,4 +18,4 @@ returns-in-Window-clause-told g c = rw c.in-Window.is c.asked_window.ensures.tol
 
 pub returns-in-Window-clause-lines : goal.returns-in-Window-clause-lines
 returns-in-Window-clause-lines g c =
-    rw c.in-Window.is (window_lines c.in-Window.pages c.in-Window.name.now c.in-Window.file _ _ _ _ _ c.asked_window.result (rw c.is_some.ensures at c.asked_window.ensures.lines) (rw c.is_some.ensures at c.asked_window.ensures.unlined))
+    rw c.in-Window.is (window_lines c.in-Window.pages c.in-Window.name.now c.in-Window.file _ _ _ _ _ _ _ c.asked_window.result (rw c.is_some.ensures at c.asked_window.ensures.lines) (rw c.is_some.ensures at c.asked_window.ensures.unlined))

@@ -1,0 +1,7 @@
+use Rattle.std.proofs.Common.{◌≡◌, [], take}
+use Rattle.migration_types.specs.Sessions.{Recorded}
+use Rattle.recordings.specs.Seen.{BeforeLane}
+use Rattle.recordings.proofs.sessions.visit_link.Given as goal
+
+abbrev pub invariant-loop-i : goal.invariant-loop-i
+invariant-loop-i g l = (d : Recorded) → BeforeLane d → d.link ≡ [] → g.V.Visitor.Met l.fn.visitor d → g.V.Visitor.Met l.visitor (record d { link = take l.i l.log })

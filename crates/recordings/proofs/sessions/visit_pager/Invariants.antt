@@ -1,0 +1,6 @@
+use Rattle.std.proofs.Common.{◌≡◌, [], take}
+use Rattle.migration_types.specs.Sessions.{Recorded}
+use Rattle.recordings.proofs.sessions.visit_pager.Given as goal
+
+abbrev pub invariant-loop-i : goal.invariant-loop-i
+invariant-loop-i g l = (d : Recorded) → d.pager ≡ [] → g.V.Visitor.Met l.fn.visitor d → g.V.Visitor.Met l.visitor (record d { pager = take l.i l.log })
