@@ -1,8 +1,8 @@
 """Tests the library for C, the Python package over it, and what is installed.
 
 Every example of `check`, `replay`, `certify`, `audit`, `explain` and `draw` has to get the program's answer, and of the session
-of each example of `audit` so have all faults, pages and lines, and all questions at once: from C, where each allocation fails in turn, the room is of each
-length, four threads call at once and the memory after texts and room may not be touched; and from Python. The header's numbers,
+of each example of `audit` so have all faults, pages and lines, and all questions at once: from C, where each allocation fails in turn, the room is of many
+lengths, four threads call at once and the memory after texts and room may not be touched; and from Python. The header's numbers,
 its struct and its calls are compared with the crate's, and so are Python's and Rust's. Only the header's calls may be visible, and
 the man page has each of them. No call takes more of the stack and of memory than docs/EMBEDDING.md says. The examples for C, Python and Rust are built and run against an installation, and a test of sessions
 by pytest. What lacks a command is left out: the header in C++, the example for Rust, an installation by pip.
@@ -34,7 +34,7 @@ C_TYPES = {"u32": "uint32_t", "usize": "size_t", "PostcopyAnswer": "postcopy_ans
 C_SLICES = {"&[u8]": "const uint8_t", "&mut [u8]": "uint8_t", "&[PostcopyQuestion]": "const postcopy_question", "&mut [usize]": "size_t"}
 # The kinds of texts that are asked why they are refused, as bindings/c/tests/embedding.c names them, and which text of a command each is.
 WHY = {"session": ("SESSION_TEXT", 1), "certificate": ("CERT_TEXT", 2), "order": ("RUNS_TEXT", 2)}
-# C asks all questions of one in so many of the sessions that are audited: it asks them with rooms of thousands of lengths.
+# C asks all questions of one in so many of the sessions that are audited: it asks them with rooms of hundreds of lengths.
 EVERY = 16
 STRICT = ["-std=c11", "-Wall", "-Wextra", "-Werror", "-O2"]
 WRAPPED = "-Wl,--wrap=malloc,--wrap=realloc,--wrap=free"

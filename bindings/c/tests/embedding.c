@@ -4,8 +4,8 @@
    'unknown', which asks one more that is none; or 'session', 'certificate' or 'order' with a FILE, which asks why
    this is refused as such a text. The texts and the room end where memory ends that may be touched.
 
-   Each call is made with each allocation failing in turn, with rooms of each length up to the text's own, and by four threads at
-   once on small stacks. For each line it writes the answer's numbers on a line, and then the answer's text. The first call that
+   Each call is made with each allocation failing in turn, with rooms of each length up to the text's own, of a long text with the
+   shortest and the longest of these, and by four threads at once on small stacks. For each line it writes the answer's numbers on a line, and then the answer's text. The first call that
    goes wrong ends it, with a message and status 1. */
 #define _GNU_SOURCE
 #include <postcopy.h>
@@ -28,7 +28,7 @@ _Static_assert(sizeof(postcopy_refusal) == 24, "layout");
 _Static_assert(offsetof(postcopy_question, asks) == 0 && offsetof(postcopy_question, about) == 4, "layout");
 _Static_assert(sizeof(postcopy_question) == 8, "layout");
 
-enum { PATTERN = 0xa5, MARGIN = 64, THREADS = 4, ROUNDS = 8, STACK = 65536, ALL_LENGTHS = 4096 };
+enum { PATTERN = 0xa5, MARGIN = 64, THREADS = 4, ROUNDS = 3, STACK = 65536, ALL_LENGTHS = 256 };
 
 /* How many allocations pass before one fails, or -1; whether those after it fail too; and how many blocks are there. */
 static _Thread_local long passing = -1;
