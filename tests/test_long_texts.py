@@ -14,6 +14,7 @@ not ended has 268,435,456 bytes. One read more and one byte more are refused.
 A text has 268,435,456 bytes. By its first bytes it may be longer: a session or a certificate of the third version, runs, and a report.
 """
 import errno
+import functools
 import os
 import signal
 import socket
@@ -36,18 +37,27 @@ WRONG_RUNS = (5_000, 738_000, 788_000, 838_000, 968_000, 1_088_000, 1_238_000, R
 BROKEN = (8_000_000, 8 << 20, 9_000_000, 10 << 20, 11_000_000, 13_000_000, 15_000_000)
 
 
+@functools.cache
+def writes():
+    return [b"w 3 %d 0 18446744073709551615\n" % (at % 65_536) for at in range(WRITES)]
+
+
+def joined(lines, wrong, line):
+    """The lines, of which the one of this index is another."""
+    return b"".join(lines if wrong is None else (*lines[:wrong], line, *lines[wrong + 1:]))
+
+
 def session(wrong=None):
     """A session of a guest that only writes. The write of this index is of no page."""
-    pages = (65_536 if at == wrong else at % 65_536 for at in range(WRITES))
-    writes = "".join(f"w 3 {page} 0 18446744073709551615\n" for page in pages)
-    head = f"postcopy-session 1\npages 65536\ncells 1\ninit 0\nguest {WRITES}\n"
-    return f"{head}{writes}source 0\nlink 0\npager 0\nend\n".encode()
+    head = b"postcopy-session 1\npages 65536\ncells 1\ninit 0\nguest %d\n" % WRITES
+    return head + joined(writes(), wrong, b"w 3 65536 0 18446744073709551615\n") + b"source 0\nlink 0\npager 0\nend\n"
 
 
 def merging(wrong=None):
     """Runs by turns of two logs. The run of this index has no record."""
-    runs = "".join(f"run {'link' if at % 2 else 'guest'} {0 if at == wrong else 1}\n" for at in range(RUNS))
-    return f"postcopy-runs 1\nruns {RUNS}\n{runs}end\n".encode()
+    turns = [b"run guest 1\n", b"run link 1\n"]
+    line = turns[wrong % 2].replace(b"1", b"0") if wrong is not None else b""
+    return b"postcopy-runs 1\nruns %d\n" % RUNS + joined(turns * (RUNS // 2), wrong, line) + b"end\n"
 
 
 WRONG_WRITE = 'found "65536" in "w 3 65536 0 18446744073709551615"; expected P, a page from 0 to 65535, as in "w V P C X"'
@@ -155,11 +165,12 @@ def on_one_processor():
 
 
 def replayed(program, room, before=None):
-    """Replays of long texts: what is tried, what comes of it, and what has to."""
-    for what, first, second, wanted, refused, why in cases():
+    """Replays of long texts: what is tried, what comes of it, and what has to. The texts come in turn from files and from the standard input."""
+    for number, (what, first, second, wanted, refused, why) in enumerate(cases()):
         write(room, "session", first)
         write(room, "runs", second)
-        for names, given in ((("session", "runs"), b""), (("-", "runs"), first), (("session", "-"), second)):
+        ways = (("session", "runs"), b""), (("-", "runs"), first), (("session", "-"), second)
+        for names, given in ways[number % 3:][:1] if number else ways:
             ran = subprocess.run([program, "replay", *names], cwd=room, input=given, capture_output=True, preexec_fn=before)
             yield f"{what}, replay {' '.join(names)}", (ran.stdout, ran.stderr, ran.returncode), (wanted, f"{names[refused]}:{why}\n".encode(), 1)
 
@@ -302,7 +313,7 @@ def test_limits(program, room, refusing, tries):
 
 
 @pytest.mark.parametrize("tries", (
-    pytest.param(replayed, marks=pytest.mark.cases(63)), pytest.param(replayed_by_one_thread, marks=pytest.mark.cases(63)), pytest.param(broken, marks=pytest.mark.cases(14)),
+    pytest.param(replayed, marks=pytest.mark.cases(23)), pytest.param(replayed_by_one_thread, marks=pytest.mark.cases(23)), pytest.param(broken, marks=pytest.mark.cases(14)),
     pytest.param(told_by_tables, marks=pytest.mark.cases(2))), ids=lambda it: it.__name__)
 def test_long_texts(program, room, tries):
     for case in tries(program, room):
