@@ -64,7 +64,7 @@ class Tests:
 
 
 @pytest.mark.slow
-@pytest.mark.cases(4400)
+@pytest.mark.cases(2800)
 def test_all_faults(program):
     tests = Tests(program)
     for file, text in each([it for it in made_texts() if not is_large(it[1])][1::3]):

@@ -24,7 +24,7 @@ from note_model import note, was_owed
 from session_text import RECEIPTS, SessionText
 from test_explained import is_large
 
-CHANGES = 12
+CHANGES = 6
 WHOLE, PAGES = "--complete", "--complete-pages"
 
 
@@ -188,7 +188,7 @@ def sessions():
 
 
 @pytest.mark.slow
-@pytest.mark.cases(4100)
+@pytest.mark.cases(3600)
 def test_completeness(program, room):
     counts, early = {}, set()
     for text in each(sessions()):

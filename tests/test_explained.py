@@ -19,8 +19,8 @@ from session_text import LOGS, SessionText
 from small_sessions import every_order_shows, small_session
 
 # How many are made of a session, and of one with so many lines, in which a slow model takes seconds: one.
-CHANGES, LARGE = 12, 1000
-SMALL = 600
+CHANGES, LARGE = 6, 1000
+SMALL = 300
 NAMED = re.compile(rf"[Ll]ine ([0-9]+) \(({'|'.join(LOGS)}) ([0-9]+)\)")
 
 
@@ -117,7 +117,7 @@ def small_sessions_told(program):
     return wrong, kinds
 
 
-@pytest.mark.cases(3400)
+@pytest.mark.cases(2100)
 def test_explained(program):
     kinds = set()
     for file, text in made_texts():
@@ -130,7 +130,7 @@ def test_explained(program):
     assert not wanted - kinds, "no session comes out so"
 
 
-@pytest.mark.cases(364)
+@pytest.mark.cases(180)
 def test_every_order(program):
     wrong, kinds = small_sessions_told(program)
     for it in wrong:

@@ -19,7 +19,7 @@ from cases import each, right
 from guests import AFTER, BEFORE, guest_log, random_op, strays_from_the_script
 from steps_model import Migration, Script, contents_of, recorded
 
-SCHEDULES = 800
+SCHEDULES = 400
 FATES = ("deliver", "lose", "repeat", "back")
 ALONE = ("halt", "push", "serve", "source-tick", "pop", "pop-lane", "fault", "flush", "deliver", "pager-tick")
 EVENTS = ALONE + ("guest",) + tuple(f"link {direction} {fate}" for direction in ("down", "up", "lane") for fate in FATES)
