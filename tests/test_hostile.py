@@ -1,7 +1,7 @@
 """Uses the program as a hostile surrounding would: texts, memory, reads and writes, sizes.
 
 Texts of each kind are cut after each byte, and have each byte changed and a byte more before each; numbers have thousands of
-digits, are what a reader of 32 or 64 bits would take for the right one, or stand at a limit. Half of these are tried, the same in each
+digits, are what a reader of 32 or 64 bits would take for the right one, or stand at a limit. A quarter of these is tried, the same in each
 run. Each answer is compared with
 text_judge.py, and, where the text is one, with report_model.py, check_model.py, steps_model.py or what the program says of its
 own answer; and of a text that is refused one line of plain words has to say why, and what it tells as expected must not be
@@ -355,7 +355,7 @@ def judged_texts(is_all):
         if kind != "certificate":
             # (test_changed_certificates.py does this to certificates)
             cases.update(dict.fromkeys(cut_and_changed(text, changes, more)))
-        chosen = cases if is_all else random.Random(text).sample([*cases], len(cases) // 2)
+        chosen = cases if is_all else random.Random(text).sample([*cases], len(cases) // 4)
         yield from ((kind, case, others) for case in chosen)
     yield from (("script", script, {"events": ALL_EVENTS}) for script in odd_lanes())
 
@@ -535,7 +535,10 @@ def starved_commands(program, wide):
     """Commands with less and less address space. What comes is what went wrong, or None, for each try."""
     steps = [4096 * n for n in range(0, 160, 8)] + [1 << n for n in range(20, 27)]
     begun = (0, 4)
-    least = next(limit for limit in range(1 << 20, 1 << 26, 4096) if (limited(program, "--version", limit) or [None])[0] in begun)
+    less, least = 1 << 20, 1 << 26
+    while least - less > 4096:
+        limit = (less + least) // 8192 * 4096
+        less, least = (less, limit) if (limited(program, "--version", limit) or [None])[0] in begun else (limit, least)
     for words, given in [(words, b"") for words in (*WRITING, "audit")] + [("audit -", wide)]:
         plain = limited(program, words, 1 << 31, given)
         for step in steps:
@@ -685,11 +688,11 @@ def pipes(program, session, greatest):
 
 # Texts of the greatest size.
 
-LONGEST = 200_000_000
+LONGEST = 60_000_000
 
 
 def with_long_lines():
-    """Texts with a line of 200 MB, in pieces: what comes before it, a byte of it, and where it is refused."""
+    """Texts with a line of 60 MB, in pieces: what comes before it, a byte of it, and where it is refused."""
     yield "audit -", b"", b"p", "session-text line 1"
     yield "audit -", b"postcopy-session 1\npages ", b"1", "session-text line 2"
     yield "certify -", b"postcopy-session 1\npages 1\ncells 1\ninit 1\npage 0 ", b"0", "session-text line 5"
@@ -701,7 +704,7 @@ def with_long_lines():
 
 
 def long_line(program, words, front, byte, refusal):
-    """Whether a line of 200 MB is refused, and in no more than two and a half times as much address space."""
+    """Whether a line of 60 MB is refused, and in no more than two and a half times as much address space."""
     piece = byte * (1 << 20)
     child = subprocess.Popen([program, *words.split()], stdin=subprocess.PIPE, stdout=subprocess.PIPE, stderr=subprocess.PIPE, preexec_fn=within(LONGEST * 5 // 2))
     try:
@@ -758,7 +761,8 @@ def greatest_sizes(program, version):
         (f"replay {full} -", b"postcopy-runs 1\n" + f"runs {count}\n".encode() + runs + b"end\n", (0, b"safe\n", b"")),
         (f"certify {full}", b"", (0, entry + "\n".join([f"runs {len(found_runs)}", *found_runs, "end", ""]).encode(), noted)),
     )
-    for words, given, wanted in tries:
+    # (the lane is what the first version has not)
+    for words, given, wanted in tries if version == 2 else tries[-1:]:
         child = subprocess.run([program, *words.split()], input=given, capture_output=True)
         found = child.returncode, child.stdout, child.stderr
         yield None if found == wanted else f"{words} of full logs: {str(found)[:200]}"
@@ -830,7 +834,7 @@ def test_refused(program, room, pool, is_all):
             right(wrong)
 
 
-@pytest.mark.cases(25700)
+@pytest.mark.cases(12900)
 def test_texts(pool, is_all):
     for wrong in pool.map(misjudged, judged_texts(is_all), chunksize=50):
         right(wrong)
