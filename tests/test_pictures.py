@@ -34,7 +34,7 @@ from test_shown_orders import Program
 from world_model import REASONS
 
 MOST_ROWS = 205
-RECORDED = 150
+RECORDED = 75
 SVG = "{http://www.w3.org/2000/svg}"
 
 
@@ -336,7 +336,7 @@ def sessions():
 
 
 @pytest.mark.slow
-@pytest.mark.cases(2300)
+@pytest.mark.cases(1800)
 def test_pictures(program, room):
     kinds, asked = set(), Program(program, room)
     for number, (name, session) in each(enumerate(sessions())):

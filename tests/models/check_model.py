@@ -31,7 +31,13 @@ class Session:
         return next((n for n, record in enumerate(self.guest) if record[0] == "halt"), len(self.guest))
 
     def at_halt(self, page):
-        return [self.cell_before(self.halt(), page, cell) for cell in range(self.cells)]
+        held = self.initial.get(page, [0] * self.cells)[:]
+        for record in self.guest[:self.halt()]:
+            if record[0] == "w" and record[2] == str(page):
+                held[int(record[3])] = int(record[4])
+            elif record[0] == "z" and record[2] == str(page):
+                held = [0] * self.cells
+        return held
 
     def is_released(self, page):
         uses = [record[0] for record in self.guest[:self.halt()] if record[0] in "wz" and record[2] == str(page)]
@@ -42,7 +48,8 @@ class Session:
 
     def first_use(self, page):
         """The first record after the resume that reads, writes or releases a page, or None."""
-        return next((n for n, record in enumerate(self.guest) if n > self.resumed() and record[0] in "rwz" and record[2] == str(page)), None)
+        resumed = self.resumed()
+        return next((n for n, record in enumerate(self.guest) if n > resumed and record[0] in "rwz" and record[2] == str(page)), None)
 
     def placements(self, page):
         return [n for n, record in enumerate(self.pager) if record[0] in ("place", "zero") and record[1] == str(page)]

@@ -3,6 +3,7 @@
 What is wanted comes from the session and its order: which records have a box in which column and row, which arrow goes from
 which box to which, and what each sign looks like. Nothing stands outside the picture or upon another, and words have room.
 """
+import functools
 import re
 
 from session_text import LOGS
@@ -88,14 +89,17 @@ class Drawing:
         self.picture = picture
         rows = [group for group in picture.iter(SVG + "g") if (group.get("class") or "").startswith("row")]
         self.rows = [Box(row) for row in rows]
-        self.boxes = {name_of(box.row): box for box in self.rows if not is_fold(box.row)}
+        self.boxes, self.sides = {name_of(box.row): box for box in self.rows if not is_fold(box.row)}, {}
+        for name, box in self.boxes.items():
+            for x in {box.left, box.right}:
+                self.sides.setdefault(x, []).append((name, box))
         self.legend = picture.find(f".//{SVG}g[@class='legend']")
         self.lines = [line for line in picture.iter(SVG + "line") if line not in set(self.legend.iter(SVG + "line"))]
         self.columns = {text.text: number(text, "x") for text in picture.iter(SVG + "text") if text.get("font-weight") == "bold" and text.text in LOGS}
 
     def at(self, x, y):
         """The record at whose side a point is, and which side, or None."""
-        return next(((name, box.has(x, y)) for name, box in self.boxes.items() if box.has(x, y)), None)
+        return next(((name, box.has(x, y)) for name, box in self.sides.get(x, ()) if box.has(x, y)), None)
 
 
 def columns_wrongly(drawing, session):
@@ -243,10 +247,9 @@ def heads_wrongly(drawing):
     return None
 
 
-def dark_paints(drawing):
-    """How each class is painted on a dark page: its attributes."""
-    styles = [style.text for style in drawing.picture.iter(SVG + "style")]
-    found, dark = {}, re.fullmatch(r"\n@media \(prefers-color-scheme: dark\) \{\n(.*)\n\}\n", "".join(styles), re.S)
+def dark_paints(style):
+    """How each class is painted on a dark page by a style: its attributes."""
+    found, dark = {}, re.fullmatch(r"\n@media \(prefers-color-scheme: dark\) \{\n(.*)\n\}\n", style, re.S)
     for names, paints in re.findall(r"([^{}]*) \{ ([^{}]*) \}", dark[1] if dark else ""):
         for name in re.findall(r"\.([\w-]+)", names):
             found.setdefault(name, {}).update(paint.split(": ") for paint in paints.split("; "))
@@ -265,10 +268,15 @@ def contrast(one, other):
 
 
 def darkened_wrongly(drawing):
+    return styled_wrongly("".join(style.text for style in drawing.picture.iter(SVG + "style")))
+
+
+@functools.cache
+def styled_wrongly(style):
     """What is wrong with the colours on a dark page, or None: each part that has a colour has another there, and texts can be read on both."""
     light = {name: {"fill": fill, "stroke": stroke} for name, (fill, stroke, *_) in PAINTS.items()}
     light.update({name: {"stroke": stroke} for name, (stroke, *_) in ARROWS.items()})
-    dark = dark_paints(drawing)
+    dark = dark_paints(style)
     for name, paints in light.items():
         wanted = {part for part, colour in paints.items() if colour and colour != "none"}
         if dark.get(name, {}).keys() != wanted or any(dark[name][part] == paints[part] for part in wanted):
