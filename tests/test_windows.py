@@ -30,7 +30,7 @@ from postcopy.records import read_record
 from postcopy.sessions import Session
 
 # How many sessions are recorded of random schedules, and how many are of random records; of how many windows explanations are asked.
-RECORDED, RANDOM, EXPLAINED = 150, 500, 40
+RECORDED, RANDOM, EXPLAINED = 75, 200, 20
 
 # What is told of a folder from which the file with the recording's name is gone.
 GONE = ("{0}: note: the file recording-name is gone, which each recorder writes; that the files are of one recording is known by their "
