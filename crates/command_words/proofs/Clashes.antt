@@ -4,7 +4,7 @@ use Rattle.std.specs.Option.{option_map_or}
 use Rattle.clap.specs.Words.{HasKind, IsAmong, Row, Text, kind_of, subcommand_of}
 use Rattle.clap.specs.declared.error.Error.{Error}
 use Rattle.clap.specs.declared.error.kind.ErrorKind.{ErrorKind}
-use Rattle.clap.specs.declared.error.kind.ErrorKind.TheVariants.{ArgumentConflict, OutOfMemory}
+use Rattle.clap.specs.declared.error.kind.ErrorKind.TheVariants.{OutOfMemory}
 use Rattle.command_words.specs.declared.requests.Request.{Request}
 use Rattle.command_words.specs.declared.requests.Lacking.{Lacking}
 use Rattle.command_words.specs.declared.requests.Lists.{Lists}
@@ -53,11 +53,6 @@ kind_alone words kind other (inr is) = is
 pub no_kind : (words : List Text) (kind : ErrorKind) → AreAccepted words → IsKindFor words kind → ⊥
 no_kind words kind accepted (inl among) = absurd (subst (IsAmong kind) accepted.0 among)
 no_kind words kind accepted (inr (none, clashes, why)) = let both : true ≡ false = sym clashes ∙ accepted.1 in absurd cc
-
--- words that the command line accepts have only that of options that clash
-pub clash_kind : (words : List Text) (kind : ErrorKind) → error_kinds words ≡ [] → IsKindFor words kind → kind ≡ ArgumentConflict
-clash_kind words kind none (inl among) = absurd (subst (IsAmong kind) none among)
-clash_kind words kind none (inr (accepted, clashes, why)) = why
 
 -- words that are accepted are not refused
 pub not_refused : (words : List Text) (P : Type 0) → (1 < length words → error_kinds words ≡ []) → clashing words ≡ false → AreRefused words → P

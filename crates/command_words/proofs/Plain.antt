@@ -201,7 +201,7 @@ no_window word (name ∷ other ∷ third ∷ rest) = refl
 row_taken : (program name : Text) (names : List Text) (job : Request Text) → AllByRecursion IsPlainName names
     → (check certify audit explain replay steps migrate draw window session : Bool)
     → (check ≡ true → codes "check" ≡ name) → (certify ≡ true → codes "certify" ≡ name) → (audit ≡ true → codes "audit" ≡ name) → (explain ≡ true → codes "explain" ≡ name) → (replay ≡ true → codes "replay" ≡ name) → (steps ≡ true → codes "steps" ≡ name) → (migrate ≡ true → codes "migrate" ≡ name) → (draw ≡ true → codes "draw" ≡ name)
-    → option_and_then (λ (row : Text × Takes Text). with_names names row.1) (cond check (Some (codes "check", by.Texts (Two (Check asked_plainly) (codes "SESSION") (codes "CERT")))) (cond certify (Some (codes "certify", by.Texts (One Certify (codes "SESSION")))) (cond audit (Some (codes "audit", by.Texts (One (Audit plain_audit) (codes "SESSION")))) (cond explain (Some (codes "explain", by.Texts (One (Explain plain_explanation) (codes "SESSION")))) (cond replay (Some (codes "replay", by.Texts (Two Replay (codes "SESSION") (codes "RUNS")))) (cond steps (Some (codes "steps", by.Texts (Two Steps (codes "SCRIPT") (codes "EVENTS")))) (cond migrate (Some (codes "migrate", by.Texts (Migrate Memory (codes "SCRIPT")))) (cond draw (Some (codes "draw", by.Texts (Draw Report (codes "SESSION") (Some (codes "RUNS"))))) (cond window (Some (codes "window", by.Texts (Window no_pages (codes "RECORDING") None))) (cond session (Some (codes "session", by.Folders (codes "FOLDER"))) None)))))))))) ≡ Some job
+    → option_and_then (λ (row : Text × Takes Text). with_names names row.1) (cond check (Some (codes "check", by.Texts (Two (Check asked_plainly) (codes "SESSION") (codes "CERT")))) (cond certify (Some (codes "certify", by.Texts (One Certify (codes "SESSION")))) (cond audit (Some (codes "audit", by.Texts (One (Audit plain_audit) (codes "SESSION")))) (cond explain (Some (codes "explain", by.Texts (One (Explain plain_explanation) (codes "SESSION")))) (cond replay (Some (codes "replay", by.Texts (Two Replay (codes "SESSION") (codes "RUNS")))) (cond steps (Some (codes "steps", by.Texts (Two Steps (codes "SCRIPT") (codes "EVENTS")))) (cond migrate (Some (codes "migrate", by.Texts (Migrate Memory (codes "SCRIPT")))) (cond draw (Some (codes "draw", by.Texts (Draw Report (codes "SESSION") (Some (codes "RUNS"))))) (cond window (Some (codes "window", by.Texts (Window no_pages (codes "INPUT") None))) (cond session (Some (codes "session", by.Folders (codes "FOLDER"))) None)))))))))) ≡ Some job
     → IsTaken (program ∷ name ∷ names) job
 row_taken program name names job plain true certify audit explain replay steps migrate draw window session a b c d f g h i e = subst (λ (x : Text). IsTaken (program ∷ x ∷ names) job) (a refl) (two_taken (Check asked_plainly) (codes "check") taken_check program _ _ names job plain e)
 row_taken program name names job plain false true audit explain replay steps migrate draw window session a b c d f g h i e = subst (λ (x : Text). IsTaken (program ∷ x ∷ names) job) (b refl) (one_taken Certify (codes "certify") taken_certify program _ names job plain e)
@@ -211,7 +211,7 @@ row_taken program name names job plain false false false false true steps migrat
 row_taken program name names job plain false false false false false true migrate draw window session a b c d f g h i e = subst (λ (x : Text). IsTaken (program ∷ x ∷ names) job) (g refl) (two_taken Steps (codes "steps") taken_steps program _ _ names job plain e)
 row_taken program name names job plain false false false false false false true draw window session a b c d f g h i e = subst (λ (x : Text). IsTaken (program ∷ x ∷ names) job) (h refl) (migrate_taken program _ names job plain e)
 row_taken program name names job plain false false false false false false false true window session a b c d f g h i e = subst (λ (x : Text). IsTaken (program ∷ x ∷ names) job) (i refl) (draw_taken program _ _ names job plain e)
-row_taken program name names job plain false false false false false false false false true session a b c d f g h i e = let none : None ≡ Some job = sym (no_window (codes "RECORDING") names) ∙ e in absurd cc
+row_taken program name names job plain false false false false false false false false true session a b c d f g h i e = let none : None ≡ Some job = sym (no_window (codes "INPUT") names) ∙ e in absurd cc
 row_taken program name names job plain false false false false false false false false false true a b c d f g h i e = let none : None ≡ Some job = e in absurd cc
 row_taken program name names job plain false false false false false false false false false false a b c d f g h i e = let none : None ≡ Some job = e in absurd cc
 

@@ -50,7 +50,7 @@ no_pages = record { first = 0; count = 0 }
 
 -- what each of these asks for without options: `check SESSION CERT`, `certify SESSION`, `audit SESSION`, `explain
 -- SESSION`, `replay SESSION RUNS`, `steps SCRIPT EVENTS`, `migrate SCRIPT`, `draw SESSION`, `draw SESSION RUNS`,
--- `window RECORDING FIRST COUNT`, `session FOLDER`
+-- `window INPUT FIRST COUNT`, `session FOLDER`
 abbrev pub table : List (Text × Takes Text)
 table =
     (codes "check", by.Texts (Two (Check plain) (codes "SESSION") (codes "CERT"))) ∷
@@ -61,7 +61,7 @@ table =
     (codes "steps", by.Texts (Two Steps (codes "SCRIPT") (codes "EVENTS"))) ∷
     (codes "migrate", by.Texts (Migrate Memory (codes "SCRIPT"))) ∷
     (codes "draw", by.Texts (Draw topic.Report (codes "SESSION") (Some (codes "RUNS")))) ∷
-    (codes "window", by.Texts (Window no_pages (codes "RECORDING") None)) ∷
+    (codes "window", by.Texts (Window no_pages (codes "INPUT") None)) ∷
     (codes "session", by.Folders (codes "FOLDER")) ∷ []
 
 -- the name of a carrier of a migration

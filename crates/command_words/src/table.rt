@@ -53,9 +53,9 @@ const EVENTS: Word = Word {
     help: "File of events, or - for standard input",
 };
 
-const RECORDING: Word = Word {
-    name: "RECORDING",
-    help: "Recording file, of any size. It is read four times, so it cannot be - or a pipe",
+const INPUT: Word = Word {
+    name: "INPUT",
+    help: "Folder with files of recorders, of a recording of any size. Or a session file, or - for standard input",
 };
 
 /// The word for the first page of a window.
@@ -213,7 +213,7 @@ static COMMANDS: [CommandRow; 10] = [
     CommandRow {
         name: "window",
         about: "Write the session of some pages of a recording. Example: postcopy window recording 4096 1024 -o session",
-        takes: Takes::Texts(Request::Window(NO_PAGES, RECORDING, None)),
+        takes: Takes::Texts(Request::Window(NO_PAGES, INPUT, None)),
     },
     CommandRow {
         name: "session",
