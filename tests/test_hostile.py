@@ -469,7 +469,7 @@ def refused_in_turn(case):
     if reads:
         same("read 1 9999999 short", plain)
         # (an interrupted read counts, so that it is not made for ever)
-        same(f"read 1 9999999 {errno.EINTR}", failed(inputs[0], not_whole or "the text comes in too many pieces"))
+        same(f"read 1 9999999 {errno.EINTR}", failed(inputs[0], "the text comes in too many pieces"))
     if writes:
         same("write 1 9999999 short", plain)
     return tries
