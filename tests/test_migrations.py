@@ -102,7 +102,10 @@ def full_script(is_after):
 
 def ran(program, words, text):
     """What the program writes, to both outputs, and its status; or it took too long."""
-    done = subprocess.run([program, *words], input=text.encode(), capture_output=True, timeout=seconds())
+    try:
+        done = subprocess.run([program, *words], input=text.encode(), capture_output=True, timeout=seconds())
+    except subprocess.TimeoutExpired:
+        return "", f"it does not end within {seconds()} seconds", None
     return done.stdout.decode("latin-1"), done.stderr.decode("latin-1"), done.returncode
 
 
