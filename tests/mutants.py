@@ -12,7 +12,8 @@ whole crate. Try all of a crate, here, once its sources, its specifications or a
 NAME.edit at least, which 'rt must-fail' reads as it is.
 
 Those in tests/planted/CRATE.edits no clause refuses, and those in outside.edits are of files in no crate. Each has a line
-'test: TEST', as pytest names a test: test_planted.py shows that it finds the body. Here they are looked at by --check alone.
+'test: TEST', as pytest names a test, and perhaps 'item: N' for the item of that test's list (cases.each): test_planted.py shows that it finds
+the body. Here they are looked at by --check alone.
 
 --few takes some of those that 'rt ci' does not try. The commit's hash chooses which, so that over many commits each is
 likely to be tried. All that it takes are of one crate, whose whole proof is paid once. Run it after 'rt ci', whose libraries it uses.
@@ -67,6 +68,12 @@ class Mutant(NamedTuple):
         """The test that finds it, where no clause refuses it."""
         found = re.search("^test: (.*)$", self.text, re.M)
         return found[1] if found else ""
+
+    @property
+    def item(self):
+        """The item of that test's list that found it last, or None where the test has no list."""
+        found = re.search(r"^item: (\d+)$", self.text, re.M)
+        return found[1] if found else None
 
 
 def mutants_in(file, crate):
@@ -126,7 +133,7 @@ def changes_in(mutant):
                 raise Unfit("a line 'new:' has no line 'file:' or 'old:' before it")
             yield path, old, line[len("new:") :].removeprefix(" ")
             old = None
-        elif line and not line.startswith("test: "):
+        elif line and not line.startswith(("test: ", "item: ")):
             raise Unfit(f"this is no line of a mutant: {line}")
     if not path or old is not None:
         raise Unfit("it has no pair of lines 'old:' and 'new:'")

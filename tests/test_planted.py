@@ -1,5 +1,8 @@
 """Whether a test finds each wrong body of tests/planted: it has to fail with the wrong body, and to pass as far where the program has none.
 
+Of a test with a list of items (cases.each), the one that the body's line `item:` names is tried alone. Where that does not find it, the whole
+test is run, and the item that does is told, for that line.
+
 Nothing is proved. All bodies of crates stand in two programs, each behind its number (planted_programs.py), which are compiled before other
 tests run. Those of outside.edits are of files in no crate, such as a recorder's or a model's, and are put into a copy of the tree.
 
@@ -23,8 +26,8 @@ from switched import plant
 TOP = os.path.dirname(os.path.dirname(os.path.realpath(__file__)))
 # The modules of tests that run another program than `postcopy`.
 OF_CALLS = ("tests/test_calls.py", "tests/test_refused_calls.py")
-# Of a test that failed, the line that says so, and the one that says with which case.
-FAILED, CASE = re.compile("^FAILED .*$", re.M), re.compile(r"^case (\d+) failed", re.M)
+# Of a test that failed, the line that says so, and the one that says with which case, and of which item of its list.
+FAILED, CASE = re.compile("^FAILED .*$", re.M), re.compile(r"^case (\d+)(?: of item (\d+))? failed", re.M)
 # What is said where the test as a whole was left out, as where there is no node.
 LEFT_OUT = re.compile(r"^left out: [^ ]+: (.*)\n(?:.*\n)*0 passed, 0 failed, 1 left out", re.M)
 # How long a test may take, in seconds by the clock, and each program that it runs, in seconds of processor: a wrong body may wait for ever, or
@@ -79,10 +82,9 @@ def status_of(child):
     return None
 
 
-def run_test(test, tree, program, most=None):
-    """Runs a test of a tree, to its first case that fails or to so many cases: the status, and what was printed."""
-    words = ["-q", "--first", "-p", "no:cacheprovider", "-p", "no:xdist", f"--{'calls' if program_of(test) == 'calls' else 'program'}={program}"]
-    words += [f"--up-to={most}"] if most else []
+def run_test(test, tree, program, *part):
+    """Runs a test of a tree, or a part of it, to its first case that fails: the status, and what was printed."""
+    words = ["-q", "--first", "-p", "no:cacheprovider", "-p", "no:xdist", f"--{'calls' if program_of(test) == 'calls' else 'program'}={program}", *part]
     with tempfile.TemporaryFile() as said:
         seconds = MOST_OF_REFUSED if test.startswith("tests/test_refused_calls.py") else MOST
         status = status_of(run_in_fork([*words, f"{tree}/{test}"], tree, said, seconds))
@@ -90,18 +92,23 @@ def run_test(test, tree, program, most=None):
         return status, said.read().decode(errors="replace")
 
 
+def part_of(item):
+    return [] if item is None else [f"--item={item}"]
+
+
 def require_right(made_once, test, program, found):
-    """Sees to it that a test passes where no wrong body runs, up to the case that found one, or the next power of two, so that it is run seldom."""
-    most = 1 << (int(found[1]) - 1).bit_length() if found else None
+    """Sees to it that a test passes where no wrong body runs: the item that found one, or up to the case that did, or the next power of two, so that
+    it is run seldom."""
+    part = [] if not found else part_of(found[2]) if found[2] else [f"--up-to={1 << (int(found[1]) - 1).bit_length()}"]
 
     def make(made):
-        status, said = run_test(test, TOP, program, most)
+        status, said = run_test(test, TOP, program, *part)
         if status != 0:
             return said[-6000:]
         shutil.copy(os.devnull, made)
         return None
 
-    made_once.file(f"passed {test} {os.path.basename(program)} {most}", make)
+    made_once.file(f"passed {test} {os.path.basename(program)} {part}", make)
 
 
 @pytest.fixture(scope="module")
@@ -133,9 +140,12 @@ def test_program(made_once):
     program_with_bodies(made_once, "postcopy")
 
 
-def found_by(made_once, test, right, ran):
-    """Whether a test has found a wrong body, and does not fail for another reason."""
-    status, said = ran
+def found_by(made_once, name, right, tree, program):
+    """Whether a test has found a wrong body, and does not fail for another reason. Gives what is to be told of it, if anything is."""
+    test, item = BODIES[name].test, BODIES[name].item
+    status, said = run_test(test, tree, program, *part_of(item))
+    if status == 0 and item is not None:
+        status, said = run_test(test, tree, program)
     print(said[-3000:])
     left_out = LEFT_OUT.search(said)
     if left_out:
@@ -143,21 +153,22 @@ def found_by(made_once, test, right, ran):
     assert status is not None, f"{test} does not end"
     assert status, f"{test} does not find it"
     assert FAILED.search(said), "the test was not run"
-    require_right(made_once, test, right, CASE.search(said))
+    found = CASE.search(said)
+    require_right(made_once, test, right, found)
+    now = found[2] if found else None
+    return None if now == item else f"{BODIES[name].file}, {name}: found by item {now} and not {item}"
 
 
 @pytest.mark.last
 @pytest.mark.parametrize("name", NUMBERS)
-def test_planted(made_once, room, name):
-    test = BODIES[name].test
-    right, program = program_with_bodies(made_once, program_of(test)), f"{room}/program"
+def test_planted(made_once, room, record_property, name):
+    right, program = program_with_bodies(made_once, program_of(BODIES[name].test)), f"{room}/program"
     plant(right, NUMBERS[name], program)
-    found_by(made_once, test, right, run_test(test, TOP, program))
+    record_property("told", found_by(made_once, name, right, TOP, program))
 
 
 @pytest.mark.last
 @pytest.mark.xdist_group("copy of the tree")
 @pytest.mark.parametrize("name", [it for it in BODIES if it not in NUMBERS])
-def test_outside(made_once, program, planted, name):
-    test = BODIES[name].test
-    found_by(made_once, test, program, run_test(test, planted, program))
+def test_outside(made_once, program, planted, record_property, name):
+    record_property("told", found_by(made_once, name, program, planted, program))
