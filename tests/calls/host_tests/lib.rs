@@ -1,9 +1,7 @@
-//! Tests of migrations in threads, over links that fail too, of the checks of what a run leaves, and of the core over a full log.
+//! Tests of migrations in threads, over links that fail too, and of the checks of what a run leaves.
 
 #[cfg(test)]
 mod checks;
-#[cfg(test)]
-mod cores;
 #[cfg(test)]
 mod draws;
 #[cfg(test)]

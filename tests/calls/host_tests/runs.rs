@@ -6,7 +6,7 @@ use crate::relays::run_over_relay;
 use guest_script::{Script, read_script};
 use host_threads::{Gate, Migrated, Open, RunFault, migrate, migrate_tcp};
 use migration_types::PageNo;
-use std::alloc::{AllocError, Global};
+use std::alloc::Global;
 use std::net::{Net, TcpListener, TcpStream};
 use std::sync::Wait;
 use std::thread::Threads;
@@ -292,50 +292,4 @@ fn all_come_out<R: Threads + Wait + Sync>(rt: &R, alloc: Global, runs: u32) -> b
 #[test]
 fn a_thousand_runs(rt: HostRuntime) {
     assert!(rt; all_come_out(&rt, rt.alloc(), 1_000));
-}
-
-/// The text of a script in which so many virtual processors read page 0 so often before the move.
-fn reads_text(alloc: Global, vcpus: u32, reads: u32) -> Result<Vec<u8>, AllocError> {
-    let mut text = Vec::new(alloc);
-    text.extend_from_slice(
-        b"postcopy-script 1\npages 1\ncells 1\ninit 0\npivots 1\nwindow 1\ndown -\nup -\n",
-    )?;
-    let counts = format!(in alloc; "vcpus {vcpus}\n")?;
-    text.extend_from_slice(counts.as_bytes())?;
-    for _ in 0..vcpus {
-        let count = format!(in alloc; "vcpu {reads} 0\n")?;
-        text.extend_from_slice(count.as_bytes())?;
-        for _ in 0..reads {
-            text.extend_from_slice(b"r 0 0\n")?;
-        }
-    }
-    text.extend_from_slice(b"end\n")?;
-    Ok(text)
-}
-
-/// The script of so many reads.
-pub fn reads_script(alloc: Global, vcpus: u32, reads: u32) -> Option<Script> {
-    let text = reads_text(alloc, vcpus, reads).ok()?;
-    read_script(alloc, text.as_slice()).ok()
-}
-
-/// Whether a run of a script finds a log full.
-fn is_full<R: Threads + Wait + Sync>(rt: &R, alloc: Global, script: &Script) -> bool {
-    match migrate(rt, alloc, script, &Open) {
-        Err(RunFault::LogFull) => true,
-        _ => false,
-    }
-}
-
-/// Whether more reads than a log has room for are refused as such.
-fn fills_the_log<R: Threads + Wait + Sync>(rt: &R, alloc: Global) -> bool {
-    match reads_script(alloc, 17, 65_536) {
-        Some(script) => is_full(rt, alloc, &script),
-        None => false,
-    }
-}
-
-#[test]
-fn more_reads_than_a_log_has_room_for(rt: HostRuntime) {
-    assert!(rt; fills_the_log(&rt, rt.alloc()));
 }
