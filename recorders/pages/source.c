@@ -337,7 +337,7 @@ static int watch(void)
         if (looking && is_done)
             end_look();
         if (last == FAILED)
-            refuse("there was no post-copy: nothing is recorded", 0);
+            refuse("there was no post-copy, or the source had its guest go on at once: nothing is recorded", 0);
         if (state == GONE && !looking && (at_halt.hashes ? at_halt.error : 1))
             refuse("it ended before its memory was hashed: nothing is recorded", 0);
         if (last == HALT_SEEN && !looking && !at_halt.hashes && !at_halt.error)
