@@ -42,8 +42,14 @@ LARGE, LITTLE = 320_000_000, 40_000_000
 # What is told of a refused recording, and of a line to which only a line feed is lacking.
 REFUSED = re.compile(r"recording:\d+:\d+: (this is |found |the text )[ -~]+\n")
 LINE_FEED = "expected a line feed after "
-NOTHING = '-:1:1: the text is empty; expected "postcopy-session 1", "postcopy-session 2" or "postcopy-session 3"\n'
+NOTHING = '-:1:1: the text is empty; expected "postcopy-session 1", "postcopy-session 2" or "postcopy-session 3", the header of a session\n'
 CUT = 'cut:4:6: the text ends in the middle of a line, after "init "; expected N, a number from 0 to 4, as in "init N"\n'
+
+# The line of a text with the number of cells.
+CELLS_LINE = 3
+
+# The most pages of a session of the first version.
+MOST_PAGES = 65_536
 
 # What is told of pages that the machine does not have.
 OUTSIDE = "recording: the window has no page, or one that the machine of this recording does not have\n"
@@ -93,7 +99,8 @@ class Tests:
         for changed in texts_of(errors.rstrip("\n"), self.has("recording")):
             self.put("changed", changed)
             again, more, _ = self.run("window", "changed", 0, 1)
-            is_there = again == told and place_of(more)[1] <= place_of(errors)[1] and LINE_FEED not in more
+            # (how many cells a page may have also depends on the number of pages, which is not told)
+            is_there = again == told and place_of(more)[1] <= place_of(errors)[1] and LINE_FEED not in more and line != CELLS_LINE
             self.same(f"what {errors!r} of {what} expects", is_there, False)
         for changed in texts_beyond(errors.rstrip("\n"), self.has("recording")):
             self.same(f"whether {changed.splitlines()[line - 1]!r} in the place of {errors!r} of {what} is refused", refusal_line("session", changed.encode("latin-1")), line)
@@ -252,10 +259,11 @@ def refusals(tests, rng):
     for what, text in refused_texts(rng):
         tests.put("recording", text)
         tests.cut(what, text, 0, 1)
-    text = machine(GREATEST, 1, [f"page {GREATEST - 1} 0000000000000001"])
+    text = machine(MOST_PAGES, 1, [f"page {MOST_PAGES - 1} 0000000000000001"])
     tests.put("recording", text)
-    for first, count in ((0, 0), (1, 0), (GREATEST, 0), (GREATEST, 1), (GREATEST - 1, 1), (GREATEST - 1, 2), (0, GREATEST), (1, GREATEST), (GREATEST, GREATEST)):
-        tests.cut("a machine of the greatest size", text, first, count)
+    for first, count in ((0, 0), (1, 0), (MOST_PAGES, 0), (MOST_PAGES, 1), (MOST_PAGES - 1, 1), (MOST_PAGES - 1, 2), (0, MOST_PAGES), (1, MOST_PAGES),
+                         (GREATEST, 0), (GREATEST, 1), (0, GREATEST), (GREATEST, GREATEST)):
+        tests.cut("a machine of the most pages", text, first, count)
 
 
 def wrong_words(tests):
@@ -482,7 +490,7 @@ def test_windows(tests):
 
 
 @pytest.mark.parametrize("part", (
-    pytest.param(wrong_words, marks=pytest.mark.cases(45)), pytest.param(pipes, marks=pytest.mark.cases(9)), pytest.param(many_windows, marks=pytest.mark.cases(20)),
+    pytest.param(wrong_words, marks=pytest.mark.cases(45)), pytest.param(pipes, marks=pytest.mark.cases(5)), pytest.param(many_windows, marks=pytest.mark.cases(20)),
     pytest.param(memory, marks=pytest.mark.cases(2)), pytest.param(beyond_in_python, marks=pytest.mark.cases(9))), ids=lambda it: it.__name__)
 def test_alone(tests, part):
     part(tests)
