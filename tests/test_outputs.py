@@ -112,7 +112,7 @@ def wrong_folder(program, folder):
         found = ran(program, folder, full)
     words = words_of(folder)
     wanted = (3, b"output\nstandard output: no space left on the device\n") if plain[0] < 2 or is_of_several(words, folder) else plain
-    if words[:1] == ["session"]:
+    if words[:1] == ["session"] or words[:1] == ["window"] and os.path.isdir(f"{folder}/{words[1]}"):
         # (what recorders' files lack is told first, and only where they lack nothing, or are cut, is there an answer)
         wanted = (3, plain[1] + wanted[1]) if plain[0] == 0 else plain
     return None if found == wanted else f"{folder}: {found} on a full disk, not {wanted}"
