@@ -618,7 +618,7 @@ class Faults:
     def of_last_window(self, folder, place):
         """Where the last window cannot be cut, the others have no name either: a judge of what stands there would find all of it clean."""
         program = f"{place}/program"
-        self.put(program, f'#!/bin/sh\nif [ "$1 $3" = "window 1" ]; then sleep 1; echo "x: gone" >&2; exit 3; fi\nexec "{self.command}" "$@"\n')
+        self.put(program, f'#!/bin/sh\nif [ "$1 $4" = "window 1" ]; then sleep 1; echo "x: gone" >&2; exit 3; fi\nexec "{self.command}" "$@"\n')
         os.chmod(program, 0o755)
         for words, wanted in ((("1",), (2, "session: x: gone\n", [])), (("2",), (0, "", ["0-1"]))):
             ran = subprocess.run([sys.executable, f"{TOP}/recorders/session", folder, "-o", f"{place}/last", "--windows", *words],
