@@ -453,6 +453,39 @@ def memory(tests):
     tests.same("its lines", tests.has("table"), lines_text(map(moved, lines)))
 
 
+def beyond_by_the_recorders(tests):
+    """recorders/session cuts the windows of a machine that is larger than any session's out of the files, in one folder or in two."""
+    few, pages, size = SessionText(text_of(f"{TOP}/examples/recording/session")), 20_000_000, 7_000_000
+    few.tell_in(3)
+    few.head[1] = f"pages {pages}"
+    whole = {f"{first}-{min(first + size, pages) - 1}": window(few.text(), first, min(size, pages - first))[0] for first in range(0, pages, size)}
+    for folder in ("one", "here"):
+        files_of(few, f"{tests.room}/{folder}")
+        tests.put(f"{folder}/read.me", "")
+    os.mkdir(f"{tests.room}/there")
+    os.rename(f"{tests.room}/here/pager.1.0", f"{tests.room}/there/pager.1.0")
+    tests.put("there/read.me", "")
+    for folders in (["one"], ["here", "there"]):
+        ran = script(tests, *folders, "--window", "1-2", "-o", f"window-{folders[0]}")
+        wanted = ("", 0, window(few.text(), 1, 2)[0])
+        tests.same(f"a window of the files in {folders}", (ran.stdout, ran.returncode, tests.has(f"window-{folders[0]}")), wanted)
+        ran = script(tests, *folders, "--windows", str(size), "-o", f"windows-{folders[0]}")
+        found = {name: tests.has(f"windows-{folders[0]}/{name}") for name in os.listdir(f"{tests.room}/windows-{folders[0]}")}
+        tests.same(f"the windows of the files in {folders}", (ran.stdout, ran.returncode, found), ("", 0, whole))
+    ran = script(tests, "one", "--window", "1-2", "--cut")
+    told = "session: beyond the limits of a session, windows are cut out of files that lack nothing\n"
+    tests.same("a window with --cut", (ran.stdout, ran.stderr.endswith(told), ran.returncode), ("", True, 2))
+    # (the guest's log is handed over to a process of the same number on another host)
+    files_of(few, f"{tests.room}/parts")
+    os.mkdir(f"{tests.room}/other")
+    *head, _, first, rest = tests.has("parts/guest.1.0").split("\n", 4)
+    tests.put("parts/guest.1.0", "\n".join([*head, "log guest 0 0", first, "next 1", ""]))
+    tests.put("other/guest.1.0", "\n".join([*head, "log guest 1 0", rest]))
+    ran = script(tests, "parts", "other", "--window", "1-2")
+    told = "session: other/guest.1.0: another folder has a file of this name: rename one, to cut windows\n"
+    tests.same("a file of one name in two folders", (ran.stdout, ran.stderr.endswith(told), ran.returncode), ("", True, 2))
+
+
 def beyond_in_python(tests):
     """A window that has pages which the machine does not have is refused in Python too, and all others are not."""
     session = Session(3, 1)
@@ -491,6 +524,6 @@ def test_windows(tests):
 
 @pytest.mark.parametrize("part", (
     pytest.param(wrong_words, marks=pytest.mark.cases(45)), pytest.param(pipes, marks=pytest.mark.cases(5)), pytest.param(many_windows, marks=pytest.mark.cases(20)),
-    pytest.param(memory, marks=pytest.mark.cases(2)), pytest.param(beyond_in_python, marks=pytest.mark.cases(9))), ids=lambda it: it.__name__)
+    pytest.param(memory, marks=pytest.mark.cases(2)), pytest.param(beyond_by_the_recorders, marks=pytest.mark.cases(6)), pytest.param(beyond_in_python, marks=pytest.mark.cases(9))), ids=lambda it: it.__name__)
 def test_alone(tests, part):
     part(tests)
