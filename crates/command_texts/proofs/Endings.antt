@@ -6,7 +6,7 @@ use Rattle.std.proofs.KnownBytes.{Keeps-refl}
 use Rattle.command_texts.specs.declared.answer.Answer.{Answer}
 use Rattle.command_texts.specs.declared.answer.Fault.{Fault}
 use Rattle.command_texts.specs.declared.answer.Fault.TheVariants.{File, Link, Threads, Output, Memory}
-use Rattle.command_texts.specs.Answers.{IsHostFault, IsListStop, IsOutputFault, IsReadFault, IsRunStop, IsTextFault}
+use Rattle.command_texts.specs.Answers.{IsHostFault, IsListStop, IsOutputFault, IsReadFault, IsTextFault}
 use Rattle.command_texts.specs.Told.{CutsShort, Ends, Fails, IsLeft, Tells}
 use Rattle.text_access.specs.Written.{AppendsFront, Streams}
 
@@ -36,13 +36,6 @@ host_fault P Threads h = tt
 host_fault P (Output name why) h = tt
 host_fault P Memory h = h
 
-pub stop_fault : (P : List ℕ → Type 0) (fault : Fault) → IsRunStop fault → IsHostFault P fault
-stop_fault P (File name why) h = absurd h
-stop_fault P Link h = tt
-stop_fault P Threads h = tt
-stop_fault P (Output name why) h = tt
-stop_fault P Memory h = tt
-
 -- a fault of the output is one of a command on texts
 pub output_fault : (P : List ℕ → Type 0) (fault : Fault) → IsOutputFault fault → IsTextFault P fault
 output_fault P (File name why) h = absurd h
@@ -50,13 +43,6 @@ output_fault P Link h = absurd h
 output_fault P Threads h = absurd h
 output_fault P (Output name why) h = tt
 output_fault P Memory h = absurd h
-
-pub output_fault_of_host : (P : List ℕ → Type 0) (fault : Fault) → IsOutputFault fault → IsHostFault P fault
-output_fault_of_host P (File name why) h = absurd h
-output_fault_of_host P Link h = absurd h
-output_fault_of_host P Threads h = absurd h
-output_fault_of_host P (Output name why) h = tt
-output_fault_of_host P Memory h = absurd h
 
 -- and one that ends a list of answers
 pub output_stops : (fault : Fault) → IsOutputFault fault → IsListStop fault
@@ -86,14 +72,6 @@ module _ {T : Type 0} (IsFault : Fault → Type 0) (AreTexts : T → Type 0) (Is
   -- there was no memory for an answer
   pub no_memory : (old : Streams) (fault : Fault) → fault ≡ Memory → IsFault Memory → Fails IsFault AreTexts IsAnswerTo old old fault
   no_memory old fault e is = rw e record { is_fault = is; output = Keeps-refl old.0; errors = Keeps-refl old.1 }
-
-  -- there was no answer, since a run was not made to its end
-  pub no_answer : (old : Streams) (fault : Fault) → IsFault fault → IsRunStop fault → Fails IsFault AreTexts IsAnswerTo old old fault
-  no_answer old (File name why) is h = absurd h
-  no_answer old Link is h = record { is_fault = is; output = Keeps-refl old.0; errors = Keeps-refl old.1 }
-  no_answer old Threads is h = record { is_fault = is; output = Keeps-refl old.0; errors = Keeps-refl old.1 }
-  no_answer old (Output name why) is h = absurd h
-  no_answer old Memory is h = record { is_fault = is; output = Keeps-refl old.0; errors = Keeps-refl old.1 }
 
   -- the output failed
   pub not_written : (texts : T) (text : List ℕ) (status : ℕ) (old new : Option (List ℕ)) (errors : Option (List ℕ)) (fault : Fault) → IsOutputFault fault → IsFault fault → AreTexts texts → IsAnswerTo texts text status → AppendsFront old new text → Fails IsFault AreTexts IsAnswerTo (old, errors) (new, errors) fault

@@ -57,14 +57,6 @@ abbrev pub IsTextFault : (List ℕ → Type 0) → Fault → Type 0
 IsTextFault IsName (Output name why) = ⊤
 IsTextFault IsName other = IsReadFault IsName other
 
--- a migration did not run to its end: its link failed, a thread could not be started, or memory ran out
-abbrev pub IsRunStop : Fault → Type 0
-IsRunStop (File name why) = ⊥
-IsRunStop Link = ⊤
-IsRunStop Threads = ⊤
-IsRunStop (Output name why) = ⊥
-IsRunStop Memory = ⊤
-
 -- a fault of a command that runs a migration
 abbrev pub IsHostFault : (List ℕ → Type 0) → Fault → Type 0
 IsHostFault IsName Link = ⊤

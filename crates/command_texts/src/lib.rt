@@ -25,11 +25,11 @@ pub use answer::{
 };
 pub use closing::Closable;
 pub use console::Console;
-pub use naming::{opened, read_named};
+pub use naming::{opened, read_named, read_pair};
 pub use noting::tell_note;
 pub use performing::{OnOne, OnTwo, perform_one, perform_two};
 pub use sessions::SessionTaker;
 pub use several::{Listing, perform_several};
 pub use shown::{push_shown, write_line_on, write_shown};
 pub use taking::{Gathered, Taker};
-pub use why::{Telling, Why, tell_why};
+pub use why::{Refusals, Telling, Why, tell_why};

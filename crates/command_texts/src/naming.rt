@@ -167,7 +167,7 @@ fn are_input(first: &str, second: &str) -> bool
 
 /// Returns what is found in the texts under two names, and why each is refused, if it is. The texts are read in this
 /// order. If both names are `-`, the input holds both texts, and the first ends with the first line `end`.
-pub(crate) fn read_pair<'a, A: Taker, B: Taker, R: Threads + Sync, S: TextSource, I: Read + Send>(
+pub fn read_pair<'a, A: Taker, B: Taker, R: Threads + Sync, S: TextSource, I: Read + Send>(
     rt: &R,
     alloc: Global,
     first: &'a str,

@@ -65,9 +65,9 @@ fn either<'w, 'a>(one: &'w Option<Why<'a>>, other: &'w Option<Why<'a>>) -> &'w O
 
 /// Why each of two texts is refused, if it is.
 #[derive(Drop)]
-pub(crate) struct Refusals<'a> {
-    pub(crate) first: Option<Why<'a>>,
-    pub(crate) second: Option<Why<'a>>,
+pub struct Refusals<'a> {
+    pub first: Option<Why<'a>>,
+    pub second: Option<Why<'a>>,
 }
 
 impl<'a> Refusals<'a> {
@@ -83,7 +83,7 @@ impl<'a> Refusals<'a> {
     }
 
     /// Returns why the first text is refused, or else why the second is.
-    pub(crate) fn earliest(&self) -> &Option<Why<'a>>
+    pub fn earliest(&self) -> &Option<Why<'a>>
         ensures { result.now ≡ option_or self.now.first self.now.second }
     {
         either(&self.first, &self.second)

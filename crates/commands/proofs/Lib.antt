@@ -8,6 +8,5 @@ pub mod Shown
 pub mod Clean
 pub mod Ran
 pub mod WholeFolders
-pub mod Migrated
 pub mod Named
 pub mod Put

@@ -1,31 +1,22 @@
 //! Running what is asked for: an arm for each command.
 
-ghost use Rattle.std.specs.Prelude.{◌≡◌, ◌≢◌, ◌⊎◌, ◌<◌, ℕ, List, Ok, true, false, IfOk, MatchOption, option_map};
-ghost use Rattle.text_lines.specs.Answer.{IsRead};
-ghost use Rattle.guest_script.specs.Scripts.{SpellsScript};
+ghost use Rattle.std.specs.Prelude.{◌≡◌, ◌≢◌, ◌⊎◌, ◌<◌, Ok, true, false, IfOk, MatchOption};
 ghost use Rattle.command_words.specs.Table.{asked_names};
-ghost use Rattle.command_texts.specs.declared.why.Telling.TheVariants.{Short};
-ghost use Rattle.command_texts.specs.Answers.{IsHostFault, IsTextFault};
-ghost use Rattle.command_texts.specs.Reasons.{IsRefusedAt, TellsWhy, TellsWhyOf, told_place};
+ghost use Rattle.command_texts.specs.Answers.{IsTextFault};
 ghost use Rattle.command_texts.specs.Told.{AreNamed, Ends, IsNamed, NoSession};
 ghost use Rattle.text_access.specs.Names.{files_of};
 ghost use Rattle.text_access.specs.Written.{BothGain};
-ghost use Rattle.host_commands.specs.Migrations.{IsMigrateAnswer};
 ghost use Rattle.session_commands.specs.Windows.{EndsWindow, HasWindowLines};
-ghost use Rattle.commands.specs.Told.{EndsAsked, FirstHas, HasLines, IsBesideOne, IsBesideTwo, IsOneAnswer, IsTwoAnswer, NoNote, window_of};
+ghost use Rattle.commands.specs.Told.{EndsAsked, FirstHas, HasLines, IsBesideOne, IsBesideTwo, IsOneAnswer, IsTwoAnswer, window_of};
 
 use crate::drawing::{DrawAlongCommand, DrawCommand};
 use crate::judging::{ask_of, extent_of, story_form};
-use command_texts::{
-    Console, Fault, Gathered, Telling, Why, perform_one, perform_two, read_named, tell_why, written,
-};
-use command_words::{Carrier, Checks, Explains, Job, OneText, Pages, Request, TwoTexts};
-use guest_script::{Script, ScriptParts};
-use host_commands::{StepsCommand, migrate_read};
+use command_texts::{Console, Fault, perform_one, perform_two};
+use command_words::{Checks, Explains, Job, OneText, Pages, Request, TwoTexts};
+use host_commands::{perform_migrate, perform_steps};
 use judge_commands::{AuditCommand, CheckCommand, ExplainByTable, ReplayCommand};
 use migration_types::Topic;
 use session_commands::perform_window;
-use std::alloc::Global;
 use std::io::{Read, Write};
 use std::net::{Net, TcpListener, TcpStream};
 use std::sync::Wait;
@@ -111,70 +102,9 @@ where
     match task {
         TwoTexts::Check(checks) => asked_check(console, checks, first, second),
         TwoTexts::Replay => perform_two(console, &ReplayCommand { rt }, first, second),
-        TwoTexts::Steps => perform_two(console, &StepsCommand, first, second),
+        TwoTexts::Steps => perform_steps(console, first, second),
         TwoTexts::Explain(explains) => asked_explain(console, explains, first, second),
     }
-}
-
-// Runs the migration of a script that was read, and says why its text is refused, if it is.
-fn migrate_found<
-    R: Threads + Wait + Sync + Net<Listener = TcpListener, Stream = TcpStream>,
-    O: Write,
-    E: Write,
->(
-    rt: &R,
-    alloc: Global,
-    carrier: Carrier,
-    script: &Result<Script, u32>,
-    why: &Option<Why<'_>>,
-    output: &mut O,
-    errors: &mut E,
-) -> Result<u8, Fault<'static>>
-    ensures few { (text : List ℕ) → IsRead SpellsScript text script.now → IfOk result (λ status. status < 2) }
-    ensures told { (text : List ℕ) → IsRead SpellsScript text script.now → Ends (IsHostFault (λ _. ⊥)) (λ (t : List ℕ). t ≡ text) IsMigrateAnswer (λ _ _. TellsWhy Short (option_map told_place why.now)) (O.contents output.old, E.contents errors.old) (O.contents output.new, E.contents errors.new) result }
-    ensures gains { BothGain (O.contents output.old, E.contents errors.old) (O.contents output.new, E.contents errors.new) }
-{
-    let answer = migrate_read(rt, alloc, carrier, script)?;
-    let status = written(&answer, output)?;
-    tell_why(alloc, why, Telling::Short, errors);
-    Ok(status)
-}
-
-// Runs the migration of the script under a name.
-fn asked_migrate<
-    'a,
-    R: Threads + Wait + Sync + Net<Listener = TcpListener, Stream = TcpStream>,
-    S: TextSource,
-    I: Read + Send,
-    O: Write,
-    E: Write,
->(
-    console: &mut Console<'_, R, S, I, O, E>,
-    carrier: Carrier,
-    name: &'a str,
-) -> Result<u8, Fault<'a>>
-where
-    S::Text: Send,
-    ensures few { IfOk result (λ status. status < 2) }
-    ensures told { Ends (IsHostFault (λ n. n ≡ name.entry.now)) (IsNamed name.entry.now (files_of (S.bytes_of console.old.texts.now) (S.names_in console.old.texts.now)) NoSession (I.remaining console.old.input)) IsMigrateAnswer (TellsWhyOf (IsRefusedAt SpellsScript) NoNote Short name.entry.now) (O.contents console.old.output, E.contents console.old.errors) (O.contents console.new.output, E.contents console.new.errors) result }
-    ensures gains { BothGain (O.contents console.old.output, E.contents console.old.errors) (O.contents console.new.output, E.contents console.new.errors) }
-{
-    let (script, why) = read_named::<Gathered<ScriptParts>, R, S, I>(
-        console.rt,
-        console.alloc,
-        name,
-        console.texts,
-        &mut console.input,
-    )?;
-    migrate_found(
-        console.rt,
-        console.alloc,
-        carrier,
-        &script,
-        &why,
-        &mut console.output,
-        &mut console.errors,
-    )
 }
 
 // Draws the session under a name, along the runs under a second name if there is one.
@@ -246,7 +176,7 @@ where
     match job {
         Request::One(task, name) => asked_one(console, task, name),
         Request::Two(task, first, second) => asked_two(console, task, first, second),
-        Request::Migrate(carrier, name) => asked_migrate(console, carrier, name),
+        Request::Migrate(carrier, name) => perform_migrate(console, carrier, name),
         Request::Draw(topic, name, further) => asked_draw(console, topic, name, further),
         Request::Window(pages, name, file) => {
             asked_window(console, pages, name, file.is_some(), lines)

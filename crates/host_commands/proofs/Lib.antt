@@ -1,2 +1,2 @@
-pub mod Migrated
+pub mod Writing
 pub mod Statuses

@@ -2,7 +2,8 @@
 #![tactic(auto)]
 
 mod migrating;
+mod recorded;
 mod stepping;
 
-pub use migrating::migrate_read;
-pub use stepping::StepsCommand;
+pub use migrating::perform_migrate;
+pub use stepping::perform_steps;

@@ -1,116 +1,108 @@
-//! The session that events record from a script, as a text and a status.
+//! The session that events record from a script.
 
-ghost use Rattle.std.specs.Prelude.{ℕ, List, IfOk};
+ghost use Rattle.std.specs.Prelude.{◌≡◌, ◌<◌, ◌⊎◌, ℕ, List, IfOk};
 ghost use Rattle.text_lines.specs.Answer.{IsRead};
-ghost use Rattle.text_lines.specs.Text.{ended, IsSpelling};
-ghost use Rattle.session_log.specs.Grammar.{session_lines};
+ghost use Rattle.text_lines.specs.Text.{IsSpelling};
+ghost use Rattle.text_access.specs.Names.{files_of};
+ghost use Rattle.text_access.specs.Written.{BothGain};
 ghost use Rattle.guest_script.specs.Events.{SpellsEvents};
 ghost use Rattle.guest_script.specs.Scripts.{SpellsScript};
-ghost use Rattle.command_texts.specs.Answers.{Says};
+ghost use Rattle.command_texts.specs.Answers.{IsListStop, IsTextFault};
+ghost use Rattle.command_texts.specs.Reasons.{IsRefusedAt, TellsBeside};
+ghost use Rattle.command_texts.specs.Told.{AreNamed, Ends, NoSession};
 ghost use Rattle.host_commands.specs.Steps.{IsStepsAnswer};
+ghost use Rattle.host_commands.specs.Written.{IsWritten};
 
-use command_texts::{ACCEPTED, Answer, Fault, Gathered, OnTwo, given_alone, refused, remark};
+use crate::recorded::{write_held, write_recorded};
+use command_texts::{Console, Fault, Gathered, Telling, read_pair, refused, remark, tell_why};
 use guest_script::{EventParts, Script, ScriptParts};
 use migration_events::Event;
-use migration_types::{Seq, Session};
+use migration_types::Seq;
 use session_core::{CoreFault, run};
-use session_log::write_session;
-use std::alloc::{AllocError, Global};
+use std::alloc::Global;
+use std::io::{Read, Write};
+use std::mem;
+use std::thread::Threads;
+use text_access::TextSource;
 
-/// Returns the answer for a session.
-fn recorded(alloc: Global, session: &Session) -> Result<Answer, AllocError>
-    ensures { IfOk result (λ answer. Says answer (ended (session_lines session.now)) 0) }
-{
-    let text = write_session(alloc, session)?;
-    Ok(Answer {
-        text,
-        status: ACCEPTED,
-    })
-}
-
-/// Returns the answer for a script with events, for any texts that spell them.
-fn answer_to(alloc: Global, script: &Script, events: &[Event]) -> Result<Answer, AllocError>
-    ensures { (first second : List ℕ) → IsSpelling SpellsScript script.now first → IsSpelling SpellsEvents events.now second → IfOk result (λ answer. IsStepsAnswer first second answer.text.items answer.status) }
+/// Writes the answer for a script with events, for any texts that spell them.
+fn write_run<O: Write>(
+    alloc: Global,
+    script: &Script,
+    events: &[Event],
+    output: &mut O,
+) -> Result<u8, Fault<'static>>
+    ensures { (first second : List ℕ) → IsSpelling SpellsScript script.now first → IsSpelling SpellsEvents events.now second → IsWritten IsListStop (IsStepsAnswer first second) (O.contents output.old) (O.contents output.new) result }
 {
     match run(alloc, script, events) {
-        Ok(session) => recorded(alloc, &session),
-        Err(CoreFault::LogFull) => remark(alloc, b"log-full"),
-        Err(CoreFault::Memory) => Err(AllocError),
+        Ok(session) => {
+            let done = write_recorded(alloc, &session, b"", output);
+            mem::forget(session);
+            done
+        }
+        Err(CoreFault::LogFull) => write_held(remark(alloc, b"log-full"), output),
+        Err(CoreFault::Memory) => Err(Fault::Memory),
     }
 }
 
-/// Returns the answer for a script, for any text that spells it, given what was read from the text of events.
-fn with_events(
+/// Writes the answer for a script, for any text that spells it, given what was read from the text of events.
+fn write_with<O: Write>(
     alloc: Global,
     script: &Script,
     events: &Result<Seq<Event>, u32>,
-) -> Result<Answer, AllocError>
-    ensures { (first second : List ℕ) → IsSpelling SpellsScript script.now first → IsRead SpellsEvents second events.now → IfOk result (λ answer. IsStepsAnswer first second answer.text.items answer.status) }
+    output: &mut O,
+) -> Result<u8, Fault<'static>>
+    ensures { (first second : List ℕ) → IsSpelling SpellsScript script.now first → IsRead SpellsEvents second events.now → IsWritten IsListStop (IsStepsAnswer first second) (O.contents output.old) (O.contents output.new) result }
 {
     match events {
-        Ok(events) => answer_to(alloc, script, events.as_slice()),
-        Err(line) => refused(alloc, b"events-text line ", *line),
+        Ok(events) => write_run(alloc, script, events.as_slice(), output),
+        Err(line) => write_held(refused(alloc, b"events-text line ", *line), output),
     }
 }
 
-/// Returns the answer for a script with events, given what was read from their texts.
-fn steps_read(
+/// Writes the answer for a script with events, given what was read from their texts.
+fn write_steps<O: Write>(
     alloc: Global,
     script: &Result<Script, u32>,
     events: &Result<Seq<Event>, u32>,
-) -> Result<Answer, AllocError>
-    ensures { (first second : List ℕ) → IsRead SpellsScript first script.now → IsRead SpellsEvents second events.now → IfOk result (λ answer. IsStepsAnswer first second answer.text.items answer.status) }
+    output: &mut O,
+) -> Result<u8, Fault<'static>>
+    ensures { (first second : List ℕ) → IsRead SpellsScript first script.now → IsRead SpellsEvents second events.now → IsWritten IsListStop (IsStepsAnswer first second) (O.contents output.old) (O.contents output.new) result }
 {
     match script {
-        Ok(script) => with_events(alloc, script, events),
-        Err(line) => refused(alloc, b"script-text line ", *line),
+        Ok(script) => write_with(alloc, script, events, output),
+        Err(line) => write_held(refused(alloc, b"script-text line ", *line), output),
     }
 }
 
-/// `steps`: the session that events record from a script.
-#[derive(Clone, Copy)]
-pub struct StepsCommand;
-
-impl OnTwo for StepsCommand {
-    type First = Gathered<ScriptParts>;
-
-    type Second = Gathered<EventParts>;
-
-    type Said = ();
-
-    ghost is_answer = { λ _ texts. IsStepsAnswer texts.0 texts.1 };
-
-    fn is_about_second(&self) -> bool {
-        false
-    }
-
-    fn answer(
-        &self,
-        alloc: Global,
-        script: &Result<Script, u32>,
-        events: &Result<Seq<Event>, u32>,
-    ) -> Result<(Answer, ()), Fault<'static>> {
-        given_alone(steps_read(alloc, script, events))
-    }
-
-    fn push_more(
-        &self,
-        _out: &mut Vec<u8>,
-        _name: &[u8],
-        _script: &Result<Script, u32>,
-        _events: &Result<Seq<Event>, u32>,
-        _said: (),
-    ) -> Result<(), AllocError> {
-        Ok(())
-    }
-
-    fn note(
-        &self,
-        _alloc: Global,
-        _first: &Result<Script, u32>,
-        _second: &Result<Seq<Event>, u32>,
-        _answer: &Answer,
-    ) -> Result<Option<Vec<u8>>, AllocError> {
-        Ok(None)
-    }
+/// `steps`: writes the session that events record from a script. The two texts are read in this order. If one is refused,
+/// the errors say why. What was read is forgotten, since the program ends then.
+pub fn perform_steps<'a, R: Threads + Sync, S: TextSource, I: Read + Send, O: Write, E: Write>(
+    console: &mut Console<'_, R, S, I, O, E>,
+    first: &'a str,
+    second: &'a str,
+) -> Result<u8, Fault<'a>>
+where
+    S::Text: Send,
+    ensures few { IfOk result (λ status. status < 2) }
+    ensures told { Ends (IsTextFault (λ n. (n ≡ first.entry.now) ⊎ (n ≡ second.entry.now))) (AreNamed first.entry.now second.entry.now (files_of (S.bytes_of console.old.texts.now) (S.names_in console.old.texts.now)) NoSession NoSession (I.remaining console.old.input)) (λ texts. IsStepsAnswer texts.0 texts.1) (TellsBeside (IsRefusedAt SpellsScript) (IsRefusedAt SpellsEvents) (λ _ _ before after. after ≡ before) (λ _ _ _. ⊥) first.entry.now second.entry.now) (O.contents console.old.output, E.contents console.old.errors) (O.contents console.new.output, E.contents console.new.errors) result }
+    ensures gains { BothGain (O.contents console.old.output, E.contents console.old.errors) (O.contents console.new.output, E.contents console.new.errors) }
+{
+    let (found, refusals) = read_pair::<Gathered<ScriptParts>, Gathered<EventParts>, R, S, I>(
+        console.rt,
+        console.alloc,
+        first,
+        second,
+        console.texts,
+        &mut console.input,
+    )?;
+    let status = write_steps(console.alloc, &found.0, &found.1, &mut console.output)?;
+    tell_why(
+        console.alloc,
+        refusals.earliest(),
+        Telling::Short,
+        &mut console.errors,
+    );
+    mem::forget(found);
+    Ok(status)
 }

@@ -1,5 +1,5 @@
--- Lines that are written one by one.
-use Rattle.std.proofs.Common.{◌≡◌, ℕ, ◌+◌, List, [], ◌∷◌, ◌++◌, length, map, take, refl, ap, ◌∙◌, append_assoc}
+-- The lines of a session, list by list.
+use Rattle.std.proofs.Common.{◌≡◌, ℕ, List, [], ◌∷◌, ◌++◌, length, map, refl, ap, ◌∙◌, append_assoc}
 use Rattle.text_lines.specs.Text.{ended}
 use Rattle.std.specs.Fmt.{decimal}
 use Rattle.migration_types.specs.declared.records.LaneRec.{LaneRec}
@@ -11,9 +11,11 @@ use Rattle.session_grammar.specs.Grammar.{header, pages_key, cells_key, init_key
 use Rattle.session_grammar.proofs.Laws.{pager_lines, lane_lines, link_lines, source_lines, guest_lines}
 use Rattle.session_grammar.proofs.Sections.{ended_then}
 
--- behind what was there before stand a line and those of the first items
-abbrev pub Written : {X : Type 0} → (X → List ℕ) → List ℕ → List ℕ → List X → ℕ → List ℕ → Type 0
-Written spell old line xs i now = now ≡ old ++ ended (line ∷ map spell (take i xs))
+two_ended : (xs ys : List (List ℕ)) → ended xs ++ ended ys ≡ ended (xs ++ ys)
+two_ended xs ys = ended_then [] (ended xs) (ended xs ++ ended ys) xs ys refl refl
+
+all_ended : (h a b c d l e z : List (List ℕ)) → ended h ++ ended a ++ ended b ++ ended c ++ ended d ++ ended l ++ ended e ++ ended z ≡ ended (h ++ a ++ b ++ c ++ d ++ l ++ e ++ z)
+all_ended h a b c d l e z = simp two_ended
 
 regroup : (h a b c d l e z : List (List ℕ)) → h ++ a ++ b ++ c ++ d ++ l ++ e ++ z ≡ h ++ (a ++ (b ++ (c ++ (d ++ (l ++ (e ++ z))))))
 regroup h a b c d l e z = simp append_assoc
@@ -26,7 +28,7 @@ lane_then One records more rest e = e
 lane_then Two records more rest e = counted_then lane_key lane_line records more rest e
 
 -- the lists of a session, each whole, one after another
-abbrev start_lines : Recorded → List (List ℕ)
+abbrev pub start_lines : Recorded → List (List ℕ)
 start_lines s = header s.version s.geometry.size ∷ (pages_key ++ decimal s.geometry.pages) ∷ (cells_key ++ decimal s.geometry.cells) ∷ []
 
 joined : (s : Recorded) → start_lines s ++ counted init_key page_line s.init [] ++ counted guest_key guest_line s.guest [] ++ counted source_key source_line s.source [] ++ counted link_key link_line s.link [] ++ with_lane s.version s.lane [] ++ counted pager_key pager_line s.pager [] ++ (closing ∷ []) ≡ session_lines s
@@ -46,27 +48,8 @@ joined s =
     let in_init = counted_then init_key page_line s.init (guest ++ (source ++ (link ++ (lane ++ (pager ++ end))))) (guest_lines s) in_guest in
     regroup (start_lines s) init guest source link lane pager end ∙ ap (λ (t : List (List ℕ)). start_lines s ++ t) in_init
 
--- each of these texts has a part of a session's behind the one before
-pub session_written : (s : Recorded) (a b c d e f g l h i : List ℕ) → a ≡ header s.version s.geometry.size ++ 10 ∷ [] → b ≡ a ++ (pages_key ++ decimal s.geometry.pages ++ 10 ∷ []) → c ≡ b ++ (cells_key ++ decimal s.geometry.cells ++ 10 ∷ []) → d ≡ c ++ ended (counted init_key page_line s.init []) → e ≡ d ++ ended (counted guest_key guest_line s.guest []) → f ≡ e ++ ended (counted source_key source_line s.source []) → g ≡ f ++ ended (counted link_key link_line s.link []) → l ≡ g ++ ended (with_lane s.version s.lane []) → h ≡ l ++ ended (counted pager_key pager_line s.pager []) → i ≡ h ++ (closing ++ 10 ∷ []) → i ≡ ended (session_lines s)
-session_written s a b c d e f g l h i pa pb pc pd pe pf pg pl ph pi =
-    let p = pages_key ++ decimal s.geometry.pages in
-    let q = cells_key ++ decimal s.geometry.cells in
-    let one = header s.version s.geometry.size ∷ [] in
-    let two = header s.version s.geometry.size ∷ p ∷ [] in
-    let three = header s.version s.geometry.size ∷ p ∷ q ∷ [] in
-    let four = three ++ counted init_key page_line s.init [] in
-    let five = four ++ counted guest_key guest_line s.guest [] in
-    let six = five ++ counted source_key source_line s.source [] in
-    let seven = six ++ counted link_key link_line s.link [] in
-    let lane = seven ++ with_lane s.version s.lane [] in
-    let eight = lane ++ counted pager_key pager_line s.pager [] in
-    let wb = ended_then [] a b one (p ∷ []) pa pb in
-    let wc = ended_then [] b c two (q ∷ []) wb pc in
-    let wd = ended_then [] c d three (counted init_key page_line s.init []) wc pd in
-    let we = ended_then [] d e four (counted guest_key guest_line s.guest []) wd pe in
-    let wf = ended_then [] e f five (counted source_key source_line s.source []) we pf in
-    let wg = ended_then [] f g six (counted link_key link_line s.link []) wf pg in
-    let wl = ended_then [] g l seven (with_lane s.version s.lane []) wg pl in
-    let wh = ended_then [] l h lane (counted pager_key pager_line s.pager []) wl ph in
-    let wi = ended_then [] h i eight (closing ∷ []) wh pi in
-    wi ∙ ap ended (joined s)
+-- the text is that of its parts
+pub session_written : (s : Recorded) → ended (start_lines s) ++ ended (counted init_key page_line s.init []) ++ ended (counted guest_key guest_line s.guest []) ++ ended (counted source_key source_line s.source []) ++ ended (counted link_key link_line s.link []) ++ ended (with_lane s.version s.lane []) ++ ended (counted pager_key pager_line s.pager []) ++ ended (closing ∷ []) ≡ ended (session_lines s)
+session_written s =
+    all_ended (start_lines s) (counted init_key page_line s.init []) (counted guest_key guest_line s.guest []) (counted source_key source_line s.source []) (counted link_key link_line s.link []) (with_lane s.version s.lane []) (counted pager_key pager_line s.pager []) (closing ∷ [])
+    ∙ ap ended (joined s)

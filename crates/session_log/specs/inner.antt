@@ -1,3 +1,4 @@
 -- Definitions that only proofs use.
 pub mod Plain
+pub mod Rooms
 pub mod Steps

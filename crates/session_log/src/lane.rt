@@ -5,17 +5,14 @@ ghost use Rattle.migration_types.specs.Limits.{limits};
 ghost use Rattle.migration_types.specs.Sessions.{LaneRecIn};
 ghost use Rattle.migration_types.specs.declared.records.LaneRec.{LaneRec as Rec};
 ghost use Rattle.migration_types.specs.declared.version.Version.TheVariants.{Two};
-ghost use Rattle.session_grammar.specs.Grammar.{with_lane};
 ghost use Rattle.session_grammar.specs.Records.{lane_line};
-ghost use Rattle.text_lines.specs.Text.{ended};
 
 use crate::fields::numbered_then;
 use crate::link::DOWN_KEY;
 use crate::records::{RecordForm, Records};
-use migration_types::{LaneRec, Session, Size, Version};
-use session_grammar::LANE_KEY;
+use migration_types::{LaneRec, Size};
 use std::alloc::AllocError;
-use text_lines::{FaultKind, push_counted, push_keyed};
+use text_lines::{FaultKind, push_keyed};
 
 /// The lines of the lane's log, which only the second version has, for a machine of this size.
 #[derive(Clone, Copy)]
@@ -42,15 +39,5 @@ impl RecordForm for LaneLines {
             Some((sending, rest)) => Ok((LaneRec::Down { sending }, rest)),
             None => Err(FaultKind::Form),
         }
-    }
-}
-
-/// Appends the lines of the lane's log, if the version has one.
-pub(crate) fn push_lane(out: &mut Vec<u8>, session: &Session) -> Result<(), AllocError>
-    ensures { OnOk result (out.new.items ≡ out.old.items ++ ended (with_lane session.now.version session.now.lane [])) }
-{
-    match session.version() {
-        Version::One => Ok(()),
-        Version::Two => push_counted::<Records<LaneLines>>(out, LANE_KEY, session.lane()),
     }
 }

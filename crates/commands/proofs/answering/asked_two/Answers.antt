@@ -7,7 +7,7 @@ pub returns-in-Replay-clause-told : goal.returns-in-Replay-clause-told
 returns-in-Replay-clause-told g c = rw c.in-Replay.is c.perform_two.ensures.told
 
 pub returns-in-Steps-clause-told : goal.returns-in-Steps-clause-told
-returns-in-Steps-clause-told g c = rw c.in-Steps.is c.perform_two-in-Steps.ensures.told
+returns-in-Steps-clause-told g c = rw c.in-Steps.is c.perform_steps.ensures.told
 
 pub returns-in-Explain-clause-told : goal.returns-in-Explain-clause-told
 returns-in-Explain-clause-told g c = rw c.in-Explain.is c.asked_explain.ensures.told

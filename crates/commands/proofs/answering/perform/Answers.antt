@@ -8,7 +8,7 @@ pub returns-in-Two-clause-told : goal.returns-in-Two-clause-told
 returns-in-Two-clause-told g c = rw c.in-Two.is c.asked_two.ensures.told
 
 pub returns-in-Migrate-clause-told : goal.returns-in-Migrate-clause-told
-returns-in-Migrate-clause-told g c = rw c.in-Migrate.is c.asked_migrate.ensures.told
+returns-in-Migrate-clause-told g c = rw c.in-Migrate.is c.perform_migrate.ensures.told
 
 pub returns-in-Draw-clause-told : goal.returns-in-Draw-clause-told
 returns-in-Draw-clause-told g c = rw c.in-Draw.is c.asked_draw.ensures.told
