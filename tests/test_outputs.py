@@ -2,12 +2,14 @@
 output that fails otherwise is one.
 
 Over each folder of examples/ and tests/cases/, with a reader that is gone at the start; in pipelines of a shell, as they
-stand in scripts; and with answers that are longer than a pipe holds, whose reader takes some of them. And the words on each error
-with which a file is not opened or read, or an output not written.
+stand in scripts; with answers that are longer than a pipe holds, whose reader takes some of them; and with a session that is
+written in pieces. And the words on each error with which a file is not opened or read, or an output not written.
 """
 import errno
 import os
+import resource
 import select
+import signal
 import subprocess
 
 import pytest
@@ -176,6 +178,36 @@ def test_pipelines(program, texts):
         right(wrong_pipeline(program, texts, *pipeline))
     for takes in (0, 1, 70000):
         right(wrong_taking(program, texts, takes))
+
+
+# A guest that halts and does nothing else, how many ticks of the source make a session of more than three pieces, and how many bytes
+# of it an output takes.
+SCRIPT = b"postcopy-script 1\npages 1\ncells 1\ninit 0\npivots 1\nwindow 65536\ndown -\nup -\nvcpus 1\nvcpu 0 0\nend\n"
+TICKS, TAKES = 60000, (0, 1, 100000, 131072, 200000, 300000)
+
+
+def taken(program, room, most):
+    """What becomes of a session that is written to a file with room for so many bytes."""
+    def limit():
+        resource.setrlimit(resource.RLIMIT_FSIZE, (most, most))
+        signal.signal(signal.SIGXFSZ, signal.SIG_IGN)
+
+    with open(f"{room}/taken", "w+b") as file:
+        child = subprocess.run([program, "steps", "script", "events"], cwd=room, stdout=file, stderr=subprocess.PIPE, preexec_fn=limit, restore_signals=False)
+        file.seek(0)
+        return child.returncode, child.stderr, file.read()
+
+
+@pytest.mark.cases(len(TAKES) + 1)
+def test_pieces(program, room):
+    """A session is written in pieces: an output that takes no more has its front, and the fault is told."""
+    for name, text in (("script", SCRIPT), ("events", b"postcopy-events 1\nevents %d\nhalt\n" % (TICKS + 1) + b"source-tick\n" * TICKS + b"end\n")):
+        with open(f"{room}/{name}", "wb") as file:
+            file.write(text)
+    status, errors, whole = taken(program, room, 1 << 30)
+    same("a session of ticks", (status, errors, whole.count(b"\nagain 1"), whole.endswith(b"\nend\n")), (0, b"", TICKS, True))
+    for most in TAKES:
+        same(f"{most} bytes of it", taken(program, room, most), (3, b"output\nstandard output: the file would be too large\n", whole[:most]))
 
 
 @pytest.mark.cases(1)

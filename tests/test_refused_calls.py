@@ -47,7 +47,7 @@ REFUSED = {
     "bubbling": "Bubbles::new",
     "fault_queue": "FaultQueue::fault",
     "page_stream": "encode Stream::feed pump",
-    "session_log": "read_session write_session SessionReader::feed",
+    "session_log": "read_session Room::new write_session SessionReader::feed",
     "cert_text": "read_cert write_cert CertReader::feed read_runs write_runs RunsReader::feed",
     "merge_runs": "replay",
     "cert_check": "shape check check_par",
@@ -72,7 +72,7 @@ NONE = {
     "bubbling": "Bubbles::fault_at Bubbles::next Bubbles::mark_sent Bubbles::left",
     "fault_queue": "FaultQueue::new FaultQueue::served FaultQueue::first FaultQueue::pages",
     "page_stream": "fits Stream::new",
-    "session_log": "SessionReader::finish",
+    "session_log": "SessionReader::finish write_in_pieces",
     "merge_runs": "is_merging",
     "active_push": "SourceBook::source_log SourceBook::sent SourceBook::geometry",
     "link_book": "LinkBook::new LinkBook::offer_down LinkBook::offer_up LinkBook::head LinkBook::peek_down LinkBook::peek_up "

@@ -90,7 +90,7 @@ written_whole AreTexts IsAnswerTo IsBeside texts answer status old new e are is_
 -- ---- what was read
 
 -- a fault that ends a list of answers is one of a command on texts
-stop_of_text : (P : List ℕ → Type 0) (fault : Fault) → IsListStop fault → IsTextFault P fault
+pub stop_of_text : (P : List ℕ → Type 0) (fault : Fault) → IsListStop fault → IsTextFault P fault
 stop_of_text P (File name why) h = absurd h
 stop_of_text P Link h = absurd h
 stop_of_text P Threads h = absurd h

@@ -10,7 +10,7 @@ ghost use Rattle.host_commands.specs.Written.{Has, IsWritten};
 
 use command_texts::{ACCEPTED, Answer, Fault, STANDARD_OUTPUT, written};
 use migration_types::Session;
-use session_log::{Room, write_session};
+use session_log::{Room, write_in_pieces};
 use std::alloc::{AllocError, Global};
 use std::io::Write;
 use text_access::{Cause, write_or_why};
@@ -25,7 +25,7 @@ fn write_both<O: Write>(
     ensures front { AppendsFront (O.contents output.old) (O.contents output.new) (ended (session_lines session.now) ++ behind.now) }
     ensures whole { OnOk result (Appends (O.contents output.old) (O.contents output.new) (ended (session_lines session.now) ++ behind.now)) }
 {
-    write_session(room, session, output)?;
+    write_in_pieces(room, session, output)?;
     write_or_why(output, behind)
 }
 

@@ -6,7 +6,7 @@ use cert_text::{CertReader, RunsReader, read_cert, read_runs, write_cert, write_
 use guest_script::{Script, read_events, read_script};
 use migration_events::Event;
 use migration_types::{Cert, Run, Seq, Session};
-use session_log::{SessionReader, read_session, write_session};
+use session_log::{Room, SessionReader, read_session, write_in_pieces, write_session};
 use std::alloc::AllocError;
 use text_lines::{Rewind, TextReader, read_keyed};
 
@@ -38,6 +38,23 @@ fn session(refuser: Refuser, text: &[u8]) -> Option<()> {
         || write_session(alloc, &session),
         |written: &Vec<u8>| written.as_slice() == text,
     )?;
+    in_pieces(refuser, &session, text)
+}
+
+/// Writes a session to as many bytes as its text has.
+fn in_pieces(refuser: Refuser, session: &Session, text: &[u8]) -> Option<()> {
+    let alloc = refuser.alloc();
+    let mut room = refuser.each(
+        "session_log::Room::new",
+        || Room::new(alloc),
+        |_: &Room| true,
+    )?;
+    let mut bytes = vec![in alloc; 0; text.len()].ok()?;
+    let mut rest = bytes.as_mut_slice();
+    let written = refuser.none("session_log::write_in_pieces", || {
+        write_in_pieces(&mut room, session, &mut rest)
+    });
+    refuser.right(written.is_ok() && bytes.as_slice() == text);
     Some(())
 }
 
