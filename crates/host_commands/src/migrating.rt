@@ -95,10 +95,7 @@ fn write_stopped<O: Write>(
 }
 
 /// Writes the answer for a script, for any text that spells it.
-fn write_run<
-    R: Threads + Wait + Sync + Net<Listener = TcpListener, Stream = TcpStream>,
-    O: Write,
->(
+fn write_run<R: Threads + Wait + Sync + Net<Listener = TcpListener, Stream = TcpStream>, O: Write>(
     rt: &R,
     alloc: Global,
     carrier: Carrier,

@@ -1,5 +1,3 @@
-use Rattle.std.proofs.Common.{◌++◌}
-use Rattle.std.proofs.KnownBytes.{Appends-trans}
 use Rattle.text_lines.specs.Text.{ended}
 use Rattle.text_access.proofs.Fronts.{front_before, front_behind}
 use Rattle.session_log.specs.Grammar.{session_lines}
