@@ -35,13 +35,6 @@ stop_of_host P Threads h = tt
 stop_of_host P (Output name why) h = tt
 stop_of_host P Memory h = tt
 
-pub unnamed_of_host : (P : List ℕ → Type 0) (fault : Fault) → IsHostFault (λ name. ⊥) fault → IsHostFault P fault
-unnamed_of_host P (File name why) h = absurd h
-unnamed_of_host P Link h = tt
-unnamed_of_host P Threads h = tt
-unnamed_of_host P (Output name why) h = tt
-unnamed_of_host P Memory h = tt
-
 module _ (F G : Fault → Type 0) (fault_in : (fault : Fault) → F fault → G fault) (A B : List ℕ → ℕ → Type 0) (answer_in : (text : List ℕ) (status : ℕ) → A text status → B text status) (old new : Option (List ℕ)) where
   cut_in : IsCut A old new → IsCut B old new
   cut_in h = record { text = h.text; status = h.status; is_answer = answer_in h.text h.status h.is_answer; written = h.written }

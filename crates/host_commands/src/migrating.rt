@@ -82,7 +82,7 @@ fn write_stopped<O: Write>(
     output: &mut O,
 ) -> Result<u8, Fault<'static>>
     requires { (s : Scenario) × IsRunFault s fault.now }
-    ensures { (s : Scenario) (text : List ℕ) → IsRunFault s fault.now → IsSpelling SpellsScript s text → IsWritten (IsHostFault (λ _. ⊥)) (IsMigrateAnswer text) (O.contents output.old) (O.contents output.new) result }
+    ensures { (s : Scenario) (text name : List ℕ) → IsRunFault s fault.now → IsSpelling SpellsScript s text → IsWritten (IsHostFault (λ n. n ≡ name)) (IsMigrateAnswer text) (O.contents output.old) (O.contents output.new) result }
 {
     match fault {
         RunFault::LogFull => write_held(remark(alloc, b"log-full"), output),
@@ -102,7 +102,7 @@ fn write_run<R: Threads + Wait + Sync + Net<Listener = TcpListener, Stream = Tcp
     script: &Script,
     output: &mut O,
 ) -> Result<u8, Fault<'static>>
-    ensures { (text : List ℕ) → IsSpelling SpellsScript script.now text → IsWritten (IsHostFault (λ _. ⊥)) (IsMigrateAnswer text) (O.contents output.old) (O.contents output.new) result }
+    ensures { (text name : List ℕ) → IsSpelling SpellsScript script.now text → IsWritten (IsHostFault (λ n. n ≡ name)) (IsMigrateAnswer text) (O.contents output.old) (O.contents output.new) result }
 {
     match carried(rt, alloc, carrier, script) {
         Ok(migrated) => {
@@ -125,7 +125,7 @@ fn write_migration<
     script: &Result<Script, u32>,
     output: &mut O,
 ) -> Result<u8, Fault<'static>>
-    ensures { (text : List ℕ) → IsRead SpellsScript text script.now → IsWritten (IsHostFault (λ _. ⊥)) (IsMigrateAnswer text) (O.contents output.old) (O.contents output.new) result }
+    ensures { (text name : List ℕ) → IsRead SpellsScript text script.now → IsWritten (IsHostFault (λ n. n ≡ name)) (IsMigrateAnswer text) (O.contents output.old) (O.contents output.new) result }
 {
     match script {
         Ok(script) => write_run(rt, alloc, carrier, script, output),

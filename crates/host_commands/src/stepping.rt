@@ -45,21 +45,6 @@ fn write_run<O: Write>(
     }
 }
 
-/// Writes the answer for a script, for any text that spells it, given what was read from the text of events.
-fn write_with<O: Write>(
-    alloc: Global,
-    script: &Script,
-    events: &Result<Seq<Event>, u32>,
-    output: &mut O,
-) -> Result<u8, Fault<'static>>
-    ensures { (first second : List ℕ) → IsSpelling SpellsScript script.now first → IsRead SpellsEvents second events.now → IsWritten IsListStop (IsStepsAnswer first second) (O.contents output.old) (O.contents output.new) result }
-{
-    match events {
-        Ok(events) => write_run(alloc, script, events.as_slice(), output),
-        Err(line) => write_held(refused(alloc, b"events-text line ", *line), output),
-    }
-}
-
 /// Writes the answer for a script with events, given what was read from their texts.
 fn write_steps<O: Write>(
     alloc: Global,
@@ -69,9 +54,10 @@ fn write_steps<O: Write>(
 ) -> Result<u8, Fault<'static>>
     ensures { (first second : List ℕ) → IsRead SpellsScript first script.now → IsRead SpellsEvents second events.now → IsWritten IsListStop (IsStepsAnswer first second) (O.contents output.old) (O.contents output.new) result }
 {
-    match script {
-        Ok(script) => write_with(alloc, script, events, output),
-        Err(line) => write_held(refused(alloc, b"script-text line ", *line), output),
+    match (script, events) {
+        (Err(line), _) => write_held(refused(alloc, b"script-text line ", *line), output),
+        (Ok(_), Err(line)) => write_held(refused(alloc, b"events-text line ", *line), output),
+        (Ok(script), Ok(events)) => write_run(alloc, script, events.as_slice(), output),
     }
 }
 

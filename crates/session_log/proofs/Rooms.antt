@@ -19,10 +19,6 @@ module _ (old now : Option (List ℕ)) (held text : List ℕ) where
   pub behind_more : (line more : List ℕ) → AreBehind old now held text → more ≡ held ++ line → AreBehind old now more (text ++ line)
   behind_more line more (front, written, is) e = (front, written, ap (λ (t : List ℕ). t ++ line) is ∙ (append_assoc front held line ∙ ap (λ (t : List ℕ). front ++ t) (sym e)))
 
-  -- a failure leaves a front
-  pub failed : (new : Option (List ℕ)) (cause : Cause) (more : List ℕ) → AppendsFront old new text → Passes old new (Option.Some cause) more text
-  failed new cause more front = record { front = front; behind = λ none. absurd cc }
-
   -- what is held is written, or a front of it
   pub whole : (new : Option (List ℕ)) → AreBehind old now held text → Appends now new held → Appends old new text
   whole new (front, written, is) rest = subst (Appends old new) (sym is) (Appends-trans old now new front held written rest)
@@ -30,9 +26,13 @@ module _ (old now : Option (List ℕ)) (held text : List ℕ) where
   pub cut : (new : Option (List ℕ)) → AreBehind old now held text → AppendsFront now new held → AppendsFront old new text
   cut new (front, written, is) rest = subst (AppendsFront old new) (sym is) (front_behind old now new front held written rest)
 
--- all of it was written
-pub passed : (old new : Option (List ℕ)) (fault : Option Cause) (held text : List ℕ) → Appends old new text → held ≡ [] → Passes old new fault held text
-passed old new fault held text all empty = record { front = all_of old new text all; behind = λ none. (text, all, sym (append-nil text) ∙ ap (λ (t : List ℕ). text ++ t) (sym empty)) }
+  pub piece_written : (new : Option (List ℕ)) (fault : Option Cause) (left : List ℕ) → AreBehind old now held text → Appends now new held → left ≡ [] → Passes old new fault left text
+  piece_written new fault left behind rest none =
+      let all = whole new behind rest in
+      record { front = all_of old new text all; behind = λ well. (text, all, sym (append-nil text) ∙ ap (λ (t : List ℕ). text ++ t) (sym none)) }
+
+  pub piece_failed : (new : Option (List ℕ)) (cause : Cause) → AreBehind old now held text → AppendsFront now new held → Passes old new (Option.Some cause) held text
+  piece_failed new cause behind rest = record { front = cut new behind rest; behind = λ none. absurd cc }
 
 -- the lines of a list, once all of its items were taken
 pub list_whole : {X : Type 0} (key : List ℕ) (spell : X → List ℕ) (xs : List X) (i : ℕ) → length xs ≤ i → ended ((key ++ decimal (length xs)) ∷ map spell (take i xs)) ≡ ended (counted key spell xs [])

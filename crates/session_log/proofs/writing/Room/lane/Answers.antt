@@ -1,6 +1,6 @@
 use Rattle.std.proofs.Common.{rules, ◌≡◌}
 use Rattle.migration_types.specs.declared.version.Version.TheVariants.{Two}
-use Rattle.session_log.proofs.room.Room.lane.Goals as goal
+use Rattle.session_log.proofs.writing.Room.lane.Goals as goal
 
 pub returns-in-Two : goal.returns-in-Two
 returns-in-Two g c = λ start text p.

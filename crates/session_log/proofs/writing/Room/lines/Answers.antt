@@ -5,7 +5,7 @@ use Rattle.session_grammar.specs.Records.{guest_line, link_line, pager_line, sou
 use Rattle.session_log.specs.inner.Rooms.{Passes}
 use Rattle.session_log.proofs.Rooms.{none_yet}
 use Rattle.session_log.proofs.Written.{session_written, start_lines}
-use Rattle.session_log.proofs.room.Room.lines.Goals as goal
+use Rattle.session_log.proofs.writing.Room.lines.Goals as goal
 
 pub returns : goal.returns
 returns g c =

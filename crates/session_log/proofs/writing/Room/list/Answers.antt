@@ -4,7 +4,7 @@ use Rattle.text_lines.specs.Text.{ended}
 use Rattle.text_lines.proofs.Counting.{written_item}
 use Rattle.session_log.specs.inner.Rooms.{Passes}
 use Rattle.session_log.proofs.Rooms.{list_whole}
-use Rattle.session_log.proofs.room.Room.list.Goals as goal
+use Rattle.session_log.proofs.writing.Room.list.Goals as goal
 
 pub loop-item-init : goal.loop-item-init
 loop-item-init g c = λ start text p. c.settle.ensures start text c.args.self.now.bytes.items (c.args.key.now ++ decimal (length c.args.items.now) ++ 10 ∷ []) p c.push_keyed-pushed.ensures

@@ -2,7 +2,7 @@ use Rattle.std.proofs.Common.{ℕ, List, ◌∷◌, ◌++◌, Option, length, ma
 use Rattle.std.specs.Fmt.{decimal}
 use Rattle.text_lines.specs.Text.{ended}
 use Rattle.session_log.specs.inner.Rooms.{Passes}
-use Rattle.session_log.proofs.room.Room.list.Given as goal
+use Rattle.session_log.proofs.writing.Room.list.Given as goal
 
 abbrev pub invariant-loop-item : goal.invariant-loop-item
 invariant-loop-item g l = (start : Option (List ℕ)) (text : List ℕ)
